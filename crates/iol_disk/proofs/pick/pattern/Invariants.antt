@@ -1,0 +1,8 @@
+use Rattle.std.proofs.Common.{◌≡◌, ℕ, ◌<◌, ◌%◌, ◌==◌, if◌then◌else◌, length, slice_index}
+use Rattle.iol_disk.proofs.pick.pattern.Given as goal
+
+abbrev pub invariant-loop-i : goal.invariant-loop-i
+invariant-loop-i l = record {
+  whole : length l.octets ≡ 512;
+  done : (k : ℕ) → k < l.i → slice_index l.octets k ≡ (if k % 2 == 0 then 0xA5 else 0x5A);
+}

@@ -1,0 +1,34 @@
+-- A disk as contracts see it, and what its calls do to it.
+use Rattle.std.specs.Prelude.{◌≡◌, ◌<◌, ◌≤◌, ◌⊎◌, ◌-◌, ◌^◌, ℕ, Bool, IsTrue, List, Result, IfErr}
+use Rattle.iol_disk.specs.Content.{Content, wrote}
+use Rattle.iol_disk.specs.declared.fault.DiskFault.{DiskFault}
+
+-- Of a disk that is not honest its content says nothing.
+pub record Disk : Type 0 where
+  pub sectors : ℕ
+  pub honest : Bool
+  -- how often a call has failed
+  pub failures : ℕ
+  pub content : Content
+
+-- The content of an honest disk is changed in this way. No call changes size or honesty, or takes a failure back.
+pub record After (change : Content → Content) (old new : Disk) : Type 0 where
+  pub sectors : new.sectors ≡ old.sectors
+  pub honest : new.honest ≡ old.honest
+  pub failures : old.failures ≤ new.failures
+  pub content : IsTrue old.honest → new.content ≡ change old.content
+
+abbrev pub Same : Disk → Disk → Type 0
+Same old new = After (λ c. c) old new
+
+-- after a write that failed: the sector counts as written, with some octets
+abbrev pub WroteSome : ℕ → Disk → Disk → Type 0
+WroteSome n old new = (octets : List ℕ) × After (wrote n octets) old new
+
+-- the count of failures rose, or had reached the greatest number that it can show
+abbrev pub HasFailed : Disk → Disk → Type 0
+HasFailed old new = (old.failures < new.failures) ⊎ (2 ^ 64 - 1 ≤ new.failures)
+
+-- the one fault is this, and it is told only where the disk has failed
+abbrev pub FailsOnlyAs : {T : Type 0} → DiskFault → Disk → Disk → Result T DiskFault → Type 0
+FailsOnlyAs fault old new result = IfErr result (λ e. (e ≡ fault) × HasFailed old new)

@@ -1,0 +1,12 @@
+-- A disk that was just made.
+use Rattle.std.specs.Prelude.{◌≡◌, ◌<◌, ℕ, true, [], None, replicate}
+use Rattle.iol_disk.specs.Disk.{Disk}
+
+-- so many sectors of zeros, all durable
+pub record IsFresh (sectors : ℕ) (d : Disk) : Type 0 where
+  pub sectors_are : d.sectors ≡ sectors
+  pub honest : d.honest ≡ true
+  pub failures : d.failures ≡ 0
+  pub zeros : (i : ℕ) → i < sectors → d.content.durable i ≡ replicate 512 0
+  pub settled : (i : ℕ) → d.content.written i ≡ None
+  pub anew : d.content.past ≡ []

@@ -1,0 +1,43 @@
+ghost use Rattle.std.specs.Prelude.{◌≡◌, ◌<◌, IsTrue, OnOk, OnErr};
+ghost use Rattle.iol_disk.specs.Content.{reads, wrote, synced};
+ghost use Rattle.iol_disk.specs.Disk.{Disk, After, Same, WroteSome, FailsOnlyAs};
+
+use crate::fault::DiskFault;
+
+/// The octets of a sector.
+pub const SECTOR_OCTETS: usize = 512;
+
+/// A disk of sectors, numbered from 0.
+///
+/// Each call is told of by what it does to the disk's content: what is durable, and what was written since the
+/// last sync that succeeded. A power stop leaves the durable octets in each sector that was not written since,
+/// and any octets in the others. All this holds of an honest disk: whether a disk is, no call gives or takes.
+pub trait SectorDisk {
+    /// What contracts see of the disk.
+    ghost disk: { Self → Disk };
+
+    /// How many sectors it has.
+    fn sectors(&self) -> usize
+        ensures { result ≡ (disk self.now).sectors };
+
+    /// Reads a sector. Where it fails, `octets` is as it was.
+    fn read(&mut self, n: usize, octets: &mut [u8; SECTOR_OCTETS]) -> Result<(), DiskFault>
+        requires { n < (disk self.old).sectors }
+        ensures read { OnOk result (IsTrue (disk self.old).honest → octets.new ≡ reads (disk self.old).content n) }
+        ensures kept { OnErr result (octets.new ≡ octets.old) }
+        ensures same { Same (disk self.old) (disk self.new) }
+        ensures fault { FailsOnlyAs DiskFault.Read (disk self.old) (disk self.new) result };
+
+    /// Writes a sector. Where it fails, the sector counts as written all the same.
+    fn write(&mut self, n: usize, octets: &[u8; SECTOR_OCTETS]) -> Result<(), DiskFault>
+        requires { n < (disk self.old).sectors }
+        ensures wrote { OnOk result (After (wrote n octets.now) (disk self.old) (disk self.new)) }
+        ensures wrote_some { OnErr result (WroteSome n (disk self.old) (disk self.new)) }
+        ensures fault { FailsOnlyAs DiskFault.Write (disk self.old) (disk self.new) result };
+
+    /// Makes durable all that was written. Where it fails, nothing is settled.
+    fn sync(&mut self) -> Result<(), DiskFault>
+        ensures synced { OnOk result (After synced (disk self.old) (disk self.new)) }
+        ensures same { OnErr result (Same (disk self.old) (disk self.new)) }
+        ensures fault { FailsOnlyAs DiskFault.Sync (disk self.old) (disk self.new) result };
+}

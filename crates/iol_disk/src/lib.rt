@@ -1,0 +1,23 @@
+//! Disks of sectors, and what a power stop may leave of them.
+//!
+//! In comes a caller that reads, writes and syncs whole sectors through [`SectorDisk`]; out goes, in each
+//! contract, what a read gives and what a stop at any moment may leave. [`MemoryDisk`] is such a disk, and can
+//! be stopped: a [`Pick`] says what the stop leaves of the sectors that no sync has settled.
+//!
+//! Read `disk` first, then `memory`; `specs/Content.antt` has the words.
+#![tactic(auto)]
+
+mod cell;
+mod cells;
+mod disk;
+mod fault;
+mod memory;
+mod pick;
+mod record;
+#[cfg(test)]
+mod tests;
+
+pub use disk::{SECTOR_OCTETS, SectorDisk};
+pub use fault::DiskFault;
+pub use memory::MemoryDisk;
+pub use pick::Pick;

@@ -1,0 +1,95 @@
+use crate::cell::Cell;
+use crate::cells::{blank_cells, settle_all, stop_all};
+use crate::disk::{SECTOR_OCTETS, SectorDisk};
+use crate::fault::DiskFault;
+use crate::pick::Pick;
+use crate::record::{Replaced, keep};
+use std::alloc::{AllocError, Global};
+
+/// A disk in memory, for tests and trials. It is honest, and it can be stopped.
+///
+/// It keeps for each sync what the sync replaced, so that contracts can speak of what a stop at an earlier moment
+/// might have left. A sync that finds no memory for that fails.
+#[derive(Drop)]
+pub struct MemoryDisk {
+    alloc: Global,
+    cells: Vec<Cell>,
+    past: Vec<Vec<Replaced>>,
+    failures: u64,
+}
+
+impl MemoryDisk {
+    ghost use Rattle.std.specs.Prelude.{IfOk};
+    ghost use Rattle.iol_disk.specs.Fresh.{IsFresh};
+    ghost use Rattle.iol_disk.specs.Stops.{IsStopped};
+    ghost use Rattle.iol_disk.specs.Memory.{disk_of};
+
+    /// A disk of so many sectors of zeros.
+    pub fn new(alloc: Global, sectors: usize) -> Result<MemoryDisk, AllocError>
+        ensures { IfOk result (λ disk. IsFresh sectors (disk_of disk)) }
+    {
+        Ok(MemoryDisk {
+            alloc,
+            cells: blank_cells(alloc, sectors)?,
+            past: Vec::new(alloc),
+            failures: 0,
+        })
+    }
+
+    /// The disk after a power stop, which leaves of each sector written since the last sync what `pick` says.
+    pub fn stop(self, pick: Pick) -> MemoryDisk
+        ensures { IsStopped pick (disk_of self) (disk_of result) }
+    {
+        let MemoryDisk {
+            alloc,
+            mut cells,
+            past: _,
+            failures,
+        } = self;
+        stop_all(&mut cells, pick);
+        MemoryDisk {
+            alloc,
+            cells,
+            past: Vec::new(alloc),
+            failures,
+        }
+    }
+}
+
+impl SectorDisk for MemoryDisk {
+    ghost use Rattle.iol_disk.specs.Memory.{disk_of};
+
+    ghost disk = { disk_of };
+
+    fn sectors(&self) -> usize {
+        self.cells.len()
+    }
+
+    fn read(&mut self, n: usize, octets: &mut [u8; SECTOR_OCTETS]) -> Result<(), DiskFault> {
+        let cell = &self.cells[n];
+        *octets = match cell.newest {
+            Some(newest) => newest,
+            None => cell.durable,
+        };
+        Ok(())
+    }
+
+    fn write(&mut self, n: usize, octets: &[u8; SECTOR_OCTETS]) -> Result<(), DiskFault> {
+        let cell = &mut self.cells[n];
+        cell.newest = Some(*octets);
+        Ok(())
+    }
+
+    fn sync(&mut self) -> Result<(), DiskFault> {
+        match keep(self.alloc, &self.cells, &mut self.past) {
+            Ok(()) => {
+                settle_all(&mut self.cells);
+                Ok(())
+            }
+            Err(AllocError) => {
+                self.failures = self.failures.saturating_add(1);
+                Err(DiskFault::Sync)
+            }
+        }
+    }
+}

@@ -1,0 +1,25 @@
+-- Gates, and what stands behind them.
+use Rattle.std.specs.Prelude.{◌≡◌, ◌<◌, ◌+◌, ℕ, Bool, false, IsTrue, List, ◌++◌, replicate, nat_eq, None}
+use Rattle.std.specs.List.{starts_with}
+use Rattle.iol_disk.specs.Content.{Image, IsImage}
+use Rattle.iol_disk.specs.Disk.{Disk}
+use Rattle.iol_slots.specs.declared.slot.TheConstants.{GATE_MARK}
+
+-- a gate is open exactly where its sector begins with the mark; the rest of it is not read
+unfoldable pub is_open : List ℕ → Bool
+is_open octets = starts_with nat_eq octets GATE_MARK
+
+-- the two sectors that are written as a gate
+unfoldable pub open_gate : List ℕ
+open_gate = GATE_MARK ++ replicate 504 0
+
+unfoldable pub closed_gate : List ℕ
+closed_gate = replicate 512 0
+
+-- whatever a stop leaves now, this gate is closed
+abbrev pub IsShut : ℕ → Disk → Type 0
+IsShut gate d = IsTrue d.honest → (image : Image) → IsImage d.content image → is_open (image gate) ≡ false
+
+-- so many sectors from the first on are written and synced
+abbrev pub AreSynced : ℕ → ℕ → Disk → Type 0
+AreSynced first count d = IsTrue d.honest → (j : ℕ) → j < count → d.content.written (first + j) ≡ None
