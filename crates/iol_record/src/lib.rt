@@ -1,0 +1,21 @@
+//! Commands and ports as octets.
+//!
+//! A record is what stands on a disk for one command, or for one port of a state. The encoders
+//! write the one spelling of a value; the decoders read a record from the front of some octets, say
+//! how many octets it has, and leave what follows unread. What a record is stands in
+//! `specs/Record.antt`; what a decoder answers to any octets, in `specs/Reading.antt`.
+//!
+//! Modules in reading order: `fault`, `reader`, `decode`, `encode`.
+#![tactic(auto)]
+
+mod decode;
+mod encode;
+mod fault;
+mod reader;
+
+pub use decode::{decode_command, decode_port};
+pub use encode::{LARGEST_COMMAND_RECORD, LARGEST_PORT_RECORD, encode_command, encode_port};
+pub use fault::RecordFault;
+
+#[cfg(test)]
+mod tests;

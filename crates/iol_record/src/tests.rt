@@ -1,0 +1,103 @@
+use super::*;
+use iol_types::{Command, PortMode, Validation};
+use std::test::Fail;
+
+/// Port 1, IOL_MANUAL, Backup and Restore, vendor 500, device 43981.
+const CONFIGURE_RECORD: [u8; 10] = [0x01, 0x01, 0x01, 0x03, 0x01, 0xF4, 0x00, 0x00, 0xAB, 0xCD];
+
+/// DO_C/Q, Restore, vendor 65535, device 2^24 - 1, revision 2^64 - 1, no parameter set.
+const PORT_RECORD: [u8; 17] = [
+    0x04, 0x04, 0xFF, 0xFF, 0x00, 0xFF, 0xFF, 0xFF, 0xFF, 0xFF, 0xFF, 0xFF, 0xFF, 0xFF, 0xFF, 0xFF,
+    0x00,
+];
+
+#[test]
+fn a_configure_record_is_read_and_written(rt: HostRuntime) -> Result<(), Fail> {
+    let (command, octets) = decode_command(&CONFIGURE_RECORD)?;
+    assert_eq!(rt; octets, 10);
+    match &command {
+        Command::Configure { port, config } => {
+            assert_eq!(rt; port.number(), 1);
+            assert_eq!(rt; config.mode, PortMode::IolManual);
+            assert_eq!(rt; config.validation, Validation::BackupAndRestore);
+            assert_eq!(rt; config.vendor, 500);
+            assert_eq!(rt; config.device.number(), 43981);
+        }
+    }
+    let written = encode_command(rt.alloc(), &command)?;
+    assert_eq!(rt; written.as_slice(), CONFIGURE_RECORD.as_slice());
+    Ok(())
+}
+
+#[test]
+fn a_port_record_is_read_and_written(rt: HostRuntime) -> Result<(), Fail> {
+    let (port, octets) = decode_port(&PORT_RECORD)?;
+    assert_eq!(rt; octets, 17);
+    let config = port.config();
+    assert_eq!(rt; config.mode, PortMode::DigitalOutput);
+    assert_eq!(rt; config.validation, Validation::Restore);
+    assert_eq!(rt; config.vendor, 65535);
+    assert_eq!(rt; config.device.number(), 16777215);
+    assert_eq!(rt; port.revision(), 18446744073709551615);
+    let written = encode_port(rt.alloc(), &port)?;
+    assert_eq!(rt; written.as_slice(), PORT_RECORD.as_slice());
+    Ok(())
+}
+
+#[test]
+fn each_field_of_a_command_has_its_range(rt: HostRuntime) {
+    let cases = [
+        (0, 0x00, Some(RecordFault::BadTag)),
+        (0, 0x01, None),
+        (0, 0x02, Some(RecordFault::BadTag)),
+        (0, 0x03, Some(RecordFault::BadTag)),
+        (1, 0x00, Some(RecordFault::BadField)),
+        (1, 0x20, None),
+        (1, 0x21, Some(RecordFault::BadField)),
+        (2, 0x00, None),
+        (2, 0x04, None),
+        (2, 0x05, Some(RecordFault::BadField)),
+        (3, 0x00, None),
+        (3, 0x04, None),
+        (3, 0x05, Some(RecordFault::BadField)),
+        (4, 0xFF, None),
+        (6, 0x01, Some(RecordFault::BadField)),
+        (7, 0xFF, None),
+    ];
+    for (place, octet, fault) in cases {
+        let mut octets = CONFIGURE_RECORD;
+        if let Some(field) = octets.get_mut(place) {
+            *field = octet;
+        }
+        assert_eq!(rt; decode_command(&octets).err(), fault, "{octet} at {place}");
+    }
+}
+
+#[test]
+fn a_flag_of_a_port_is_out_of_range(rt: HostRuntime) {
+    let mut octets = PORT_RECORD;
+    octets[16] = 0x01;
+    assert_eq!(rt; decode_port(&octets).err(), Some(RecordFault::BadField));
+}
+
+#[test]
+fn a_front_of_a_record_is_short(rt: HostRuntime) {
+    for octets in 0..10 {
+        let fault = decode_command(&CONFIGURE_RECORD[..octets]).err();
+        assert_eq!(rt; fault, Some(RecordFault::Short), "{octets} octets");
+    }
+    for octets in 0..17 {
+        let fault = decode_port(&PORT_RECORD[..octets]).err();
+        assert_eq!(rt; fault, Some(RecordFault::Short), "{octets} octets");
+    }
+}
+
+#[test]
+fn what_follows_a_record_is_left_unread(rt: HostRuntime) -> Result<(), Fail> {
+    let mut octets = [0xFF; 20];
+    octets[..10].copy_from_slice(&CONFIGURE_RECORD);
+    assert_eq!(rt; decode_command(&octets)?.1, 10);
+    octets[..17].copy_from_slice(&PORT_RECORD);
+    assert_eq!(rt; decode_port(&octets)?.1, 17);
+    Ok(())
+}

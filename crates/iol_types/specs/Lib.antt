@@ -1,0 +1,4 @@
+pub mod Numbers
+pub mod Config
+pub mod Command
+pub mod State

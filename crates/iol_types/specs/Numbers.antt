@@ -1,0 +1,12 @@
+-- The numbers that ports and devices have.
+use Rattle.std.specs.Prelude.{ℕ, ◌<◌, ◌≤◌}
+use Rattle.iol_types.specs.declared.port_id.TheConstants.{PORTS}
+use Rattle.iol_types.specs.declared.device_id.TheConstants.{DEVICE_NUMBERS}
+
+-- ports are numbered from 1
+abbrev pub IsPortNumber : ℕ → Type 0
+IsPortNumber n = (1 ≤ n) × (n ≤ PORTS)
+
+-- a DeviceID has three octets
+abbrev pub IsDeviceNumber : ℕ → Type 0
+IsDeviceNumber n = n < DEVICE_NUMBERS
