@@ -1,0 +1,4 @@
+pub mod Service
+pub mod Isdu
+pub mod Faults
+pub mod Reading

@@ -1,0 +1,106 @@
+//! A link with given answers.
+
+ghost use Rattle.std.specs.Prelude.{◌≡◌, ◌≤◌, [], length, map, IfOk};
+
+use crate::link::{DeviceLink, Lost, PAGE_OCTETS};
+use arrayvec::ArrayVec;
+use iol_isdu::ISDU_OCTETS;
+use std::alloc::{AllocError, Global};
+use std::marker::Model;
+
+/// A link that answers exchanges by given octets, in order, and is then `Lost` at each call. It has
+/// no page and no event. A request of more than 238 octets, which is no ISDU, is `Lost` too.
+#[derive(Debug, Drop)]
+pub struct ScriptLink {
+    answers: Vec<ArrayVec<u8, ISDU_OCTETS>>,
+    requests: Vec<ArrayVec<u8, ISDU_OCTETS>>,
+    connection: u64,
+}
+
+impl Model for ScriptLink {
+    ghost use Rattle.std.specs.Prelude.{◌≤◌, map, drop, vec_len, vec_capacity};
+    ghost use Rattle.iol_sim.specs.Script.{Script};
+
+    ghost Value = { Script };
+
+    ghost view = { λ s. record {
+      left = map (λ octets. octets.items) (drop (vec_len s.requests) s.answers.items);
+      requests = map (λ octets. octets.items) s.requests.items;
+      connection = s.connection;
+    } };
+
+    ghost invariant = { λ s. (vec_len s.requests ≤ vec_len s.answers)
+        × (vec_len s.answers ≤ vec_capacity s.requests) };
+}
+
+impl ScriptLink {
+    ghost use Rattle.iol_sim.specs.Script.{lost};
+
+    /// A link with these answers, on connection 0. Room for the requests that it will answer is
+    /// made here.
+    pub fn new(alloc: Global, answers: Vec<ArrayVec<u8, ISDU_OCTETS>>) -> Result<Self, AllocError>
+        ensures { let left = map (λ octets. octets.items) answers.items in
+            IfOk result (λ link. link ≡ record { left = left; requests = []; connection = 0 }) }
+    {
+        let requests = Vec::with_capacity(alloc, answers.len())?;
+        Ok(ScriptLink {
+            answers,
+            requests,
+            connection: 0,
+        })
+    }
+
+    /// The requests that were answered, in order.
+    pub fn requests(&self) -> &[ArrayVec<u8, ISDU_OCTETS>]
+        ensures { map (λ octets. octets.items) result.now ≡ self.now.requests }
+    {
+        self.requests.as_slice()
+    }
+
+    fn lose(&mut self) -> Lost
+        ensures { self.new ≡ lost self.old }
+    {
+        self.connection = self.connection.saturating_add(1);
+        Lost
+    }
+}
+
+impl DeviceLink for ScriptLink {
+    ghost use Rattle.iol_sim.specs.Script.{ScriptStep};
+
+    ghost number = { λ script. script.connection };
+
+    ghost steps = { ScriptStep };
+
+    fn connection(&self) -> u64 {
+        self.connection
+    }
+
+    fn take_event(&mut self) -> Option<u16> {
+        None
+    }
+
+    fn read_page(&mut self) -> Result<[u8; PAGE_OCTETS], Lost> {
+        Err(self.lose())
+    }
+
+    fn exchange(&mut self, request: &[u8]) -> Result<ArrayVec<u8, ISDU_OCTETS>, Lost> {
+        match self.answers.get(self.requests.len()) {
+            Some(answer) if request.len() <= ISDU_OCTETS && self.connection < u64::MAX => {
+                let answer = copied(answer.as_slice());
+                self.requests.push_reserved(copied(request));
+                Ok(answer)
+            }
+            _ => Err(self.lose()),
+        }
+    }
+}
+
+fn copied(octets: &[u8]) -> ArrayVec<u8, ISDU_OCTETS>
+    requires { length octets.now ≤ ISDU_OCTETS }
+    ensures { result.items ≡ octets.now }
+{
+    let mut same = ArrayVec::new();
+    same.try_extend_from_slice(octets).unwrap();
+    same
+}

@@ -1,0 +1,59 @@
+use crate::{DeviceLink, Lost, ScriptLink, a_script_answers_in_order, runs_join};
+use arrayvec::ArrayVec;
+use iol_isdu::{Answer, ISDU_OCTETS, Request, write_answer, write_request};
+use std::test::Fail;
+
+const WRITE_DONE: [u8; 2] = [0x52, 0x52];
+
+fn ask<L: DeviceLink>(
+    link: &mut L,
+    request: &[u8],
+) -> (u64, Result<ArrayVec<u8, ISDU_OCTETS>, Lost>) {
+    let answer = link.exchange(request);
+    (link.connection(), answer)
+}
+
+#[test]
+fn one_answer_is_given_once_then_the_device_is_lost(rt: HostRuntime) -> Result<(), Fail> {
+    let done = write_answer(&Answer::WriteOk);
+    assert_eq!(rt; done.as_slice(), WRITE_DONE.as_slice());
+    let mut answers = Vec::new(rt.alloc());
+    answers.push(done)?;
+    let mut link = ScriptLink::new(rt.alloc(), answers)?;
+    let first = link.connection();
+    let request = write_request(&Request::Read {
+        index: 0x10,
+        subindex: 0,
+    });
+
+    let (connection, answer) = ask(&mut link, request.as_slice());
+    assert_eq!(rt;
+        answer.ok().as_ref().map(|octets| octets.as_slice()),
+        Some(WRITE_DONE.as_slice())
+    );
+    assert_eq!(rt; connection, first);
+
+    for lost in 1..=3 {
+        let (connection, answer) = ask(&mut link, &[0x93, 0xFF, 0x6C]);
+        assert_eq!(rt; answer, Err(Lost));
+        assert_eq!(rt; connection - first, lost);
+    }
+    assert_eq!(rt; link.requests().len(), 1);
+    assert_eq!(rt;
+        link.requests()[0].as_slice(),
+        [0x93, 0x10, 0x83].as_slice()
+    );
+    Ok(())
+}
+
+#[test]
+fn a_script_has_no_event_and_no_page(rt: HostRuntime) -> Result<(), Fail> {
+    let mut link = ScriptLink::new(rt.alloc(), Vec::new(rt.alloc()))?;
+    assert_eq!(rt; link.take_event(), None);
+    assert_eq!(rt; link.connection(), 0);
+    assert_eq!(rt; link.read_page(), Err(Lost));
+    assert_eq!(rt; link.connection(), 1);
+    runs_join::<ScriptLink>();
+    a_script_answers_in_order();
+    Ok(())
+}
