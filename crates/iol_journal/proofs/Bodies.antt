@@ -1,0 +1,101 @@
+-- The body of a slot, written and read.
+use Rattle.std.proofs.Common.{◌≡◌, ◌≤◌, ◌<◌, ℕ, zero, suc, ◌+◌, ◌*◌, ◌-◌, ◌^◌, ◌==◌, nat_le, Bool, true, ◌&&◌, if◌then◌else◌, List, [], ◌∷◌, ◌++◌, length, take, drop, get_or, slice_range, Option, Some, None, Ok, refl, sym, ◌∙◌, ap, subst, arith, append_assoc, append-nil, add-zero, zero-add, length-append}
+use Rattle.std.proofs.lemmas.Bool.Decides.{nat_tests}
+use Rattle.std.proofs.lemmas.List.{take-append-drop, drop-drop, take_more, map-append}
+use Rattle.std.proofs.Math.ListN.{drop_of_length-le}
+use Rattle.std.proofs.Math.Seq.{take-append_seam, drop-append_seam}
+use Rattle.std.specs.Int.{w16, w32, w64}
+use Rattle.iol_types.specs.Command.{CommandValue, value_of}
+use Rattle.iol_types.specs.declared.command.Command.{Command}
+use Rattle.iol_record.specs.Record.{IsCommandRecord}
+use Rattle.iol_record.specs.Reading.{command_at}
+use Rattle.iol_record.proofs.Records.{command_at-record}
+use Rattle.iol_disk.specs.Content.{Image}
+use Rattle.iol_journal.specs.Octets.{number_at, octets_at}
+use Rattle.iol_journal.specs.Journals.{values}
+use Rattle.iol_journal.specs.Body.{first_then, commands_of, fits, head_of, batch_of}
+use Rattle.iol_journal.specs.Calls.{sector_of}
+use Rattle.iol_journal.specs.declared.body.Head.{Head}
+use Rattle.iol_journal.specs.declared.header.TheConstants.{LAST_NUMBER}
+use Rattle.iol_journal.specs.declared.batch.TheConstants.{MOST_COMMANDS, MOST_RECORD_OCTETS, BODY_HEAD_OCTETS}
+use Rattle.iol_journal.proofs.Sectors.{octets_at-add}
+
+-- in front of the records of other commands, these octets are read as these commands
+pub record Encodes (octets : List ℕ) (commands : List CommandValue) : Type 0 where
+  pub reads : (n : ℕ) (rest : List ℕ) (others : List CommandValue) → commands_of n rest ≡ Some others
+      → commands_of (length commands + n) (octets ++ rest) ≡ Some (commands ++ others)
+
+pub encodes-none : Encodes [] []
+encodes-none = record { reads = λ n rest others is. rw zero-add is }
+
+pub encodes-more : (octets front : List ℕ) (commands : List CommandValue) (command : CommandValue) → Encodes octets commands → IsCommandRecord front command
+    → Encodes (octets ++ front) (commands ++ command ∷ [])
+encodes-more octets front commands command encodes is = record { reads = λ n rest others read. go n rest others read }
+  where
+    first : (n : ℕ) (rest : List ℕ) (others : List CommandValue) → commands_of n rest ≡ Some others → commands_of (suc n) (front ++ rest) ≡ Some (command ∷ others)
+    first n rest others read = rw (command_at-record front rest command is, read) refl
+
+    go : (n : ℕ) (rest : List ℕ) (others : List CommandValue) → commands_of n rest ≡ Some others
+        → commands_of (length (commands ++ command ∷ []) + n) ((octets ++ front) ++ rest) ≡ Some ((commands ++ command ∷ []) ++ others)
+    go n rest others read =
+        let count : length (commands ++ command ∷ []) + n ≡ length commands + suc n = omega (arith, length-append commands (command ∷ [])) in
+        let whole = encodes.reads (suc n) (front ++ rest) (command ∷ others) (first n rest others read) in
+        rw (count, append_assoc octets front rest, append_assoc commands (command ∷ []) others) whole
+
+pub encodes-all : (octets : List ℕ) (commands : List CommandValue) → Encodes octets commands → commands_of (length commands) octets ≡ Some commands
+encodes-all octets commands encodes =
+    ap (λ (o : List ℕ). commands_of (length commands) o) (sym (append-nil octets))
+    ∙ ap (λ (n : ℕ). commands_of n (octets ++ [])) (sym (add-zero (length commands)))
+    ∙ encodes.reads 0 [] [] refl
+    ∙ ap Some (append-nil commands)
+
+behind : (image : Image) (body : List ℕ) (first k n : ℕ) → ((j : ℕ) → k ≤ j → j < k + n → image (first + j) ≡ sector_of body j) → length body ≡ 512 * (k + n)
+    → octets_at image (first + k) n ≡ drop (512 * k) body
+unfolding octets_at
+behind image body first k zero written whole = sym (drop_of_length-le body (omega arith))
+behind image body first k (suc n) written whole =
+    let here : image (first + k) ≡ sector_of body k = written k (omega arith) (omega arith) in
+    let place : first + k + 1 ≡ first + (k + 1) = omega arith in
+    let there : octets_at image (first + (k + 1)) n ≡ drop (512 * (k + 1)) body = behind image body first (k + 1) n (λ j above below. written j (omega arith) (omega arith)) (omega arith) in
+    let width : 512 * (k + 1) - 512 * k ≡ 512 = omega arith in
+    let next : 512 * (k + 1) ≡ 512 * k + 512 = omega arith in
+    rw (place, here, there, width, next, ← drop-drop) (take-append-drop 512 (drop (512 * k) body))
+
+-- a body that lies sector by sector in an image is read as it is
+pub octets_at-body : (image : Image) (body : List ℕ) (first n : ℕ) → ((j : ℕ) → j < n → image (first + j) ≡ sector_of body j) → length body ≡ 512 * n
+    → octets_at image first n ≡ body
+octets_at-body image body first n written whole =
+    ap (λ (place : ℕ). octets_at image place n) (sym (add-zero first)) ∙ behind image body first 0 n (λ j above below. written j (omega arith)) (omega arith)
+
+-- whatever stands in the sectors behind it
+pub octets_at-in_slot : (image : Image) (body : List ℕ) (first n m : ℕ) → ((j : ℕ) → j < n → image (first + j) ≡ sector_of body j) → length body ≡ 512 * n → n ≤ m
+    → (rest : List ℕ) × (octets_at image first m ≡ body ++ rest)
+octets_at-in_slot image body first n m written whole le =
+    let split : m ≡ n + (m - n) = omega arith in (
+      octets_at image (first + n) (m - n),
+      ap (λ (count : ℕ). octets_at image first count) split ∙ octets_at-add image first n (m - n)
+          ∙ ap (λ (octets : List ℕ). octets ++ octets_at image (first + n) (m - n)) (octets_at-body image body first n written whole),
+    )
+
+-- a body is read as its commands, whatever follows the records
+pub batch_of-body : (head records rest : List ℕ) (commands : List CommandValue) (epoch first : ℕ) → length head ≡ BODY_HEAD_OCTETS
+    → ((r : List ℕ) → number_at w64 0 (head ++ r) ≡ epoch) → ((r : List ℕ) → number_at w64 8 (head ++ r) ≡ first)
+    → ((r : List ℕ) → number_at w16 16 (head ++ r) ≡ length commands) → ((r : List ℕ) → number_at w32 18 (head ++ r) ≡ length records)
+    → 1 ≤ length commands → length commands ≤ MOST_COMMANDS → length records ≤ MOST_RECORD_OCTETS → first + length commands ≤ LAST_NUMBER + 1
+    → commands_of (length commands) records ≡ Some commands → batch_of epoch first (head ++ (records ++ rest)) ≡ Some commands
+unfolding batch_of head_of
+batch_of-body head records rest commands epoch first whole epoch_at first_at count_at octets_at_ some most short last is =
+    let fit : fits (record { epoch = epoch; first = first; count = length commands; octets = length records }) epoch first ≡ true =
+    fits-true epoch first (length commands) (length records) some most short last in
+    let front : drop BODY_HEAD_OCTETS (head ++ (records ++ rest)) ≡ records ++ rest = rw (← whole) (drop-append_seam head (records ++ rest)) in
+    rw (epoch_at (records ++ rest), first_at (records ++ rest), count_at (records ++ rest), octets_at_ (records ++ rest), fit, front, take-append_seam records rest) is
+  where
+    fits-true : (epoch first count octets : ℕ) → 1 ≤ count → count ≤ MOST_COMMANDS → octets ≤ MOST_RECORD_OCTETS → first + count ≤ LAST_NUMBER + 1
+        → fits (record { epoch = epoch; first = first; count = count; octets = octets }) epoch first ≡ true
+    fits-true epoch first count octets some most short last = grind (arith, nat_tests)
+
+-- one command more of a list of commands
+pub values-more : (commands : List Command) (i : ℕ) (command : Command) → i < length commands → command ≡ get_or commands i command
+    → values (take (i + 1) commands) ≡ values (take i commands) ++ value_of command ∷ []
+values-more commands i command below is =
+    ap values (take_more commands i command below ∙ ap (λ (c : Command). take i commands ++ c ∷ []) (sym is)) ∙ map-append value_of (take i commands) (command ∷ [])

@@ -1,0 +1,18 @@
+-- A disk that calls left the same.
+use Rattle.std.proofs.Common.{◌≡◌, IsTrue, sym, ◌∙◌, ap, subst, arith}
+use Rattle.iol_disk.specs.Content.{reads}
+use Rattle.iol_disk.specs.Disk.{Disk, Same}
+
+pub same-honest : (old new : Disk) → Same old new → IsTrue old.honest → IsTrue new.honest
+same-honest old new same h = subst IsTrue (sym same.honest) h
+
+pub same-reads : (old new : Disk) → Same old new → IsTrue old.honest → reads new.content ≡ reads old.content
+same-reads old new same h = ap reads (same.content h)
+
+pub same-then : (old mid new : Disk) → Same old mid → Same mid new → Same old new
+same-then old mid new first second = record {
+  sectors = second.sectors ∙ first.sectors;
+  honest = second.honest ∙ first.honest;
+  failures = omega (arith, first.failures, second.failures);
+  content = λ h. second.content (same-honest old mid first h) ∙ first.content h;
+}

@@ -1,0 +1,78 @@
+-- What is read after a sync, and what the parts that were read say of the journal.
+use Rattle.std.proofs.Common.{◌≡◌, inl, inr, ⊎_elim, ℕ, IsTrue, Result, Ok, Err, refl, sym, ◌∙◌, ap, subst, arith}
+use Rattle.iol_types.specs.State.{State}
+use Rattle.iol_disk.specs.Content.{Image, Content, IsImage, reads, synced}
+use Rattle.iol_disk.specs.Disk.{Disk, After, Same}
+use Rattle.iol_disk.proofs.Images.{image-synced}
+use Rattle.iol_journal.specs.Geometry.{Geometry}
+use Rattle.iol_journal.specs.Meaning.{Cause, unformatted, damaged, geometry_in, in_use_in, ports_from, Log, log_from, standing_in}
+use Rattle.iol_journal.specs.Reading.{IsCause}
+use Rattle.iol_journal.specs.declared.opening.InUse.{InUse}
+use Rattle.iol_journal.specs.declared.cause.RecoverCause.{RecoverCause}
+use Rattle.iol_journal.specs.declared.cause.RecoverCause.TheVariants as cause
+
+pub synced-honest : (old new : Disk) → After synced old new → IsTrue old.honest → IsTrue new.honest
+synced-honest old new after h = subst IsTrue (sym after.honest) h
+
+-- reads after a sync change nothing
+pub synced-then : (old mid new : Disk) → After synced old mid → Same mid new → After synced old new
+synced-then old mid new after same = record {
+  sectors = same.sectors ∙ after.sectors;
+  honest = same.honest ∙ after.honest;
+  failures = omega (arith, after.failures, same.failures);
+  content = λ h. same.content (synced-honest old mid after h) ∙ after.content h;
+}
+
+pub synced-reads : (old new : Disk) → After synced old new → IsTrue old.honest → reads new.content ≡ reads old.content
+synced-reads old new after h = ap reads (after.content h)
+
+pub synced-only : (old new : Disk) → After synced old new → IsTrue old.honest → (image : Image) → IsImage new.content image → image ≡ reads old.content
+synced-only old new after h image is = image-synced old.content image (subst (λ (c : Content). IsImage c image) (after.content h) is)
+
+-- what is found after a sync is what the disk read as before it
+pub found_after : {Y : Type 0} (old new : Disk) (read : Image → Result Y Cause) (y : Y) → After synced old new
+    → (IsTrue new.honest → read (reads new.content) ≡ Ok y) → IsTrue old.honest → read (reads old.content) ≡ Ok y
+found_after old new read y after is h = ap read (sym (synced-reads old new after h)) ∙ is (synced-honest old new after h)
+
+pub geometry_after : (old new : Disk) (g : Geometry) → After synced old new
+    → (IsTrue new.honest → geometry_in new.sectors (reads new.content) ≡ Ok g) → IsTrue old.honest → geometry_in old.sectors (reads old.content) ≡ Ok g
+geometry_after old new g after is h =
+    ap (λ (n : ℕ). geometry_in n (reads old.content)) (sym after.sectors) ∙ found_after old new (geometry_in new.sectors) g after is h
+
+-- a cause that is met in a part after a sync is met in the whole
+pub cause_after : {Y Z : Type 0} (old mid new : Disk) (part : Image → Result Y Cause) (whole : Image → Result Z Cause) (told : RecoverCause)
+    → After synced old mid
+    → (IsTrue old.honest → (met : Cause) → part (reads old.content) ≡ Err met → whole (reads old.content) ≡ Err met)
+    → IsCause mid new part told → IsCause old new whole told
+cause_after old mid new part whole (cause.Disk fault) after carries is = ⊎_elim (λ rose. inl (omega (arith, rose, after.failures))) (λ most. inr most) is
+cause_after old mid new part whole cause.NotFormatted after carries is =
+    λ h. carries h unformatted (ap part (sym (synced-reads old mid after h)) ∙ is (synced-honest old mid after h))
+cause_after old mid new part whole (cause.Damaged sector) after carries is =
+    λ h. carries h (damaged sector) (ap part (sym (synced-reads old mid after h)) ∙ is (synced-honest old mid after h))
+cause_after old mid new part whole cause.Memory after carries is = tt
+
+-- the parts of a journal on an image, as far as each was read
+pub no_geometry : (sectors : ℕ) (image : Image) (met : Cause) → geometry_in sectors image ≡ Err met → standing_in sectors image ≡ Err met
+unfolding standing_in
+no_geometry sectors image met is = rw is refl
+
+pub no_area : (sectors : ℕ) (image : Image) (g : Geometry) (met : Cause) → geometry_in sectors image ≡ Ok g → in_use_in g image ≡ Err met → standing_in sectors image ≡ Err met
+unfolding standing_in
+no_area sectors image g met geometry is = rw (geometry, is) refl
+
+pub no_ports : (sectors : ℕ) (image : Image) (g : Geometry) (used : InUse) (met : Cause) → geometry_in sectors image ≡ Ok g → in_use_in g image ≡ Ok used
+    → ports_from g used.area image 0 g.ports ≡ Err met → standing_in sectors image ≡ Err met
+unfolding standing_in
+no_ports sectors image g used met geometry area is = rw (geometry, area, is) refl
+
+pub no_log : (sectors : ℕ) (image : Image) (g : Geometry) (used : InUse) (ports : State) (met : Cause) → geometry_in sectors image ≡ Ok g → in_use_in g image ≡ Ok used
+    → ports_from g used.area image 0 g.ports ≡ Ok ports → log_from g used.area used.header.epoch image 0 g.slots used.header.base ports ≡ Err met
+    → standing_in sectors image ≡ Err met
+unfolding standing_in
+no_log sectors image g used ports met geometry area state is = rw (geometry, area, state, is) refl
+
+pub stands : (sectors : ℕ) (image : Image) (g : Geometry) (used : InUse) (ports : State) (log : Log) → geometry_in sectors image ≡ Ok g → in_use_in g image ≡ Ok used
+    → ports_from g used.area image 0 g.ports ≡ Ok ports → log_from g used.area used.header.epoch image 0 g.slots used.header.base ports ≡ Ok log
+    → standing_in sectors image ≡ Ok (record { geometry = g; area = used.area; epoch = used.header.epoch; used = log.used; number = log.number; state = log.state })
+unfolding standing_in
+stands sectors image g used ports log geometry area state is = rw (geometry, area, state, is) refl

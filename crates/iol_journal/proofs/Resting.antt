@@ -1,0 +1,46 @@
+-- A recovery leaves a journal on a kept image at rest.
+use Rattle.std.proofs.Common.{◌≡◌, ℕ, nat_lt, Bool, true, false, if◌then◌else◌, IsTrue, Result, Ok, refl, sym, ◌∙◌, subst, arith}
+use Rattle.std.proofs.lemmas.Bool.Decides.{nat_tests}
+use Rattle.iol_disk.specs.Content.{Image, IsImage, reads}
+use Rattle.iol_disk.specs.Disk.{Disk}
+use Rattle.iol_journal.specs.Layout.{other, header_at}
+use Rattle.iol_journal.specs.Header.{header_of}
+use Rattle.iol_journal.specs.Meaning.{Cause, Standing, standing_in}
+use Rattle.iol_journal.specs.Kept.{IsIdle, IsKept, IsKeptAs}
+use Rattle.iol_journal.specs.Recoveries.{idle_in}
+use Rattle.iol_journal.specs.Underway.{IsAtRest}
+use Rattle.iol_journal.specs.declared.place.Idle.{Idle}
+use Rattle.iol_journal.specs.declared.place.Idle.TheVariants.{Older, Closed}
+
+same_standing : (s t : Standing) → ◌≡◌ {A = Result Standing Cause} (Ok s) (Ok t) → s ≡ t
+same_standing s t is = cc
+
+-- however the other area is harmless, it is so as its header says
+idle_by_header : (s : Standing) (idle : Idle) (image : Image) → IsIdle s idle image → IsIdle s (idle_in s image) image
+idle_by_header s idle image is = by_test (nat_lt (header_of (image (header_at s.geometry (other s.area)))).epoch s.epoch) refl idle is
+  where
+    by_test : (older : Bool) → nat_lt (header_of (image (header_at s.geometry (other s.area)))).epoch s.epoch ≡ older
+        → (idle : Idle) → IsIdle s idle image → IsIdle s (if older then Older else Closed) image
+    by_test true test idle is = grind (arith, nat_tests)
+    by_test false test Older is = absurd (grind (arith, nat_tests))
+    by_test false test Closed is = is
+
+-- a kept image is kept as the journal stands on it
+kept_as_found : (sectors : ℕ) (s : Standing) (image : Image) → IsKept sectors image → standing_in sectors image ≡ Ok s → IsKeptAs sectors s (idle_in s image) image
+unfolding IsKept
+kept_as_found sectors s image kept stands =
+    let same = same_standing kept.0 s (sym kept.2.stands ∙ stands) in
+    let kept_so = subst (λ (t : Standing). IsKeptAs sectors t kept.1 image) same kept.2 in
+    record { stands = stands; rest = kept_so.rest; other_area = idle_by_header s kept.1 image kept_so.other_area }
+
+pub at_rest_after : (old new : Disk) (s : Standing) (idle : Idle) → new.sectors ≡ old.sectors → new.honest ≡ old.honest
+    → (IsTrue old.honest → standing_in old.sectors (reads old.content) ≡ Ok s)
+    → (IsTrue old.honest → idle ≡ idle_in s (reads old.content))
+    → (IsTrue old.honest → (image : Image) → IsImage new.content image → image ≡ reads old.content)
+    → (IsTrue old.honest → IsKept old.sectors (reads old.content)) → IsAtRest new s idle
+at_rest_after old new s idle sectors honest stands harmless only kept = λ h image is.
+    let h' = subst IsTrue honest h in
+    let found = kept_as_found old.sectors s (reads old.content) (kept h') (stands h') in
+    let so = subst (λ (how : Idle). IsKeptAs old.sectors s how (reads old.content)) (sym (harmless h')) found in
+    let here = subst (λ (at : Image). IsKeptAs old.sectors s idle at) (sym (only h' image is)) so in
+    subst (λ (n : ℕ). IsKeptAs n s idle image) (sym sectors) here

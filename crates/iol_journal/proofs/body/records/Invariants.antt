@@ -1,0 +1,10 @@
+use Rattle.std.proofs.Common.{◌≤◌, ◌*◌, length, take}
+use Rattle.iol_journal.specs.Journals.{values}
+use Rattle.iol_journal.proofs.Bodies.{Encodes}
+use Rattle.iol_journal.proofs.body.records.Given as goal
+
+abbrev pub invariant-loop-command : goal.invariant-loop-command
+invariant-loop-command l = record {
+  short : length l.octets.items ≤ 10 * l.command-index;
+  encodes : Encodes l.octets.items (values (take l.command-index l.commands));
+}

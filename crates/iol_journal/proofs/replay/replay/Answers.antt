@@ -1,0 +1,28 @@
+use Rattle.std.proofs.Common.{◌≡◌, ◌+◌, ◌-◌, None, is_none, false, arith, rules, refl, sym, ◌∙◌}
+use Rattle.std.proofs.lemmas.Grind.{common_steps}
+use Rattle.std.proofs.lemmas.List.{take_rest}
+use Rattle.iol_types.specs.Command.{value_of}
+use Rattle.iol_types.specs.State.{check}
+use Rattle.iol_journal.proofs.Replays.{replay-unread, replay-refused, replay-passed, replay-ended}
+use Rattle.iol_journal.proofs.replay.replay.Goals as goal
+
+pub returns-in_default : goal.returns-in_default
+returns-in_default c = λ number.
+    let left = c.args.count - (c.loop.counter + 1) in
+    sym (c.loop.invariant number (left + 1) (omega arith)) ∙ replay-unread _ left _ _ _ c.in_default.ensures.exact
+
+pub returns-then-is_err : goal.returns-then-is_err
+returns-then-is_err c = λ number.
+    let left = c.args.count - (c.loop.counter + 1) in
+    let refused : is_none (check c.loop.state (value_of c.in-Ok.command)) ≡ false = grind (arith, common_steps) in
+    sym (c.loop.invariant number (left + 1) (omega arith)) ∙ replay-refused _ left _ _ _ _ c.in-Ok.ensures.exact refused
+
+pub loop-preserved : goal.loop-preserved
+loop-preserved c = λ number left is.
+    let passed : check c.loop.state (value_of c.in-Ok.command) ≡ None = search rules in
+    rw (take_rest, c.apply.ensures) (replay-passed number c.loop.counter left _ _ _ _ _ c.in-Ok.ensures.exact passed (c.loop.invariant number (left + 1) (omega arith)))
+
+pub returns : goal.returns
+returns c = λ number.
+    let done : c.loop.counter ≡ c.args.count = omega arith in
+    sym (c.loop.invariant number 0 (omega arith)) ∙ rw (← done) (replay-ended (number + c.loop.counter) 0 _ _ c.is_empty.result refl c.is_empty.ensures)

@@ -1,0 +1,16 @@
+use Rattle.std.proofs.Common.{◌≡◌, ◌≤◌, ◌+◌, ℕ, IsTrue}
+use Rattle.iol_disk.specs.Content.{reads}
+use Rattle.iol_disk.specs.Disk.{Same}
+use Rattle.iol_journal.specs.Meaning.{log_from}
+use Rattle.iol_journal.specs.declared.header.TheConstants.{LAST_NUMBER}
+use Rattle.iol_journal.proofs.replay.replay_slots.Given as goal
+
+abbrev pub invariant-loop-used : goal.invariant-loop-used
+invariant-loop-used g l = record {
+  same : Same (g.D.SectorDisk.disk l.fn.disk) (g.D.SectorDisk.disk l.disk);
+  later : l.fn.header.base + l.used ≤ l.number;
+  bound : l.number ≤ LAST_NUMBER;
+  read : IsTrue (g.D.SectorDisk.disk l.fn.disk).honest → (left : ℕ) → left + l.used ≡ l.fn.geometry.slots
+      → log_from l.fn.geometry l.fn.area l.fn.header.epoch (reads (g.D.SectorDisk.disk l.fn.disk).content) l.used left l.number l.state
+      ≡ log_from l.fn.geometry l.fn.area l.fn.header.epoch (reads (g.D.SectorDisk.disk l.fn.disk).content) 0 l.fn.geometry.slots l.fn.header.base l.fn.state;
+}

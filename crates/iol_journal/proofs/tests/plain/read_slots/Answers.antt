@@ -1,0 +1,70 @@
+use Rattle.std.proofs.Common.{◌≡◌, ◌+◌, ◌-◌, ℕ, List, true, false, ap, ◌∙◌, sym, arith}
+use Rattle.iol_journal.specs.Layout.{slot_at, body_at}
+use Rattle.iol_journal.specs.Body.{batch_of}
+use Rattle.iol_journal.specs.Replays.{reached}
+use Rattle.iol_journal.specs.Meaning.{log_from}
+use Rattle.iol_journal.specs.Plain.{image_of}
+use Rattle.iol_journal.proofs.SlotLogs.{log-open, log-damaged, log-closed}
+use Rattle.iol_journal.proofs.Plainly.{gate_at_place, body_at_place, whole_body, ok_log}
+use Rattle.iol_journal.proofs.tests.plain.read_slots.Goals as goal
+
+pub loop-place-init : goal.loop-place-init
+loop-place-init c = record {
+  bound = c.requires.base;
+  read = λ left is.
+      let all : left ≡ c.args.geometry.slots = omega arith in
+      ap (λ (n : ℕ). log_from c.args.geometry c.args.used.area c.args.used.header.epoch (image_of c.args.image.now) 0 n c.args.used.header.base c.args.state.now) all;
+}
+
+pub loop-place-preserved : goal.loop-place-preserved
+loop-place-preserved c =
+    let g = c.args.geometry in
+    let a = c.args.used.area in
+    let epoch = c.args.used.header.epoch in
+    let image = image_of c.args.image.now in
+    let opened = gate_at_place image (slot_at g a c.loop-place.place) c.slot-slot.result.gate c.gate_is_open.result true
+    c.slot-slot.ensures.gate c.gate_is_open.ensures c.if-not-gate_is_open.false in
+    let body = body_at_place image (body_at g a c.loop-place.place 0) c.slot-slot.result.body c.in_ok-body.body.items
+    c.slot-slot.ensures.body c.in_ok-body.ensures.octets in
+    let leads = (rw c.deref.ensures.value at c.in-Some.ensures.reached) (whole_body c.in_ok-body.body.items c.in_ok-body.ensures.size) in
+    record {
+      bound = omega (arith, c.in-Some.ensures.later);
+      read = λ left is.
+          sym (log-open g a epoch image c.loop-place.place left c.loop-place.number c.loop-place.state _ opened
+          (ap (λ (octets : List ℕ). reached c.loop-place.number c.loop-place.state (batch_of epoch (c.loop-place.number + 1) octets)) body ∙ leads))
+          ∙ c.loop-place.invariant.read (left + 1) (omega arith);
+    }
+
+pub returns-then-not-gate_is_open : goal.returns-then-not-gate_is_open
+returns-then-not-gate_is_open c =
+    let g = c.args.geometry in
+    let a = c.args.used.area in
+    let image = image_of c.args.image.now in
+    let left = g.slots - (c.loop-place.place + 1) in
+    let closed = gate_at_place image (slot_at g a c.loop-place.place) c.slot-slot.result.gate c.gate_is_open.result false
+    c.slot-slot.ensures.gate c.gate_is_open.ensures c.if-not-gate_is_open.true in
+    sym (c.loop-place.invariant.read (left + 1) (omega arith))
+    ∙ log-closed g a c.args.used.header.epoch image c.loop-place.place left c.loop-place.number c.loop-place.state closed
+
+pub returns-in-None : goal.returns-in-None
+returns-in-None c =
+    let g = c.args.geometry in
+    let a = c.args.used.area in
+    let epoch = c.args.used.header.epoch in
+    let image = image_of c.args.image.now in
+    let left = g.slots - (c.loop-place.place + 1) in
+    let opened = gate_at_place image (slot_at g a c.loop-place.place) c.slot-slot.result.gate c.gate_is_open.result true
+    c.slot-slot.ensures.gate c.gate_is_open.ensures c.if-not-gate_is_open.false in
+    let body = body_at_place image (body_at g a c.loop-place.place 0) c.slot-slot.result.body c.in_ok-body.body.items
+    c.slot-slot.ensures.body c.in_ok-body.ensures.octets in
+    let leads = (rw c.deref.ensures.value at c.in-None.ensures.reached) (whole_body c.in_ok-body.body.items c.in_ok-body.ensures.size) in
+    rw c.slot-slot.ensures.body
+    (sym (c.loop-place.invariant.read (left + 1) (omega arith))
+    ∙ log-damaged g a epoch image c.loop-place.place left c.loop-place.number c.loop-place.state opened
+    (ap (λ (octets : List ℕ). reached c.loop-place.number c.loop-place.state (batch_of epoch (c.loop-place.number + 1) octets)) body ∙ leads))
+
+pub returns : goal.returns
+returns c =
+    let used : c.loop-place.place ≡ c.slots.result = omega (arith, c.slots.ensures) in
+    let ended = sym (c.loop-place.invariant.read 0 (omega arith)) in
+    ended ∙ ap (λ (k : ℕ). ok_log (record { used = k; number = c.loop-place.number; state = c.loop-place.state })) used

@@ -1,0 +1,13 @@
+use Rattle.std.proofs.Common.{◌≡◌, ◌≤◌, ◌+◌, ℕ}
+use Rattle.iol_journal.specs.Meaning.{log_from}
+use Rattle.iol_journal.specs.Plain.{image_of}
+use Rattle.iol_journal.specs.declared.header.TheConstants.{LAST_NUMBER}
+use Rattle.iol_journal.proofs.tests.plain.read_slots.Given as goal
+
+abbrev pub invariant-loop-place : goal.invariant-loop-place
+invariant-loop-place l = record {
+  bound : l.number ≤ LAST_NUMBER;
+  read : (left : ℕ) → left + l.place ≡ l.fn.geometry.slots
+      → log_from l.fn.geometry l.fn.used.area l.fn.used.header.epoch (image_of l.fn.image) l.place left l.number l.state
+      ≡ log_from l.fn.geometry l.fn.used.area l.fn.used.header.epoch (image_of l.fn.image) 0 l.fn.geometry.slots l.fn.used.header.base l.fn.state;
+}

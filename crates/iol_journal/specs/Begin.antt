@@ -1,0 +1,27 @@
+-- Which batches a journal takes.
+use Rattle.std.specs.Prelude.{◌≡◌, ◌≤◌, ◌<◌, ◌+◌, ◌==◌, ℕ, nat_le, nat_lt, Bool, ◌&&◌, if◌then◌else◌, List, length, Option, Some, None}
+use Rattle.iol_types.specs.Command.{CommandValue}
+use Rattle.iol_types.specs.State.{legal}
+use Rattle.iol_journal.specs.Meaning.{Standing}
+use Rattle.iol_journal.specs.declared.batch.TheConstants.{MOST_COMMANDS}
+use Rattle.iol_journal.specs.declared.header.TheConstants.{LAST_NUMBER}
+use Rattle.iol_journal.specs.declared.journal.BeginCause.{BeginCause}
+use Rattle.iol_journal.specs.declared.journal.BeginCause.TheVariants.{TooLarge, NeedsCheckpoint, Memory, Misfit}
+
+-- the commands, the first with this number, go on where the journal stands
+abbrev pub follows : Standing → ℕ → List CommandValue → Bool
+follows s first commands =
+    nat_le 1 (length commands) && (first == s.number + 1) && nat_le (s.number + length commands) LAST_NUMBER && legal s.state commands
+
+-- why a batch is refused, but for memory; none where it is taken
+abbrev pub refusal : Standing → ℕ → List CommandValue → Option BeginCause
+refusal s first commands =
+    if nat_lt MOST_COMMANDS (length commands) then Some TooLarge
+    else if s.used == s.geometry.slots then Some NeedsCheckpoint
+    else if follows s first commands then None
+    else Some Misfit
+
+-- memory is asked for after the size of the batch and the free slot, and before what the commands say
+abbrev pub IsRefusal : Standing → ℕ → List CommandValue → BeginCause → Type 0
+IsRefusal s first commands Memory = (length commands ≤ MOST_COMMANDS) × (s.used < s.geometry.slots)
+IsRefusal s first commands cause = refusal s first commands ≡ Some cause

@@ -1,0 +1,45 @@
+-- The body of a slot: a head, and the records of a batch.
+use Rattle.std.specs.Prelude.{ℕ, zero, suc, ◌+◌, ◌==◌, nat_le, Bool, ◌&&◌, if◌then◌else◌, List, [], ◌∷◌, take, drop, Option, Some, None, Result, Ok, Err}
+use Rattle.std.specs.Int.{w16, w32, w64}
+use Rattle.iol_types.specs.Command.{CommandValue}
+use Rattle.iol_record.specs.Reading.{command_at}
+use Rattle.iol_record.specs.declared.fault.RecordFault.{RecordFault}
+use Rattle.iol_journal.specs.Octets.{number_at}
+use Rattle.iol_journal.specs.declared.body.Head.{Head}
+use Rattle.iol_journal.specs.declared.header.TheConstants.{LAST_NUMBER}
+use Rattle.iol_journal.specs.declared.batch.TheConstants.{MOST_COMMANDS, MOST_RECORD_OCTETS, BODY_HEAD_OCTETS}
+
+-- epoch 8, number of the first command 8, count 2, octets of the records 4
+unfoldable pub head_of : List ℕ → Head
+head_of body = record {
+  epoch = number_at w64 0 body;
+  first = number_at w64 8 body;
+  count = number_at w16 16 body;
+  octets = number_at w32 18 body;
+}
+
+-- a batch under this epoch, the first command of which has this number, may have the head
+abbrev pub fits : Head → ℕ → ℕ → Bool
+fits head epoch first =
+    (head.epoch == epoch) && (head.first == first) && nat_le 1 head.count && nat_le head.count MOST_COMMANDS
+    && nat_le head.octets MOST_RECORD_OCTETS && nat_le (first + head.count) (LAST_NUMBER + 1)
+
+abbrev pub before : CommandValue → Option (List CommandValue) → Option (List CommandValue)
+before command None = None
+before command (Some commands) = Some (command ∷ commands)
+
+abbrev pub first_then : Result (CommandValue × List ℕ) RecordFault → (List ℕ → Option (List CommandValue)) → Option (List CommandValue)
+first_then (Err fault) others = None
+first_then (Ok read) others = before read.0 (others read.1)
+
+-- so many commands whose records fill the octets exactly
+abbrev pub commands_of : ℕ → List ℕ → Option (List CommandValue)
+commands_of zero [] = Some []
+commands_of zero (octet ∷ octets) = None
+commands_of (suc n) octets = first_then (command_at octets) (λ rest. commands_of n rest)
+
+-- the commands of a slot's body, under this epoch, the first with this number
+unfoldable pub batch_of : ℕ → ℕ → List ℕ → Option (List CommandValue)
+batch_of epoch first body =
+    let head = head_of body in
+    if fits head epoch first then commands_of head.count (take head.octets (drop BODY_HEAD_OCTETS body)) else None

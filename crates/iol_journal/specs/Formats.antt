@@ -1,0 +1,29 @@
+-- What a format answers, and what it leaves.
+use Rattle.std.specs.Prelude.{◌≡◌, ◌<◌, ◌⊎◌, ◌+◌, ℕ, IsTrue, Ok, Err}
+use Rattle.iol_types.specs.State.{empty_state}
+use Rattle.iol_disk.specs.Content.{Image, IsImageSince, clock}
+use Rattle.iol_disk.specs.Disk.{Disk}
+use Rattle.iol_journal.specs.Geometry.{Geometry}
+use Rattle.iol_journal.specs.Meaning.{unformatted, meaning}
+use Rattle.iol_journal.specs.Kept.{KeptMeans}
+use Rattle.iol_journal.specs.declared.formatting.FormatFault.{FormatFault}
+use Rattle.iol_journal.specs.declared.formatting.FormatFault.TheVariants.{TooSmall, AlreadyFormatted, Memory, Disk as DiskFailed}
+
+abbrev pub IfDisk : FormatFault → Type 0 → Type 0
+IfDisk (DiskFailed fault) P = P
+IfDisk fault P = Unit {0}
+
+-- the refusals that come before anything is written
+abbrev pub IfUntouched : FormatFault → Type 0 → Type 0
+IfUntouched (DiskFailed fault) P = Unit {0}
+IfUntouched fault P = P
+
+-- an image of so many sectors is not formatted, or an empty journal of this geometry
+abbrev pub IsEmptyOrUnformatted : Geometry → ℕ → Image → Type 0
+IsEmptyOrUnformatted g sectors image = (meaning sectors image ≡ Err unformatted) ⊎ KeptMeans sectors 0 (empty_state g.ports) image
+
+-- since the first sync that succeeded, which puts the clock on by one
+abbrev pub LeavesFormat : Geometry → Disk → Disk → Type 0
+LeavesFormat g old new =
+    IsTrue old.honest → clock old.content < clock new.content
+    → (image : Image) → IsImageSince (clock old.content + 1) new.content image → IsEmptyOrUnformatted g old.sectors image

@@ -1,0 +1,27 @@
+-- The numbers of a journal's layout.
+use Rattle.std.specs.Prelude.{◌≤◌, ◌==◌, ℕ, nat_eq, nat_le, Bool, ◌&&◌, if◌then◌else◌, List, Option, Some, None}
+use Rattle.std.specs.Int.{w8, w16}
+use Rattle.std.specs.List.{starts_with}
+use Rattle.iol_journal.specs.Octets.{number_at}
+use Rattle.iol_journal.specs.declared.geometry.TheConstants.{MOST_PORTS, MOST_SLOTS, BODY_SECTORS, GEOMETRY_MARK}
+
+-- ports, and slots in each area
+pub record Geometry : Type 0 where
+  pub ports : ℕ
+  pub slots : ℕ
+
+pub record IsGeometry (g : Geometry) : Type 0 where
+  pub some_port : 1 ≤ g.ports
+  pub most_ports : g.ports ≤ MOST_PORTS
+  pub some_slot : 1 ≤ g.slots
+  pub most_slots : g.slots ≤ MOST_SLOTS
+
+-- the same as a test
+abbrev pub is_geometry : Geometry → Bool
+is_geometry g = nat_le 1 g.ports && nat_le g.ports MOST_PORTS && nat_le 1 g.slots && nat_le g.slots MOST_SLOTS
+
+-- the geometry that a sector says: the mark with the layout's version, ports, slots, and the sectors of a body
+unfoldable pub geometry_of : List ℕ → Option Geometry
+geometry_of octets =
+    let g : Geometry = record { ports = number_at w8 5 octets; slots = number_at w16 6 octets } in
+    if starts_with nat_eq octets GEOMETRY_MARK && (number_at w16 8 octets == BODY_SECTORS) && is_geometry g then Some g else None

@@ -1,0 +1,14 @@
+-- The header of an area.
+use Rattle.std.specs.Prelude.{ℕ, ◌+◌, ◌^◌, nat_le, Bool, ◌&&◌, List}
+use Rattle.std.specs.Int.{w64}
+use Rattle.iol_journal.specs.Octets.{number_at}
+use Rattle.iol_journal.specs.declared.header.Header.{Header}
+use Rattle.iol_journal.specs.declared.header.TheConstants.{LAST_NUMBER}
+
+-- the epoch, and the number of commands before the area's first
+unfoldable pub header_of : List ℕ → Header
+header_of octets = record { epoch = number_at w64 0 octets; base = number_at w64 8 octets }
+
+-- each epoch but the first has begun after at least one command
+abbrev pub is_sound : Header → Bool
+is_sound header = nat_le 1 header.epoch && nat_le header.epoch (header.base + 1) && nat_le header.base LAST_NUMBER

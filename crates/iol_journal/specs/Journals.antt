@@ -1,0 +1,68 @@
+-- What contracts see of a journal, of a batch on its way, and of what their calls answer.
+use Rattle.std.specs.Prelude.{◌≡◌, ◌≤◌, ◌<◌, ℕ, ◌+◌, ◌*◌, true, List, ◌++◌, length, map, Some}
+use Rattle.iol_types.specs.Command.{CommandValue, value_of}
+use Rattle.iol_types.specs.State.{State, after, legal}
+use Rattle.iol_types.specs.declared.command.Command.{Command}
+use Rattle.iol_disk.specs.Disk.{Disk}
+use Rattle.iol_journal.specs.Layout.{total}
+use Rattle.iol_journal.specs.Meaning.{Standing}
+use Rattle.iol_journal.specs.declared.place.Idle.{Idle}
+use Rattle.iol_journal.specs.declared.place.Place.{Place}
+use Rattle.iol_journal.specs.declared.phase.Phase.{Phase}
+use Rattle.iol_journal.specs.declared.geometry.TheConstants.{BODY_SECTORS}
+use Rattle.iol_journal.specs.declared.header.TheConstants.{LAST_NUMBER}
+use Rattle.iol_journal.specs.Calls.{IsPhase}
+use Rattle.iol_journal.specs.Body.{batch_of}
+
+-- the values of commands
+abbrev pub values : List Command → List CommandValue
+values commands = map value_of commands
+
+pub record JournalView (D : Type 0) : Type 0 where
+  pub disk : D
+  pub standing : Standing
+  pub idle : Idle
+
+pub record WritingView (D : Type 0) : Type 0 where
+  pub disk : D
+  pub standing : Standing
+  pub idle : Idle
+  -- the commands of the batch, the body that they have in their slot, its sectors, and the disk call that comes next
+  pub commands : List CommandValue
+  pub body : List ℕ
+  pub sectors : ℕ
+  pub phase : Phase
+
+-- the standing of a journal that writes here next, after so many commands
+abbrev pub standing_at : Place → ℕ → State → Standing
+standing_at place number state = record {
+  geometry = place.geometry;
+  area = place.area;
+  epoch = place.epoch;
+  used = place.used;
+  number = number;
+  state = state;
+}
+
+-- the standing after a batch
+abbrev pub with_batch : Standing → List CommandValue → Standing
+with_batch s commands = record {
+  geometry = s.geometry;
+  area = s.area;
+  epoch = s.epoch;
+  used = s.used + 1;
+  number = s.number + length commands;
+  state = after s.state commands;
+}
+
+-- What holds of a batch on its way, on any disk.
+pub record IsPlanned (d : Disk) (s : Standing) (commands : List CommandValue) (body : List ℕ) (sectors : ℕ) (phase : Phase) : Type 0 where
+  pub fits : total s.geometry ≤ d.sectors
+  pub room : s.used < s.geometry.slots
+  pub whole : length body ≡ 512 * sectors
+  pub short : sectors ≤ BODY_SECTORS
+  pub in_phase : IsPhase sectors phase
+  -- whatever follows the body in its slot, it is read as these commands, and they pass
+  pub sound : (rest : List ℕ) → batch_of s.epoch (s.number + 1) (body ++ rest) ≡ Some commands
+  pub passes : legal s.state commands ≡ true
+  pub bound : s.number + length commands ≤ LAST_NUMBER

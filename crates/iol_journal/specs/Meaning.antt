@@ -1,0 +1,120 @@
+-- What an image of a disk means: the state of a master after a number of commands, or why it means none.
+use Rattle.std.specs.Prelude.{ℕ, zero, suc, ◌+◌, ◌==◌, nat_eq, nat_le, nat_lt, Bool, true, false, not, ◌&&◌, if◌then◌else◌, List, [], ◌∷◌, length, take, drop, Option, Some, None, Result, Ok, Err}
+use Rattle.iol_types.specs.State.{Port, State, after, legal}
+use Rattle.iol_record.specs.Reading.{port_record_at}
+use Rattle.iol_record.specs.declared.fault.RecordFault.{RecordFault}
+use Rattle.iol_disk.specs.Content.{Image}
+use Rattle.iol_slots.specs.Gate.{is_open}
+use Rattle.iol_journal.specs.Geometry.{Geometry, geometry_of}
+use Rattle.iol_journal.specs.Layout.{total, gate_at, header_at, port_at, slot_at, body_at}
+use Rattle.iol_journal.specs.Octets.{octets_at}
+use Rattle.iol_journal.specs.Body.{batch_of}
+use Rattle.iol_journal.specs.Header.{header_of, is_sound}
+use Rattle.iol_journal.specs.declared.area.Area.{Area}
+use Rattle.iol_journal.specs.declared.area.Area.TheVariants.{A, B}
+use Rattle.iol_journal.specs.declared.geometry.TheConstants.{PORT_SECTORS, BODY_SECTORS, GEOMETRY, DISK_GATE}
+use Rattle.iol_journal.specs.declared.header.Header.{Header}
+use Rattle.iol_journal.specs.declared.opening.InUse.{InUse}
+
+-- why an image means no state: it was not formatted, or this sector is the first that is damaged
+pub data Cause : Type 0 where
+  unformatted : Cause
+  damaged : (sector : ℕ) → Cause
+
+infixl 10 ◌>>=◌
+abbrev pub ◌>>=◌ : {A B : Type 0} → Result A Cause → (A → Result B Cause) → Result B Cause
+(Ok x) >>= next = next x
+(Err cause) >>= next = Err cause
+
+-- this value where the test holds, else the sector is damaged
+abbrev pub sound : {A : Type 0} → Bool → ℕ → A → Result A Cause
+sound true sector x = Ok x
+sound false sector x = Err (damaged sector)
+
+-- this value if it is there, else the sector is damaged
+abbrev pub found : {A : Type 0} → Option A → ℕ → Result A Cause
+found (Some x) sector = Ok x
+found None sector = Err (damaged sector)
+
+-- the geometry of a formatted disk of so many sectors
+abbrev pub geometry_in : ℕ → Image → Result Geometry Cause
+geometry_in sectors image =
+    if nat_lt 1 sectors && is_open (image DISK_GATE)
+    then (found (geometry_of (image GEOMETRY)) GEOMETRY >>= λ g. sound (nat_le (total g) sectors) GEOMETRY g)
+    else Err unformatted
+
+-- the header of an area, where the area's gate is open
+abbrev pub header_in : Geometry → Image → Area → Option Header
+header_in g image a = if is_open (image (gate_at g a)) then Some (header_of (image (header_at g a))) else None
+
+-- an area in use, where its header is sound
+abbrev pub in_use : Geometry → Area → Header → Result InUse Cause
+in_use g a header = sound (is_sound header) (header_at g a) (record { area = a; header = header })
+
+-- of the open areas the one with the greatest epoch
+abbrev pub greatest : Geometry → Option Header → Option Header → Result InUse Cause
+greatest g None None = Err (damaged (gate_at g A))
+greatest g (Some a) None = in_use g A a
+greatest g None (Some b) = in_use g B b
+greatest g (Some a) (Some b) =
+    if a.epoch == b.epoch then Err (damaged (header_at g B))
+    else if nat_lt a.epoch b.epoch then in_use g B b else in_use g A a
+
+-- the area that is in use
+abbrev pub in_use_in : Geometry → Image → Result InUse Cause
+in_use_in g image = greatest g (header_in g image A) (header_in g image B)
+
+-- a port's record, and what stands behind it, as the port alone
+abbrev pub port_of : Result (Port × List ℕ) RecordFault → Option Port
+port_of (Ok read) = Some read.0
+port_of (Err fault) = None
+
+-- the ports from this one on, as their records say
+unfoldable pub ports_from : Geometry → Area → Image → ℕ → ℕ → Result State Cause
+ports_from g a image p zero = Ok []
+ports_from g a image p (suc left) =
+    found (port_of (port_record_at (octets_at image (port_at g a p) PORT_SECTORS))) (port_at g a p)
+    >>= λ port. ports_from g a image (p + 1) left >>= λ ports. Ok (port ∷ ports)
+
+-- where a journal goes on: slots used, commands so far, the state after them
+pub record Log : Type 0 where
+  pub used : ℕ
+  pub number : ℕ
+  pub state : State
+
+-- the slots from this one on, up to the first whose gate is closed, on top of a number of commands and a state
+abbrev pub log_from : Geometry → Area → ℕ → Image → ℕ → ℕ → ℕ → State → Result Log Cause
+log_from g a epoch image k zero number state = Ok (record { used = k; number = number; state = state })
+log_from g a epoch image k (suc left) number state =
+    if is_open (image (slot_at g a k))
+    then (found (batch_of epoch (number + 1) (octets_at image (body_at g a k 0) BODY_SECTORS)) (body_at g a k 0)
+    >>= λ commands. sound (legal state commands) (body_at g a k 0) commands
+    >>= λ legal_commands. log_from g a epoch image (k + 1) left (number + length legal_commands) (after state legal_commands))
+    else Ok (record { used = k; number = number; state = state })
+
+-- how a journal stands: where it writes next, and the state after its commands
+pub record Standing : Type 0 where
+  pub geometry : Geometry
+  pub area : Area
+  pub epoch : ℕ
+  pub used : ℕ
+  pub number : ℕ
+  pub state : State
+
+-- how a journal stands on an image of so many sectors, or the first cause, in the order of reading, why none does
+unfoldable pub standing_in : ℕ → Image → Result Standing Cause
+standing_in sectors image =
+    geometry_in sectors image
+    >>= λ g. in_use_in g image
+    >>= λ used. ports_from g used.area image 0 g.ports
+    >>= λ ports. log_from g used.area used.header.epoch image 0 g.slots used.header.base ports
+    >>= λ log. Ok (record { geometry = g; area = used.area; epoch = used.header.epoch; used = log.used; number = log.number; state = log.state })
+
+-- the state of a master after so many commands
+pub record Meaning : Type 0 where
+  pub number : ℕ
+  pub state : State
+
+-- what an image of so many sectors means
+abbrev pub meaning : ℕ → Image → Result Meaning Cause
+meaning sectors image = standing_in sectors image >>= λ s. Ok (record { number = s.number; state = s.state })

@@ -1,0 +1,8 @@
+-- A batch that is written.
+use Rattle.std.specs.Prelude.{ℕ, List}
+use Rattle.iol_types.specs.Command.{CommandValue}
+
+-- the number of its first command, and its commands
+pub record WrittenView : Type 0 where
+  pub first : ℕ
+  pub commands : List CommandValue

@@ -1,0 +1,34 @@
+ghost use Rattle.std.specs.Prelude.{◌≡◌, true, IfOk};
+ghost use Rattle.iol_types.specs.State.{after, legal};
+ghost use Rattle.iol_journal.specs.Journals.{values};
+
+use iol_types::{Command, MasterState};
+use std::alloc::AllocError;
+
+/// The most commands of a batch.
+pub const MOST_COMMANDS: usize = 64;
+/// The octets of a slot's body before the records: epoch 8, number of the first command 8, count 2, octets of the records 4.
+pub const BODY_HEAD_OCTETS: usize = 22;
+/// The most octets of records that a slot's body holds.
+pub const MOST_RECORD_OCTETS: usize = 8170;
+
+/// Commands that are written together, and the number of the first.
+#[derive(Debug, Drop)]
+pub struct Batch {
+    pub first: u64,
+    pub commands: Vec<Command>,
+}
+
+// Applies the commands, if each passes in the state that it meets.
+pub fn apply_all(state: &mut MasterState, commands: &[Command]) -> Result<bool, AllocError>
+    ensures legal { IfOk result (λ all. all ≡ legal state.old (values commands.now)) }
+    ensures after { IfOk result (λ all. all ≡ true → state.new ≡ after state.old (values commands.now)) }
+{
+    for command in commands {
+        if state.check(command).is_err() {
+            return Ok(false);
+        }
+        state.apply(command.copy()?);
+    }
+    Ok(true)
+}

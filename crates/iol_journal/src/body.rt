@@ -1,0 +1,108 @@
+ghost use Rattle.std.specs.Prelude.{◌≡◌, ◌≤◌, ◌<◌, ◌+◌, ◌*◌, ◌++◌, ℕ, List, length, Some, IfOk};
+ghost use Rattle.std.specs.Int.{w16, w32, w64};
+ghost use Rattle.iol_journal.specs.Octets.{number_at};
+ghost use Rattle.iol_journal.specs.Body.{batch_of, commands_of};
+ghost use Rattle.iol_journal.specs.Journals.{values};
+
+use crate::batch::{BODY_HEAD_OCTETS, MOST_COMMANDS, MOST_RECORD_OCTETS};
+use crate::header::LAST_NUMBER;
+use crate::numbers::{u16_at, u32_at, u64_at};
+use iol_disk::SECTOR_OCTETS;
+use iol_record::encode_command;
+use iol_types::Command;
+use std::alloc::{AllocError, Global};
+
+/// What stands before the records in a slot's body (docs/FORMATS.md, "Slots").
+#[derive(Clone, Copy, Debug, PartialEq, Eq)]
+pub struct Head {
+    pub epoch: u64,
+    /// The number of the first command.
+    pub first: u64,
+    /// How many commands there are.
+    pub count: u16,
+    /// The octets of their records.
+    pub octets: u32,
+}
+
+impl Head {
+    ghost use Rattle.iol_journal.specs.Body.{head_of, fits};
+
+    // The head at the front of a body.
+    #[tactic(auto, unfolding(crate::specs::Body::head_of))]
+    pub fn read(body: &[u8]) -> Head
+        requires { BODY_HEAD_OCTETS ≤ length body.now }
+        ensures { result ≡ head_of body.now }
+    {
+        Head {
+            epoch: u64_at(body, 0),
+            first: u64_at(body, 8),
+            count: u16_at(body, 16),
+            octets: u32_at(body, 18),
+        }
+    }
+
+    // Whether a batch under this epoch, the first command of which has this number, may have the head.
+    pub fn fits(self, epoch: u64, first: u64) -> bool
+        requires { first ≤ LAST_NUMBER + 1 }
+        ensures { result ≡ fits self epoch first }
+    {
+        self.epoch == epoch
+            && self.first == first
+            && 1 <= self.count
+            && usize::from(self.count) <= MOST_COMMANDS
+            && self.octets as usize <= MOST_RECORD_OCTETS
+            && first + u64::from(self.count) <= LAST_NUMBER + 1
+    }
+}
+
+// The records of commands, one behind the other.
+fn records(alloc: Global, commands: &[Command]) -> Result<Vec<u8>, AllocError>
+    requires { length commands.now ≤ MOST_COMMANDS }
+    ensures size { IfOk result (λ octets. length octets.items ≤ MOST_RECORD_OCTETS) }
+    ensures records { IfOk result (λ octets. commands_of (length commands.now) octets.items ≡ Some (values commands.now)) }
+{
+    let mut octets = Vec::new(alloc);
+    for command in commands {
+        let record = encode_command(alloc, command)?;
+        octets.extend_from_slice(record.as_slice())?;
+    }
+    Ok(octets)
+}
+
+// The body of a slot for these commands, in whole sectors.
+pub fn body_of(
+    alloc: Global,
+    epoch: u64,
+    first: u64,
+    commands: &[Command],
+) -> Result<Vec<u8>, AllocError>
+    requires most { length commands.now ≤ MOST_COMMANDS }
+    ensures sound { IfOk result (λ body. 1 ≤ length commands.now → first + length commands.now ≤ LAST_NUMBER + 1
+        → (rest : List ℕ) → batch_of epoch first (body.items ++ rest) ≡ Some (values commands.now)) }
+    ensures whole { IfOk result (λ body. (sectors : ℕ) × (length body.items ≡ 512 * sectors) × (1 ≤ sectors) × (sectors ≤ 16)) }
+{
+    let records = records(alloc, commands)?;
+    let head = head_octets(epoch, first, commands.len() as u16, records.len() as u32);
+    let sectors = (BODY_HEAD_OCTETS + records.len()).div_ceil(SECTOR_OCTETS);
+    let mut body = Vec::with_capacity(alloc, SECTOR_OCTETS * sectors)?;
+    body.extend_from_slice(&head)?;
+    body.extend_from_slice(records.as_slice())?;
+    body.resize(SECTOR_OCTETS * sectors, 0)?;
+    Ok(body)
+}
+
+// The head of a body.
+fn head_octets(epoch: u64, first: u64, count: u16, octets: u32) -> [u8; BODY_HEAD_OCTETS]
+    ensures size { length result ≡ BODY_HEAD_OCTETS }
+    ensures epoch { (rest : List ℕ) → number_at w64 0 (result ++ rest) ≡ epoch }
+    ensures first { (rest : List ℕ) → number_at w64 8 (result ++ rest) ≡ first }
+    ensures count { (rest : List ℕ) → number_at w16 16 (result ++ rest) ≡ count }
+    ensures octets { (rest : List ℕ) → number_at w32 18 (result ++ rest) ≡ octets }
+{
+    let mut head = [0; BODY_HEAD_OCTETS];
+    head[..8].copy_from_slice(&epoch.to_be_bytes());
+    head[8..16].copy_from_slice(&first.to_be_bytes());
+    head[16..18].copy_from_slice(&count.to_be_bytes());
+    head[18..].copy_from_slice(&octets.to_be_bytes());
+    head
+}

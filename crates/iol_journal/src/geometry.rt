@@ -1,0 +1,161 @@
+use crate::area::Area;
+use crate::numbers::u16_at;
+use iol_disk::SECTOR_OCTETS;
+use iol_slots::Slot;
+use std::marker::Model;
+
+/// The most ports that a master has.
+pub const MOST_PORTS: u16 = 32;
+/// The most slots that an area has.
+pub const MOST_SLOTS: u16 = 256;
+/// The sectors of a port's record.
+pub const PORT_SECTORS: usize = 9;
+/// The sectors of a slot's body.
+pub const BODY_SECTORS: usize = 16;
+
+/// The sector that says the geometry.
+pub const GEOMETRY: usize = 0;
+/// The gate of the disk.
+pub const DISK_GATE: usize = 1;
+/// What the geometry's sector begins with: the letters IOLS, and the version of the layout.
+pub const GEOMETRY_MARK: [u8; 5] = [0x49, 0x4F, 0x4C, 0x53, 0x01];
+
+/// The ports and slots of a journal, and with them where everything stands on its disk
+/// (docs/FORMATS.md, "Disk layout").
+#[derive(Clone, Copy, Debug, PartialEq, Eq)]
+pub struct Geometry {
+    ports: u8,
+    slots: u16,
+}
+
+impl Model for Geometry {
+    ghost use Rattle.iol_journal.specs.Geometry.{Geometry as Shape, IsGeometry};
+
+    ghost Value = { Shape };
+
+    ghost view = { λ g. record { ports = g.ports; slots = g.slots } };
+
+    ghost invariant = { λ g. IsGeometry (record { ports = g.ports; slots = g.slots }) };
+
+    ghost inverse = { λ s. record { ports = s.ports; slots = s.slots } };
+}
+
+impl Geometry {
+    ghost use Rattle.std.specs.Prelude.{◌≡◌, ◌<◌, ◌≤◌, ◌+◌, Some, IfSome, IfNone};
+    ghost use Rattle.iol_journal.specs.Geometry.{IsGeometry, geometry_of};
+    ghost use Rattle.iol_journal.specs.Layout.{total, gate_at, header_at, port_at, slot_at, body_at, area_sectors};
+
+    /// The geometry of so many ports, 1 to 32, and of so many slots in each area, 1 to 256.
+    pub fn new(ports: u16, slots: u16) -> Option<Geometry>
+        ensures some { IfSome result (λ g. (g.ports ≡ ports) × (g.slots ≡ slots) × IsGeometry g) }
+        ensures none { IfNone result (IsGeometry (record { ports = ports; slots = slots }) → ⊥) }
+    {
+        if ports == 0 || MOST_PORTS < ports || slots == 0 || MOST_SLOTS < slots {
+            return None;
+        }
+        Some(Geometry {
+            ports: ports as u8,
+            slots,
+        })
+    }
+
+    // The geometry that its sector says, if it is one.
+    #[tactic(auto, unfolding(crate::specs::Geometry::geometry_of))]
+    pub fn read(octets: &[u8; SECTOR_OCTETS]) -> Option<Geometry>
+        ensures { result ≡ geometry_of octets.now }
+    {
+        if octets.starts_with(&GEOMETRY_MARK) && u16_at(octets, 8) as usize == BODY_SECTORS {
+            Geometry::new(u16::from(octets[5]), u16_at(octets, 6))
+        } else {
+            None
+        }
+    }
+
+    // The octets of its sector.
+    pub fn octets(self) -> [u8; SECTOR_OCTETS]
+        ensures { geometry_of result ≡ Some self }
+    {
+        let mut octets = [0; SECTOR_OCTETS];
+        octets[..5].copy_from_slice(&GEOMETRY_MARK);
+        octets[5] = self.ports;
+        octets[6..8].copy_from_slice(&self.slots.to_be_bytes());
+        octets[8..10].copy_from_slice(&(BODY_SECTORS as u16).to_be_bytes());
+        octets
+    }
+
+    /// How many ports there are.
+    pub fn ports(self) -> u8
+        ensures value { result ≡ self.ports }
+        ensures bound { result ≤ 32 }
+    {
+        self.ports
+    }
+
+    /// How many slots each area has.
+    pub fn slots(self) -> usize
+        ensures { result ≡ self.slots }
+    {
+        self.slots as usize
+    }
+
+    /// How many sectors a disk needs.
+    pub fn sectors(self) -> usize
+        ensures total { result ≡ total self }
+        ensures bound { result < 10000 }
+    {
+        2 + 2 * self.area_sectors()
+    }
+
+    fn area_sectors(self) -> usize
+        ensures sectors { result ≡ area_sectors self }
+        ensures bound { result < 5000 }
+    {
+        2 + PORT_SECTORS * self.ports as usize + (1 + BODY_SECTORS) * self.slots as usize
+    }
+
+    /// The gate of an area.
+    pub fn gate(self, area: Area) -> usize
+        ensures at { result ≡ gate_at self area }
+        ensures bound { result < 10000 }
+    {
+        match area {
+            Area::A => 2,
+            Area::B => 2 + self.area_sectors(),
+        }
+    }
+
+    /// The header of an area.
+    pub fn header(self, area: Area) -> usize
+        ensures at { result ≡ header_at self area }
+        ensures bound { result < 10000 }
+    {
+        self.gate(area) + 1
+    }
+
+    /// The first sector of a port's record; ports are counted from 0.
+    pub fn port(self, area: Area, port: usize) -> usize
+        requires { port < self.ports }
+        ensures at { result ≡ port_at self area port }
+        ensures bound { result < 10000 }
+    {
+        self.gate(area) + 2 + PORT_SECTORS * port
+    }
+
+    /// A slot of an area.
+    pub fn slot(self, area: Area, slot: usize) -> Slot
+        requires { slot < self.slots }
+        ensures gate { result.gate ≡ slot_at self area slot }
+        ensures body { result.body ≡ body_at self area slot 0 }
+        ensures sectors { result.sectors ≡ BODY_SECTORS }
+    {
+        let gate = self.gate(area)
+            + 2
+            + PORT_SECTORS * self.ports as usize
+            + (1 + BODY_SECTORS) * slot;
+        Slot {
+            gate,
+            body: gate + 1,
+            sectors: BODY_SECTORS,
+        }
+    }
+}

@@ -1,0 +1,59 @@
+ghost use Rattle.std.specs.Prelude.{◌≡◌};
+ghost use Rattle.std.specs.Int.{w64};
+ghost use Rattle.iol_journal.specs.Octets.{number_at};
+
+use crate::numbers::u64_at;
+use iol_disk::SECTOR_OCTETS;
+
+/// The greatest number of a command.
+pub const LAST_NUMBER: u64 = 1 << 62;
+
+/// The header of an area (docs/FORMATS.md, "Headers").
+#[derive(Clone, Copy, Debug, PartialEq, Eq)]
+pub struct Header {
+    /// The open area with the greater epoch is in use. 0 where the area was never in use.
+    pub epoch: u64,
+    /// How many commands the area's port records already hold.
+    pub base: u64,
+}
+
+impl Header {
+    ghost use Rattle.iol_journal.specs.Header.{header_of, is_sound};
+
+    // The header in the octets of its sector.
+    #[tactic(auto, unfolding(crate::specs::Header::header_of))]
+    pub fn read(octets: &[u8; SECTOR_OCTETS]) -> Header
+        ensures { result ≡ header_of octets.now }
+    {
+        Header {
+            epoch: u64_at(octets, 0),
+            base: u64_at(octets, 8),
+        }
+    }
+
+    // The octets of its sector.
+    #[tactic(auto, unfolding(crate::specs::Header::header_of))]
+    pub fn octets(self) -> [u8; SECTOR_OCTETS]
+        ensures { header_of result ≡ self }
+    {
+        numbers_sector(self.epoch, self.base)
+    }
+
+    // Whether the area may be in use with it.
+    pub fn is_sound(self) -> bool
+        ensures { result ≡ is_sound self }
+    {
+        1 <= self.epoch && self.base <= LAST_NUMBER && self.epoch <= self.base + 1
+    }
+}
+
+// Two numbers at the front of a sector, and zeros.
+fn numbers_sector(first: u64, second: u64) -> [u8; SECTOR_OCTETS]
+    ensures first { number_at w64 0 result ≡ first }
+    ensures second { number_at w64 8 result ≡ second }
+{
+    let mut octets = [0; SECTOR_OCTETS];
+    octets[..8].copy_from_slice(&first.to_be_bytes());
+    octets[8..16].copy_from_slice(&second.to_be_bytes());
+    octets
+}

@@ -1,0 +1,195 @@
+use crate::batch::{Batch, MOST_COMMANDS, apply_all};
+use crate::body::body_of;
+use crate::header::LAST_NUMBER;
+use crate::place::Place;
+use crate::writing::{Plan, Writing};
+use iol_disk::{SECTOR_OCTETS, SectorDisk};
+use iol_types::MasterState;
+use std::alloc::{AllocError, Global};
+use std::marker::Model;
+use thiserror::Error;
+
+/// A journal at rest: all that it has written is durable. It owns its disk, and keeps the state that the disk means.
+#[derive(Drop)]
+pub struct Journal<D: SectorDisk> {
+    alloc: Global,
+    disk: D,
+    place: Place,
+    number: u64,
+    state: MasterState,
+}
+
+impl<D: SectorDisk> Model for Journal<D> {
+    ghost use Rattle.std.specs.Prelude.{◌≤◌, ◌+◌};
+    ghost use Rattle.iol_journal.specs.Layout.{total};
+    ghost use Rattle.iol_journal.specs.Journals.{JournalView};
+    ghost use Rattle.iol_journal.specs.declared.header.TheConstants.{LAST_NUMBER};
+
+    ghost Value = { JournalView D };
+
+    ghost use Rattle.iol_journal.specs.Journals.{standing_at};
+
+    ghost view = { λ j. record { disk = j.disk; standing = standing_at j.place j.number j.state; idle = j.place.idle } };
+
+    ghost invariant = { λ j. (total j.place.geometry ≤ (D.disk j.disk).sectors) × (j.place.used ≤ j.place.geometry.slots)
+        × (j.number ≤ LAST_NUMBER) };
+}
+
+/// Why a batch was not begun. The causes are judged in this order.
+#[derive(Clone, Copy, Debug, PartialEq, Eq, Error)]
+pub enum BeginCause {
+    /// It has more than 64 commands.
+    #[error("the batch is too large")]
+    TooLarge,
+    /// No slot is free.
+    #[error("the journal is full")]
+    NeedsCheckpoint,
+    /// Memory ran out.
+    #[error("out of memory")]
+    Memory,
+    /// It has no command, its first number does not follow the journal's, a number is over 2^62, or a command
+    /// does not pass the check of the state that it meets.
+    #[error("the batch does not follow the journal")]
+    Misfit,
+}
+
+impl From<AllocError> for BeginCause {
+    ghost use Rattle.std.specs.Prelude.{◌≡◌};
+    ghost use Rattle.iol_journal.specs.declared.journal.BeginCause.TheVariants.{Memory};
+
+    ghost from_gives = { λ _ cause. cause ≡ Memory };
+
+    fn from(_error: AllocError) -> BeginCause {
+        BeginCause::Memory
+    }
+}
+
+/// A batch that was not begun, why, and the journal as it was.
+#[derive(Drop)]
+pub struct BeginFault<D: SectorDisk> {
+    pub cause: BeginCause,
+    pub journal: Journal<D>,
+    pub batch: Batch,
+}
+
+impl<D: SectorDisk> Journal<D> {
+    ghost use Rattle.std.specs.Prelude.{◌≡◌, ◌≤◌, ◌+◌, None, IfOk, IfErr, OnOk};
+    ghost use Rattle.iol_journal.specs.Layout.{total};
+    ghost use Rattle.iol_journal.specs.Begin.{refusal, IsRefusal};
+    ghost use Rattle.iol_journal.specs.Underway.{IsAtRest, IsUnderway};
+    ghost use Rattle.iol_journal.specs.Journals.{standing_at, values, IsPlanned};
+    ghost use Rattle.iol_journal.specs.declared.header.TheConstants.{LAST_NUMBER};
+    ghost use Rattle.iol_journal.specs.declared.phase.Phase.TheVariants.{Body};
+    ghost use Rattle.iol_types.specs.State.{after};
+
+    // A journal that writes here next.
+    pub(crate) fn at_rest(
+        alloc: Global,
+        disk: D,
+        place: Place,
+        number: u64,
+        state: MasterState,
+    ) -> Journal<D>
+        requires fits { total place.geometry ≤ (D.disk disk).sectors }
+        requires within { place.used ≤ place.geometry.slots }
+        requires bound { number ≤ LAST_NUMBER }
+        ensures disk { result.disk ≡ disk }
+        ensures standing { result.standing ≡ standing_at place number state }
+        ensures idle { result.idle ≡ place.idle }
+    {
+        Journal {
+            alloc,
+            disk,
+            place,
+            number,
+            state,
+        }
+    }
+
+    /// How many commands its disk has.
+    pub fn number(&self) -> u64
+        ensures number { result ≡ self.now.standing.number }
+        ensures bound { result ≤ LAST_NUMBER }
+    {
+        self.number
+    }
+
+    /// The disk, to be recovered again.
+    pub fn disk(self) -> D
+        ensures { result ≡ self.disk }
+    {
+        let Journal {
+            alloc: _,
+            disk,
+            place: _,
+            number: _,
+            state: _,
+        } = self;
+        disk
+    }
+
+    /// Makes a batch ready to be written. Its steps then take no memory.
+    ///
+    /// # Errors
+    /// `TooLarge`, `NeedsCheckpoint`, `Memory` or `Misfit`, in this order; journal and batch are handed back.
+    pub fn begin(self, batch: Batch) -> Result<Writing<D>, BeginFault<D>>
+        ensures begun { IfOk result (λ w. (w.disk ≡ self.disk) × (w.standing ≡ self.standing) × (w.idle ≡ self.idle)
+            × (w.commands ≡ values batch.commands.items) × (w.phase ≡ Body 0)) }
+        // It changes no meaning.
+        ensures underway { IsAtRest (D.disk self.disk) self.standing self.idle → IfOk result (λ w. IsUnderway D.disk w) }
+        ensures follows { OnOk result (refusal self.standing batch.first (values batch.commands.items) ≡ None) }
+        ensures cause { IfErr result (λ fault. IsRefusal self.standing batch.first (values batch.commands.items) fault.cause) }
+        ensures back { IfErr result (λ fault. (fault.journal ≡ self) × (fault.batch ≡ batch)) }
+    {
+        match self.plan(&batch) {
+            Ok(plan) => {
+                let Journal {
+                    alloc,
+                    disk,
+                    place,
+                    number,
+                    state,
+                } = self;
+                Ok(Writing::begun(alloc, disk, place, number, state, batch, plan))
+            }
+            Err(cause) => Err(BeginFault {
+                cause,
+                journal: self,
+                batch,
+            }),
+        }
+    }
+
+    // What the batch writes, and the state after it.
+    fn plan(&self, batch: &Batch) -> Result<Plan, BeginCause>
+        ensures planned { IfOk result (λ plan. IsPlanned (D.disk self.now.disk) self.now.standing (values batch.now.commands.items) plan.body.items plan.sectors (Body 0)
+            × (batch.now.first ≡ self.now.standing.number + 1)
+            × (plan.next ≡ after self.now.standing.state (values batch.now.commands.items))) }
+        ensures follows { OnOk result (refusal self.now.standing batch.now.first (values batch.now.commands.items) ≡ None) }
+        ensures cause { IfErr result (IsRefusal self.now.standing batch.now.first (values batch.now.commands.items)) }
+    {
+        if MOST_COMMANDS < batch.commands.len() {
+            return Err(BeginCause::TooLarge);
+        }
+        if self.place.used == self.place.geometry.slots() {
+            return Err(BeginCause::NeedsCheckpoint);
+        }
+        let body = body_of(self.alloc, self.place.epoch, batch.first, &batch.commands)?;
+        let mut next = self.state.copy()?;
+        let count = batch.commands.len() as u64;
+        let Journal { number, .. } = self;
+        if count == 0 || batch.first != number + 1 || LAST_NUMBER - number < count {
+            return Err(BeginCause::Misfit);
+        }
+        if apply_all(&mut next, &batch.commands)? {
+            let sectors = body.len() / SECTOR_OCTETS;
+            Ok(Plan {
+                body,
+                sectors,
+                next,
+            })
+        } else {
+            Err(BeginCause::Misfit)
+        }
+    }
+}

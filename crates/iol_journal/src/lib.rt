@@ -1,0 +1,42 @@
+//! A journal of commands on a sector disk, which a power stop at any moment leaves readable.
+//!
+//! In come a disk and commands; out go a master's state after them, and the promise that a batch is durable once
+//! its last step is done. [`format`] makes an empty journal of a [`Geometry`]; [`Journal::recover`] finds the
+//! journal on a disk, and the state; [`Journal::begin`] takes a [`Batch`], which [`Writing::step`] writes one
+//! disk call at a time. Each of these owns its disk, and hands it back.
+//!
+//! Modules in reading order: where things stand (`area`, `geometry`, `header`, `place`), what stands there
+//! (`numbers`, `batch`, `body`), reading it (`cause`, `reading`, `opening`, `snapshot`, `replay`, `recovery`), and
+//! writing it (`formatting`, `journal`, `phase`, `calls`, `writing`). What an image of a disk means is said in
+//! `specs/Meaning.antt`.
+#![tactic(auto)]
+
+mod area;
+mod batch;
+mod body;
+mod calls;
+mod cause;
+mod formatting;
+mod geometry;
+mod header;
+mod journal;
+mod numbers;
+mod opening;
+mod phase;
+mod place;
+mod reading;
+mod recovery;
+mod replay;
+mod snapshot;
+mod writing;
+
+pub use batch::Batch;
+pub use cause::RecoverCause;
+pub use formatting::{FormatFault, format};
+pub use geometry::Geometry;
+pub use journal::{BeginCause, BeginFault, Journal};
+pub use recovery::RecoverFault;
+pub use writing::{Progress, Writing, Written};
+
+#[cfg(test)]
+mod tests;

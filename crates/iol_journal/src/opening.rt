@@ -1,0 +1,148 @@
+ghost use Rattle.std.specs.Prelude.{◌≡◌, ◌<◌, ◌≤◌, ◌+◌, Some, None, IsTrue, IfOk, if◌then◌else◌};
+ghost use Rattle.iol_disk.specs.Content.{reads};
+ghost use Rattle.iol_disk.specs.Disk.{Same, FailsOnlyAs};
+ghost use Rattle.iol_disk.specs.declared.fault.DiskFault.{DiskFault};
+ghost use Rattle.iol_journal.specs.Layout.{other, total, header_at};
+ghost use Rattle.iol_journal.specs.Header.{header_of};
+ghost use Rattle.iol_journal.specs.Meaning.{geometry_in, greatest, in_use, in_use_in};
+ghost use Rattle.iol_journal.specs.Reading.{Finds, Gives};
+ghost use Rattle.iol_journal.specs.declared.header.TheConstants.{LAST_NUMBER};
+
+use crate::area::Area;
+use crate::cause::RecoverCause;
+use crate::geometry::{DISK_GATE, GEOMETRY, Geometry};
+use crate::header::Header;
+use crate::reading::{gate, read_sector};
+use iol_disk::{DiskFault, SectorDisk};
+
+// The geometry of a formatted disk.
+pub fn find_geometry<D: SectorDisk>(disk: &mut D) -> Result<Geometry, RecoverCause>
+    ensures fits { IfOk result (λ g. total g ≤ (D.disk disk.old).sectors) }
+    ensures finds { Finds (λ g. g) (D.disk disk.old) (D.disk disk.new) (geometry_in (D.disk disk.old).sectors) result }
+    ensures same { Same (D.disk disk.old) (D.disk disk.new) }
+{
+    let sectors = disk.sectors();
+    if sectors < 2 || !gate(DISK_GATE).is_open(disk)? {
+        return Err(RecoverCause::NotFormatted);
+    }
+    let octets = read_sector(disk, GEOMETRY)?;
+    match Geometry::read(&octets) {
+        Some(geometry) if geometry.sectors() <= sectors => Ok(geometry),
+        _ => Err(RecoverCause::Damaged { sector: GEOMETRY }),
+    }
+}
+
+/// The area in use, and its header.
+#[derive(Clone, Copy, Debug, PartialEq, Eq)]
+pub struct InUse {
+    pub area: Area,
+    pub header: Header,
+}
+
+/// The area in use, and the header of the other.
+#[derive(Clone, Copy, Debug, PartialEq, Eq)]
+pub struct Areas {
+    pub in_use: InUse,
+    pub other: Header,
+}
+
+// Reads the gates, the headers of the open areas, and then those of the closed ones.
+pub fn find_areas<D: SectorDisk>(disk: &mut D, geometry: Geometry) -> Result<Areas, RecoverCause>
+    requires { total geometry ≤ (D.disk disk.old).sectors }
+    ensures finds { Finds (λ areas. areas.in_use) (D.disk disk.old) (D.disk disk.new) (in_use_in geometry) result }
+    ensures other { IfOk result (λ areas. IsTrue (D.disk disk.old).honest
+        → areas.other ≡ header_of (reads (D.disk disk.old).content (header_at geometry (other areas.in_use.area)))) }
+    ensures base { IfOk result (λ areas. areas.in_use.header.base ≤ LAST_NUMBER) }
+    ensures same { Same (D.disk disk.old) (D.disk disk.new) }
+{
+    let open_a = gate(geometry.gate(Area::A)).is_open(disk)?;
+    let open_b = gate(geometry.gate(Area::B)).is_open(disk)?;
+    let a = read_if(disk, geometry, Area::A, open_a)?;
+    let b = read_if(disk, geometry, Area::B, open_b)?;
+    let in_use = greatest_of(geometry, a, b)?;
+    let other = in_use.area.other();
+    let read = match other {
+        Area::A => a,
+        Area::B => b,
+    };
+    let other = match read {
+        Some(header) => header,
+        None => read_header(disk, geometry, other)?,
+    };
+    Ok(Areas { in_use, other })
+}
+
+fn read_header<D: SectorDisk>(
+    disk: &mut D,
+    geometry: Geometry,
+    area: Area,
+) -> Result<Header, DiskFault>
+    requires { total geometry ≤ (D.disk disk.old).sectors }
+    ensures read { IfOk result (λ header. IsTrue (D.disk disk.old).honest → header ≡ header_of (reads (D.disk disk.old).content (header_at geometry area))) }
+    ensures same { Same (D.disk disk.old) (D.disk disk.new) }
+    ensures fault { FailsOnlyAs DiskFault.Read (D.disk disk.old) (D.disk disk.new) result }
+{
+    let octets = read_sector(disk, geometry.header(area))?;
+    Ok(Header::read(&octets))
+}
+
+fn read_if<D: SectorDisk>(
+    disk: &mut D,
+    geometry: Geometry,
+    area: Area,
+    wanted: bool,
+) -> Result<Option<Header>, DiskFault>
+    requires { total geometry ≤ (D.disk disk.old).sectors }
+    ensures read { IfOk result (λ header. IsTrue (D.disk disk.old).honest
+        → header ≡ (if wanted then Some (header_of (reads (D.disk disk.old).content (header_at geometry area))) else None)) }
+    ensures same { Same (D.disk disk.old) (D.disk disk.new) }
+    ensures fault { FailsOnlyAs DiskFault.Read (D.disk disk.old) (D.disk disk.new) result }
+{
+    if wanted {
+        Ok(Some(read_header(disk, geometry, area)?))
+    } else {
+        Ok(None)
+    }
+}
+
+// Of the open areas the one with the greatest epoch.
+pub fn greatest_of(
+    geometry: Geometry,
+    a: Option<Header>,
+    b: Option<Header>,
+) -> Result<InUse, RecoverCause>
+    ensures gives { Gives (greatest geometry a b) result }
+    ensures base { IfOk result (λ used. used.header.base ≤ LAST_NUMBER) }
+{
+    match (a, b) {
+        (None, None) => Err(RecoverCause::Damaged {
+            sector: geometry.gate(Area::A),
+        }),
+        (Some(a), None) => in_use_of(geometry, Area::A, a),
+        (None, Some(b)) => in_use_of(geometry, Area::B, b),
+        (Some(a), Some(b)) => {
+            if a.epoch == b.epoch {
+                Err(RecoverCause::Damaged {
+                    sector: geometry.header(Area::B),
+                })
+            } else if a.epoch < b.epoch {
+                in_use_of(geometry, Area::B, b)
+            } else {
+                in_use_of(geometry, Area::A, a)
+            }
+        }
+    }
+}
+
+fn in_use_of(geometry: Geometry, area: Area, header: Header) -> Result<InUse, RecoverCause>
+    ensures gives { Gives (in_use geometry area header) result }
+    ensures base { IfOk result (λ used. used.header.base ≤ LAST_NUMBER) }
+{
+    if header.is_sound() {
+        Ok(InUse { area, header })
+    } else {
+        Err(RecoverCause::Damaged {
+            sector: geometry.header(area),
+        })
+    }
+}

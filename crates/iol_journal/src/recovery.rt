@@ -1,0 +1,114 @@
+ghost use Rattle.std.specs.Prelude.{◌≡◌, ◌≤◌, IsTrue, IfOk, OnOk};
+ghost use Rattle.iol_disk.specs.Content.{Image, IsImage, reads};
+ghost use Rattle.iol_disk.specs.Moments.{LeavesOnly};
+ghost use Rattle.iol_journal.specs.Journals.{standing_at};
+ghost use Rattle.iol_journal.specs.Layout.{total};
+ghost use Rattle.iol_journal.specs.Meaning.{standing_in};
+ghost use Rattle.iol_journal.specs.Reading.{Finds};
+ghost use Rattle.iol_journal.specs.Recoveries.{idle_in};
+ghost use Rattle.iol_journal.specs.declared.header.TheConstants.{LAST_NUMBER};
+
+use crate::cause::RecoverCause;
+use crate::journal::Journal;
+use crate::opening::{find_areas, find_geometry};
+use crate::place::{Idle, Place};
+use crate::replay::replay_slots;
+use crate::snapshot::read_ports;
+use iol_disk::SectorDisk;
+use iol_types::MasterState;
+use std::alloc::Global;
+
+/// A disk that was not recovered, and why.
+#[derive(Drop)]
+pub struct RecoverFault<D: SectorDisk> {
+    pub cause: RecoverCause,
+    pub disk: D,
+}
+
+/// What recovery finds on a disk.
+#[derive(Drop)]
+struct Found {
+    place: Place,
+    number: u64,
+    state: MasterState,
+    copy: MasterState,
+}
+
+impl<D: SectorDisk> Journal<D> {
+    ghost use Rattle.std.specs.Prelude.{◌≡◌, Ok, IsTrue, IfOk, IfErr};
+    ghost use Rattle.iol_journal.specs.Kept.{IsKept};
+    ghost use Rattle.iol_journal.specs.Underway.{IsAtRest};
+    ghost use Rattle.iol_journal.specs.Reading.{IsCause};
+    ghost use Rattle.iol_journal.specs.Recoveries.{disk_of};
+
+    /// Finds the journal that a disk holds, and the state after its commands. It begins with a sync, and writes nothing.
+    ///
+    /// # Errors
+    /// The cause that is met first in the order of reading (docs/FORMATS.md, "Recovery"); the disk is handed back.
+    pub fn recover(alloc: Global, disk: D) -> Result<(Journal<D>, MasterState), RecoverFault<D>>
+        // It is how the journal stands on what the disk reads as.
+        ensures found { IfOk result (λ found. IsTrue (D.disk disk).honest
+            → standing_in (D.disk disk).sectors (reads (D.disk disk).content) ≡ Ok found.0.standing) }
+        ensures state { IfOk result (λ found. found.1 ≡ found.0.standing.state) }
+        // On a kept image the journal is at rest.
+        ensures at_rest { IfOk result (λ found. (IsTrue (D.disk disk).honest → IsKept (D.disk disk).sectors (reads (D.disk disk).content))
+            → IsAtRest (D.disk found.0.disk) found.0.standing found.0.idle) }
+        ensures idle { IfOk result (λ found. IsTrue (D.disk disk).honest → found.0.idle ≡ idle_in found.0.standing (reads (D.disk disk).content)) }
+        ensures cause { IfErr result (λ fault. IsCause (D.disk disk) (D.disk fault.disk) (standing_in (D.disk disk).sectors) fault.cause) }
+        // No image is added.
+        ensures any_moment { LeavesOnly (D.disk disk) (D.disk (disk_of result)) (IsImage (D.disk disk).content) }
+    {
+        let mut disk = disk;
+        match find(alloc, &mut disk) {
+            Ok(found) => {
+                let journal = Journal::at_rest(alloc, disk, found.place, found.number, found.state);
+                Ok((journal, found.copy))
+            }
+            Err(cause) => Err(RecoverFault { cause, disk }),
+        }
+    }
+}
+
+// Syncs, and reads in the order of the layout.
+fn find<D: SectorDisk>(alloc: Global, disk: &mut D) -> Result<Found, RecoverCause>
+    ensures finds { Finds (λ found. standing_at found.place found.number found.state) (D.disk disk.old) (D.disk disk.new)
+        (standing_in (D.disk disk.old).sectors) result }
+    ensures idle { IfOk result (λ found. IsTrue (D.disk disk.old).honest
+        → found.place.idle ≡ idle_in (standing_at found.place found.number found.state) (reads (D.disk disk.old).content)) }
+    // What it read is the only image.
+    ensures settled { OnOk result (IsTrue (D.disk disk.old).honest → (image : Image) → IsImage (D.disk disk.new).content image → image ≡ reads (D.disk disk.old).content) }
+    ensures any_moment { LeavesOnly (D.disk disk.old) (D.disk disk.new) (IsImage (D.disk disk.old).content) }
+    ensures fits { IfOk result (λ found. (total found.place.geometry ≤ (D.disk disk.new).sectors) × (found.place.used ≤ found.place.geometry.slots)
+        × (found.number ≤ LAST_NUMBER) × (found.copy ≡ found.state)) }
+{
+    disk.sync()?;
+    let geometry = find_geometry(disk)?;
+    let areas = find_areas(disk, geometry)?;
+    let mut state = read_ports(alloc, disk, geometry, areas.in_use.area)?;
+    let end = replay_slots(
+        alloc,
+        disk,
+        geometry,
+        areas.in_use.area,
+        areas.in_use.header,
+        &mut state,
+    )?;
+    let idle = if areas.other.epoch < areas.in_use.header.epoch {
+        Idle::Older
+    } else {
+        Idle::Closed
+    };
+    let copy = state.copy()?;
+    Ok(Found {
+        place: Place {
+            geometry,
+            area: areas.in_use.area,
+            epoch: areas.in_use.header.epoch,
+            used: end.used,
+            idle,
+        },
+        number: end.number,
+        state,
+        copy,
+    })
+}

@@ -1,0 +1,102 @@
+mod batches;
+mod hostile_images;
+mod interrupted;
+mod layout;
+mod plain;
+mod power_stops;
+
+use crate::{Batch, Geometry, Journal, Progress, RecoverCause, Writing, format};
+use iol_disk::{MemoryDisk, Pick, SECTOR_OCTETS, SectorDisk};
+use iol_types::{Command, DeviceId, MasterState, PortConfig, PortId, PortMode, Validation};
+use std::alloc::Global;
+use std::test::Fail;
+
+const PICKS: [Pick; 4] = [Pick::Old, Pick::New, Pick::Zero, Pick::Pattern];
+
+// A Configure of this port: IOL_MANUAL with Backup and Restore, vendor 500, device 43981.
+fn configure(port: u8) -> Result<Command, Fail> {
+    Ok(Command::Configure {
+        port: PortId::new(port).ok_or("no port number")?,
+        config: PortConfig {
+            mode: PortMode::IolManual,
+            validation: Validation::BackupAndRestore,
+            vendor: 500,
+            device: DeviceId::new(43981).ok_or("no device number")?,
+        },
+    })
+}
+
+// So many Configures of port 1, the first with this number.
+fn batch(alloc: Global, first: u64, count: usize) -> Result<Batch, Fail> {
+    let mut commands = Vec::new(alloc);
+    for _ in 0..count {
+        commands.push(configure(1)?)?;
+    }
+    Ok(Batch { first, commands })
+}
+
+fn two_ports_four_slots() -> Result<Geometry, Fail> {
+    Ok(Geometry::new(2, 4).ok_or("no geometry")?)
+}
+
+fn formatted(alloc: Global) -> Result<MemoryDisk, Fail> {
+    let geometry = two_ports_four_slots()?;
+    let mut disk = MemoryDisk::new(alloc, geometry.sectors())?;
+    format(alloc, &mut disk, geometry)?;
+    Ok(disk)
+}
+
+fn recovered(alloc: Global, disk: MemoryDisk) -> Result<(Journal<MemoryDisk>, MasterState), Fail> {
+    match Journal::recover(alloc, disk) {
+        Ok(found) => Ok(found),
+        Err(fault) => Err(Fail::from(fault.cause)),
+    }
+}
+
+// What a recovery answers, and the disk.
+fn answer(alloc: Global, disk: MemoryDisk) -> (Result<u64, RecoverCause>, MemoryDisk) {
+    match Journal::recover(alloc, disk) {
+        Ok((journal, _)) => (Ok(journal.number()), journal.disk()),
+        Err(fault) => (Err(fault.cause), fault.disk),
+    }
+}
+
+fn begun(journal: Journal<MemoryDisk>, batch: Batch) -> Result<Writing<MemoryDisk>, Fail> {
+    match journal.begin(batch) {
+        Ok(writing) => Ok(writing),
+        Err(fault) => Err(Fail::from(fault.cause)),
+    }
+}
+
+// Makes every step that is left, and counts them.
+fn finished(writing: Writing<MemoryDisk>) -> Result<(Journal<MemoryDisk>, usize), Fail> {
+    let mut writing = writing;
+    for made in 1..20 {
+        match writing.step() {
+            Progress::More(next) => writing = next,
+            Progress::Done(journal, written) => {
+                written.into_batch();
+                return Ok((journal, made));
+            }
+            Progress::Failed(_, fault) => return Err(Fail::from(fault)),
+        }
+    }
+    Err(Fail::new("the batch is not done"))
+}
+
+// A journal of two ports and four slots with so many Configures of port 1, a batch each.
+fn journal_of(alloc: Global, batches: u8) -> Result<Journal<MemoryDisk>, Fail> {
+    let (mut journal, _) = recovered(alloc, formatted(alloc)?)?;
+    for before in 0..batches {
+        journal = finished(begun(journal, batch(alloc, u64::from(before) + 1, 1)?)?)?.0;
+    }
+    Ok(journal)
+}
+
+fn octets_at(disk: &mut MemoryDisk, sector: usize) -> Result<[u8; SECTOR_OCTETS], Fail> {
+    let mut octets = [0; SECTOR_OCTETS];
+    if sector < disk.sectors() {
+        disk.read(sector, &mut octets)?;
+    }
+    Ok(octets)
+}

@@ -1,0 +1,174 @@
+//! A plain and slow program for what an image of a disk means. It takes all sectors, and knows no disk.
+ghost use Rattle.std.specs.Prelude.{◌≡◌, ◌<◌, ◌≤◌, ◌+◌, ◌*◌, length, IfOk};
+ghost use Rattle.iol_slots.specs.Gate.{is_open};
+ghost use Rattle.iol_journal.specs.Layout.{total};
+ghost use Rattle.iol_journal.specs.Meaning.{geometry_in, header_in, in_use_in, ports_from, log_from, meaning};
+ghost use Rattle.iol_journal.specs.Octets.{octets_at as octets_in};
+ghost use Rattle.iol_journal.specs.Plain.{image_of, Answers, IsPlain};
+ghost use Rattle.iol_journal.specs.declared.header.TheConstants.{LAST_NUMBER};
+
+use crate::area::Area;
+use crate::cause::RecoverCause;
+use crate::geometry::{BODY_SECTORS, DISK_GATE, GEOMETRY, Geometry, PORT_SECTORS};
+use crate::header::Header;
+use crate::opening::{InUse, greatest_of};
+use crate::replay::{End, replay_body};
+use iol_disk::SECTOR_OCTETS;
+use iol_record::decode_port;
+use iol_slots::GATE_MARK;
+use iol_types::{MasterState, PortId};
+use std::alloc::{AllocError, Global};
+
+/// What an image means: the number of its commands and the state after them, or the first cause why it means nothing.
+///
+/// # Errors
+/// `AllocError` where memory runs out.
+pub fn plain_meaning(
+    alloc: Global,
+    image: &[[u8; SECTOR_OCTETS]],
+) -> Result<Result<(u64, MasterState), RecoverCause>, AllocError>
+    ensures { IfOk result (λ answer. IsPlain answer (meaning (length image.now) (image_of image.now))) }
+{
+    match read_all(alloc, image) {
+        Ok(found) => Ok(Ok(found)),
+        Err(RecoverCause::Memory) => Err(AllocError),
+        Err(cause) => Ok(Err(cause)),
+    }
+}
+
+// Reads in the order of the layout.
+fn read_all(
+    alloc: Global,
+    image: &[[u8; SECTOR_OCTETS]],
+) -> Result<(u64, MasterState), RecoverCause>
+    ensures { Answers (λ (number, state). record { number = number; state = state }) (meaning (length image.now) (image_of image.now)) result }
+{
+    let geometry = read_geometry(image)?;
+    let used = read_in_use(image, geometry)?;
+    let mut state = read_ports(alloc, image, geometry, used.area)?;
+    let end = read_slots(alloc, image, geometry, used, &mut state)?;
+    Ok((end.number, state))
+}
+
+fn read_geometry(image: &[[u8; SECTOR_OCTETS]]) -> Result<Geometry, RecoverCause>
+    ensures answers { Answers (λ geometry. geometry) (geometry_in (length image.now) (image_of image.now)) result }
+    ensures fits { IfOk result (λ geometry. total geometry ≤ length image.now) }
+{
+    if image.len() < 2 || !gate_is_open(image, DISK_GATE) {
+        return Err(RecoverCause::NotFormatted);
+    }
+    match Geometry::read(sector_at(image, GEOMETRY)) {
+        Some(geometry) if geometry.sectors() <= image.len() => Ok(geometry),
+        _ => Err(RecoverCause::Damaged { sector: GEOMETRY }),
+    }
+}
+
+fn read_in_use(image: &[[u8; SECTOR_OCTETS]], geometry: Geometry) -> Result<InUse, RecoverCause>
+    requires { total geometry ≤ length image.now }
+    ensures answers { Answers (λ used. used) (in_use_in geometry (image_of image.now)) result }
+    ensures base { IfOk result (λ used. used.header.base ≤ LAST_NUMBER) }
+{
+    let a = read_header(image, geometry, Area::A);
+    let b = read_header(image, geometry, Area::B);
+    greatest_of(geometry, a, b)
+}
+
+// The header of an area whose gate is open.
+fn read_header(image: &[[u8; SECTOR_OCTETS]], geometry: Geometry, area: Area) -> Option<Header>
+    requires { total geometry ≤ length image.now }
+    ensures { result ≡ header_in geometry (image_of image.now) area }
+{
+    if gate_is_open(image, geometry.gate(area)) {
+        Some(Header::read(sector_at(image, geometry.header(area))))
+    } else {
+        None
+    }
+}
+
+// The ports as all sectors of their records say.
+fn read_ports(
+    alloc: Global,
+    image: &[[u8; SECTOR_OCTETS]],
+    geometry: Geometry,
+    area: Area,
+) -> Result<MasterState, RecoverCause>
+    requires { total geometry ≤ length image.now }
+    ensures { Answers (λ state. state) (ports_from geometry area (image_of image.now) 0 geometry.ports) result }
+{
+    let mut state = MasterState::new(alloc, geometry.ports())?;
+    for place in 0..geometry.ports() {
+        let sector = geometry.port(area, usize::from(place));
+        let octets = octets_from(alloc, image, sector, PORT_SECTORS)?;
+        let Ok((port, _)) = decode_port(&octets) else {
+            return Err(RecoverCause::Damaged { sector });
+        };
+        state.set_port(PortId::new(place + 1).unwrap(), port);
+    }
+    Ok(state)
+}
+
+// Applies the commands of the slots, up to the first whose gate is closed.
+fn read_slots(
+    alloc: Global,
+    image: &[[u8; SECTOR_OCTETS]],
+    geometry: Geometry,
+    used: InUse,
+    state: &mut MasterState,
+) -> Result<End, RecoverCause>
+    requires fits { total geometry ≤ length image.now }
+    requires base { used.header.base ≤ LAST_NUMBER }
+    ensures { Answers (λ end. record { used = end.used; number = end.number; state = state.new })
+        (log_from geometry used.area used.header.epoch (image_of image.now) 0 geometry.slots used.header.base state.old) result }
+{
+    let mut number = used.header.base;
+    for place in 0..geometry.slots() {
+        let slot = geometry.slot(used.area, place);
+        if !gate_is_open(image, slot.gate) {
+            return Ok(End {
+                used: place,
+                number,
+            });
+        }
+        let body = octets_from(alloc, image, slot.body, BODY_SECTORS)?;
+        number = match replay_body(&body, used.header.epoch, number, state) {
+            Some(number) => number,
+            None => return Err(RecoverCause::Damaged { sector: slot.body }),
+        };
+    }
+    Ok(End {
+        used: geometry.slots(),
+        number,
+    })
+}
+
+// The octets of so many sectors, one behind the other.
+fn octets_from(
+    alloc: Global,
+    image: &[[u8; SECTOR_OCTETS]],
+    first: usize,
+    count: usize,
+) -> Result<Vec<u8>, AllocError>
+    requires { first + count ≤ length image.now }
+    ensures octets { IfOk result (λ octets. octets.items ≡ octets_in (image_of image.now) first count) }
+    ensures size { IfOk result (λ octets. length octets.items ≡ 512 * count) }
+{
+    let mut octets = Vec::new(alloc);
+    for j in 0..count {
+        octets.extend_from_slice(sector_at(image, first + j))?;
+    }
+    Ok(octets)
+}
+
+fn gate_is_open(image: &[[u8; SECTOR_OCTETS]], gate: usize) -> bool
+    requires { gate < length image.now }
+    ensures { result ≡ is_open (image_of image.now gate) }
+{
+    sector_at(image, gate).starts_with(&GATE_MARK)
+}
+
+fn sector_at(image: &[[u8; SECTOR_OCTETS]], sector: usize) -> &[u8; SECTOR_OCTETS]
+    requires { sector < length image.now }
+    ensures { result.now ≡ image_of image.now sector }
+{
+    &image[sector]
+}

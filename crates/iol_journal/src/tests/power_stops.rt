@@ -1,0 +1,94 @@
+//! A power stop after each disk call, under each pick.
+
+use super::interrupted::Interrupted;
+use super::{PICKS, answer, batch, begun, journal_of, recovered, two_ports_four_slots};
+use crate::{Progress, RecoverCause, format};
+use iol_disk::{MemoryDisk, Pick};
+use iol_types::PortId;
+use std::alloc::Global;
+use std::test::Fail;
+
+// The number of commands that a disk is recovered with; none where it is not formatted.
+fn recovered_number(alloc: Global, disk: MemoryDisk) -> Result<Option<u64>, Fail> {
+    match answer(alloc, disk).0 {
+        Ok(number) => Ok(Some(number)),
+        Err(RecoverCause::NotFormatted) => Ok(None),
+        Err(cause) => Err(Fail::from(cause)),
+    }
+}
+
+// The disk after so many calls of a format of two ports and four slots, and whether the format was done.
+fn formatted_after(alloc: Global, calls: usize) -> Result<(MemoryDisk, bool), Fail> {
+    let geometry = two_ports_four_slots()?;
+    let mut disk = Interrupted::new(MemoryDisk::new(alloc, geometry.sectors())?, calls);
+    let done = format(alloc, &mut disk, geometry).is_ok();
+    Ok((disk.disk(), done))
+}
+
+// The disk after one batch and so many calls of the second of three.
+fn written_after(alloc: Global, calls: usize) -> Result<MemoryDisk, Fail> {
+    let mut writing = begun(journal_of(alloc, 1)?, batch(alloc, 2, 1)?)?;
+    for _ in 0..calls {
+        match writing.step() {
+            Progress::More(next) => writing = next,
+            Progress::Done(journal, written) => {
+                written.into_batch();
+                return Ok(journal.disk());
+            }
+            Progress::Failed(_, fault) => return Err(Fail::from(fault)),
+        }
+    }
+    Ok(writing.disk())
+}
+
+#[test]
+fn a_stop_in_a_format_leaves_nothing_or_an_empty_journal(rt: HostRuntime) -> Result<(), Fail> {
+    // A sync, a read, 11 writes, a sync, the gate of the disk, a sync.
+    for calls in 0..17 {
+        for pick in PICKS {
+            let (disk, done) = formatted_after(rt.alloc(), calls)?;
+            assert_eq!(rt; done, calls == 16, "after {calls} calls");
+            let gate_is_torn_open = calls == 15 && matches!(pick, Pick::New | Pick::Pattern);
+            let wanted = if done || gate_is_torn_open {
+                Some(0)
+            } else {
+                None
+            };
+            let number = recovered_number(rt.alloc(), disk.stop(pick))?;
+            assert_eq!(rt; number, wanted, "after {calls} calls under {pick:?}");
+        }
+    }
+    Ok(())
+}
+
+#[test]
+fn a_stop_in_a_batch_leaves_the_state_before_or_after_it(rt: HostRuntime) -> Result<(), Fail> {
+    // The body, a sync, the gate, a sync.
+    for calls in 0..5 {
+        for pick in PICKS {
+            let disk = written_after(rt.alloc(), calls)?.stop(pick);
+            let gate_is_torn_open = calls == 3 && matches!(pick, Pick::New | Pick::Pattern);
+            let wanted = if calls == 4 || gate_is_torn_open {
+                2
+            } else {
+                1
+            };
+            let number = recovered_number(rt.alloc(), disk)?;
+            assert_eq!(rt; number, Some(wanted), "after {calls} calls under {pick:?}");
+        }
+    }
+    Ok(())
+}
+
+#[test]
+fn a_stop_after_the_last_step_leaves_the_batch(rt: HostRuntime) -> Result<(), Fail> {
+    for pick in PICKS {
+        let disk = journal_of(rt.alloc(), 2)?.disk().stop(pick);
+        let (journal, state) = recovered(rt.alloc(), disk)?;
+        assert_eq!(rt; journal.number(), 2, "under {pick:?}");
+        let port = PortId::new(1).ok_or("no port number")?;
+        let revision = state.port(port).map(|port| port.revision());
+        assert_eq!(rt; revision, Some(2), "under {pick:?}");
+    }
+    Ok(())
+}

@@ -1,0 +1,211 @@
+use crate::batch::Batch;
+use crate::calls::make;
+use crate::journal::Journal;
+use crate::phase::Phase;
+use crate::place::Place;
+use iol_disk::{DiskFault, SectorDisk};
+use iol_types::MasterState;
+use std::alloc::Global;
+use std::marker::Model;
+
+/// What a batch writes, and the state after it.
+#[derive(Debug, Drop)]
+pub struct Plan {
+    // the body of its slot
+    pub body: Vec<u8>,
+    pub sectors: usize,
+    pub next: MasterState,
+}
+
+/// A batch on its way to the disk. Each [`step`](Writing::step) makes one disk call.
+#[derive(Drop)]
+pub struct Writing<D: SectorDisk> {
+    alloc: Global,
+    disk: D,
+    place: Place,
+    number: u64,
+    state: MasterState,
+    batch: Batch,
+    plan: Plan,
+    phase: Phase,
+}
+
+impl<D: SectorDisk> Model for Writing<D> {
+    ghost use Rattle.std.specs.Prelude.{◌≡◌, ◌≤◌, ◌+◌};
+    ghost use Rattle.iol_types.specs.State.{after};
+    ghost use Rattle.iol_journal.specs.Journals.{WritingView, IsPlanned};
+
+    ghost Value = { WritingView D };
+
+    ghost use Rattle.iol_journal.specs.Journals.{standing_at, values};
+
+    ghost view = { λ w. record {
+      disk = w.disk;
+      standing = standing_at w.place w.number w.state;
+      idle = w.place.idle;
+      commands = values w.batch.commands.items;
+      body = w.plan.body.items;
+      sectors = w.plan.sectors;
+      phase = w.phase;
+    } };
+
+    ghost invariant = { λ w. IsPlanned (D.disk w.disk) (standing_at w.place w.number w.state) (values w.batch.commands.items) w.plan.body.items w.plan.sectors w.phase
+        × (w.batch.first ≡ w.number + 1)
+        × (w.plan.next ≡ after w.state (values w.batch.commands.items)) };
+}
+
+/// A batch that every image of the disk has. It stands for that, and cannot be copied.
+pub struct Written {
+    batch: Batch,
+}
+
+impl Model for Written {
+    ghost use Rattle.iol_journal.specs.Written.{WrittenView};
+
+    ghost Value = { WrittenView };
+
+    ghost use Rattle.iol_journal.specs.Journals.{values};
+
+    ghost view = { λ w. record { first = w.batch.first; commands = values w.batch.commands.items } };
+}
+
+impl Written {
+    ghost use Rattle.std.specs.Prelude.{◌≡◌};
+    ghost use Rattle.iol_journal.specs.Journals.{values};
+
+    /// The batch, which gives up what this stands for.
+    pub fn into_batch(self) -> Batch
+        ensures first { result.first ≡ self.first }
+        ensures commands { values result.commands.items ≡ self.commands }
+    {
+        let Written { batch } = self;
+        batch
+    }
+}
+
+/// What a step answers.
+pub enum Progress<D: SectorDisk> {
+    /// Further steps are owed.
+    More(Writing<D>),
+    /// The batch is durable.
+    Done(Journal<D>, Written),
+    /// A call of the disk failed. The disk may be recovered again.
+    Failed(D, DiskFault),
+}
+
+impl<D: SectorDisk> Writing<D> {
+    ghost use Rattle.std.specs.Prelude.{◌≡◌, ◌≤◌, ◌<◌, ◌+◌};
+    ghost use Rattle.iol_types.specs.State.{after};
+    ghost use Rattle.iol_disk.specs.Disk.{HasFailed};
+    ghost use Rattle.iol_disk.specs.Moments.{LeavesOnly};
+    ghost use Rattle.iol_journal.specs.Calls.{calls_left};
+    ghost use Rattle.iol_journal.specs.Kept.{KeptEither, EachMeans};
+    ghost use Rattle.iol_journal.specs.Underway.{IsAtRest, IsUnderway};
+    ghost use Rattle.iol_journal.specs.Journals.{IsPlanned, standing_at, with_batch, values};
+    ghost use Rattle.iol_journal.specs.Progress.{disk_of, IfMore, IfDone, IfFailed};
+    ghost use Rattle.iol_journal.specs.declared.phase.Phase.TheVariants.{Body};
+
+    // A batch before its first step.
+    pub(crate) fn begun(
+        alloc: Global,
+        disk: D,
+        place: Place,
+        number: u64,
+        state: MasterState,
+        batch: Batch,
+        plan: Plan,
+    ) -> Writing<D>
+        requires planned { IsPlanned (D.disk disk) (standing_at place number state) (values batch.commands.items) plan.body.items plan.sectors (Body 0) }
+        requires first { batch.first ≡ number + 1 }
+        requires next { plan.next ≡ after state (values batch.commands.items) }
+        ensures { result ≡ record {
+          disk = disk;
+          standing = standing_at place number state;
+          idle = place.idle;
+          commands = values batch.commands.items;
+          body = plan.body.items;
+          sectors = plan.sectors;
+          phase = Body 0;
+        } }
+    {
+        Writing {
+            alloc,
+            disk,
+            place,
+            number,
+            state,
+            batch,
+            plan,
+            phase: Phase::Body(0),
+        }
+    }
+
+    /// The disk, to be recovered again.
+    pub fn disk(self) -> D
+        ensures { result ≡ self.disk }
+    {
+        let Writing {
+            alloc: _,
+            disk,
+            place: _,
+            number: _,
+            state: _,
+            batch: _,
+            plan: _,
+            phase: _,
+        } = self;
+        disk
+    }
+
+    /// Makes one disk call: the sectors of the body in order, a sync, the open gate, a sync.
+    pub fn step(self) -> Progress<D>
+        // A stop at any moment of it leaves the state before the batch, or the state after it.
+        ensures any_moment { IsUnderway D.disk self → LeavesOnly (D.disk self.disk) (D.disk (disk_of result))
+            (KeptEither (D.disk self.disk).sectors self.standing.number self.standing.state self.commands) }
+        ensures underway { IsUnderway D.disk self → IfMore result (λ w. IsUnderway D.disk w) }
+        // Every image has the batch.
+        ensures durable { IsUnderway D.disk self → IfDone result (λ journal _. IsAtRest (D.disk journal.disk) journal.standing journal.idle
+            × EachMeans (D.disk journal.disk) journal.standing.number journal.standing.state) }
+        ensures more { IfMore result (λ w. (w.standing ≡ self.standing) × (w.idle ≡ self.idle) × (w.commands ≡ self.commands)
+            × (calls_left w.sectors w.phase + 1 ≡ calls_left self.sectors self.phase)) }
+        // The batch is behind those before it.
+        ensures done { IfDone result (λ journal written. (journal.standing ≡ with_batch self.standing self.commands) × (journal.idle ≡ self.idle)
+            × (written.first ≡ self.standing.number + 1) × (written.commands ≡ self.commands)) }
+        ensures failed { IfFailed result (λ disk _. HasFailed (D.disk self.disk) (D.disk disk)) }
+    {
+        let Writing {
+            alloc,
+            mut disk,
+            place,
+            number,
+            state,
+            batch,
+            plan,
+            phase,
+        } = self;
+        if let Err(fault) = make(&mut disk, &place, &plan, phase) {
+            return Progress::Failed(disk, fault);
+        }
+        match phase.next(plan.sectors) {
+            Some(phase) => Progress::More(Writing {
+                alloc,
+                disk,
+                place,
+                number,
+                state,
+                batch,
+                plan,
+                phase,
+            }),
+            None => {
+                let place = Place {
+                    used: place.used + 1,
+                    ..place
+                };
+                let number = number + batch.commands.len() as u64;
+                let journal = Journal::at_rest(alloc, disk, place, number, plan.next);
+                Progress::Done(journal, Written { batch })
+            }
+        }
+    }
+}

@@ -1,0 +1,7 @@
+-- Whole numbers that are a geometry.
+use Rattle.std.specs.Prelude.{◌≡◌, ℤ, pos}
+use Rattle.iol_journal.specs.Geometry.{Geometry, IsGeometry}
+
+-- the numbers are those of a geometry
+abbrev pub HasGeometry : ℤ → ℤ → Type 0
+HasGeometry ports slots = (g : Geometry) × IsGeometry g × (ports ≡ pos g.ports) × (slots ≡ pos g.slots)

@@ -1,0 +1,61 @@
+//! The program's commands, over a writer for their output and one for their faults.
+ghost use Rattle.std.specs.Prelude.{◌≡◌, ◌⊎◌, IfErr, OnOk};
+ghost use Rattle.std.specs.Io.KnownBytes.{Appends};
+ghost use Rattle.iol_tool.specs.Fault.{status_of};
+ghost use Rattle.iol_tool.specs.Script.{CanRun};
+
+use crate::fault::Fault;
+use crate::run::run;
+use crate::script::Script;
+use std::alloc::Global;
+use std::io::{self, Write};
+
+/// Runs a script on a disk in memory, and answers the exit status: 0 once its trace and the recovered state are
+/// written to `out`; 1, or 2 where the script or its geometry is not valid, after a line on `err` that says why, and
+/// then nothing is written to `out`; 1 where writing to `out` fails, with nothing written to `err`.
+pub fn run_text<W: Write, E: Write>(alloc: Global, script: &[u8], out: &mut W, err: &mut E) -> u8
+    ensures ran { result ≡ 0 → CanRun script.now }
+    ensures quiet { result ≡ 0 → err.new ≡ err.old }
+    ensures not_valid { result ≡ 2 → CanRun script.now → ⊥ }
+    ensures untouched { result ≡ 2 → out.new ≡ out.old }
+{
+    match text_of_run(alloc, script) {
+        Ok(text) => print(out, text.as_bytes()),
+        Err(fault) => report(err, &fault),
+    }
+}
+
+fn text_of_run(alloc: Global, script: &[u8]) -> Result<String, Fault<'static>>
+    ensures ran { OnOk result (CanRun script.now) }
+    ensures not_valid { IfErr result (λ fault. status_of fault ≡ 2 → CanRun script.now → ⊥) }
+{
+    let script = Script::read(alloc, script)?;
+    let trace = run(alloc, &script)?;
+    Ok(trace.to_string(alloc)?)
+}
+
+/// Writes a command's output, and answers the exit status: 0, or 1 where the writing fails.
+pub fn print<W: Write>(out: &mut W, text: &[u8]) -> u8
+    ensures status { (result ≡ 0) ⊎ (result ≡ 1) }
+    ensures written { result ≡ 0 → Appends (W.contents out.old) (W.contents out.new) text.now }
+{
+    match write_through(out, text) {
+        Ok(()) => 0,
+        Err(_) => 1,
+    }
+}
+
+fn write_through<W: Write>(out: &mut W, text: &[u8]) -> io::Result<()>
+    ensures { OnOk result (Appends (W.contents out.old) (W.contents out.new) text.now) }
+{
+    out.write_all(text)?;
+    out.flush()
+}
+
+/// Writes why a command failed, and answers its exit status, also where the writing fails.
+pub fn report<E: Write>(err: &mut E, fault: &Fault<'_>) -> u8
+    ensures { result ≡ status_of fault.now }
+{
+    let _ = writeln!(err, "error: {fault}");
+    fault.status()
+}

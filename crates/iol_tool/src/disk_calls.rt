@@ -1,0 +1,57 @@
+//! The disk calls of a run: those of a recovery, and those of a batch.
+ghost use Rattle.std.specs.Prelude.{◌≡◌, IfOk, IfErr};
+ghost use Rattle.iol_journal.specs.Journals.{with_batch};
+ghost use Rattle.iol_tool.specs.Fault.{status_of};
+ghost use Rattle.iol_tool.specs.Store.{IfWorks};
+
+use crate::fault::Fault;
+use crate::store::Store;
+use iol_disk::MemoryDisk;
+use iol_journal::{BeginCause, Journal, Progress, RecoverFault, Writing};
+use iol_types::MasterState;
+use std::alloc::Global;
+
+/// The journal on a disk, and the state that it means.
+///
+/// # Errors
+/// Why the disk is not recovered.
+pub fn recover(
+    alloc: Global,
+    disk: MemoryDisk,
+) -> Result<(Journal<MemoryDisk>, MasterState), Fault<'static>>
+    ensures state { IfOk result (λ found. found.1 ≡ found.0.standing.state) }
+    ensures status { IfErr result (λ fault. status_of fault ≡ 1) }
+{
+    match Journal::recover(alloc, disk) {
+        Ok(recovered) => Ok(recovered),
+        Err(RecoverFault { cause, .. }) => Err(Fault::from(cause)),
+    }
+}
+
+/// Makes the disk calls of a batch, up to one that fails.
+pub fn finish(mut writing: Writing<MemoryDisk>) -> Store
+    ensures { IfWorks result (λ journal. journal.standing ≡ with_batch writing.standing writing.commands) }
+{
+    loop {
+        match writing.step() {
+            Progress::More(more) => writing = more,
+            Progress::Done(journal, written) => {
+                let _batch = written.into_batch();
+                return Store::Journal(journal);
+            }
+            Progress::Failed(disk, _fault) => return Store::Failed(disk),
+        }
+    }
+}
+
+/// Why a batch of the queue is not begun. It is of one command, follows the journal and passes, so where memory is not
+/// missing a slot is.
+pub fn fault_of(cause: BeginCause) -> Fault<'static>
+    ensures { status_of result ≡ 1 }
+{
+    match cause {
+        BeginCause::Memory => Fault::Memory,
+        BeginCause::TooLarge | BeginCause::NeedsCheckpoint | BeginCause::Misfit =>
+            Fault::JournalFull,
+    }
+}
