@@ -123,8 +123,8 @@ fn any_octet_changed_is_answered_as_the_plain_program_does(rt: HostRuntime) -> R
             for octet in [0x00, 0xFF, !was[place]] {
                 let mut octets = was;
                 if let Some(changed) = octets.get_mut(place) {
-            *changed = octet;
-        }
+                    *changed = octet;
+                }
                 let (agree, back) = agrees(alloc, disk, &mut image, sector, octets)?;
                 assert!(rt; agree, "octet {place} of sector {sector} as {octet:02X}");
                 disk = back;
