@@ -1,5 +1,5 @@
 -- A disk as contracts see it, and what its calls do to it.
-use Rattle.std.specs.Prelude.{◌≡◌, ◌<◌, ◌≤◌, ◌⊎◌, ◌-◌, ◌^◌, ℕ, Bool, IsTrue, List, Result, IfErr}
+use Rattle.std.specs.Prelude.{◌≡◌, ◌<◌, ◌≤◌, ◌⊎◌, ◌-◌, ◌^◌, ℕ, Bool, IsTrue, List, Result, Ok, Err}
 use Rattle.iol_disk.specs.Content.{Content, wrote}
 use Rattle.iol_disk.specs.declared.fault.DiskFault.{DiskFault}
 
@@ -29,6 +29,8 @@ WroteSome n old new = (octets : List ℕ) × After (wrote n octets) old new
 abbrev pub HasFailed : Disk → Disk → Type 0
 HasFailed old new = (old.failures < new.failures) ⊎ (2 ^ 64 - 1 ≤ new.failures)
 
--- the one fault is this, and it is told only where the disk has failed
+-- A call that succeeded leaves the count of failures as it was, and one that failed has this fault and was counted: so
+-- a fault is told exactly where it rose, the greatest number apart.
 abbrev pub FailsOnlyAs : {T : Type 0} → DiskFault → Disk → Disk → Result T DiskFault → Type 0
-FailsOnlyAs fault old new result = IfErr result (λ e. (e ≡ fault) × HasFailed old new)
+FailsOnlyAs fault old new (Ok x) = new.failures ≡ old.failures
+FailsOnlyAs fault old new (Err e) = (e ≡ fault) × HasFailed old new

@@ -1,5 +1,6 @@
 pub mod Content
 pub mod Disk
+pub mod Calls
 pub mod Moments
 pub mod Cells
 pub mod Records

@@ -1,0 +1,51 @@
+-- Orders of disk calls: what calls made one behind the other do to a disk, and where one of them failed.
+use Rattle.std.specs.Prelude.{◌≡◌, ℕ, List, [], ◌∷◌, Some, slice_get, take}
+use Rattle.iol_disk.specs.Content.{Content, wrote, synced}
+use Rattle.iol_disk.specs.Disk.{Disk, After, Same, WroteSome, HasFailed}
+use Rattle.iol_disk.specs.declared.fault.DiskFault.{DiskFault}
+use Rattle.iol_disk.specs.declared.fault.DiskFault.TheVariants.{Write, Sync}
+
+-- a write of these octets to this sector, or a sync; a read changes nothing and is in no order
+pub data Call : Type 0 where
+  write : (sector : ℕ) (octets : List ℕ) → Call
+  sync : Call
+
+-- the content after a call that succeeded
+abbrev pub content_after : Call → Content → Content
+content_after (write sector octets) c = wrote sector octets c
+content_after sync c = synced c
+
+-- the content after calls one behind the other
+abbrev pub content_after_all : List Call → Content → Content
+content_after_all [] c = c
+content_after_all (call ∷ calls) c = content_after_all calls (content_after call c)
+
+-- the calls were made in their order, and each succeeded
+pub record Made (calls : List Call) (old new : Disk) : Type 0 where
+  pub after : After (content_after_all calls) old new
+  pub no_failure : new.failures ≡ old.failures
+
+-- the kind of fault of a call
+abbrev pub fault_of : Call → DiskFault
+fault_of (write sector octets) = Write
+fault_of sync = Sync
+
+-- what a call that failed leaves: a write its sector written with some octets, a sync all as it was
+abbrev pub LeftBy : Call → Disk → Disk → Type 0
+LeftBy (write sector octets) = WroteSome sector
+LeftBy sync = Same
+
+-- the call failed, with the fault of its kind, and the failure was counted
+pub record Failed (call : Call) (fault : DiskFault) (old new : Disk) : Type 0 where
+  pub kind : fault ≡ fault_of call
+  pub left : LeftBy call old new
+  pub counted : HasFailed old new
+
+-- the calls were made in their order up to one that failed
+pub record FailedIn (calls : List Call) (fault : DiskFault) (old new : Disk) : Type 0 where
+  pub place : ℕ
+  pub call : Call
+  pub between : Disk
+  pub at_place : slice_get calls place ≡ Some call
+  pub before : Made (take place calls) old between
+  pub failed : Failed call fault between new
