@@ -1,12 +1,15 @@
 -- Calls made one behind the other, and where one of them failed: how such orders join.
-use Rattle.std.proofs.Common.{◌≡◌, ℕ, ◌+◌, ◌<◌, ◌≤◌, IsTrue, List, [], ◌∷◌, ◌++◌, length, zero, take, slice_get, suc, refl, sym, ◌∙◌, ap, subst, arith}
+use Rattle.std.proofs.Common.{Some, Bool, true, false, if◌then◌else◌, is_some, Option, ◌==◌, ◌≡◌, ℕ, ◌+◌, ◌<◌, ◌≤◌, IsTrue, List, [], ◌∷◌, ◌++◌, length, zero, take, slice_get, suc, refl, sym, ◌∙◌, ap, subst, arith}
 use Rattle.std.proofs.Math.Seq.{take-append-add}
 use Rattle.std.proofs.lemmas.List.{take-append-le}
-use Rattle.std.proofs.lemmas.Option.{slice_get_within}
-use Rattle.iol_disk.specs.Content.{Content}
+use Rattle.std.proofs.lemmas.Option.{slice_get_within, same_Some}
+use Rattle.iol_disk.specs.Content.{Image, Content, IsImage, wrote}
 use Rattle.iol_disk.specs.Disk.{Disk, After, Same}
-use Rattle.iol_disk.specs.Calls.{Call, content_after, content_after_all, Made, Failed, FailedIn}
+use Rattle.iol_disk.specs.Moments.{LeavesOnly}
+use Rattle.iol_disk.specs.Calls.{Call, write, sync, content_after, content_after_all, Made, LeftBy, Failed, FailedIn}
 use Rattle.iol_disk.specs.declared.fault.DiskFault.{DiskFault}
+use Rattle.iol_disk.proofs.Images.{Follows, follows-wrote, follows-synced}
+use Rattle.iol_disk.proofs.Moments.{started, goes_on, leaves_same, and_then}
 
 pub content_after_append : (first second : List Call) (c : Content) → content_after_all (first ++ second) c ≡ content_after_all second (content_after_all first c)
 content_after_append [] second c = refl
@@ -108,3 +111,80 @@ same_then_failed calls fault old between new same quiet failed = record {
   before = same_then_made (take failed.place calls) old between failed.between same quiet failed.before;
   failed = failed.failed;
 }
+
+-- Each image that a stop may leave on the way has P: before the first call, and behind each.
+abbrev pub HasOnTheWay : List Call → Content → (Image → Type 0) → Type 0
+HasOnTheWay calls c P = (place : ℕ) (image : Image) → IsImage (content_after_all (take place calls) c) image → P image
+
+follows-call : (call : Call) (c : Content) → Follows c (content_after call c)
+follows-call (write sector octets) c = follows-wrote sector octets c
+follows-call sync c = follows-synced c
+
+-- so a stop at any moment of the calls leaves what has P
+pub made_leaves : (calls : List Call) (old new : Disk) (P : Image → Type 0) → Made calls old new
+    → (IsTrue old.honest → HasOnTheWay calls old.content P) → LeavesOnly old new P
+made_leaves [] old new P made has = leaves_same old new P made.after (λ h. has h 0)
+made_leaves (call ∷ calls) old new P made has =
+    and_then old between new P
+    (goes_on old old between P (content_after call) (follows-call call) (started old P (λ h. has h 0)) first (λ h. has h 1))
+    (made_leaves calls between new P rest (λ h place. has h (suc place)))
+  where
+    between : Disk
+    between = record old { content = content_after call old.content }
+
+    first : After (content_after call) old between
+    first = record { sectors = refl; honest = refl; failures = omega arith; content = λ h. refl }
+
+    rest : Made calls between new
+    rest = record {
+      after = record { sectors = made.after.sectors; honest = made.after.honest; failures = made.after.failures; content = made.after.content };
+      no_failure = made.no_failure;
+    }
+
+take-take : (calls : List Call) (n place : ℕ) → (less : ℕ) × (take n (take place calls) ≡ take less calls)
+take-take calls zero place = (0, refl)
+take-take [] (suc n) zero = (0, refl)
+take-take [] (suc n) (suc place) = (0, refl)
+take-take (call ∷ calls) (suc n) zero = (0, refl)
+take-take (call ∷ calls) (suc n) (suc place) = let (less, same) = take-take calls n place in (suc less, ap (λ (cs : List Call). call ∷ cs) same)
+
+one_call_on : (calls : List Call) (place : ℕ) (call : Call) (c : Content) → slice_get calls place ≡ Some call
+    → content_after_all (take (suc place) calls) c ≡ content_after call (content_after_all (take place calls) c)
+one_call_on [] place call c at = cc
+one_call_on (here ∷ calls) zero call c at = ap (λ (k : Call). content_after k c) (same_Some here call at)
+one_call_on (here ∷ calls) (suc place) call c at = one_call_on calls place call (content_after here c) at
+
+-- a write that failed leaves what one that succeeded does, and a sync that failed what was there
+left_by_leaves : (call : Call) (old new : Disk) (P : Image → Type 0) → LeftBy call old new
+    → (IsTrue old.honest → (image : Image) → IsImage old.content image → P image)
+    → (IsTrue old.honest → (image : Image) → IsImage (content_after call old.content) image → P image) → LeavesOnly old new P
+left_by_leaves (write sector octets) old new P (some, after) here there =
+    goes_on old old new P (wrote sector some) (follows-wrote sector some) (started old P here) after
+    (λ h image is. there h image (any_octets h image is))
+  where
+    either : (here : Bool) (had : Option (List ℕ)) → is_some (if here then Some octets else had) ≡ false → is_some (if here then Some some else had) ≡ false
+    either true had clean = clean
+    either false had clean = clean
+
+    any_octets : IsTrue old.honest → (image : Image) → IsImage new.content image → IsImage (wrote sector octets old.content) image
+    any_octets h image is i clean = (subst (λ (c : Content). IsImage c image) (after.content h) is) i (either (i == sector) (old.content.written i) clean)
+left_by_leaves sync old new P same here there = leaves_same old new P same here
+
+-- where a call failed too
+pub failed_leaves : (calls : List Call) (fault : DiskFault) (old new : Disk) (P : Image → Type 0) → FailedIn calls fault old new
+    → (IsTrue old.honest → HasOnTheWay calls old.content P) → LeavesOnly old new P
+failed_leaves calls fault old new P failed has =
+    and_then old failed.between new P
+    (made_leaves (take failed.place calls) old failed.between P failed.before
+    (λ h n image is.
+    let (less, same) = take-take calls n failed.place in
+    has h less image (subst (λ (cs : List Call). IsImage (content_after_all cs old.content) image) same is)))
+    (left_by_leaves failed.call failed.between new P failed.failed.left
+    (λ h image is. has (honest h) failed.place image (subst (λ (c : Content). IsImage c image) (failed.before.after.content (honest h)) is))
+    (λ h image is. has (honest h) (suc failed.place) image (subst (λ (c : Content). IsImage c image) (behind (honest h)) is)))
+  where
+    honest : IsTrue failed.between.honest → IsTrue old.honest
+    honest h = subst IsTrue failed.before.after.honest h
+
+    behind : IsTrue old.honest → content_after failed.call failed.between.content ≡ content_after_all (take (suc failed.place) calls) old.content
+    behind h = ap (content_after failed.call) (failed.before.after.content h) ∙ sym (one_call_on calls failed.place failed.call old.content failed.at_place)
