@@ -5,7 +5,7 @@ use Rattle.iol_record.specs.Record.{IsPortRecord}
 use Rattle.iol_record.specs.Reading.{port_record_at}
 use Rattle.iol_record.proofs.Records.{port_record_at-record}
 use Rattle.iol_journal.specs.Meaning.{port_of}
-use Rattle.iol_journal.specs.Formatting.{IsBlankRecord}
+use Rattle.iol_journal.proofs.EmptyParts.{IsBlankRecord}
 
 -- port 1 of a master that was just made
 pub port-blank : (answer : Option Port) (state : State) (number : ℕ) (port : Port) → state ≡ empty_state 1 → number ≡ 1

@@ -1,20 +1,21 @@
 -- The body of a slot, written and read.
-use Rattle.std.proofs.Common.{◌≡◌, ◌≤◌, ◌<◌, ℕ, zero, suc, ◌+◌, ◌*◌, ◌-◌, ◌^◌, ◌==◌, nat_le, Bool, true, ◌&&◌, if◌then◌else◌, List, [], ◌∷◌, ◌++◌, length, take, drop, get_or, slice_range, Option, Some, None, Ok, refl, sym, ◌∙◌, ap, subst, arith, append_assoc, append-nil, add-zero, zero-add, length-append}
+use Rattle.std.proofs.Common.{◌≡◌, ◌≤◌, ◌<◌, ℕ, zero, suc, ◌+◌, ◌*◌, ◌-◌, ◌^◌, ◌==◌, nat_le, Bool, true, ◌&&◌, if◌then◌else◌, List, [], ◌∷◌, ◌++◌, length, take, drop, get_or, slice_range, replicate, Option, Some, None, Ok, refl, sym, ◌∙◌, ap, subst, arith, append_assoc, append-nil, add-zero, zero-add, length-append}
 use Rattle.std.proofs.lemmas.Bool.Decides.{nat_tests}
-use Rattle.std.proofs.lemmas.List.{take-append-drop, drop-drop, take_more, map-append}
+use Rattle.std.proofs.lemmas.List.{take-append-drop, drop-drop, take_more, map-append, flat_map_more, length-replicate}
 use Rattle.std.proofs.Math.ListN.{drop_of_length-le}
-use Rattle.std.proofs.Math.Seq.{take-append_seam, drop-append_seam}
+use Rattle.std.proofs.Math.Seq.{take-append_seam}
 use Rattle.std.specs.Int.{w16, w32, w64}
+use Rattle.std.proofs.lemmas.Nat.{from_be_bytes-to_be_bytes_2, from_be_bytes-to_be_bytes_4, from_be_bytes-to_be_bytes_8}
 use Rattle.iol_types.specs.Command.{CommandValue, value_of}
 use Rattle.iol_types.specs.declared.command.Command.{Command}
-use Rattle.iol_record.specs.Record.{IsCommandRecord}
+use Rattle.iol_record.specs.Record.{IsCommandRecord, command_octets}
 use Rattle.iol_record.specs.Reading.{command_at}
 use Rattle.iol_record.proofs.Records.{command_at-record}
 use Rattle.iol_disk.specs.Content.{Image}
-use Rattle.iol_journal.specs.Octets.{number_at, octets_at}
+use Rattle.iol_journal.specs.Octets.{number_at, octets_at, padded, sectors_reached}
 use Rattle.iol_journal.specs.Journals.{values}
-use Rattle.iol_journal.specs.Body.{first_then, commands_of, fits, head_of, batch_of}
-use Rattle.iol_journal.specs.Calls.{sector_of}
+use Rattle.iol_journal.specs.Body.{first_then, commands_of, fits, head_of, batch_of, records_of, head_octets, body_octets}
+use Rattle.iol_journal.specs.Batches.{sector_of}
 use Rattle.iol_journal.specs.declared.body.Head.{Head}
 use Rattle.iol_journal.specs.declared.header.TheConstants.{LAST_NUMBER}
 use Rattle.iol_journal.specs.declared.batch.TheConstants.{MOST_COMMANDS, MOST_RECORD_OCTETS, BODY_HEAD_OCTETS}
@@ -77,22 +78,73 @@ octets_at-in_slot image body first n m written whole le =
           ∙ ap (λ (octets : List ℕ). octets ++ octets_at image (first + n) (m - n)) (octets_at-body image body first n written whole),
     )
 
+-- the fields of a head that was written
+module _ (epoch first count octets : ℕ) (rest : List ℕ) where
+  head-epoch : epoch < 2 ^ 64 → number_at w64 0 (head_octets epoch first count octets ++ rest) ≡ epoch
+  head-epoch fits = omega (arith, from_be_bytes-to_be_bytes_8 epoch fits)
+
+  head-first : first < 2 ^ 64 → number_at w64 8 (head_octets epoch first count octets ++ rest) ≡ first
+  head-first fits = omega (arith, from_be_bytes-to_be_bytes_8 first fits)
+
+  head-count : count < 2 ^ 16 → number_at w16 16 (head_octets epoch first count octets ++ rest) ≡ count
+  head-count fits = omega (arith, from_be_bytes-to_be_bytes_2 count fits)
+
+  head-octets : octets < 2 ^ 32 → number_at w32 18 (head_octets epoch first count octets ++ rest) ≡ octets
+  head-octets fits = omega (arith, from_be_bytes-to_be_bytes_4 octets fits)
+
+fits-true : (epoch first count octets : ℕ) → 1 ≤ count → count ≤ MOST_COMMANDS → octets ≤ MOST_RECORD_OCTETS → first + count ≤ LAST_NUMBER + 1
+    → fits (record { epoch = epoch; first = first; count = count; octets = octets }) epoch first ≡ true
+fits-true epoch first count octets some most short last = grind (arith, nat_tests)
+
 -- a body is read as its commands, whatever follows the records
-pub batch_of-body : (head records rest : List ℕ) (commands : List CommandValue) (epoch first : ℕ) → length head ≡ BODY_HEAD_OCTETS
-    → ((r : List ℕ) → number_at w64 0 (head ++ r) ≡ epoch) → ((r : List ℕ) → number_at w64 8 (head ++ r) ≡ first)
-    → ((r : List ℕ) → number_at w16 16 (head ++ r) ≡ length commands) → ((r : List ℕ) → number_at w32 18 (head ++ r) ≡ length records)
-    → 1 ≤ length commands → length commands ≤ MOST_COMMANDS → length records ≤ MOST_RECORD_OCTETS → first + length commands ≤ LAST_NUMBER + 1
-    → commands_of (length commands) records ≡ Some commands → batch_of epoch first (head ++ (records ++ rest)) ≡ Some commands
+pub batch_of-body : (epoch first : ℕ) (commands : List CommandValue) (rest : List ℕ) → epoch < 2 ^ 64
+    → 1 ≤ length commands → length commands ≤ MOST_COMMANDS → length (records_of commands) ≤ MOST_RECORD_OCTETS → first + length commands ≤ LAST_NUMBER + 1
+    → commands_of (length commands) (records_of commands) ≡ Some commands
+    → batch_of epoch first (head_octets epoch first (length commands) (length (records_of commands)) ++ (records_of commands ++ rest)) ≡ Some commands
 unfolding batch_of head_of
-batch_of-body head records rest commands epoch first whole epoch_at first_at count_at octets_at_ some most short last is =
-    let fit : fits (record { epoch = epoch; first = first; count = length commands; octets = length records }) epoch first ≡ true =
-    fits-true epoch first (length commands) (length records) some most short last in
-    let front : drop BODY_HEAD_OCTETS (head ++ (records ++ rest)) ≡ records ++ rest = rw (← whole) (drop-append_seam head (records ++ rest)) in
-    rw (epoch_at (records ++ rest), first_at (records ++ rest), count_at (records ++ rest), octets_at_ (records ++ rest), fit, front, take-append_seam records rest) is
-  where
-    fits-true : (epoch first count octets : ℕ) → 1 ≤ count → count ≤ MOST_COMMANDS → octets ≤ MOST_RECORD_OCTETS → first + count ≤ LAST_NUMBER + 1
-        → fits (record { epoch = epoch; first = first; count = count; octets = octets }) epoch first ≡ true
-    fits-true epoch first count octets some most short last = grind (arith, nat_tests)
+batch_of-body epoch first commands rest small some most short last is =
+    let count = length commands in
+    let octets = length (records_of commands) in
+    let behind = records_of commands ++ rest in
+    let fit = fits-true epoch first count octets some most short last in
+    rw (
+      head-epoch epoch first count octets behind small,
+      head-first epoch first count octets behind (omega arith),
+      head-count epoch first count octets behind (omega arith),
+      head-octets epoch first count octets behind (omega arith),
+      fit,
+      take-append_seam (records_of commands) rest,
+    )
+    is
+
+-- the sectors of a body
+pub length-body : (epoch first : ℕ) (commands : List CommandValue)
+    → length (body_octets epoch first commands) ≡ 512 * sectors_reached (BODY_HEAD_OCTETS + length (records_of commands))
+unfolding body_octets padded
+length-body epoch first commands =
+    let records = records_of commands in
+    let front = head_octets epoch first (length commands) (length records) ++ records in
+    let size : length front ≡ BODY_HEAD_OCTETS + length records = length-append (head_octets epoch first (length commands) (length records)) records in
+    let zeros = 512 * sectors_reached (length front) - length front in
+    omega (arith, length-append front (replicate {A = ℕ} zeros 0), length-replicate {A = ℕ} zeros 0, size)
+
+-- whatever follows a body in its slot, it is read as its commands
+pub batch_of-body_octets : (epoch first : ℕ) (commands : List CommandValue) (rest : List ℕ) → epoch < 2 ^ 64
+    → 1 ≤ length commands → length commands ≤ MOST_COMMANDS → length (records_of commands) ≤ MOST_RECORD_OCTETS → first + length commands ≤ LAST_NUMBER + 1
+    → commands_of (length commands) (records_of commands) ≡ Some commands
+    → batch_of epoch first (body_octets epoch first commands ++ rest) ≡ Some commands
+unfolding body_octets padded
+batch_of-body_octets epoch first commands rest small some most short last is =
+    let head = head_octets epoch first (length commands) (length (records_of commands)) in
+    let records = records_of commands in
+    let zeros = replicate {A = ℕ} (512 * sectors_reached (length (head ++ records)) - length (head ++ records)) 0 in
+    ap (batch_of epoch first) (append_assoc (head ++ records) zeros rest ∙ append_assoc head records (zeros ++ rest))
+    ∙ batch_of-body epoch first commands (zeros ++ rest) small some most short last is
+
+-- the records of one command more
+pub records-more : (octets front : List ℕ) (commands : List CommandValue) (command : CommandValue) → octets ≡ records_of commands → IsCommandRecord front command
+    → octets ++ front ≡ records_of (commands ++ command ∷ [])
+records-more octets front commands command so_far is = rw (so_far, is.spelling) (flat_map_more command_octets [] commands command)
 
 -- one command more of a list of commands
 pub values-more : (commands : List Command) (i : ℕ) (command : Command) → i < length commands → command ≡ get_or commands i command

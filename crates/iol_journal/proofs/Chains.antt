@@ -2,8 +2,8 @@
 use Rattle.std.proofs.Common.{◌≡◌, ℕ, Bool, true, false, Option, Some, None, Result, Ok, Err, refl, sym, ◌∙◌, ap, subst}
 use Rattle.iol_types.specs.State.{State}
 use Rattle.iol_disk.specs.Content.{Image}
-use Rattle.iol_journal.specs.Meaning.{Cause, damaged, ◌>>=◌, sound, found, Standing, Log, geometry_in, in_use_in, ports_from, log_from, standing_in, meaning}
-use Rattle.iol_journal.specs.Geometry.{Geometry}
+use Rattle.iol_journal.specs.Meaning.{Cause, damaged, ◌>>=◌, sound, found, Standing, Log, layout_in, in_use_in, ports_from, log_from, standing_in, meaning}
+use Rattle.iol_journal.specs.Layout.{Layout}
 use Rattle.iol_journal.specs.declared.opening.InUse.{InUse}
 
 -- a reading that ends well has gone on from a value
@@ -32,19 +32,19 @@ by_test false P yes_ no_ = no_ refl
 
 -- what a standing is read from
 pub record IsRead (sectors : ℕ) (image : Image) (s : Standing) (base : ℕ) (ports : State) : Type 0 where
-  pub geometry : geometry_in sectors image ≡ Ok s.geometry
-  pub in_use : in_use_in s.geometry image ≡ Ok (record { area = s.area; header = record { epoch = s.epoch; base = base } })
-  pub ports_are : ports_from s.geometry s.area image 0 s.geometry.ports ≡ Ok ports
-  pub log : log_from s.geometry s.area s.epoch image 0 s.geometry.slots base ports ≡ Ok (record { used = s.used; number = s.number; state = s.state })
+  pub layout : layout_in sectors image ≡ Ok s.layout
+  pub in_use : in_use_in s.layout image ≡ Ok (record { area = s.area; header = record { epoch = s.epoch; base = base } })
+  pub ports_are : ports_from s.layout s.area image 0 s.layout.ports ≡ Ok ports
+  pub log : log_from s.layout s.area s.epoch image 0 s.layout.slots base ports ≡ Ok (record { used = s.used; number = s.number; state = s.state })
 
 pub read_stands : (sectors : ℕ) (image : Image) (s : Standing) (base : ℕ) (ports : State) → IsRead sectors image s base ports → standing_in sectors image ≡ Ok s
 unfolding standing_in
-read_stands sectors image s base ports is = rw (is.geometry, is.in_use, is.ports_are, is.log) refl
+read_stands sectors image s base ports is = rw (is.layout, is.in_use, is.ports_are, is.log) refl
 
 pub stands_read : (sectors : ℕ) (image : Image) (s : Standing) → standing_in sectors image ≡ Ok s → (base : ℕ) × (ports : State) × IsRead sectors image s base ports
 unfolding standing_in
 stands_read sectors image s is =
-    let g = bind_ok (geometry_in sectors image) _ s is in
+    let g = bind_ok (layout_in sectors image) _ s is in
     let u = bind_ok (in_use_in g.0 image) _ s g.2 in
     let p = bind_ok (ports_from g.0 u.0.area image 0 g.0.ports) _ s u.2 in
     let l = bind_ok (log_from g.0 u.0.area u.0.header.epoch image 0 g.0.slots u.0.header.base p.0) _ s p.2 in
@@ -53,11 +53,11 @@ stands_read sectors image s is =
     same_ok : (x y : Standing) → ok x ≡ Ok y → x ≡ y
     same_ok x y same = cc
 
-    put_together : (g : Geometry) (u : InUse) (p : State) (l : Log) (s : Standing)
-        → record { geometry = g; area = u.area; epoch = u.header.epoch; used = l.used; number = l.number; state = l.state } ≡ s
-        → geometry_in sectors image ≡ Ok g → in_use_in g image ≡ Ok u → ports_from g u.area image 0 g.ports ≡ Ok p
-        → log_from g u.area u.header.epoch image 0 g.slots u.header.base p ≡ Ok l
+    put_together : (layout : Layout) (u : InUse) (p : State) (l : Log) (s : Standing)
+        → record { layout = layout; area = u.area; epoch = u.header.epoch; used = l.used; number = l.number; state = l.state } ≡ s
+        → layout_in sectors image ≡ Ok layout → in_use_in layout image ≡ Ok u → ports_from layout u.area image 0 layout.ports ≡ Ok p
+        → log_from layout u.area u.header.epoch image 0 layout.slots u.header.base p ≡ Ok l
         → (base : ℕ) × (ports : State) × IsRead sectors image s base ports
-    put_together g u p l s same geometry in_use ports log =
+    put_together layout u p l s same laid_out in_use ports log =
         subst (λ (t : Standing). (base : ℕ) × (ports : State) × IsRead sectors image t base ports) same
-        (u.header.base, p, record { geometry = geometry; in_use = in_use; ports_are = ports; log = log })
+        (u.header.base, p, record { layout = laid_out; in_use = in_use; ports_are = ports; log = log })

@@ -7,12 +7,12 @@ use Rattle.iol_disk.specs.Content.{Image}
 use Rattle.iol_slots.specs.Gate.{is_open, closed_gate}
 use Rattle.iol_slots.proofs.Gates.{is_open-closed_gate}
 use Rattle.iol_journal.specs.Geometry.{Geometry}
-use Rattle.iol_journal.specs.Layout.{total, gate_at, header_at, port_at, slot_at}
+use Rattle.iol_journal.specs.Layout.{layout_of, total, gate_at, header_at, port_at, slot_at}
 use Rattle.iol_journal.specs.Octets.{octets_at}
 use Rattle.iol_journal.specs.Meaning.{unformatted, Standing, ports_from, log_from, standing_in, meaning}
 use Rattle.iol_journal.specs.Kept.{IsKept, KeptMeans}
 use Rattle.iol_journal.specs.Formats.{IsEmptyOrUnformatted}
-use Rattle.iol_journal.specs.Formatting.{IsBlankRecord, HasAreas, HasFilled, HasHeaders, IsEmptyJournal}
+use Rattle.iol_journal.proofs.EmptyParts.{IsBlankRecord, HasAreas, HasFilled, HasHeaders, IsEmptyJournal}
 use Rattle.iol_journal.specs.declared.area.Area.TheVariants.{A, B}
 use Rattle.iol_journal.specs.declared.place.Idle.TheVariants.{Closed}
 use Rattle.iol_journal.specs.declared.geometry.TheConstants.{GEOMETRY, DISK_GATE}
@@ -20,22 +20,22 @@ use Rattle.iol_journal.specs.declared.geometry.TheConstants.{GEOMETRY, DISK_GATE
 -- ---- as it is written
 
 pub journal-written : (g : Geometry) (octets : List ℕ) (b c d e : Image) → IsBlankRecord octets → HasAreas g b
-    → HasFilled (slot_at g A) closed_gate g.slots b c → HasHeaders g c d → HasFilled (port_at g A) octets g.ports d e → IsEmptyJournal g e
+    → HasFilled (slot_at (layout_of g) A) closed_gate g.slots b c → HasHeaders g c d → HasFilled (port_at (layout_of g) A) octets g.ports d e → IsEmptyJournal g e
 journal-written g octets b c d e is_blank areas slots headers ports = record {
   areas = record {
     geometry = rw (kept GEOMETRY (λ k below. omega arith) (omega arith) (omega arith) (λ k below. omega arith)) areas.geometry;
-    a_open = rw (kept (gate_at g A) (λ k below. omega arith) (omega arith) (omega arith) (λ k below. omega arith)) areas.a_open;
-    b_closed = rw (kept (gate_at g B) (λ k below. omega arith) (omega arith) (omega arith) (λ k below. omega arith)) areas.b_closed;
+    a_open = rw (kept (gate_at (layout_of g) A) (λ k below. omega arith) (omega arith) (omega arith) (λ k below. omega arith)) areas.a_open;
+    b_closed = rw (kept (gate_at (layout_of g) B) (λ k below. omega arith) (omega arith) (omega arith) (λ k below. omega arith)) areas.b_closed;
   };
-  first_epoch = rw (ports.others (header_at g A) (λ p below. omega arith)) headers.first_epoch;
+  first_epoch = rw (ports.others (header_at (layout_of g) A) (λ p below. omega arith)) headers.first_epoch;
   slots_closed = λ k below.
-      ap is_open (ports.others (slot_at g A k) (λ p there. omega arith) ∙ headers.others (slot_at g A k) (omega arith) (omega arith) ∙ slots.filled k below)
+      ap is_open (ports.others (slot_at (layout_of g) A k) (λ p there. omega arith) ∙ headers.others (slot_at (layout_of g) A k) (omega arith) (omega arith) ∙ slots.filled k below)
       ∙ is_open-closed_gate;
   ports_blank = λ p below. rw (ports.filled p below) is_blank;
 }
   where
-    kept : (i : ℕ) → ((k : ℕ) → k < g.slots → i ≢ slot_at g A k) → i ≢ header_at g A → i ≢ header_at g B
-        → ((p : ℕ) → p < g.ports → i ≢ port_at g A p) → e i ≡ b i
+    kept : (i : ℕ) → ((k : ℕ) → k < g.slots → i ≢ slot_at (layout_of g) A k) → i ≢ header_at (layout_of g) A → i ≢ header_at (layout_of g) B
+        → ((p : ℕ) → p < g.ports → i ≢ port_at (layout_of g) A p) → e i ≡ b i
     kept i no_slot no_a no_b no_port = ports.others i no_port ∙ headers.others i no_a no_b ∙ slots.others i no_slot
 
 -- the gate of the disk does not belong to it
@@ -43,12 +43,12 @@ pub journal-behind_gate : (g : Geometry) (image was : Image) → ((i : ℕ) → 
 journal-behind_gate g image was same is = record {
   areas = record {
     geometry = rw (same GEOMETRY (omega arith)) is.areas.geometry;
-    a_open = rw (same (gate_at g A) (omega arith)) is.areas.a_open;
-    b_closed = rw (same (gate_at g B) (omega arith)) is.areas.b_closed;
+    a_open = rw (same (gate_at (layout_of g) A) (omega arith)) is.areas.a_open;
+    b_closed = rw (same (gate_at (layout_of g) B) (omega arith)) is.areas.b_closed;
   };
-  first_epoch = rw (same (header_at g A) (omega arith)) is.first_epoch;
-  slots_closed = λ k below. rw (same (slot_at g A k) (omega arith)) (is.slots_closed k below);
-  ports_blank = λ p below. rw (same (port_at g A p) (omega arith)) (is.ports_blank p below);
+  first_epoch = rw (same (header_at (layout_of g) A) (omega arith)) is.first_epoch;
+  slots_closed = λ k below. rw (same (slot_at (layout_of g) A k) (omega arith)) (is.slots_closed k below);
+  ports_blank = λ p below. rw (same (port_at (layout_of g) A p) (omega arith)) (is.ports_blank p below);
 }
 
 -- ---- as it is read
@@ -61,27 +61,27 @@ shut-unformatted sectors image shut =
 
 -- the standing of a journal that was just formatted
 abbrev pub empty_standing : Geometry → Standing
-empty_standing g = record { geometry = g; area = A; epoch = 1; used = 0; number = 0; state = empty_state g.ports }
+empty_standing g = record { layout = layout_of g; area = A; epoch = 1; used = 0; number = 0; state = empty_state g.ports }
 
-ports-blank : (g : Geometry) (image : Image) (p left : ℕ) → ((q : ℕ) → p ≤ q → q < p + left → IsBlankRecord (image (port_at g A q)))
-    → ports_from g A image p left ≡ Ok (replicate left blank)
+ports-blank : (g : Geometry) (image : Image) (p left : ℕ) → ((q : ℕ) → p ≤ q → q < p + left → IsBlankRecord (image (port_at (layout_of g) A q)))
+    → ports_from (layout_of g) A image p left ≡ Ok (replicate left blank)
 unfolding ports_from octets_at
 ports-blank g image p zero are = refl
 ports-blank g image p (suc left) are =
     let here = λ (rest : List ℕ). are p (omega arith) (omega arith) rest in
     rw (here, ports-blank g image (p + 1) left (λ q from below. are q (omega arith) (omega arith))) refl
 
-log-empty : (g : Geometry) (image : Image) (left : ℕ) (state : State) → (0 < left → is_open (image (slot_at g A 0)) ≡ false)
-    → log_from g A 1 image 0 left 0 state ≡ Ok (record { used = 0; number = 0; state = state })
+log-empty : (g : Geometry) (image : Image) (left : ℕ) (state : State) → (0 < left → is_open (image (slot_at (layout_of g) A 0)) ≡ false)
+    → log_from (layout_of g) A 1 image 0 left 0 state ≡ Ok (record { used = 0; number = 0; state = state })
 log-empty g image zero state shut = refl
 log-empty g image (suc left) state shut = rw (shut (omega arith)) refl
 
-empty-stands : (g : Geometry) (sectors : ℕ) (image : Image) → total g ≤ sectors → is_open (image DISK_GATE) ≡ true → IsEmptyJournal g image
+empty-stands : (g : Geometry) (sectors : ℕ) (image : Image) → total (layout_of g) ≤ sectors → is_open (image DISK_GATE) ≡ true → IsEmptyJournal g image
     → standing_in sectors image ≡ Ok (empty_standing g)
 unfolding standing_in
 empty-stands g sectors image fits formatted is =
     let formatted_large : (nat_lt 1 sectors && is_open (image DISK_GATE)) ≡ true = grind (arith, nat_tests) in
-    let large : nat_le (total g) sectors ≡ true = grind (arith, nat_tests) in
+    let large : nat_le (total (layout_of g)) sectors ≡ true = grind (arith, nat_tests) in
     rw (
       formatted_large,
       is.areas.geometry,
@@ -95,7 +95,7 @@ empty-stands g sectors image fits formatted is =
     refl
 
 -- behind an open gate it is kept, and means number 0 and the empty state
-pub empty-kept : (g : Geometry) (sectors : ℕ) (image : Image) → total g ≤ sectors → is_open (image DISK_GATE) ≡ true → IsEmptyJournal g image
+pub empty-kept : (g : Geometry) (sectors : ℕ) (image : Image) → total (layout_of g) ≤ sectors → is_open (image DISK_GATE) ≡ true → IsEmptyJournal g image
     → KeptMeans sectors 0 (empty_state g.ports) image
 unfolding IsKept
 empty-kept g sectors image fits formatted is =
@@ -103,7 +103,7 @@ empty-kept g sectors image fits formatted is =
     ((empty_standing g, Closed, record { stands = stands; rest = λ k from below. is.slots_closed k below; other_area = is.areas.b_closed }), rw stands refl)
 
 -- whatever a stop leaves of the gate of the disk
-pub empty-or_unformatted : (g : Geometry) (sectors : ℕ) (image : Image) → total g ≤ sectors → IsEmptyJournal g image → IsEmptyOrUnformatted g sectors image
+pub empty-or_unformatted : (g : Geometry) (sectors : ℕ) (image : Image) → total (layout_of g) ≤ sectors → IsEmptyJournal g image → IsEmptyOrUnformatted g sectors image
 empty-or_unformatted g sectors image fits is = at (is_open (image DISK_GATE)) refl
   where
     at : (b : Bool) → is_open (image DISK_GATE) ≡ b → IsEmptyOrUnformatted g sectors image

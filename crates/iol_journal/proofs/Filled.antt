@@ -3,17 +3,16 @@ use Rattle.std.proofs.Common.{◌≡◌, ◌≢◌, ◌<◌, ℕ, ◌+◌, List,
 use Rattle.std.proofs.lemmas.Bool.{cases_lt}
 use Rattle.std.proofs.lemmas.Bool.Decides.{eqb_tells}
 use Rattle.iol_disk.specs.Content.{Content, reads, wrote}
-use Rattle.iol_disk.specs.Disk.{Disk, After}
 use Rattle.iol_disk.proofs.Images.{reads-wrote_here, reads-wrote_other}
-use Rattle.iol_journal.specs.Formatting.{HasFilled}
+use Rattle.iol_journal.proofs.EmptyParts.{HasFilled}
 
-pub filled-none : (place : ℕ → ℕ) (octets : List ℕ) (d : Disk) → IsTrue d.honest → HasFilled place octets 0 (reads d.content) (reads d.content)
-filled-none place octets d h = record {
+pub filled-none : (place : ℕ → ℕ) (octets : List ℕ) (c : Content) → HasFilled place octets 0 (reads c) (reads c)
+filled-none place octets c = record {
   filled = λ k below. absurd (omega arith);
   others = λ i apart. refl;
 }
 
-filled-wrote : (place : ℕ → ℕ) (octets : List ℕ) (n : ℕ) (old mid : Content) → HasFilled place octets n (reads old) (reads mid)
+pub filled-wrote : (place : ℕ → ℕ) (octets : List ℕ) (n : ℕ) (old mid : Content) → HasFilled place octets n (reads old) (reads mid)
     → HasFilled place octets (n + 1) (reads old) (reads (wrote (place n) octets mid))
 filled-wrote place octets n old mid so_far = record {
   filled = λ k below. elim (eqb_tells (place k) (place n)) [
@@ -29,13 +28,3 @@ filled-wrote place octets n old mid so_far = record {
       | inl less ↦ less
       | inr more ↦ let last : k ≡ n = omega arith in absurd (other (ap place last))
     ]
-
--- one place more
-pub filled-more : (place : ℕ → ℕ) (octets : List ℕ) (n sector : ℕ) (old mid new : Disk) → sector ≡ place n → mid.honest ≡ old.honest
-    → (IsTrue old.honest → HasFilled place octets n (reads old.content) (reads mid.content)) → After (wrote sector octets) mid new
-    → IsTrue old.honest → HasFilled place octets (n + 1) (reads old.content) (reads new.content)
-filled-more place octets n sector old mid new at same so_far after h =
-    let one_more = filled-wrote place octets n old.content mid.content (so_far h) in
-    let is : new.content ≡ wrote (place n) octets mid.content =
-    after.content (subst IsTrue (sym same) h) ∙ ap (λ (i : ℕ). wrote i octets mid.content) at in
-    subst (λ (c : Content). HasFilled place octets (n + 1) (reads old.content) (reads c)) (sym is) one_more

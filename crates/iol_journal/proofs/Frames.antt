@@ -5,12 +5,12 @@ use Rattle.iol_types.specs.Command.{CommandValue}
 use Rattle.iol_types.specs.State.{State, after, legal}
 use Rattle.iol_disk.specs.Content.{Image}
 use Rattle.iol_slots.specs.Gate.{is_open}
-use Rattle.iol_journal.specs.Geometry.{Geometry, geometry_of}
+use Rattle.iol_journal.specs.Layout.{Layout}
 use Rattle.iol_journal.specs.Layout.{other, total, area_sectors, gate_at, header_at, port_at, slot_at, body_at}
 use Rattle.iol_journal.specs.Header.{header_of}
 use Rattle.iol_journal.specs.Octets.{octets_at}
 use Rattle.iol_journal.specs.Body.{batch_of}
-use Rattle.iol_journal.specs.Meaning.{Cause, ◌>>=◌, found, sound, geometry_in, header_in, greatest, in_use_in, ports_from, log_from, Log, Standing, Meaning, standing_in, meaning}
+use Rattle.iol_journal.specs.Meaning.{Cause, ◌>>=◌, found, sound, layout_in, header_in, greatest, in_use_in, ports_from, log_from, Log, Standing, Meaning, standing_in, meaning}
 use Rattle.iol_journal.specs.Kept.{IsIdle, IsKeptAs, IsKept, KeptMeans}
 use Rattle.iol_journal.specs.Journals.{with_batch}
 use Rattle.iol_journal.specs.declared.area.Area.{Area}
@@ -18,7 +18,7 @@ use Rattle.iol_journal.specs.declared.area.Area.TheVariants.{A, B}
 use Rattle.iol_journal.specs.declared.place.Idle.{Idle}
 use Rattle.iol_journal.specs.declared.place.Idle.TheVariants.{Older, Closed}
 use Rattle.iol_journal.specs.declared.header.Header.{Header}
-use Rattle.iol_journal.specs.declared.geometry.TheConstants.{BODY_SECTORS, PORT_SECTORS, GEOMETRY, DISK_GATE}
+use Rattle.iol_journal.specs.declared.geometry.TheConstants.{BODY_SECTORS, GEOMETRY, DISK_GATE}
 use Rattle.iol_journal.proofs.Chains.{IsRead, read_stands, stands_read}
 use Rattle.iol_journal.proofs.Sectors.{ports_from-same}
 use Rattle.iol_journal.proofs.Logs.{used_from, log-same, log-more}
@@ -26,57 +26,57 @@ use Rattle.iol_journal.proofs.Logs.{used_from, log-same, log-more}
 -- outside of the first free slot the images are the same
 abbrev pub SameButSlot : Standing → Image → Image → Type 0
 SameButSlot s old new =
-    (i : ℕ) → (i < slot_at s.geometry s.area s.used) ⊎ (slot_at s.geometry s.area s.used + 1 + BODY_SECTORS ≤ i) → new i ≡ old i
+    (i : ℕ) → (i < slot_at s.layout s.area s.used) ⊎ (slot_at s.layout s.area s.used + 1 + BODY_SECTORS ≤ i) → new i ≡ old i
 
 -- the gate and the header of an area lie outside of the slots of each area
-gate_apart : (g : Geometry) (a b : Area) (k : ℕ) → (gate_at g b + 1 < slot_at g a k) ⊎ (slot_at g a g.slots ≤ gate_at g b)
-gate_apart g A A k = inl (omega arith)
-gate_apart g A B k = inr (omega arith)
-gate_apart g B A k = inl (omega arith)
-gate_apart g B B k = inl (omega arith)
+gate_apart : (layout : Layout) (a b : Area) (k : ℕ) → (gate_at layout b + 1 < slot_at layout a k) ⊎ (slot_at layout a layout.slots ≤ gate_at layout b)
+gate_apart layout A A k = inl (omega arith)
+gate_apart layout A B k = inr (omega arith)
+gate_apart layout B A k = inl (omega arith)
+gate_apart layout B B k = inl (omega arith)
 
-module _ (s : Standing) (old new : Image) (room : s.used < s.geometry.slots) (same : SameButSlot s old new) where
-  at_gate : (b : Area) → new (gate_at s.geometry b) ≡ old (gate_at s.geometry b)
-  at_gate b = same _ (elim (gate_apart s.geometry s.area b s.used) as (λ _. (gate_at s.geometry b < slot_at s.geometry s.area s.used) ⊎ (slot_at s.geometry s.area s.used + 1 + BODY_SECTORS ≤ gate_at s.geometry b)) [
+module _ (s : Standing) (old new : Image) (room : s.used < s.layout.slots) (same : SameButSlot s old new) where
+  at_gate : (b : Area) → new (gate_at s.layout b) ≡ old (gate_at s.layout b)
+  at_gate b = same _ (elim (gate_apart s.layout s.area b s.used) as (λ _. (gate_at s.layout b < slot_at s.layout s.area s.used) ⊎ (slot_at s.layout s.area s.used + 1 + BODY_SECTORS ≤ gate_at s.layout b)) [
     | inl before ↦ inl (omega arith)
     | inr behind ↦ inr (omega arith)
   ])
 
-  at_header : (b : Area) → new (header_at s.geometry b) ≡ old (header_at s.geometry b)
-  at_header b = same _ (elim (gate_apart s.geometry s.area b s.used) as (λ _. (header_at s.geometry b < slot_at s.geometry s.area s.used) ⊎ (slot_at s.geometry s.area s.used + 1 + BODY_SECTORS ≤ header_at s.geometry b)) [
+  at_header : (b : Area) → new (header_at s.layout b) ≡ old (header_at s.layout b)
+  at_header b = same _ (elim (gate_apart s.layout s.area b s.used) as (λ _. (header_at s.layout b < slot_at s.layout s.area s.used) ⊎ (slot_at s.layout s.area s.used + 1 + BODY_SECTORS ≤ header_at s.layout b)) [
     | inl before ↦ inl (omega arith)
     | inr behind ↦ inr (omega arith)
   ])
 
-  two : 2 ≤ gate_at s.geometry s.area
+  two : 2 ≤ gate_at s.layout s.area
   two = at_least s.area
     where
-      at_least : (a : Area) → 2 ≤ gate_at s.geometry a
+      at_least : (a : Area) → 2 ≤ gate_at s.layout a
       at_least A = omega arith
       at_least B = omega arith
 
   at_front : (i : ℕ) → i < 2 → new i ≡ old i
   at_front i below = same i (inl (omega (arith, two)))
 
-  headers_same : (b : Area) → header_in s.geometry new b ≡ header_in s.geometry old b
+  headers_same : (b : Area) → header_in s.layout new b ≡ header_in s.layout old b
   headers_same b =
-      ap (λ (octets : List ℕ). if is_open octets then Some (header_of (new (header_at s.geometry b))) else None) (at_gate b)
-      ∙ ap (λ (octets : List ℕ). if is_open (old (gate_at s.geometry b)) then Some (header_of octets) else None) (at_header b)
+      ap (λ (octets : List ℕ). if is_open octets then Some (header_of (new (header_at s.layout b))) else None) (at_gate b)
+      ∙ ap (λ (octets : List ℕ). if is_open (old (gate_at s.layout b)) then Some (header_of octets) else None) (at_header b)
 
   -- all that is read before the slots
   fronts_same : (sectors base : ℕ) (ports : State) → IsRead sectors old s base ports
-      → (log : Log) → log_from s.geometry s.area s.epoch new 0 s.geometry.slots base ports ≡ Ok log
-      → IsRead sectors new (record { geometry = s.geometry; area = s.area; epoch = s.epoch; used = log.used; number = log.number; state = log.state }) base ports
+      → (log : Log) → log_from s.layout s.area s.epoch new 0 s.layout.slots base ports ≡ Ok log
+      → IsRead sectors new (record { layout = s.layout; area = s.area; epoch = s.epoch; used = log.used; number = log.number; state = log.state }) base ports
   fronts_same sectors base ports is log logged = record {
-    geometry = geometries (at_front 1 (omega arith)) (at_front 0 (omega arith)) ∙ is.geometry;
-    in_use = ap (λ (a : Option Header). greatest s.geometry a (header_in s.geometry new B)) (headers_same A)
-        ∙ ap (λ (b : Option Header). greatest s.geometry (header_in s.geometry old A) b) (headers_same B) ∙ is.in_use;
-    ports_are = ports_from-same s.geometry s.area old new 0 s.geometry.ports (λ i above below. same i (inl (omega arith))) ∙ is.ports_are;
+    layout = layouts (at_front 1 (omega arith)) (at_front 0 (omega arith)) ∙ is.layout;
+    in_use = ap (λ (a : Option Header). greatest s.layout a (header_in s.layout new B)) (headers_same A)
+        ∙ ap (λ (b : Option Header). greatest s.layout (header_in s.layout old A) b) (headers_same B) ∙ is.in_use;
+    ports_are = ports_from-same s.layout s.area old new 0 s.layout.ports (λ i above below. same i (inl (omega arith))) ∙ is.ports_are;
     log = logged;
   }
     where
-      geometries : new DISK_GATE ≡ old DISK_GATE → new GEOMETRY ≡ old GEOMETRY → geometry_in sectors new ≡ geometry_in sectors old
-      geometries gate sector = rw (gate, sector) refl
+      layouts : new DISK_GATE ≡ old DISK_GATE → new GEOMETRY ≡ old GEOMETRY → layout_in sectors new ≡ layout_in sectors old
+      layouts gate sector = rw (gate, sector) refl
 
   idle_same : (idle : Idle) → IsIdle s idle old → IsIdle s idle new
   idle_same Older is = rw (at_header (other s.area)) is
@@ -84,40 +84,40 @@ module _ (s : Standing) (old new : Image) (room : s.used < s.geometry.slots) (sa
 
 -- the gates behind the slot stay closed
 rest_same : (s : Standing) (old new : Image) → SameButSlot s old new
-    → ((k : ℕ) → s.used ≤ k → k < s.geometry.slots → is_open (old (slot_at s.geometry s.area k)) ≡ false)
-    → (k : ℕ) → s.used < k → k < s.geometry.slots → is_open (new (slot_at s.geometry s.area k)) ≡ false
+    → ((k : ℕ) → s.used ≤ k → k < s.layout.slots → is_open (old (slot_at s.layout s.area k)) ≡ false)
+    → (k : ℕ) → s.used < k → k < s.layout.slots → is_open (new (slot_at s.layout s.area k)) ≡ false
 rest_same s old new same rest k above below = ap is_open (same _ (inr (omega arith))) ∙ rest k (omega arith) below
 
 -- Behind a closed gate the slot may hold anything.
-pub kept_closed : (sectors : ℕ) (s : Standing) (idle : Idle) (old new : Image) → s.used < s.geometry.slots → SameButSlot s old new
-    → IsKeptAs sectors s idle old → is_open (new (slot_at s.geometry s.area s.used)) ≡ false → IsKeptAs sectors s idle new
+pub kept_closed : (sectors : ℕ) (s : Standing) (idle : Idle) (old new : Image) → s.used < s.layout.slots → SameButSlot s old new
+    → IsKeptAs sectors s idle old → is_open (new (slot_at s.layout s.area s.used)) ≡ false → IsKeptAs sectors s idle new
 kept_closed sectors s idle old new room same kept shut = stand (stands_read sectors old s kept.stands)
   where
-    rest : (k : ℕ) → s.used ≤ k → k < s.geometry.slots → is_open (new (slot_at s.geometry s.area k)) ≡ false
+    rest : (k : ℕ) → s.used ≤ k → k < s.layout.slots → is_open (new (slot_at s.layout s.area k)) ≡ false
     rest k above below = elim (cases_lt s.used k) [
       | inl behind ↦ rest_same s old new same kept.rest k behind below
       | inr here ↦
           let e : k ≡ s.used = omega arith in
-          ap (λ (j : ℕ). is_open (new (slot_at s.geometry s.area j))) e ∙ shut
+          ap (λ (j : ℕ). is_open (new (slot_at s.layout s.area j))) e ∙ shut
     ]
 
     stand : (base : ℕ) × (ports : State) × IsRead sectors old s base ports → IsKeptAs sectors s idle new
     stand (base, ports, is) = record {
       stands = read_stands sectors new s base ports (fronts_same s old new room same sectors base ports is _
-          (log-same s.geometry s.area s.epoch old new 0 s.geometry.slots base ports _ is.log (λ i above below. same i (inl below)) (λ less. shut)));
+          (log-same s.layout s.area s.epoch old new 0 s.layout.slots base ports _ is.log (λ i above below. same i (inl below)) (λ less. shut)));
       rest = rest;
       other_area = idle_same s old new room same idle kept.other_area;
     }
 
 -- Behind its open gate a batch counts.
-pub kept_open : (sectors : ℕ) (s : Standing) (idle : Idle) (old new : Image) (commands : List CommandValue) → s.used < s.geometry.slots → SameButSlot s old new
-    → IsKeptAs sectors s idle old → is_open (new (slot_at s.geometry s.area s.used)) ≡ true
-    → batch_of s.epoch (s.number + 1) (octets_at new (body_at s.geometry s.area s.used 0) BODY_SECTORS) ≡ Some commands
+pub kept_open : (sectors : ℕ) (s : Standing) (idle : Idle) (old new : Image) (commands : List CommandValue) → s.used < s.layout.slots → SameButSlot s old new
+    → IsKeptAs sectors s idle old → is_open (new (slot_at s.layout s.area s.used)) ≡ true
+    → batch_of s.epoch (s.number + 1) (octets_at new (body_at s.layout s.area s.used 0) BODY_SECTORS) ≡ Some commands
     → legal s.state commands ≡ true
     → IsKeptAs sectors (with_batch s commands) idle new
 kept_open sectors s idle old new commands room same kept gate batch passes = stand (stands_read sectors old s kept.stands)
   where
-    behind : (k : ℕ) → s.used + 1 ≤ k → k < s.geometry.slots → is_open (new (slot_at s.geometry s.area k)) ≡ false
+    behind : (k : ℕ) → s.used + 1 ≤ k → k < s.layout.slots → is_open (new (slot_at s.layout s.area k)) ≡ false
     behind k above below = rest_same s old new same kept.rest k (omega arith) below
 
     idle_with : (idle : Idle) → IsIdle s idle new → IsIdle (with_batch s commands) idle new
@@ -127,7 +127,7 @@ kept_open sectors s idle old new commands room same kept gate batch passes = sta
     stand : (base : ℕ) × (ports : State) × IsRead sectors old s base ports → IsKeptAs sectors (with_batch s commands) idle new
     stand (base, ports, is) = record {
       stands = read_stands sectors new (with_batch s commands) base ports (fronts_same s old new room same sectors base ports is _
-          (log-more s.geometry s.area s.epoch old new 0 s.geometry.slots base ports _ commands is.log (λ i above below. same i (inl below)) (omega arith) gate batch passes
+          (log-more s.layout s.area s.epoch old new 0 s.layout.slots base ports _ commands is.log (λ i above below. same i (inl below)) (omega arith) gate batch passes
           (λ less. behind (s.used + 1) (omega arith) (omega (arith, less)))));
       rest = behind;
       other_area = idle_with idle (idle_same s old new room same idle kept.other_area);

@@ -1,10 +1,16 @@
 -- The numbers of a geometry, as tests and as octets.
-use Rattle.std.proofs.Common.{◌≡◌, ◌≤◌, ℕ, ◌+◌, ◌*◌, ◌/◌, ◌%◌, nat_le, ◌&&◌, true, arith}
+use Rattle.std.proofs.Common.{◌≡◌, ◌≤◌, ℕ, ◌+◌, ◌*◌, ◌/◌, ◌%◌, nat_le, ◌&&◌, true, Some, refl, arith}
 use Rattle.std.proofs.lemmas.Bool.Decides.{nat_tests}
-use Rattle.iol_journal.specs.Geometry.{Geometry, IsGeometry, is_geometry}
+use Rattle.iol_journal.specs.Geometry.{Geometry, IsGeometry, is_geometry, geometry_of, geometry_octets}
+use Rattle.iol_journal.specs.Octets.{padded}
 
 pub is_geometry-true : (g : Geometry) → IsGeometry g → is_geometry g ≡ true
 is_geometry-true g is = grind (arith, nat_tests, is.some_port, is.most_ports, is.some_slot, is.most_slots)
 
-pub two_octets : (n : ℕ) → n ≤ 256 → n / 256 % 256 * 256 + n % 256 ≡ n
+two_octets : (n : ℕ) → n ≤ 256 → n / 256 % 256 * 256 + n % 256 ≡ n
 two_octets n small = omega arith
+
+-- a geometry is read as it is said
+pub geometry_of-octets : (g : Geometry) → IsGeometry g → geometry_of (geometry_octets g) ≡ Some g
+unfolding geometry_of padded
+geometry_of-octets g is = rw (two_octets g.slots is.most_slots, is_geometry-true g is) refl

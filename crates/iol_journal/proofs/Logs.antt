@@ -4,7 +4,7 @@ use Rattle.iol_types.specs.Command.{CommandValue}
 use Rattle.iol_types.specs.State.{State, after, legal}
 use Rattle.iol_disk.specs.Content.{Image}
 use Rattle.iol_slots.specs.Gate.{is_open}
-use Rattle.iol_journal.specs.Geometry.{Geometry}
+use Rattle.iol_journal.specs.Layout.{Layout}
 use Rattle.iol_journal.specs.Layout.{slot_at, body_at}
 use Rattle.iol_journal.specs.Octets.{octets_at}
 use Rattle.iol_journal.specs.Body.{batch_of}
@@ -15,124 +15,124 @@ use Rattle.iol_journal.proofs.Chains.{ok, by_test, bind_ok, sound_ok, found_ok}
 use Rattle.iol_journal.proofs.Sectors.{octets_at-same}
 
 -- the first slot is open: its commands, which pass, and what is read behind it
-pub record IsOpened (g : Geometry) (a : Area) (epoch : ℕ) (image : Image) (k left number : ℕ) (state : State) (log : Log) : Type 0 where
+pub record IsOpened (layout : Layout) (a : Area) (epoch : ℕ) (image : Image) (k left number : ℕ) (state : State) (log : Log) : Type 0 where
   pub commands : List CommandValue
-  pub batch : batch_of epoch (number + 1) (octets_at image (body_at g a k 0) BODY_SECTORS) ≡ Some commands
+  pub batch : batch_of epoch (number + 1) (octets_at image (body_at layout a k 0) BODY_SECTORS) ≡ Some commands
   pub passes : legal state commands ≡ true
-  pub behind : log_from g a epoch image (k + 1) left (number + length commands) (after state commands) ≡ Ok log
+  pub behind : log_from layout a epoch image (k + 1) left (number + length commands) (after state commands) ≡ Ok log
 
-pub opened : (g : Geometry) (a : Area) (epoch : ℕ) (image : Image) (k left number : ℕ) (state : State) (log : Log)
-    → is_open (image (slot_at g a k)) ≡ true → log_from g a epoch image k (suc left) number state ≡ Ok log → IsOpened g a epoch image k left number state log
-opened g a epoch image k left number state log open_gate is =
+pub opened : (layout : Layout) (a : Area) (epoch : ℕ) (image : Image) (k left number : ℕ) (state : State) (log : Log)
+    → is_open (image (slot_at layout a k)) ≡ true → log_from layout a epoch image k (suc left) number state ≡ Ok log → IsOpened layout a epoch image k left number state log
+opened layout a epoch image k left number state log open_gate is =
     let is' = rw open_gate at is in
-    let f = bind_ok (found (batch_of epoch (number + 1) (octets_at image (body_at g a k 0) BODY_SECTORS)) (body_at g a k 0)) _ log is' in
-    let l = bind_ok (sound (legal state f.0) (body_at g a k 0) f.0) _ log f.2 in
-    let p = sound_ok (legal state f.0) (body_at g a k 0) f.0 l.0 l.1 in
+    let f = bind_ok (found (batch_of epoch (number + 1) (octets_at image (body_at layout a k 0) BODY_SECTORS)) (body_at layout a k 0)) _ log is' in
+    let l = bind_ok (sound (legal state f.0) (body_at layout a k 0) f.0) _ log f.2 in
+    let p = sound_ok (legal state f.0) (body_at layout a k 0) f.0 l.0 l.1 in
     record {
       commands = f.0;
       batch = found_ok _ _ f.0 f.1;
       passes = p.0;
-      behind = subst (λ (commands : List CommandValue). log_from g a epoch image (k + 1) left (number + length commands) (after state commands) ≡ Ok log) (sym p.1) l.2;
+      behind = subst (λ (commands : List CommandValue). log_from layout a epoch image (k + 1) left (number + length commands) (after state commands) ≡ Ok log) (sym p.1) l.2;
     }
 
-pub goes_on : (g : Geometry) (a : Area) (epoch : ℕ) (image : Image) (k left number : ℕ) (state : State) (log : Log)
-    → is_open (image (slot_at g a k)) ≡ true → IsOpened g a epoch image k left number state log → log_from g a epoch image k (suc left) number state ≡ Ok log
-goes_on g a epoch image k left number state log open_gate is = rw (open_gate, is.batch, is.passes) is.behind
+pub goes_on : (layout : Layout) (a : Area) (epoch : ℕ) (image : Image) (k left number : ℕ) (state : State) (log : Log)
+    → is_open (image (slot_at layout a k)) ≡ true → IsOpened layout a epoch image k left number state log → log_from layout a epoch image k (suc left) number state ≡ Ok log
+goes_on layout a epoch image k left number state log open_gate is = rw (open_gate, is.batch, is.passes) is.behind
 
 same_log : (x y : Log) → ok x ≡ Ok y → x ≡ y
 same_log x y is = cc
 
 -- no fewer slots are used than were behind
-pub used_from : (g : Geometry) (a : Area) (epoch : ℕ) (image : Image) (k left number : ℕ) (state : State) (log : Log)
-    → log_from g a epoch image k left number state ≡ Ok log → (k ≤ log.used) × (log.used ≤ k + left)
-used_from g a epoch image k zero number state log is =
+pub used_from : (layout : Layout) (a : Area) (epoch : ℕ) (image : Image) (k left number : ℕ) (state : State) (log : Log)
+    → log_from layout a epoch image k left number state ≡ Ok log → (k ≤ log.used) × (log.used ≤ k + left)
+used_from layout a epoch image k zero number state log is =
     let e : k ≡ log.used = ap (λ (l : Log). l.used) (same_log _ log is) in (omega arith, omega arith)
-used_from g a epoch image k (suc left) number state log is = by_test (is_open (image (slot_at g a k))) _
+used_from layout a epoch image k (suc left) number state log is = by_test (is_open (image (slot_at layout a k))) _
     (λ at.
-    let o = opened g a epoch image k left number state log at is in
-    let r = used_from g a epoch image (k + 1) left (number + length o.commands) (after state o.commands) log o.behind in
+    let o = opened layout a epoch image k left number state log at is in
+    let r = used_from layout a epoch image (k + 1) left (number + length o.commands) (after state o.commands) log o.behind in
     (omega (arith, r.0), omega (arith, r.1)))
     (λ at.
     let is' : ok (record { used = k; number = number; state = state }) ≡ Ok log = rw at at is in
     let e : k ≡ log.used = ap (λ (l : Log). l.used) (same_log _ log is') in (omega arith, omega arith))
 
 -- Images that are the same in the used slots, with a closed gate behind them, have the same log.
-pub log-same : (g : Geometry) (a : Area) (epoch : ℕ) (old new : Image) (k left number : ℕ) (state : State) (log : Log)
-    → log_from g a epoch old k left number state ≡ Ok log
-    → ((i : ℕ) → slot_at g a k ≤ i → i < slot_at g a log.used → new i ≡ old i)
-    → (log.used < k + left → is_open (new (slot_at g a log.used)) ≡ false)
-    → log_from g a epoch new k left number state ≡ Ok log
-log-same g a epoch old new k zero number state log is same shut = is
-log-same g a epoch old new k (suc left) number state log is same shut = by_test (is_open (old (slot_at g a k))) _
+pub log-same : (layout : Layout) (a : Area) (epoch : ℕ) (old new : Image) (k left number : ℕ) (state : State) (log : Log)
+    → log_from layout a epoch old k left number state ≡ Ok log
+    → ((i : ℕ) → slot_at layout a k ≤ i → i < slot_at layout a log.used → new i ≡ old i)
+    → (log.used < k + left → is_open (new (slot_at layout a log.used)) ≡ false)
+    → log_from layout a epoch new k left number state ≡ Ok log
+log-same layout a epoch old new k zero number state log is same shut = is
+log-same layout a epoch old new k (suc left) number state log is same shut = by_test (is_open (old (slot_at layout a k))) _
     (λ at.
-    let o = opened g a epoch old k left number state log at is in
-    let r = used_from g a epoch old (k + 1) left (number + length o.commands) (after state o.commands) log o.behind in
+    let o = opened layout a epoch old k left number state log at is in
+    let r = used_from layout a epoch old (k + 1) left (number + length o.commands) (after state o.commands) log o.behind in
     let more : k + 1 ≤ log.used = r.0 in
-    let gate : is_open (new (slot_at g a k)) ≡ true = ap is_open (same (slot_at g a k) (omega arith) (omega (arith, more))) ∙ at in
-    let body : octets_at new (body_at g a k 0) BODY_SECTORS ≡ octets_at old (body_at g a k 0) BODY_SECTORS =
-    octets_at-same old new (body_at g a k 0) BODY_SECTORS (λ i above below. same i (omega arith) (omega (arith, more))) in
-    goes_on g a epoch new k left number state log gate (record {
+    let gate : is_open (new (slot_at layout a k)) ≡ true = ap is_open (same (slot_at layout a k) (omega arith) (omega (arith, more))) ∙ at in
+    let body : octets_at new (body_at layout a k 0) BODY_SECTORS ≡ octets_at old (body_at layout a k 0) BODY_SECTORS =
+    octets_at-same old new (body_at layout a k 0) BODY_SECTORS (λ i above below. same i (omega arith) (omega (arith, more))) in
+    goes_on layout a epoch new k left number state log gate (record {
       commands = o.commands;
       batch = ap (batch_of epoch (number + 1)) body ∙ o.batch;
       passes = o.passes;
-      behind = log-same g a epoch old new (k + 1) left (number + length o.commands) (after state o.commands) log o.behind
+      behind = log-same layout a epoch old new (k + 1) left (number + length o.commands) (after state o.commands) log o.behind
           (λ i above below. same i (omega arith) below) (λ less. shut (omega arith));
     }))
     (λ at.
     let is' : ok (record { used = k; number = number; state = state }) ≡ Ok log = rw at at is in
     let e : k ≡ log.used = ap (λ (l : Log). l.used) (same_log _ log is') in
-    let closed : is_open (new (slot_at g a k)) ≡ false = rw e (shut (omega arith)) in
+    let closed : is_open (new (slot_at layout a k)) ≡ false = rw e (shut (omega arith)) in
     rw closed is')
 
 -- the batch at the end of a log, and a closed gate behind it
-at_end : (g : Geometry) (a : Area) (epoch : ℕ) (new : Image) (left : ℕ) (log : Log) (commands : List CommandValue)
-    → is_open (new (slot_at g a log.used)) ≡ true
-    → batch_of epoch (log.number + 1) (octets_at new (body_at g a log.used 0) BODY_SECTORS) ≡ Some commands
+at_end : (layout : Layout) (a : Area) (epoch : ℕ) (new : Image) (left : ℕ) (log : Log) (commands : List CommandValue)
+    → is_open (new (slot_at layout a log.used)) ≡ true
+    → batch_of epoch (log.number + 1) (octets_at new (body_at layout a log.used 0) BODY_SECTORS) ≡ Some commands
     → legal log.state commands ≡ true
-    → (log.used + 1 < log.used + suc left → is_open (new (slot_at g a (log.used + 1))) ≡ false)
-    → log_from g a epoch new log.used (suc left) log.number log.state
+    → (log.used + 1 < log.used + suc left → is_open (new (slot_at layout a (log.used + 1))) ≡ false)
+    → log_from layout a epoch new log.used (suc left) log.number log.state
     ≡ Ok (record { used = log.used + 1; number = log.number + length commands; state = after log.state commands })
-at_end g a epoch new left log commands open_gate batch passes shut =
-    goes_on g a epoch new log.used left log.number log.state _ open_gate
+at_end layout a epoch new left log commands open_gate batch passes shut =
+    goes_on layout a epoch new log.used left log.number log.state _ open_gate
     (record { commands = commands; batch = batch; passes = passes; behind = last left shut })
   where
-    last : (left : ℕ) → (log.used + 1 < log.used + suc left → is_open (new (slot_at g a (log.used + 1))) ≡ false)
-        → log_from g a epoch new (log.used + 1) left (log.number + length commands) (after log.state commands)
+    last : (left : ℕ) → (log.used + 1 < log.used + suc left → is_open (new (slot_at layout a (log.used + 1))) ≡ false)
+        → log_from layout a epoch new (log.used + 1) left (log.number + length commands) (after log.state commands)
         ≡ Ok (record { used = log.used + 1; number = log.number + length commands; state = after log.state commands })
     last zero closed = refl
-    last (suc rest) closed = let shut' : is_open (new (slot_at g a (log.used + 1))) ≡ false = closed (omega arith) in rw shut' refl
+    last (suc rest) closed = let shut' : is_open (new (slot_at layout a (log.used + 1))) ≡ false = closed (omega arith) in rw shut' refl
 
 -- With the gate of the first free slot open before a batch, the log has it.
-pub log-more : (g : Geometry) (a : Area) (epoch : ℕ) (old new : Image) (k left number : ℕ) (state : State) (log : Log) (commands : List CommandValue)
-    → log_from g a epoch old k left number state ≡ Ok log
-    → ((i : ℕ) → slot_at g a k ≤ i → i < slot_at g a log.used → new i ≡ old i)
+pub log-more : (layout : Layout) (a : Area) (epoch : ℕ) (old new : Image) (k left number : ℕ) (state : State) (log : Log) (commands : List CommandValue)
+    → log_from layout a epoch old k left number state ≡ Ok log
+    → ((i : ℕ) → slot_at layout a k ≤ i → i < slot_at layout a log.used → new i ≡ old i)
     → log.used < k + left
-    → is_open (new (slot_at g a log.used)) ≡ true
-    → batch_of epoch (log.number + 1) (octets_at new (body_at g a log.used 0) BODY_SECTORS) ≡ Some commands
+    → is_open (new (slot_at layout a log.used)) ≡ true
+    → batch_of epoch (log.number + 1) (octets_at new (body_at layout a log.used 0) BODY_SECTORS) ≡ Some commands
     → legal log.state commands ≡ true
-    → (log.used + 1 < k + left → is_open (new (slot_at g a (log.used + 1))) ≡ false)
-    → log_from g a epoch new k left number state ≡ Ok (record { used = log.used + 1; number = log.number + length commands; state = after log.state commands })
-log-more g a epoch old new k zero number state log commands is same room open_gate batch passes shut =
-    let r = used_from g a epoch old k zero number state log is in absurd (omega (arith, r.0, room))
-log-more g a epoch old new k (suc left) number state log commands is same room open_gate batch passes shut = by_test (is_open (old (slot_at g a k))) _
+    → (log.used + 1 < k + left → is_open (new (slot_at layout a (log.used + 1))) ≡ false)
+    → log_from layout a epoch new k left number state ≡ Ok (record { used = log.used + 1; number = log.number + length commands; state = after log.state commands })
+log-more layout a epoch old new k zero number state log commands is same room open_gate batch passes shut =
+    let r = used_from layout a epoch old k zero number state log is in absurd (omega (arith, r.0, room))
+log-more layout a epoch old new k (suc left) number state log commands is same room open_gate batch passes shut = by_test (is_open (old (slot_at layout a k))) _
     (λ at.
-    let o = opened g a epoch old k left number state log at is in
-    let r = used_from g a epoch old (k + 1) left (number + length o.commands) (after state o.commands) log o.behind in
+    let o = opened layout a epoch old k left number state log at is in
+    let r = used_from layout a epoch old (k + 1) left (number + length o.commands) (after state o.commands) log o.behind in
     let more : k + 1 ≤ log.used = r.0 in
-    let gate : is_open (new (slot_at g a k)) ≡ true = ap is_open (same (slot_at g a k) (omega arith) (omega (arith, more))) ∙ at in
-    let body : octets_at new (body_at g a k 0) BODY_SECTORS ≡ octets_at old (body_at g a k 0) BODY_SECTORS =
-    octets_at-same old new (body_at g a k 0) BODY_SECTORS (λ i above below. same i (omega arith) (omega (arith, more))) in
-    goes_on g a epoch new k left number state _ gate (record {
+    let gate : is_open (new (slot_at layout a k)) ≡ true = ap is_open (same (slot_at layout a k) (omega arith) (omega (arith, more))) ∙ at in
+    let body : octets_at new (body_at layout a k 0) BODY_SECTORS ≡ octets_at old (body_at layout a k 0) BODY_SECTORS =
+    octets_at-same old new (body_at layout a k 0) BODY_SECTORS (λ i above below. same i (omega arith) (omega (arith, more))) in
+    goes_on layout a epoch new k left number state _ gate (record {
       commands = o.commands;
       batch = ap (batch_of epoch (number + 1)) body ∙ o.batch;
       passes = o.passes;
-      behind = log-more g a epoch old new (k + 1) left (number + length o.commands) (after state o.commands) log commands o.behind
+      behind = log-more layout a epoch old new (k + 1) left (number + length o.commands) (after state o.commands) log commands o.behind
           (λ i above below. same i (omega arith) below) (omega arith) open_gate batch passes (λ less. shut (omega arith));
     }))
     (λ at.
     let is' : ok (record { used = k; number = number; state = state }) ≡ Ok log = rw at at is in
     let ends = same_log _ log is' in
     let e : k ≡ log.used = ap (λ (l : Log). l.used) ends in
-    subst (λ (l : Log). log_from g a epoch new l.used (suc left) l.number l.state
+    subst (λ (l : Log). log_from layout a epoch new l.used (suc left) l.number l.state
     ≡ Ok (record { used = log.used + 1; number = log.number + length commands; state = after log.state commands })) (sym ends)
-    (at_end g a epoch new left log commands open_gate batch passes (λ less. shut (omega (arith, less, e)))))
+    (at_end layout a epoch new left log commands open_gate batch passes (λ less. shut (omega (arith, less, e)))))

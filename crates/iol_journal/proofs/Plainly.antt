@@ -6,16 +6,16 @@ use Rattle.iol_record.specs.Reading.{port_record_at}
 use Rattle.iol_record.specs.declared.fault.RecordFault.{RecordFault}
 use Rattle.iol_disk.specs.Content.{Image}
 use Rattle.iol_slots.specs.Gate.{is_open}
-use Rattle.iol_journal.specs.Geometry.{Geometry}
+use Rattle.iol_journal.specs.Layout.{Layout}
 use Rattle.iol_journal.specs.Layout.{port_at}
 use Rattle.iol_journal.specs.Octets.{octets_at}
-use Rattle.iol_journal.specs.Meaning.{Cause, damaged, ◌>>=◌, found, port_of, Log, geometry_in, in_use_in, ports_from, log_from, standing_in, meaning}
+use Rattle.iol_journal.specs.Meaning.{Cause, damaged, ◌>>=◌, found, port_of, Log, layout_in, in_use_in, ports_from, log_from, standing_in, meaning}
 use Rattle.iol_journal.specs.Plain.{IsPlainCause, Answers}
 use Rattle.iol_journal.specs.Replays.{HoldsRecords}
 use Rattle.iol_journal.specs.declared.area.Area.{Area}
 use Rattle.iol_journal.specs.declared.cause.RecoverCause.{RecoverCause}
 use Rattle.iol_journal.specs.declared.cause.RecoverCause.TheVariants as cause
-use Rattle.iol_journal.specs.declared.geometry.TheConstants.{PORT_SECTORS, BODY_SECTORS}
+use Rattle.iol_journal.specs.declared.geometry.TheConstants.{BODY_SECTORS}
 use Rattle.iol_journal.specs.declared.opening.InUse.{InUse}
 use Rattle.iol_journal.proofs.ReachedBodies.{octets_at-append, octets_at-one}
 
@@ -50,31 +50,31 @@ ports-begun (Ok ports) = refl
 ports-begun (Err fault) = refl
 
 -- a port that is read
-pub ports-more : (g : Geometry) (a : Area) (image : Image) (p left : ℕ) (front : State) (port : Port) (octets rest : List ℕ)
-    → octets ≡ octets_at image (port_at g a p) PORT_SECTORS → port_record_at octets ≡ Ok (port, rest)
-    → (ports_from g a image p (left + 1) >>= behind front) ≡ (ports_from g a image (p + 1) left >>= behind (front ++ port ∷ []))
+pub ports-more : (layout : Layout) (a : Area) (image : Image) (p left : ℕ) (front : State) (port : Port) (octets rest : List ℕ)
+    → octets ≡ octets_at image (port_at layout a p) layout.port_sectors → port_record_at octets ≡ Ok (port, rest)
+    → (ports_from layout a image p (left + 1) >>= behind front) ≡ (ports_from layout a image (p + 1) left >>= behind (front ++ port ∷ []))
 unfolding ports_from
-ports-more g a image p left front port octets rest is read = rw (add-one, ← is, read) (one_port_more front port (ports_from g a image (p + 1) left))
+ports-more layout a image p left front port octets rest is read = rw (add-one, ← is, read) (one_port_more front port (ports_from layout a image (p + 1) left))
 
 -- a port that cannot be read
-pub ports-damaged : (g : Geometry) (a : Area) (image : Image) (p left : ℕ) (front : State) (sector : ℕ) (octets : List ℕ) (fault : RecordFault)
-    → sector ≡ port_at g a p → octets ≡ octets_at image (port_at g a p) PORT_SECTORS → port_record_at octets ≡ Err fault
-    → (ports_from g a image p (left + 1) >>= behind front) ≡ Err (damaged sector)
+pub ports-damaged : (layout : Layout) (a : Area) (image : Image) (p left : ℕ) (front : State) (sector : ℕ) (octets : List ℕ) (fault : RecordFault)
+    → sector ≡ port_at layout a p → octets ≡ octets_at image (port_at layout a p) layout.port_sectors → port_record_at octets ≡ Err fault
+    → (ports_from layout a image p (left + 1) >>= behind front) ≡ Err (damaged sector)
 unfolding ports_from
-ports-damaged g a image p left front sector octets fault at is read = rw (add-one, ← is, read, at) refl
+ports-damaged layout a image p left front sector octets fault at is read = rw (add-one, ← is, read, at) refl
 
 -- no port is left
-pub ports-ended : (g : Geometry) (a : Area) (image : Image) (p : ℕ) (state : State) → length state ≡ p
-    → (ports_from g a image p 0 >>= behind (take p state)) ≡ Ok state
+pub ports-ended : (layout : Layout) (a : Area) (image : Image) (p : ℕ) (state : State) → length state ≡ p
+    → (ports_from layout a image p 0 >>= behind (take p state)) ≡ Ok state
 unfolding ports_from
-ports-ended g a image p state is = rw append-nil (ap Ok (take_all p state (omega arith)))
+ports-ended layout a image p state is = rw append-nil (ap Ok (take_all p state (omega arith)))
 
 -- the sectors of a port's record
-pub port_octets : (image : Image) (g : Geometry) (a : Area) (p place sector : ℕ) (octets whole : List ℕ)
-    → whole ≡ octets → octets ≡ octets_at image sector PORT_SECTORS → sector ≡ port_at g a place → place ≡ p
-    → whole ≡ octets_at image (port_at g a p) PORT_SECTORS
-port_octets image g a p place sector octets whole same is at here =
-    same ∙ is ∙ ap (λ (s : ℕ). octets_at image s PORT_SECTORS) (at ∙ ap (port_at g a) here)
+pub port_octets : (image : Image) (layout : Layout) (a : Area) (p place sector : ℕ) (octets whole : List ℕ)
+    → whole ≡ octets → octets ≡ octets_at image sector layout.port_sectors → sector ≡ port_at layout a place → place ≡ p
+    → whole ≡ octets_at image (port_at layout a p) layout.port_sectors
+port_octets image layout a p place sector octets whole same is at here =
+    same ∙ is ∙ ap (λ (s : ℕ). octets_at image s layout.port_sectors) (at ∙ ap (port_at layout a) here)
 
 -- a port that is put in its place
 pub front_grows : (state new : State) (p number : ℕ) (port : Port) → new ≡ with_port state number port → number ≡ p + 1 → p < length state
@@ -101,35 +101,35 @@ pub told_so : {X Y : Type 0} (view : X → Y) (read : Result Y Cause) (answer : 
 told_so view read answer told is met = rw is met
 
 -- where the parts of an image are read in order, the first cause is the meaning's
-pub no_geometry : (sectors : ℕ) (image : Image) (told : RecoverCause) → IsPlainCause (geometry_in sectors image) told → IsPlainCause (meaning sectors image) told
+pub no_layout : (sectors : ℕ) (image : Image) (told : RecoverCause) → IsPlainCause (layout_in sectors image) told → IsPlainCause (meaning sectors image) told
 unfolding standing_in
-no_geometry sectors image told is = cause_before (standing_in sectors image) _ told (cause_before (geometry_in sectors image) _ told is)
+no_layout sectors image told is = cause_before (standing_in sectors image) _ told (cause_before (layout_in sectors image) _ told is)
 
-pub no_area : (sectors : ℕ) (image : Image) (g : Geometry) (told : RecoverCause) → geometry_in sectors image ≡ Ok g
-    → IsPlainCause (in_use_in g image) told → IsPlainCause (meaning sectors image) told
+pub no_area : (sectors : ℕ) (image : Image) (layout : Layout) (told : RecoverCause) → layout_in sectors image ≡ Ok layout
+    → IsPlainCause (in_use_in layout image) told → IsPlainCause (meaning sectors image) told
 unfolding standing_in
-no_area sectors image g told geometry is = cause_before (standing_in sectors image) _ told (rw geometry (cause_before (in_use_in g image) _ told is))
+no_area sectors image layout told laid_out is = cause_before (standing_in sectors image) _ told (rw laid_out (cause_before (in_use_in layout image) _ told is))
 
-pub no_ports : (sectors : ℕ) (image : Image) (g : Geometry) (used : InUse) (told : RecoverCause) → geometry_in sectors image ≡ Ok g
-    → in_use_in g image ≡ Ok used → IsPlainCause (ports_from g used.area image 0 g.ports) told → IsPlainCause (meaning sectors image) told
+pub no_ports : (sectors : ℕ) (image : Image) (layout : Layout) (used : InUse) (told : RecoverCause) → layout_in sectors image ≡ Ok layout
+    → in_use_in layout image ≡ Ok used → IsPlainCause (ports_from layout used.area image 0 layout.ports) told → IsPlainCause (meaning sectors image) told
 unfolding standing_in
-no_ports sectors image g used told geometry in_use is =
-    cause_before (standing_in sectors image) _ told (rw (geometry, in_use) (cause_before (ports_from g used.area image 0 g.ports) _ told is))
+no_ports sectors image layout used told laid_out in_use is =
+    cause_before (standing_in sectors image) _ told (rw (laid_out, in_use) (cause_before (ports_from layout used.area image 0 layout.ports) _ told is))
 
-pub no_log : (sectors : ℕ) (image : Image) (g : Geometry) (used : InUse) (ports : State) (told : RecoverCause) → geometry_in sectors image ≡ Ok g
-    → in_use_in g image ≡ Ok used → ports_from g used.area image 0 g.ports ≡ Ok ports
-    → IsPlainCause (log_from g used.area used.header.epoch image 0 g.slots used.header.base ports) told → IsPlainCause (meaning sectors image) told
+pub no_log : (sectors : ℕ) (image : Image) (layout : Layout) (used : InUse) (ports : State) (told : RecoverCause) → layout_in sectors image ≡ Ok layout
+    → in_use_in layout image ≡ Ok used → ports_from layout used.area image 0 layout.ports ≡ Ok ports
+    → IsPlainCause (log_from layout used.area used.header.epoch image 0 layout.slots used.header.base ports) told → IsPlainCause (meaning sectors image) told
 unfolding standing_in
-no_log sectors image g used ports told geometry in_use state is =
+no_log sectors image layout used ports told laid_out in_use state is =
     cause_before (standing_in sectors image) _ told
-    (rw (geometry, in_use, state) (cause_before (log_from g used.area used.header.epoch image 0 g.slots used.header.base ports) _ told is))
+    (rw (laid_out, in_use, state) (cause_before (log_from layout used.area used.header.epoch image 0 layout.slots used.header.base ports) _ told is))
 
-pub all_read : (sectors : ℕ) (image : Image) (g : Geometry) (used : InUse) (ports : State) (log : Log) → geometry_in sectors image ≡ Ok g
-    → in_use_in g image ≡ Ok used → ports_from g used.area image 0 g.ports ≡ Ok ports
-    → log_from g used.area used.header.epoch image 0 g.slots used.header.base ports ≡ Ok log
+pub all_read : (sectors : ℕ) (image : Image) (layout : Layout) (used : InUse) (ports : State) (log : Log) → layout_in sectors image ≡ Ok layout
+    → in_use_in layout image ≡ Ok used → ports_from layout used.area image 0 layout.ports ≡ Ok ports
+    → log_from layout used.area used.header.epoch image 0 layout.slots used.header.base ports ≡ Ok log
     → meaning sectors image ≡ Ok (record { number = log.number; state = log.state })
 unfolding standing_in
-all_read sectors image g used ports log geometry in_use state is = rw (geometry, in_use, state, is) refl
+all_read sectors image layout used ports log laid_out in_use state is = rw (laid_out, in_use, state, is) refl
 
 abbrev pub ok_log : Log → Result Log Cause
 ok_log log = Ok log

@@ -4,8 +4,8 @@ use Rattle.iol_types.specs.State.{State}
 use Rattle.iol_disk.specs.Content.{Image, Content, IsImage, reads, synced}
 use Rattle.iol_disk.specs.Disk.{Disk, After, Same}
 use Rattle.iol_disk.proofs.Images.{image-synced}
-use Rattle.iol_journal.specs.Geometry.{Geometry}
-use Rattle.iol_journal.specs.Meaning.{Cause, unformatted, damaged, geometry_in, in_use_in, ports_from, Log, log_from, standing_in}
+use Rattle.iol_journal.specs.Layout.{Layout}
+use Rattle.iol_journal.specs.Meaning.{Cause, unformatted, damaged, layout_in, in_use_in, ports_from, Log, log_from, standing_in}
 use Rattle.iol_journal.specs.Reading.{IsCause}
 use Rattle.iol_journal.specs.declared.opening.InUse.{InUse}
 use Rattle.iol_journal.specs.declared.cause.RecoverCause.{RecoverCause}
@@ -34,10 +34,10 @@ pub found_after : {Y : Type 0} (old new : Disk) (read : Image → Result Y Cause
     → (IsTrue new.honest → read (reads new.content) ≡ Ok y) → IsTrue old.honest → read (reads old.content) ≡ Ok y
 found_after old new read y after is h = ap read (sym (synced-reads old new after h)) ∙ is (synced-honest old new after h)
 
-pub geometry_after : (old new : Disk) (g : Geometry) → After synced old new
-    → (IsTrue new.honest → geometry_in new.sectors (reads new.content) ≡ Ok g) → IsTrue old.honest → geometry_in old.sectors (reads old.content) ≡ Ok g
-geometry_after old new g after is h =
-    ap (λ (n : ℕ). geometry_in n (reads old.content)) (sym after.sectors) ∙ found_after old new (geometry_in new.sectors) g after is h
+pub layout_after : (old new : Disk) (layout : Layout) → After synced old new
+    → (IsTrue new.honest → layout_in new.sectors (reads new.content) ≡ Ok layout) → IsTrue old.honest → layout_in old.sectors (reads old.content) ≡ Ok layout
+layout_after old new layout after is h =
+    ap (λ (n : ℕ). layout_in n (reads old.content)) (sym after.sectors) ∙ found_after old new (layout_in new.sectors) layout after is h
 
 -- a cause that is met in a part after a sync is met in the whole
 pub cause_after : {Y Z : Type 0} (old mid new : Disk) (part : Image → Result Y Cause) (whole : Image → Result Z Cause) (told : RecoverCause)
@@ -52,27 +52,27 @@ cause_after old mid new part whole (cause.Damaged sector) after carries is =
 cause_after old mid new part whole cause.Memory after carries is = tt
 
 -- the parts of a journal on an image, as far as each was read
-pub no_geometry : (sectors : ℕ) (image : Image) (met : Cause) → geometry_in sectors image ≡ Err met → standing_in sectors image ≡ Err met
+pub no_layout : (sectors : ℕ) (image : Image) (met : Cause) → layout_in sectors image ≡ Err met → standing_in sectors image ≡ Err met
 unfolding standing_in
-no_geometry sectors image met is = rw is refl
+no_layout sectors image met is = rw is refl
 
-pub no_area : (sectors : ℕ) (image : Image) (g : Geometry) (met : Cause) → geometry_in sectors image ≡ Ok g → in_use_in g image ≡ Err met → standing_in sectors image ≡ Err met
+pub no_area : (sectors : ℕ) (image : Image) (layout : Layout) (met : Cause) → layout_in sectors image ≡ Ok layout → in_use_in layout image ≡ Err met → standing_in sectors image ≡ Err met
 unfolding standing_in
-no_area sectors image g met geometry is = rw (geometry, is) refl
+no_area sectors image layout met laid_out is = rw (laid_out, is) refl
 
-pub no_ports : (sectors : ℕ) (image : Image) (g : Geometry) (used : InUse) (met : Cause) → geometry_in sectors image ≡ Ok g → in_use_in g image ≡ Ok used
-    → ports_from g used.area image 0 g.ports ≡ Err met → standing_in sectors image ≡ Err met
+pub no_ports : (sectors : ℕ) (image : Image) (layout : Layout) (used : InUse) (met : Cause) → layout_in sectors image ≡ Ok layout → in_use_in layout image ≡ Ok used
+    → ports_from layout used.area image 0 layout.ports ≡ Err met → standing_in sectors image ≡ Err met
 unfolding standing_in
-no_ports sectors image g used met geometry area is = rw (geometry, area, is) refl
+no_ports sectors image layout used met laid_out area is = rw (laid_out, area, is) refl
 
-pub no_log : (sectors : ℕ) (image : Image) (g : Geometry) (used : InUse) (ports : State) (met : Cause) → geometry_in sectors image ≡ Ok g → in_use_in g image ≡ Ok used
-    → ports_from g used.area image 0 g.ports ≡ Ok ports → log_from g used.area used.header.epoch image 0 g.slots used.header.base ports ≡ Err met
+pub no_log : (sectors : ℕ) (image : Image) (layout : Layout) (used : InUse) (ports : State) (met : Cause) → layout_in sectors image ≡ Ok layout → in_use_in layout image ≡ Ok used
+    → ports_from layout used.area image 0 layout.ports ≡ Ok ports → log_from layout used.area used.header.epoch image 0 layout.slots used.header.base ports ≡ Err met
     → standing_in sectors image ≡ Err met
 unfolding standing_in
-no_log sectors image g used ports met geometry area state is = rw (geometry, area, state, is) refl
+no_log sectors image layout used ports met laid_out area state is = rw (laid_out, area, state, is) refl
 
-pub stands : (sectors : ℕ) (image : Image) (g : Geometry) (used : InUse) (ports : State) (log : Log) → geometry_in sectors image ≡ Ok g → in_use_in g image ≡ Ok used
-    → ports_from g used.area image 0 g.ports ≡ Ok ports → log_from g used.area used.header.epoch image 0 g.slots used.header.base ports ≡ Ok log
-    → standing_in sectors image ≡ Ok (record { geometry = g; area = used.area; epoch = used.header.epoch; used = log.used; number = log.number; state = log.state })
+pub stands : (sectors : ℕ) (image : Image) (layout : Layout) (used : InUse) (ports : State) (log : Log) → layout_in sectors image ≡ Ok layout → in_use_in layout image ≡ Ok used
+    → ports_from layout used.area image 0 layout.ports ≡ Ok ports → log_from layout used.area used.header.epoch image 0 layout.slots used.header.base ports ≡ Ok log
+    → standing_in sectors image ≡ Ok (record { layout = layout; area = used.area; epoch = used.header.epoch; used = log.used; number = log.number; state = log.state })
 unfolding standing_in
-stands sectors image g used ports log geometry area state is = rw (geometry, area, state, is) refl
+stands sectors image layout used ports log laid_out area state is = rw (laid_out, area, state, is) refl

@@ -17,9 +17,9 @@ same_standing s t is = cc
 
 -- however the other area is harmless, it is so as its header says
 idle_by_header : (s : Standing) (idle : Idle) (image : Image) → IsIdle s idle image → IsIdle s (idle_in s image) image
-idle_by_header s idle image is = by_test (nat_lt (header_of (image (header_at s.geometry (other s.area)))).epoch s.epoch) refl idle is
+idle_by_header s idle image is = by_test (nat_lt (header_of (image (header_at s.layout (other s.area)))).epoch s.epoch) refl idle is
   where
-    by_test : (older : Bool) → nat_lt (header_of (image (header_at s.geometry (other s.area)))).epoch s.epoch ≡ older
+    by_test : (older : Bool) → nat_lt (header_of (image (header_at s.layout (other s.area)))).epoch s.epoch ≡ older
         → (idle : Idle) → IsIdle s idle image → IsIdle s (if older then Older else Closed) image
     by_test true test idle is = grind (arith, nat_tests)
     by_test false test Older is = absurd (grind (arith, nat_tests))

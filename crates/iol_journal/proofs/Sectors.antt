@@ -5,12 +5,11 @@ use std.Path.{fun_ext}
 use Rattle.iol_types.specs.State.{Port, State}
 use Rattle.iol_record.specs.Reading.{port_record_at}
 use Rattle.iol_disk.specs.Content.{Image}
-use Rattle.iol_journal.specs.Geometry.{Geometry}
+use Rattle.iol_journal.specs.Layout.{Layout}
 use Rattle.iol_journal.specs.Layout.{port_at}
 use Rattle.iol_journal.specs.Octets.{octets_at}
 use Rattle.iol_journal.specs.Meaning.{Cause, ◌>>=◌, found, port_of, ports_from}
 use Rattle.iol_journal.specs.declared.area.Area.{Area}
-use Rattle.iol_journal.specs.declared.geometry.TheConstants.{PORT_SECTORS}
 
 pub octets_at-same : (old new : Image) (first n : ℕ) → ((i : ℕ) → first ≤ i → i < first + n → new i ≡ old i) → octets_at new first n ≡ octets_at old first n
 unfolding octets_at
@@ -29,12 +28,12 @@ octets_at-add image first (suc m) n =
     let place : first + 1 + m ≡ first + suc m = omega arith in
     rw count (ap (λ (rest : List ℕ). image first ++ rest) there ∙ rw place (sym (append_assoc (image first) _ _)))
 
-pub ports_from-same : (g : Geometry) (a : Area) (old new : Image) (p n : ℕ) → ((i : ℕ) → port_at g a p ≤ i → i < port_at g a (p + n) → new i ≡ old i)
-    → ports_from g a new p n ≡ ports_from g a old p n
+pub ports_from-same : (layout : Layout) (a : Area) (old new : Image) (p n : ℕ) → ((i : ℕ) → port_at layout a p ≤ i → i < port_at layout a (p + n) → new i ≡ old i)
+    → ports_from layout a new p n ≡ ports_from layout a old p n
 unfolding ports_from
-ports_from-same g a old new p zero same = refl
-ports_from-same g a old new p (suc n) same =
-    let here : octets_at new (port_at g a p) PORT_SECTORS ≡ octets_at old (port_at g a p) PORT_SECTORS =
-    octets_at-same old new (port_at g a p) PORT_SECTORS (λ i above below. same i above (omega arith)) in
-    let there : ports_from g a new (p + 1) n ≡ ports_from g a old (p + 1) n = ports_from-same g a old new (p + 1) n (λ i above below. same i (omega arith) (omega arith)) in
+ports_from-same layout a old new p zero same = refl
+ports_from-same layout a old new p (suc n) same =
+    let here : octets_at new (port_at layout a p) layout.port_sectors ≡ octets_at old (port_at layout a p) layout.port_sectors =
+    octets_at-same old new (port_at layout a p) layout.port_sectors (λ i above below. same i above (omega arith)) in
+    let there : ports_from layout a new (p + 1) n ≡ ports_from layout a old (p + 1) n = ports_from-same layout a old new (p + 1) n (λ i above below. same i (omega arith) (omega arith)) in
     rw (here, there) refl

@@ -5,7 +5,7 @@ use Rattle.iol_types.specs.State.{State, after, legal}
 use Rattle.iol_disk.specs.Content.{Image, reads}
 use Rattle.iol_disk.specs.Disk.{Disk, Same}
 use Rattle.iol_slots.specs.Gate.{is_open}
-use Rattle.iol_journal.specs.Geometry.{Geometry}
+use Rattle.iol_journal.specs.Layout.{Layout}
 use Rattle.iol_journal.specs.Layout.{slot_at, body_at}
 use Rattle.iol_journal.specs.Octets.{octets_at}
 use Rattle.iol_journal.specs.Body.{batch_of}
@@ -42,28 +42,28 @@ stops_at sector number state rest (Some commands) is = by_test (legal state comm
     by_test false is = refl
 
 -- an open slot whose batch leads on
-pub log-open : (g : Geometry) (a : Area) (epoch : ℕ) (image : Image) (k left number : ℕ) (state : State) (next : Meaning)
-    → is_open (image (slot_at g a k)) ≡ true
-    → reached number state (batch_of epoch (number + 1) (octets_at image (body_at g a k 0) BODY_SECTORS)) ≡ Some next
-    → log_from g a epoch image k (left + 1) number state ≡ log_from g a epoch image (k + 1) left next.number next.state
-log-open g a epoch image k left number state next opened is =
-    rw (add-one, opened) (goes_on (body_at g a k 0) number state next (λ n s. log_from g a epoch image (k + 1) left n s)
-    (batch_of epoch (number + 1) (octets_at image (body_at g a k 0) BODY_SECTORS)) is)
+pub log-open : (layout : Layout) (a : Area) (epoch : ℕ) (image : Image) (k left number : ℕ) (state : State) (next : Meaning)
+    → is_open (image (slot_at layout a k)) ≡ true
+    → reached number state (batch_of epoch (number + 1) (octets_at image (body_at layout a k 0) BODY_SECTORS)) ≡ Some next
+    → log_from layout a epoch image k (left + 1) number state ≡ log_from layout a epoch image (k + 1) left next.number next.state
+log-open layout a epoch image k left number state next opened is =
+    rw (add-one, opened) (goes_on (body_at layout a k 0) number state next (λ n s. log_from layout a epoch image (k + 1) left n s)
+    (batch_of epoch (number + 1) (octets_at image (body_at layout a k 0) BODY_SECTORS)) is)
 
 -- an open slot without a batch
-pub log-damaged : (g : Geometry) (a : Area) (epoch : ℕ) (image : Image) (k left number : ℕ) (state : State)
-    → is_open (image (slot_at g a k)) ≡ true
-    → reached number state (batch_of epoch (number + 1) (octets_at image (body_at g a k 0) BODY_SECTORS)) ≡ None
-    → log_from g a epoch image k (left + 1) number state ≡ Err (damaged (body_at g a k 0))
-log-damaged g a epoch image k left number state opened is =
-    rw (add-one, opened) (stops_at (body_at g a k 0) number state (λ n s. log_from g a epoch image (k + 1) left n s)
-    (batch_of epoch (number + 1) (octets_at image (body_at g a k 0) BODY_SECTORS)) is)
+pub log-damaged : (layout : Layout) (a : Area) (epoch : ℕ) (image : Image) (k left number : ℕ) (state : State)
+    → is_open (image (slot_at layout a k)) ≡ true
+    → reached number state (batch_of epoch (number + 1) (octets_at image (body_at layout a k 0) BODY_SECTORS)) ≡ None
+    → log_from layout a epoch image k (left + 1) number state ≡ Err (damaged (body_at layout a k 0))
+log-damaged layout a epoch image k left number state opened is =
+    rw (add-one, opened) (stops_at (body_at layout a k 0) number state (λ n s. log_from layout a epoch image (k + 1) left n s)
+    (batch_of epoch (number + 1) (octets_at image (body_at layout a k 0) BODY_SECTORS)) is)
 
 -- a closed slot
-pub log-closed : (g : Geometry) (a : Area) (epoch : ℕ) (image : Image) (k left number : ℕ) (state : State)
-    → is_open (image (slot_at g a k)) ≡ false
-    → log_from g a epoch image k (left + 1) number state ≡ Ok (record { used = k; number = number; state = state })
-log-closed g a epoch image k left number state closed = rw (add-one, closed) refl
+pub log-closed : (layout : Layout) (a : Area) (epoch : ℕ) (image : Image) (k left number : ℕ) (state : State)
+    → is_open (image (slot_at layout a k)) ≡ false
+    → log_from layout a epoch image k (left + 1) number state ≡ Ok (record { used = k; number = number; state = state })
+log-closed layout a epoch image k left number state closed = rw (add-one, closed) refl
 
 -- the gate of a slot, as a disk says that calls left the same
 pub gate_read : (old now : Disk) (place gate : ℕ) (answer expected : Bool) → Same old now → gate ≡ place

@@ -17,11 +17,11 @@ follows s first commands =
 abbrev pub refusal : Standing → ℕ → List CommandValue → Option BeginCause
 refusal s first commands =
     if nat_lt MOST_COMMANDS (length commands) then Some TooLarge
-    else if s.used == s.geometry.slots then Some NeedsCheckpoint
+    else if s.used == s.layout.slots then Some NeedsCheckpoint
     else if follows s first commands then None
     else Some Misfit
 
 -- memory is asked for after the size of the batch and the free slot, and before what the commands say
 abbrev pub IsRefusal : Standing → ℕ → List CommandValue → BeginCause → Type 0
-IsRefusal s first commands Memory = (length commands ≤ MOST_COMMANDS) × (s.used < s.geometry.slots)
+IsRefusal s first commands Memory = (length commands ≤ MOST_COMMANDS) × (s.used < s.layout.slots)
 IsRefusal s first commands cause = refusal s first commands ≡ Some cause

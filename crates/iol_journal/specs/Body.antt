@@ -1,10 +1,12 @@
 -- The body of a slot: a head, and the records of a batch.
-use Rattle.std.specs.Prelude.{ℕ, zero, suc, ◌+◌, ◌==◌, nat_le, Bool, ◌&&◌, if◌then◌else◌, List, [], ◌∷◌, take, drop, Option, Some, None, Result, Ok, Err}
-use Rattle.std.specs.Int.{w16, w32, w64}
+use Rattle.std.specs.Prelude.{ℕ, zero, suc, ◌+◌, ◌==◌, nat_le, Bool, ◌&&◌, if◌then◌else◌, List, [], ◌∷◌, ◌++◌, length, take, drop, Option, Some, None, Result, Ok, Err}
+use Rattle.std.specs.Int.{w16, w32, w64, to_be_bytes}
+use Rattle.std.specs.List.{flat_map}
 use Rattle.iol_types.specs.Command.{CommandValue}
 use Rattle.iol_record.specs.Reading.{command_at}
+use Rattle.iol_record.specs.Record.{command_octets}
 use Rattle.iol_record.specs.declared.fault.RecordFault.{RecordFault}
-use Rattle.iol_journal.specs.Octets.{number_at}
+use Rattle.iol_journal.specs.Octets.{number_at, padded}
 use Rattle.iol_journal.specs.declared.body.Head.{Head}
 use Rattle.iol_journal.specs.declared.header.TheConstants.{LAST_NUMBER}
 use Rattle.iol_journal.specs.declared.batch.TheConstants.{MOST_COMMANDS, MOST_RECORD_OCTETS, BODY_HEAD_OCTETS}
@@ -43,3 +45,15 @@ unfoldable pub batch_of : ℕ → ℕ → List ℕ → Option (List CommandValue
 batch_of epoch first body =
     let head = head_of body in
     if fits head epoch first then commands_of head.count (take head.octets (drop BODY_HEAD_OCTETS body)) else None
+
+-- the records of commands, one behind the other
+abbrev pub records_of : List CommandValue → List ℕ
+records_of commands = flat_map command_octets commands
+
+-- a head as it is written
+abbrev pub head_octets : ℕ → ℕ → ℕ → ℕ → List ℕ
+head_octets epoch first count octets = to_be_bytes w64 epoch ++ to_be_bytes w64 first ++ to_be_bytes w16 count ++ to_be_bytes w32 octets
+
+-- a body as it is written: its head, the records, and zeros to the end of the last sector that they reach
+unfoldable pub body_octets : ℕ → ℕ → List CommandValue → List ℕ
+body_octets epoch first commands = padded (head_octets epoch first (length commands) (length (records_of commands)) ++ records_of commands)

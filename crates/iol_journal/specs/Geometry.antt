@@ -1,8 +1,8 @@
 -- The numbers of a journal's layout.
-use Rattle.std.specs.Prelude.{◌≤◌, ◌==◌, ℕ, nat_eq, nat_le, Bool, ◌&&◌, if◌then◌else◌, List, Option, Some, None}
-use Rattle.std.specs.Int.{w8, w16}
+use Rattle.std.specs.Prelude.{◌≤◌, ◌==◌, ℕ, nat_eq, nat_le, Bool, ◌&&◌, if◌then◌else◌, List, ◌∷◌, ◌++◌, Option, Some, None}
+use Rattle.std.specs.Int.{w8, w16, to_be_bytes}
 use Rattle.std.specs.List.{starts_with}
-use Rattle.iol_journal.specs.Octets.{number_at}
+use Rattle.iol_journal.specs.Octets.{number_at, padded}
 use Rattle.iol_journal.specs.declared.geometry.TheConstants.{MOST_PORTS, MOST_SLOTS, BODY_SECTORS, GEOMETRY_MARK}
 
 -- ports, and slots in each area
@@ -25,3 +25,7 @@ unfoldable pub geometry_of : List ℕ → Option Geometry
 geometry_of octets =
     let g : Geometry = record { ports = number_at w8 5 octets; slots = number_at w16 6 octets } in
     if starts_with nat_eq octets GEOMETRY_MARK && (number_at w16 8 octets == BODY_SECTORS) && is_geometry g then Some g else None
+
+-- the sector that says a geometry: the mark, ports 1, slots 2, sectors of a body 2, and zeros
+abbrev pub geometry_octets : Geometry → List ℕ
+geometry_octets g = padded (GEOMETRY_MARK ++ (g.ports ∷ to_be_bytes w16 g.slots) ++ to_be_bytes w16 BODY_SECTORS)

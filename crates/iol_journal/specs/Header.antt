@@ -1,7 +1,7 @@
 -- The header of an area.
-use Rattle.std.specs.Prelude.{ℕ, ◌+◌, ◌^◌, nat_le, Bool, ◌&&◌, List}
-use Rattle.std.specs.Int.{w64}
-use Rattle.iol_journal.specs.Octets.{number_at}
+use Rattle.std.specs.Prelude.{ℕ, ◌+◌, ◌^◌, nat_le, Bool, ◌&&◌, List, ◌++◌}
+use Rattle.std.specs.Int.{w64, to_be_bytes}
+use Rattle.iol_journal.specs.Octets.{number_at, padded}
 use Rattle.iol_journal.specs.declared.header.Header.{Header}
 use Rattle.iol_journal.specs.declared.header.TheConstants.{LAST_NUMBER}
 
@@ -12,3 +12,7 @@ header_of octets = record { epoch = number_at w64 0 octets; base = number_at w64
 -- each epoch but the first has begun after at least one command
 abbrev pub is_sound : Header → Bool
 is_sound header = nat_le 1 header.epoch && nat_le header.epoch (header.base + 1) && nat_le header.base LAST_NUMBER
+
+-- the sector that says a header: epoch 8, base 8, and zeros
+abbrev pub header_octets : ℕ → ℕ → List ℕ
+header_octets epoch base = padded (to_be_bytes w64 epoch ++ to_be_bytes w64 base)

@@ -9,9 +9,11 @@ use Rattle.iol_journal.specs.Meaning.{Standing}
 use Rattle.iol_journal.specs.declared.place.Idle.{Idle}
 use Rattle.iol_journal.specs.declared.place.Place.{Place}
 use Rattle.iol_journal.specs.declared.phase.Phase.{Phase}
+use Rattle.iol_journal.specs.declared.writing.Plan.{Plan}
 use Rattle.iol_journal.specs.declared.geometry.TheConstants.{BODY_SECTORS}
 use Rattle.iol_journal.specs.declared.header.TheConstants.{LAST_NUMBER}
-use Rattle.iol_journal.specs.Calls.{IsPhase}
+use Rattle.iol_disk.specs.Calls.{Call}
+use Rattle.iol_journal.specs.Batches.{IsPhase, body_for, sectors_for, calls_from}
 use Rattle.iol_journal.specs.Body.{batch_of}
 
 -- the values of commands
@@ -27,16 +29,18 @@ pub record WritingView (D : Type 0) : Type 0 where
   pub disk : D
   pub standing : Standing
   pub idle : Idle
-  -- the commands of the batch, the body that they have in their slot, its sectors, and the disk call that comes next
+  -- the commands of the batch, and the disk call that comes next
   pub commands : List CommandValue
-  pub body : List ℕ
-  pub sectors : ℕ
   pub phase : Phase
+
+-- the disk calls that are left
+abbrev pub calls_left : {D : Type 0} → WritingView D → List Call
+calls_left w = calls_from w.standing (body_for w.standing w.commands) (sectors_for w.standing w.commands) w.phase
 
 -- the standing of a journal that writes here next, after so many commands
 abbrev pub standing_at : Place → ℕ → State → Standing
 standing_at place number state = record {
-  geometry = place.geometry;
+  layout = place.layout;
   area = place.area;
   epoch = place.epoch;
   used = place.used;
@@ -47,7 +51,7 @@ standing_at place number state = record {
 -- the standing after a batch
 abbrev pub with_batch : Standing → List CommandValue → Standing
 with_batch s commands = record {
-  geometry = s.geometry;
+  layout = s.layout;
   area = s.area;
   epoch = s.epoch;
   used = s.used + 1;
@@ -56,13 +60,19 @@ with_batch s commands = record {
 }
 
 -- What holds of a batch on its way, on any disk.
-pub record IsPlanned (d : Disk) (s : Standing) (commands : List CommandValue) (body : List ℕ) (sectors : ℕ) (phase : Phase) : Type 0 where
-  pub fits : total s.geometry ≤ d.sectors
-  pub room : s.used < s.geometry.slots
-  pub whole : length body ≡ 512 * sectors
-  pub short : sectors ≤ BODY_SECTORS
-  pub in_phase : IsPhase sectors phase
+pub record IsPlanned (d : Disk) (s : Standing) (commands : List CommandValue) (phase : Phase) : Type 0 where
+  pub fits : total s.layout ≤ d.sectors
+  pub room : s.used < s.layout.slots
+  pub whole : length (body_for s commands) ≡ 512 * sectors_for s commands
+  pub short : sectors_for s commands ≤ BODY_SECTORS
+  pub in_phase : IsPhase (sectors_for s commands) phase
   -- whatever follows the body in its slot, it is read as these commands, and they pass
-  pub sound : (rest : List ℕ) → batch_of s.epoch (s.number + 1) (body ++ rest) ≡ Some commands
+  pub sound : (rest : List ℕ) → batch_of s.epoch (s.number + 1) (body_for s commands ++ rest) ≡ Some commands
   pub passes : legal s.state commands ≡ true
   pub bound : s.number + length commands ≤ LAST_NUMBER
+
+-- A plan has the body of the batch, its sectors, and the state behind it.
+pub record IsPlan (s : Standing) (commands : List CommandValue) (plan : Plan) : Type 0 where
+  pub body : plan.body.items ≡ body_for s commands
+  pub sectors : plan.sectors ≡ sectors_for s commands
+  pub next : plan.next ≡ after s.state commands

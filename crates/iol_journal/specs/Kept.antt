@@ -13,13 +13,13 @@ use Rattle.iol_journal.specs.declared.place.Idle.TheVariants.{Older, Closed}
 
 -- how the area that is not in use is harmless: its header is older, or its gate is closed
 abbrev pub IsIdle : Standing → Idle → Image → Type 0
-IsIdle s Older image = (header_of (image (header_at s.geometry (other s.area)))).epoch < s.epoch
-IsIdle s Closed image = is_open (image (gate_at s.geometry (other s.area))) ≡ false
+IsIdle s Older image = (header_of (image (header_at s.layout (other s.area)))).epoch < s.epoch
+IsIdle s Closed image = is_open (image (gate_at s.layout (other s.area))) ≡ false
 
 -- the journal stands so, all gates behind its used slots are closed, and the other area is harmless
 pub record IsKeptAs (sectors : ℕ) (s : Standing) (idle : Idle) (image : Image) : Type 0 where
   pub stands : standing_in sectors image ≡ Ok s
-  pub rest : (k : ℕ) → s.used ≤ k → k < s.geometry.slots → is_open (image (slot_at s.geometry s.area k)) ≡ false
+  pub rest : (k : ℕ) → s.used ≤ k → k < s.layout.slots → is_open (image (slot_at s.layout s.area k)) ≡ false
   pub other_area : IsIdle s idle image
 
 unfoldable pub IsKept : ℕ → Image → Type 0

@@ -5,7 +5,7 @@ pub mod Header
 pub mod Body
 pub mod Meaning
 pub mod Kept
-pub mod Calls
+pub mod Batches
 pub mod Journals
 pub mod Underway
 pub mod Recoveries
@@ -16,5 +16,5 @@ pub mod Reading
 pub mod Formats
 pub mod Faults
 pub mod Replays
-pub mod Formatting
+pub mod Orders
 pub mod Plain

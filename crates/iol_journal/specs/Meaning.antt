@@ -5,14 +5,14 @@ use Rattle.iol_record.specs.Reading.{port_record_at}
 use Rattle.iol_record.specs.declared.fault.RecordFault.{RecordFault}
 use Rattle.iol_disk.specs.Content.{Image}
 use Rattle.iol_slots.specs.Gate.{is_open}
-use Rattle.iol_journal.specs.Geometry.{Geometry, geometry_of}
-use Rattle.iol_journal.specs.Layout.{total, gate_at, header_at, port_at, slot_at, body_at}
+use Rattle.iol_journal.specs.Geometry.{geometry_of}
+use Rattle.iol_journal.specs.Layout.{Layout, layout_of, total, gate_at, header_at, port_at, slot_at, body_at}
 use Rattle.iol_journal.specs.Octets.{octets_at}
 use Rattle.iol_journal.specs.Body.{batch_of}
 use Rattle.iol_journal.specs.Header.{header_of, is_sound}
 use Rattle.iol_journal.specs.declared.area.Area.{Area}
 use Rattle.iol_journal.specs.declared.area.Area.TheVariants.{A, B}
-use Rattle.iol_journal.specs.declared.geometry.TheConstants.{PORT_SECTORS, BODY_SECTORS, GEOMETRY, DISK_GATE}
+use Rattle.iol_journal.specs.declared.geometry.TheConstants.{BODY_SECTORS, GEOMETRY, DISK_GATE}
 use Rattle.iol_journal.specs.declared.header.Header.{Header}
 use Rattle.iol_journal.specs.declared.opening.InUse.{InUse}
 
@@ -36,33 +36,33 @@ abbrev pub found : {A : Type 0} → Option A → ℕ → Result A Cause
 found (Some x) sector = Ok x
 found None sector = Err (damaged sector)
 
--- the geometry of a formatted disk of so many sectors
-abbrev pub geometry_in : ℕ → Image → Result Geometry Cause
-geometry_in sectors image =
+-- the layout of a formatted disk of so many sectors
+abbrev pub layout_in : ℕ → Image → Result Layout Cause
+layout_in sectors image =
     if nat_lt 1 sectors && is_open (image DISK_GATE)
-    then (found (geometry_of (image GEOMETRY)) GEOMETRY >>= λ g. sound (nat_le (total g) sectors) GEOMETRY g)
+    then (found (geometry_of (image GEOMETRY)) GEOMETRY >>= λ g. sound (nat_le (total (layout_of g)) sectors) GEOMETRY (layout_of g))
     else Err unformatted
 
 -- the header of an area, where the area's gate is open
-abbrev pub header_in : Geometry → Image → Area → Option Header
-header_in g image a = if is_open (image (gate_at g a)) then Some (header_of (image (header_at g a))) else None
+abbrev pub header_in : Layout → Image → Area → Option Header
+header_in layout image a = if is_open (image (gate_at layout a)) then Some (header_of (image (header_at layout a))) else None
 
 -- an area in use, where its header is sound
-abbrev pub in_use : Geometry → Area → Header → Result InUse Cause
-in_use g a header = sound (is_sound header) (header_at g a) (record { area = a; header = header })
+abbrev pub in_use : Layout → Area → Header → Result InUse Cause
+in_use layout a header = sound (is_sound header) (header_at layout a) (record { area = a; header = header })
 
 -- of the open areas the one with the greatest epoch
-abbrev pub greatest : Geometry → Option Header → Option Header → Result InUse Cause
-greatest g None None = Err (damaged (gate_at g A))
-greatest g (Some a) None = in_use g A a
-greatest g None (Some b) = in_use g B b
-greatest g (Some a) (Some b) =
-    if a.epoch == b.epoch then Err (damaged (header_at g B))
-    else if nat_lt a.epoch b.epoch then in_use g B b else in_use g A a
+abbrev pub greatest : Layout → Option Header → Option Header → Result InUse Cause
+greatest layout None None = Err (damaged (gate_at layout A))
+greatest layout (Some a) None = in_use layout A a
+greatest layout None (Some b) = in_use layout B b
+greatest layout (Some a) (Some b) =
+    if a.epoch == b.epoch then Err (damaged (header_at layout B))
+    else if nat_lt a.epoch b.epoch then in_use layout B b else in_use layout A a
 
 -- the area that is in use
-abbrev pub in_use_in : Geometry → Image → Result InUse Cause
-in_use_in g image = greatest g (header_in g image A) (header_in g image B)
+abbrev pub in_use_in : Layout → Image → Result InUse Cause
+in_use_in layout image = greatest layout (header_in layout image A) (header_in layout image B)
 
 -- a port's record, and what stands behind it, as the port alone
 abbrev pub port_of : Result (Port × List ℕ) RecordFault → Option Port
@@ -70,11 +70,11 @@ port_of (Ok read) = Some read.0
 port_of (Err fault) = None
 
 -- the ports from this one on, as their records say
-unfoldable pub ports_from : Geometry → Area → Image → ℕ → ℕ → Result State Cause
-ports_from g a image p zero = Ok []
-ports_from g a image p (suc left) =
-    found (port_of (port_record_at (octets_at image (port_at g a p) PORT_SECTORS))) (port_at g a p)
-    >>= λ port. ports_from g a image (p + 1) left >>= λ ports. Ok (port ∷ ports)
+unfoldable pub ports_from : Layout → Area → Image → ℕ → ℕ → Result State Cause
+ports_from layout a image p zero = Ok []
+ports_from layout a image p (suc left) =
+    found (port_of (port_record_at (octets_at image (port_at layout a p) layout.port_sectors))) (port_at layout a p)
+    >>= λ port. ports_from layout a image (p + 1) left >>= λ ports. Ok (port ∷ ports)
 
 -- where a journal goes on: slots used, commands so far, the state after them
 pub record Log : Type 0 where
@@ -83,18 +83,18 @@ pub record Log : Type 0 where
   pub state : State
 
 -- the slots from this one on, up to the first whose gate is closed, on top of a number of commands and a state
-abbrev pub log_from : Geometry → Area → ℕ → Image → ℕ → ℕ → ℕ → State → Result Log Cause
-log_from g a epoch image k zero number state = Ok (record { used = k; number = number; state = state })
-log_from g a epoch image k (suc left) number state =
-    if is_open (image (slot_at g a k))
-    then (found (batch_of epoch (number + 1) (octets_at image (body_at g a k 0) BODY_SECTORS)) (body_at g a k 0)
-    >>= λ commands. sound (legal state commands) (body_at g a k 0) commands
-    >>= λ legal_commands. log_from g a epoch image (k + 1) left (number + length legal_commands) (after state legal_commands))
+abbrev pub log_from : Layout → Area → ℕ → Image → ℕ → ℕ → ℕ → State → Result Log Cause
+log_from layout a epoch image k zero number state = Ok (record { used = k; number = number; state = state })
+log_from layout a epoch image k (suc left) number state =
+    if is_open (image (slot_at layout a k))
+    then (found (batch_of epoch (number + 1) (octets_at image (body_at layout a k 0) BODY_SECTORS)) (body_at layout a k 0)
+    >>= λ commands. sound (legal state commands) (body_at layout a k 0) commands
+    >>= λ legal_commands. log_from layout a epoch image (k + 1) left (number + length legal_commands) (after state legal_commands))
     else Ok (record { used = k; number = number; state = state })
 
 -- how a journal stands: where it writes next, and the state after its commands
 pub record Standing : Type 0 where
-  pub geometry : Geometry
+  pub layout : Layout
   pub area : Area
   pub epoch : ℕ
   pub used : ℕ
@@ -104,11 +104,11 @@ pub record Standing : Type 0 where
 -- how a journal stands on an image of so many sectors, or the first cause, in the order of reading, why none does
 unfoldable pub standing_in : ℕ → Image → Result Standing Cause
 standing_in sectors image =
-    geometry_in sectors image
-    >>= λ g. in_use_in g image
-    >>= λ used. ports_from g used.area image 0 g.ports
-    >>= λ ports. log_from g used.area used.header.epoch image 0 g.slots used.header.base ports
-    >>= λ log. Ok (record { geometry = g; area = used.area; epoch = used.header.epoch; used = log.used; number = log.number; state = log.state })
+    layout_in sectors image
+    >>= λ layout. in_use_in layout image
+    >>= λ used. ports_from layout used.area image 0 layout.ports
+    >>= λ ports. log_from layout used.area used.header.epoch image 0 layout.slots used.header.base ports
+    >>= λ log. Ok (record { layout = layout; area = used.area; epoch = used.header.epoch; used = log.used; number = log.number; state = log.state })
 
 -- the state of a master after so many commands
 pub record Meaning : Type 0 where

@@ -1,5 +1,5 @@
--- Octets of an image, and the numbers in them.
-use Rattle.std.specs.Prelude.{ℕ, zero, suc, ◌+◌, List, [], ◌++◌, take, drop}
+-- Octets of an image, the numbers in them, and octets as they are written to sectors.
+use Rattle.std.specs.Prelude.{ℕ, zero, suc, ◌+◌, ◌-◌, ◌*◌, ◌/◌, List, [], ◌++◌, length, replicate, take, drop}
 use Rattle.std.specs.Int.{Width, byte_len, from_be_bytes}
 use Rattle.iol_disk.specs.Content.{Image}
 
@@ -11,3 +11,11 @@ number_at width place octets = from_be_bytes width (take (byte_len width) (drop 
 unfoldable pub octets_at : Image → ℕ → ℕ → List ℕ
 octets_at image first zero = []
 octets_at image first (suc n) = image first ++ octets_at image (first + 1) n
+
+-- how many sectors so many octets reach
+abbrev pub sectors_reached : ℕ → ℕ
+sectors_reached octets = (octets + 511) / 512
+
+-- octets, and zeros behind them to the end of the last sector that they reach
+unfoldable pub padded : List ℕ → List ℕ
+padded octets = octets ++ replicate (512 * sectors_reached (length octets) - length octets) 0

@@ -1,8 +1,10 @@
 -- What a step of a batch answers.
-use Rattle.std.specs.Prelude.{ℕ, List}
+use Rattle.std.specs.Prelude.{◌≡◌, ℕ, List, [], ◌∷◌}
 use Rattle.iol_types.specs.Command.{CommandValue}
+use Rattle.iol_disk.specs.Calls.{Call, Made, FailedIn}
+use Rattle.iol_disk.specs.Disk.{Disk}
 use Rattle.iol_disk.specs.declared.fault.DiskFault.{DiskFault}
-use Rattle.iol_journal.specs.Journals.{JournalView, WritingView}
+use Rattle.iol_journal.specs.Journals.{JournalView, WritingView, calls_left}
 use Rattle.iol_journal.specs.Written.{WrittenView}
 use Rattle.iol_journal.specs.declared.writing.Progress.{Progress}
 use Rattle.iol_journal.specs.declared.writing.Progress.TheVariants.{More, Done, Failed}
@@ -20,6 +22,21 @@ abbrev pub IfDone : {D : Type 0} → Progress D → (JournalView D → WrittenVi
 IfDone (Done journal written) P = P journal written
 IfDone progress P = Unit {0}
 
-abbrev pub IfFailed : {D : Type 0} → Progress D → (D → DiskFault → Type 0) → Type 0
-IfFailed (Failed disk fault) P = P disk fault
-IfFailed progress P = Unit {0}
+-- the first of the calls was made, and these are left
+pub record MakesFirst (calls left : List Call) (old new : Disk) : Type 0 where
+  pub call : Call
+  pub order : calls ≡ call ∷ left
+  pub made : Made (call ∷ []) old new
+
+-- the first of the calls failed, with this fault
+pub record FailsFirst (calls : List Call) (fault : DiskFault) (old new : Disk) : Type 0 where
+  pub call : Call
+  pub left : List Call
+  pub order : calls ≡ call ∷ left
+  pub failed : FailedIn (call ∷ []) fault old new
+
+-- a step makes the first of the calls that are left, or it fails in it
+abbrev pub StepMakes : {D : Type 0} → (D → Disk) → List Call → Progress D → Disk → Type 0
+StepMakes disk calls (More writing) old = MakesFirst calls (calls_left writing) old (disk writing.disk)
+StepMakes disk calls (Done journal written) old = MakesFirst calls [] old (disk journal.disk)
+StepMakes disk calls (Failed left fault) old = FailsFirst calls fault old (disk left)

@@ -17,4 +17,4 @@ disk_of (Err fault) = fault.disk
 
 -- how the other area is harmless, as its header says: older, or else it has to be closed
 abbrev pub idle_in : Standing → Image → Idle
-idle_in s image = if nat_lt (header_of (image (header_at s.geometry (other s.area)))).epoch s.epoch then Older else Closed
+idle_in s image = if nat_lt (header_of (image (header_at s.layout (other s.area)))).epoch s.epoch then Older else Closed

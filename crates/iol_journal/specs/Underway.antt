@@ -7,7 +7,7 @@ use Rattle.iol_slots.specs.Gate.{is_open}
 use Rattle.iol_journal.specs.Layout.{slot_at, body_at}
 use Rattle.iol_journal.specs.Meaning.{Standing}
 use Rattle.iol_journal.specs.Kept.{IsKeptAs}
-use Rattle.iol_journal.specs.Calls.{sector_of}
+use Rattle.iol_journal.specs.Batches.{body_for, sectors_for, sector_of}
 use Rattle.iol_journal.specs.Journals.{WritingView, with_batch}
 use Rattle.iol_journal.specs.declared.place.Idle.{Idle}
 use Rattle.iol_journal.specs.declared.phase.Phase.{Phase}
@@ -23,13 +23,13 @@ IsAtRest d s idle = IsTrue d.honest → EachKept d.sectors s idle d.content
 
 -- so many sectors of the body are written in the first free slot
 abbrev pub HasWritten : Standing → List ℕ → ℕ → Content → Type 0
-HasWritten s body n c = (j : ℕ) → j < n → reads c (body_at s.geometry s.area s.used j) ≡ sector_of body j
+HasWritten s body n c = (j : ℕ) → j < n → reads c (body_at s.layout s.area s.used j) ≡ sector_of body j
 
 -- with its gate open the slot counts, with its gate closed it does not
 abbrev pub IsBetween : ℕ → Standing → Idle → List CommandValue → Image → Type 0
 IsBetween sectors s idle commands image =
-    (is_open (image (slot_at s.geometry s.area s.used)) ≡ false → IsKeptAs sectors s idle image)
-    × (is_open (image (slot_at s.geometry s.area s.used)) ≡ true → IsKeptAs sectors (with_batch s commands) idle image)
+    (is_open (image (slot_at s.layout s.area s.used)) ≡ false → IsKeptAs sectors s idle image)
+    × (is_open (image (slot_at s.layout s.area s.used)) ≡ true → IsKeptAs sectors (with_batch s commands) idle image)
 
 -- before the call of a phase
 abbrev pub Holds : ℕ → Standing → Idle → List CommandValue → List ℕ → ℕ → Phase → Content → Type 0
@@ -41,4 +41,4 @@ Holds size s idle commands body sectors SyncGate c =
 
 abbrev pub IsUnderway : {D : Type 0} → (D → Disk) → WritingView D → Type 0
 IsUnderway disk w =
-    IsTrue (disk w.disk).honest → Holds (disk w.disk).sectors w.standing w.idle w.commands w.body w.sectors w.phase (disk w.disk).content
+    IsTrue (disk w.disk).honest → Holds (disk w.disk).sectors w.standing w.idle w.commands (body_for w.standing w.commands) (sectors_for w.standing w.commands) w.phase (disk w.disk).content

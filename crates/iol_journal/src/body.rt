@@ -1,7 +1,7 @@
 ghost use Rattle.std.specs.Prelude.{◌≡◌, ◌≤◌, ◌<◌, ◌+◌, ◌*◌, ◌++◌, ℕ, List, length, Some, IfOk};
-ghost use Rattle.std.specs.Int.{w16, w32, w64};
-ghost use Rattle.iol_journal.specs.Octets.{number_at};
-ghost use Rattle.iol_journal.specs.Body.{batch_of, commands_of};
+ghost use Rattle.iol_journal.specs.Octets.{sectors_reached};
+ghost use Rattle.iol_journal.specs.Body.{batch_of, commands_of, records_of, head_octets, body_octets};
+ghost use Rattle.iol_journal.specs.declared.geometry.TheConstants.{BODY_SECTORS};
 ghost use Rattle.iol_journal.specs.Journals.{values};
 
 use crate::batch::{BODY_HEAD_OCTETS, MOST_COMMANDS, MOST_RECORD_OCTETS};
@@ -59,7 +59,8 @@ impl Head {
 fn records(alloc: Global, commands: &[Command]) -> Result<Vec<u8>, AllocError>
     requires { length commands.now ≤ MOST_COMMANDS }
     ensures size { IfOk result (λ octets. length octets.items ≤ MOST_RECORD_OCTETS) }
-    ensures records { IfOk result (λ octets. commands_of (length commands.now) octets.items ≡ Some (values commands.now)) }
+    ensures records { IfOk result (λ octets. octets.items ≡ records_of (values commands.now)) }
+    ensures read { IfOk result (λ octets. commands_of (length commands.now) octets.items ≡ Some (values commands.now)) }
 {
     let mut octets = Vec::new(alloc);
     for command in commands {
@@ -69,7 +70,7 @@ fn records(alloc: Global, commands: &[Command]) -> Result<Vec<u8>, AllocError>
     Ok(octets)
 }
 
-// The body of a slot for these commands, in whole sectors.
+// The body of a slot for these commands.
 pub fn body_of(
     alloc: Global,
     epoch: u64,
@@ -77,9 +78,12 @@ pub fn body_of(
     commands: &[Command],
 ) -> Result<Vec<u8>, AllocError>
     requires most { length commands.now ≤ MOST_COMMANDS }
+    ensures octets { IfOk result (λ body. body.items ≡ body_octets epoch first (values commands.now)) }
+    ensures whole { IfOk result (λ body. length body.items ≡ 512 * sectors_reached (length body.items)) }
+    ensures short { IfOk result (λ body. (1 ≤ sectors_reached (length body.items)) × (sectors_reached (length body.items) ≤ BODY_SECTORS)) }
+    // Whatever follows it in its slot, it is read as these commands.
     ensures sound { IfOk result (λ body. 1 ≤ length commands.now → first + length commands.now ≤ LAST_NUMBER + 1
         → (rest : List ℕ) → batch_of epoch first (body.items ++ rest) ≡ Some (values commands.now)) }
-    ensures whole { IfOk result (λ body. (sectors : ℕ) × (length body.items ≡ 512 * sectors) × (1 ≤ sectors) × (sectors ≤ 16)) }
 {
     let records = records(alloc, commands)?;
     let head = head_octets(epoch, first, commands.len() as u16, records.len() as u32);
@@ -93,11 +97,7 @@ pub fn body_of(
 
 // The head of a body.
 fn head_octets(epoch: u64, first: u64, count: u16, octets: u32) -> [u8; BODY_HEAD_OCTETS]
-    ensures size { length result ≡ BODY_HEAD_OCTETS }
-    ensures epoch { (rest : List ℕ) → number_at w64 0 (result ++ rest) ≡ epoch }
-    ensures first { (rest : List ℕ) → number_at w64 8 (result ++ rest) ≡ first }
-    ensures count { (rest : List ℕ) → number_at w16 16 (result ++ rest) ≡ count }
-    ensures octets { (rest : List ℕ) → number_at w32 18 (result ++ rest) ≡ octets }
+    ensures { result ≡ head_octets epoch first count octets }
 {
     let mut head = [0; BODY_HEAD_OCTETS];
     head[..8].copy_from_slice(&epoch.to_be_bytes());

@@ -1,7 +1,9 @@
-ghost use Rattle.std.specs.Prelude.{◌≡◌, ◌≤◌, ◌<◌, ◌*◌, ◌+◌, length, OnOk, OnErr, IfErr};
-ghost use Rattle.iol_disk.specs.Disk.{HasFailed};
+ghost use Rattle.std.specs.Prelude.{◌≡◌, ◌≤◌, ◌<◌, ◌*◌, [], ◌∷◌, ℕ, length};
+ghost use Rattle.iol_types.specs.State.{State};
+ghost use Rattle.iol_journal.specs.Batches.{call_of, IsPhase};
+ghost use Rattle.iol_journal.specs.Journals.{standing_at};
 ghost use Rattle.iol_journal.specs.Layout.{total};
-ghost use Rattle.iol_journal.specs.Calls.{call_of, Made, MadeSome, IsPhase};
+ghost use Rattle.iol_journal.specs.Orders.{Makes};
 ghost use Rattle.iol_journal.specs.declared.geometry.TheConstants.{BODY_SECTORS};
 
 use crate::phase::Phase;
@@ -9,22 +11,19 @@ use crate::place::Place;
 use crate::writing::Plan;
 use iol_disk::{DiskFault, SECTOR_OCTETS, SectorDisk};
 
-// Makes the call of a phase.
+// Makes the disk call of a phase, where a body is written to the first free slot.
 pub fn make<D: SectorDisk>(
     disk: &mut D,
     place: &Place,
     plan: &Plan,
     phase: Phase,
 ) -> Result<(), DiskFault>
-    requires fits { total place.now.geometry ≤ (D.disk disk.old).sectors }
-    requires room { place.now.used < place.now.geometry.slots }
+    requires fits { total place.now.layout ≤ (D.disk disk.old).sectors }
+    requires room { place.now.used < place.now.layout.slots }
     requires whole { length plan.now.body.items ≡ 512 * plan.now.sectors }
     requires short { plan.now.sectors ≤ BODY_SECTORS }
     requires in_phase { IsPhase plan.now.sectors phase }
-    ensures made { OnOk result (Made (call_of place.now.geometry place.now.area place.now.used plan.now.body.items phase) (D.disk disk.old) (D.disk disk.new)) }
-    ensures made_some { OnErr result (MadeSome (call_of place.now.geometry place.now.area place.now.used plan.now.body.items phase) (D.disk disk.old) (D.disk disk.new)) }
-    ensures size { (D.disk disk.new).sectors ≡ (D.disk disk.old).sectors }
-    ensures failed { IfErr result (λ _. HasFailed (D.disk disk.old) (D.disk disk.new)) }
+    ensures makes { (number : ℕ) (state : State) → Makes (call_of (standing_at place.now number state) plan.now.body.items phase ∷ []) (D.disk disk.old) (D.disk disk.new) result }
 {
     let slot = place.slot();
     match phase {

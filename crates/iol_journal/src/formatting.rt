@@ -1,23 +1,22 @@
-ghost use Rattle.std.specs.Prelude.{◌≡◌, ◌≤◌, ◌<◌, ◌⊎◌, ◌↔◌, true, false, IsTrue, OnOk, IfOk, IfErr, IsErrOf};
-ghost use Rattle.iol_disk.specs.Content.{reads};
-ghost use Rattle.iol_disk.specs.Disk.{HasFailed};
-ghost use Rattle.iol_slots.specs.Gate.{is_open};
-ghost use Rattle.iol_journal.specs.declared.geometry.TheConstants.{DISK_GATE};
-ghost use Rattle.iol_types.specs.State.{empty_state};
-ghost use Rattle.iol_disk.specs.Content.{IsImage};
+ghost use Rattle.std.specs.Prelude.{◌≡◌, ◌≤◌, ◌<◌, ◌⊎◌, ◌↔◌, ◌++◌, true, false, IsTrue, Err, OnOk, IfOk, IfErr, IsErrOf};
+ghost use Rattle.iol_types.specs.State.{blank, empty_state};
+ghost use Rattle.iol_record.specs.Record.{port_octets};
+ghost use Rattle.iol_disk.specs.Content.{IsImage, reads};
 ghost use Rattle.iol_disk.specs.Moments.{LeavesOnly};
-ghost use Rattle.iol_slots.specs.Gate.{closed_gate, IsShut};
+ghost use Rattle.iol_slots.specs.Gate.{is_open};
+ghost use Rattle.iol_journal.specs.Formats.{IfUntouched, IsEmptyOrUnformatted, LeavesFormat};
 ghost use Rattle.iol_journal.specs.Kept.{EachMeans};
-ghost use Rattle.iol_journal.specs.Formats.{IfDisk, IfUntouched, IsEmptyOrUnformatted, LeavesFormat};
-ghost use Rattle.iol_journal.specs.Formatting.{IsBlankRecord, HasAreas, HasHeaders, HasFilled, IsEmptyJournal, KeepsShut};
-ghost use Rattle.iol_journal.specs.Layout.{total, port_at, slot_at};
-ghost use Rattle.iol_journal.specs.declared.area.Area.TheVariants.{A};
-ghost use Rattle.iol_journal.specs.declared.formatting.FormatFault.TheVariants.{TooSmall, AlreadyFormatted};
+ghost use Rattle.iol_journal.specs.Layout.{layout_of, total};
+ghost use Rattle.iol_journal.specs.Octets.{padded};
+ghost use Rattle.iol_journal.specs.Orders.{Makes, MakesFormat, gate_writes, slot_writes, header_writes, port_writes, journal_writes, opening_calls};
+ghost use Rattle.iol_journal.specs.declared.geometry.TheConstants.{DISK_GATE};
+ghost use Rattle.iol_journal.specs.declared.formatting.FormatFault.TheVariants.{TooSmall, AlreadyFormatted, Memory};
 
 use crate::area::Area;
 use crate::geometry::{DISK_GATE, GEOMETRY, Geometry};
 use crate::header::Header;
 use crate::reading::gate;
+use crate::sector::sector_of;
 use iol_disk::{DiskFault, SECTOR_OCTETS, SectorDisk};
 use iol_record::encode_port;
 use iol_types::{MasterState, PortId};
@@ -73,8 +72,11 @@ pub fn format<D: SectorDisk>(
     disk: &mut D,
     geometry: Geometry,
 ) -> Result<(), FormatFault>
-    ensures too_small { IsErrOf result TooSmall ↔ ((D.disk disk.old).sectors < total geometry) }
+    ensures too_small { IsErrOf result TooSmall ↔ ((D.disk disk.old).sectors < total (layout_of geometry)) }
     ensures formatted_already { IsErrOf result AlreadyFormatted → IsTrue (D.disk disk.old).honest → is_open (reads (D.disk disk.old).content DISK_GATE) ≡ true }
+    ensures makes { MakesFormat geometry (D.disk disk.old) (D.disk disk.new) result }
+    // Memory is asked for only where the gate of the disk is closed.
+    ensures memory { result ≡ Err Memory → IsTrue (D.disk disk.old).honest → is_open (reads (D.disk disk.old).content DISK_GATE) ≡ false }
     // Until its first sync, and where it refuses, each image was one before.
     ensures any_moment { LeavesOnly (D.disk disk.old) (D.disk disk.new)
         (λ image. IsImage (D.disk disk.old).content image ⊎ IsEmptyOrUnformatted geometry (D.disk disk.old).sectors image) }
@@ -88,7 +90,6 @@ pub fn format<D: SectorDisk>(
         → LeavesFormat geometry (D.disk disk.old) (D.disk disk.new) }
     // Each image is an empty journal.
     ensures done { OnOk result (EachMeans (D.disk disk.new) 0 (empty_state geometry.ports)) }
-    ensures failed { IfErr result (λ fault. IfDisk fault (HasFailed (D.disk disk.old) (D.disk disk.new))) }
     ensures size { (D.disk disk.new).sectors ≡ (D.disk disk.old).sectors }
 {
     if disk.sectors() < geometry.sectors() {
@@ -105,14 +106,12 @@ pub fn format<D: SectorDisk>(
 
 // The first sector of the record of a port that was never configured.
 fn blank_record(alloc: Global) -> Result<[u8; SECTOR_OCTETS], AllocError>
-    ensures { IfOk result (λ octets. IsBlankRecord octets) }
+    ensures { IfOk result (λ octets. octets ≡ padded (port_octets blank)) }
 {
-    let blank = MasterState::new(alloc, 1)?;
-    let port = blank.port(PortId::new(1).unwrap()).unwrap();
+    let master = MasterState::new(alloc, 1)?;
+    let port = master.port(PortId::new(1).unwrap()).unwrap();
     let record = encode_port(alloc, port)?;
-    let mut sector = [0; SECTOR_OCTETS];
-    sector[..record.len()].copy_from_slice(record.as_slice());
-    Ok(sector)
+    Ok(sector_of(record.as_slice()))
 }
 
 // Writes an empty journal whose ports have this record, and opens the gate of the disk once all else is durable.
@@ -121,91 +120,75 @@ fn write_journal<D: SectorDisk>(
     geometry: Geometry,
     port_record: &[u8; SECTOR_OCTETS],
 ) -> Result<(), DiskFault>
-    requires fits { total geometry ≤ (D.disk disk.old).sectors }
-    requires blank { IsBlankRecord port_record.now }
-    ensures done { OnOk result (EachMeans (D.disk disk.new) 0 (empty_state geometry.ports)) }
-    ensures any_moment { IsShut DISK_GATE (D.disk disk.old)
-        → LeavesOnly (D.disk disk.old) (D.disk disk.new) (IsEmptyOrUnformatted geometry (D.disk disk.old).sectors) }
-    ensures size { (D.disk disk.new).sectors ≡ (D.disk disk.old).sectors }
-    ensures failed { IfErr result (λ _. HasFailed (D.disk disk.old) (D.disk disk.new)) }
-{
-    write_areas(disk, geometry, port_record)?;
-    disk.sync()?;
-    gate(DISK_GATE).open_gate(disk)?;
-    disk.sync()
-}
-
-// Writes all but the gate of the disk: an empty area A that is open, and an area B that is closed.
-fn write_areas<D: SectorDisk>(
-    disk: &mut D,
-    geometry: Geometry,
-    port_record: &[u8; SECTOR_OCTETS],
-) -> Result<(), DiskFault>
-    requires fits { total geometry ≤ (D.disk disk.old).sectors }
-    requires blank { IsBlankRecord port_record.now }
-    ensures written { OnOk result (IsTrue (D.disk disk.old).honest → IsEmptyJournal geometry (reads (D.disk disk.new).content)) }
-    ensures shut { KeepsShut (D.disk disk.old) (D.disk disk.new) }
-    ensures failed { IfErr result (λ _. HasFailed (D.disk disk.old) (D.disk disk.new)) }
+    requires fits { total (layout_of geometry) ≤ (D.disk disk.old).sectors }
+    requires blank { port_record.now ≡ padded (port_octets blank) }
+    ensures { Makes (journal_writes geometry ++ opening_calls) (D.disk disk.old) (D.disk disk.new) result }
 {
     write_gates(disk, geometry)?;
     close_slots(disk, geometry)?;
     write_headers(disk, geometry)?;
-    write_records(disk, geometry, port_record)
+    write_ports(disk, geometry, port_record)?;
+    open_disk(disk)
 }
 
 // Writes the geometry, and the gates of the areas.
 fn write_gates<D: SectorDisk>(disk: &mut D, geometry: Geometry) -> Result<(), DiskFault>
-    requires { total geometry ≤ (D.disk disk.old).sectors }
-    ensures areas { OnOk result (IsTrue (D.disk disk.old).honest → HasAreas geometry (reads (D.disk disk.new).content)) }
-    ensures shut { KeepsShut (D.disk disk.old) (D.disk disk.new) }
-    ensures failed { IfErr result (λ _. HasFailed (D.disk disk.old) (D.disk disk.new)) }
+    requires { total (layout_of geometry) ≤ (D.disk disk.old).sectors }
+    ensures { Makes (gate_writes geometry) (D.disk disk.old) (D.disk disk.new) result }
 {
+    let layout = geometry.layout();
     disk.write(GEOMETRY, &geometry.octets())?;
-    gate(geometry.gate(Area::A)).open_gate(disk)?;
-    gate(geometry.gate(Area::B)).close_gate(disk)
+    gate(layout.gate(Area::A)).open_gate(disk)?;
+    gate(layout.gate(Area::B)).close_gate(disk)
 }
 
 // Closes the gate of each slot of area A.
 fn close_slots<D: SectorDisk>(disk: &mut D, geometry: Geometry) -> Result<(), DiskFault>
-    requires { total geometry ≤ (D.disk disk.old).sectors }
-    ensures closed { OnOk result (IsTrue (D.disk disk.old).honest
-        → HasFilled (slot_at geometry A) closed_gate geometry.slots (reads (D.disk disk.old).content) (reads (D.disk disk.new).content)) }
-    ensures shut { KeepsShut (D.disk disk.old) (D.disk disk.new) }
-    ensures failed { IfErr result (λ _. HasFailed (D.disk disk.old) (D.disk disk.new)) }
+    requires { total (layout_of geometry) ≤ (D.disk disk.old).sectors }
+    ensures { Makes (slot_writes geometry) (D.disk disk.old) (D.disk disk.new) result }
 {
+    let layout = geometry.layout();
     for slot in 0..geometry.slots() {
-        geometry.slot(Area::A, slot).close_gate(disk)?;
+        layout.slot(Area::A, slot).close_gate(disk)?;
     }
     Ok(())
 }
 
 // Writes the headers: area A is in its first epoch, and area B was never in use.
 fn write_headers<D: SectorDisk>(disk: &mut D, geometry: Geometry) -> Result<(), DiskFault>
-    requires { total geometry ≤ (D.disk disk.old).sectors }
-    ensures headers { OnOk result (IsTrue (D.disk disk.old).honest → HasHeaders geometry (reads (D.disk disk.old).content) (reads (D.disk disk.new).content)) }
-    ensures shut { KeepsShut (D.disk disk.old) (D.disk disk.new) }
-    ensures failed { IfErr result (λ _. HasFailed (D.disk disk.old) (D.disk disk.new)) }
+    requires { total (layout_of geometry) ≤ (D.disk disk.old).sectors }
+    ensures { Makes (header_writes geometry) (D.disk disk.old) (D.disk disk.new) result }
 {
+    let layout = geometry.layout();
     let first = Header { epoch: 1, base: 0 };
     let unused = Header { epoch: 0, base: 0 };
-    disk.write(geometry.header(Area::A), &first.octets())?;
-    disk.write(geometry.header(Area::B), &unused.octets())
+    disk.write(layout.header(Area::A), &first.octets())?;
+    disk.write(layout.header(Area::B), &unused.octets())
 }
 
 // Writes the record to each port of area A.
-fn write_records<D: SectorDisk>(
+fn write_ports<D: SectorDisk>(
     disk: &mut D,
     geometry: Geometry,
     port_record: &[u8; SECTOR_OCTETS],
 ) -> Result<(), DiskFault>
-    requires { total geometry ≤ (D.disk disk.old).sectors }
-    ensures filled { OnOk result (IsTrue (D.disk disk.old).honest
-        → HasFilled (port_at geometry A) port_record.now geometry.ports (reads (D.disk disk.old).content) (reads (D.disk disk.new).content)) }
-    ensures shut { KeepsShut (D.disk disk.old) (D.disk disk.new) }
-    ensures failed { IfErr result (λ _. HasFailed (D.disk disk.old) (D.disk disk.new)) }
+    requires fits { total (layout_of geometry) ≤ (D.disk disk.old).sectors }
+    requires blank { port_record.now ≡ padded (port_octets blank) }
+    ensures { Makes (port_writes geometry) (D.disk disk.old) (D.disk disk.new) result }
 {
+    let layout = geometry.layout();
     for port in 0..usize::from(geometry.ports()) {
-        disk.write(geometry.port(Area::A, port), port_record)?;
+        disk.write(layout.port(Area::A, port), port_record)?;
     }
     Ok(())
+}
+
+// Opens the gate of the disk once all that was written is durable.
+fn open_disk<D: SectorDisk>(disk: &mut D) -> Result<(), DiskFault>
+    requires { DISK_GATE < (D.disk disk.old).sectors }
+    ensures { Makes opening_calls (D.disk disk.old) (D.disk disk.new) result }
+{
+    disk.sync()?;
+    gate(DISK_GATE).open_gate(disk)?;
+    disk.sync()
 }

@@ -1,7 +1,7 @@
-use crate::area::Area;
+use crate::layout::Layout;
 use crate::numbers::u16_at;
+use crate::sector::sector_of;
 use iol_disk::SECTOR_OCTETS;
-use iol_slots::Slot;
 use std::marker::Model;
 
 /// The most ports that a master has.
@@ -42,8 +42,8 @@ impl Model for Geometry {
 
 impl Geometry {
     ghost use Rattle.std.specs.Prelude.{◌≡◌, ◌<◌, ◌≤◌, ◌+◌, Some, IfSome, IfNone};
-    ghost use Rattle.iol_journal.specs.Geometry.{IsGeometry, geometry_of};
-    ghost use Rattle.iol_journal.specs.Layout.{total, gate_at, header_at, port_at, slot_at, body_at, area_sectors};
+    ghost use Rattle.iol_journal.specs.Geometry.{IsGeometry, geometry_of, geometry_octets};
+    ghost use Rattle.iol_journal.specs.Layout.{layout_of, total};
 
     /// The geometry of so many ports, 1 to 32, and of so many slots in each area, 1 to 256.
     pub fn new(ports: u16, slots: u16) -> Option<Geometry>
@@ -73,14 +73,14 @@ impl Geometry {
 
     // The octets of its sector.
     pub fn octets(self) -> [u8; SECTOR_OCTETS]
-        ensures { geometry_of result ≡ Some self }
+        ensures { result ≡ geometry_octets self }
     {
-        let mut octets = [0; SECTOR_OCTETS];
+        let mut octets = [0; 10];
         octets[..5].copy_from_slice(&GEOMETRY_MARK);
         octets[5] = self.ports;
         octets[6..8].copy_from_slice(&self.slots.to_be_bytes());
-        octets[8..10].copy_from_slice(&(BODY_SECTORS as u16).to_be_bytes());
-        octets
+        octets[8..].copy_from_slice(&(BODY_SECTORS as u16).to_be_bytes());
+        sector_of(&octets)
     }
 
     /// How many ports there are.
@@ -100,62 +100,18 @@ impl Geometry {
 
     /// How many sectors a disk needs.
     pub fn sectors(self) -> usize
-        ensures total { result ≡ total self }
+        ensures within { IsGeometry self }
+        ensures total { result ≡ total (layout_of self) }
         ensures bound { result < 10000 }
     {
-        2 + 2 * self.area_sectors()
+        let _ports = self.ports;
+        self.layout().sectors()
     }
 
-    fn area_sectors(self) -> usize
-        ensures sectors { result ≡ area_sectors self }
-        ensures bound { result < 5000 }
+    /// Where everything stands on its disk.
+    pub(crate) fn layout(self) -> Layout
+        ensures { result ≡ layout_of self }
     {
-        2 + PORT_SECTORS * self.ports as usize + (1 + BODY_SECTORS) * self.slots as usize
-    }
-
-    /// The gate of an area.
-    pub fn gate(self, area: Area) -> usize
-        ensures at { result ≡ gate_at self area }
-        ensures bound { result < 10000 }
-    {
-        match area {
-            Area::A => 2,
-            Area::B => 2 + self.area_sectors(),
-        }
-    }
-
-    /// The header of an area.
-    pub fn header(self, area: Area) -> usize
-        ensures at { result ≡ header_at self area }
-        ensures bound { result < 10000 }
-    {
-        self.gate(area) + 1
-    }
-
-    /// The first sector of a port's record; ports are counted from 0.
-    pub fn port(self, area: Area, port: usize) -> usize
-        requires { port < self.ports }
-        ensures at { result ≡ port_at self area port }
-        ensures bound { result < 10000 }
-    {
-        self.gate(area) + 2 + PORT_SECTORS * port
-    }
-
-    /// A slot of an area.
-    pub fn slot(self, area: Area, slot: usize) -> Slot
-        requires { slot < self.slots }
-        ensures gate { result.gate ≡ slot_at self area slot }
-        ensures body { result.body ≡ body_at self area slot 0 }
-        ensures sectors { result.sectors ≡ BODY_SECTORS }
-    {
-        let gate = self.gate(area)
-            + 2
-            + PORT_SECTORS * self.ports as usize
-            + (1 + BODY_SECTORS) * slot;
-        Slot {
-            gate,
-            body: gate + 1,
-            sectors: BODY_SECTORS,
-        }
+        Layout::of(self)
     }
 }

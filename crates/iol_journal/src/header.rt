@@ -1,8 +1,7 @@
 ghost use Rattle.std.specs.Prelude.{◌≡◌};
-ghost use Rattle.std.specs.Int.{w64};
-ghost use Rattle.iol_journal.specs.Octets.{number_at};
 
 use crate::numbers::u64_at;
+use crate::sector::sector_of;
 use iol_disk::SECTOR_OCTETS;
 
 /// The greatest number of a command.
@@ -18,7 +17,7 @@ pub struct Header {
 }
 
 impl Header {
-    ghost use Rattle.iol_journal.specs.Header.{header_of, is_sound};
+    ghost use Rattle.iol_journal.specs.Header.{header_of, header_octets, is_sound};
 
     // The header in the octets of its sector.
     #[tactic(auto, unfolding(crate::specs::Header::header_of))]
@@ -32,11 +31,13 @@ impl Header {
     }
 
     // The octets of its sector.
-    #[tactic(auto, unfolding(crate::specs::Header::header_of))]
     pub fn octets(self) -> [u8; SECTOR_OCTETS]
-        ensures { header_of result ≡ self }
+        ensures { result ≡ header_octets self.epoch self.base }
     {
-        numbers_sector(self.epoch, self.base)
+        let mut octets = [0; 16];
+        octets[..8].copy_from_slice(&self.epoch.to_be_bytes());
+        octets[8..].copy_from_slice(&self.base.to_be_bytes());
+        sector_of(&octets)
     }
 
     // Whether the area may be in use with it.
@@ -45,15 +46,4 @@ impl Header {
     {
         1 <= self.epoch && self.base <= LAST_NUMBER && self.epoch <= self.base + 1
     }
-}
-
-// Two numbers at the front of a sector, and zeros.
-fn numbers_sector(first: u64, second: u64) -> [u8; SECTOR_OCTETS]
-    ensures first { number_at w64 0 result ≡ first }
-    ensures second { number_at w64 8 result ≡ second }
-{
-    let mut octets = [0; SECTOR_OCTETS];
-    octets[..8].copy_from_slice(&first.to_be_bytes());
-    octets[8..16].copy_from_slice(&second.to_be_bytes());
-    octets
 }

@@ -31,7 +31,7 @@ impl<D: SectorDisk> Model for Journal<D> {
 
     ghost view = { λ j. record { disk = j.disk; standing = standing_at j.place j.number j.state; idle = j.place.idle } };
 
-    ghost invariant = { λ j. (total j.place.geometry ≤ (D.disk j.disk).sectors) × (j.place.used ≤ j.place.geometry.slots)
+    ghost invariant = { λ j. (total j.place.layout ≤ (D.disk j.disk).sectors) × (j.place.used ≤ j.place.layout.slots)
         × (j.number ≤ LAST_NUMBER) };
 }
 
@@ -73,14 +73,14 @@ pub struct BeginFault<D: SectorDisk> {
 }
 
 impl<D: SectorDisk> Journal<D> {
-    ghost use Rattle.std.specs.Prelude.{◌≡◌, ◌≤◌, ◌+◌, None, IfOk, IfErr, OnOk};
+    ghost use Rattle.std.specs.Prelude.{◌≡◌, ◌≤◌, ◌+◌, length, None, IfOk, IfErr, OnOk};
     ghost use Rattle.iol_journal.specs.Layout.{total};
     ghost use Rattle.iol_journal.specs.Begin.{refusal, IsRefusal};
     ghost use Rattle.iol_journal.specs.Underway.{IsAtRest, IsUnderway};
-    ghost use Rattle.iol_journal.specs.Journals.{standing_at, values, IsPlanned};
+    ghost use Rattle.iol_journal.specs.Batches.{batch_calls};
+    ghost use Rattle.iol_journal.specs.Journals.{standing_at, values, calls_left, IsPlan, IsPlanned};
     ghost use Rattle.iol_journal.specs.declared.header.TheConstants.{LAST_NUMBER};
     ghost use Rattle.iol_journal.specs.declared.phase.Phase.TheVariants.{Body};
-    ghost use Rattle.iol_types.specs.State.{after};
 
     // A journal that writes here next.
     pub(crate) fn at_rest(
@@ -90,8 +90,8 @@ impl<D: SectorDisk> Journal<D> {
         number: u64,
         state: MasterState,
     ) -> Journal<D>
-        requires fits { total place.geometry ≤ (D.disk disk).sectors }
-        requires within { place.used ≤ place.geometry.slots }
+        requires fits { total place.layout ≤ (D.disk disk).sectors }
+        requires within { place.used ≤ place.layout.slots }
         requires bound { number ≤ LAST_NUMBER }
         ensures disk { result.disk ≡ disk }
         ensures standing { result.standing ≡ standing_at place number state }
@@ -135,6 +135,9 @@ impl<D: SectorDisk> Journal<D> {
     pub fn begin(self, batch: Batch) -> Result<Writing<D>, BeginFault<D>>
         ensures begun { IfOk result (λ w. (w.disk ≡ self.disk) × (w.standing ≡ self.standing) × (w.idle ≡ self.idle)
             × (w.commands ≡ values batch.commands.items) × (w.phase ≡ Body 0)) }
+        // Its steps make these disk calls, 19 at most.
+        ensures calls { IfOk result (λ w. calls_left w ≡ batch_calls self.standing (values batch.commands.items)) }
+        ensures at_most { IfOk result (λ w. length (calls_left w) ≤ 19) }
         // It changes no meaning.
         ensures underway { IsAtRest (D.disk self.disk) self.standing self.idle → IfOk result (λ w. IsUnderway D.disk w) }
         ensures follows { OnOk result (refusal self.standing batch.first (values batch.commands.items) ≡ None) }
@@ -162,16 +165,16 @@ impl<D: SectorDisk> Journal<D> {
 
     // What the batch writes, and the state after it.
     fn plan(&self, batch: &Batch) -> Result<Plan, BeginCause>
-        ensures planned { IfOk result (λ plan. IsPlanned (D.disk self.now.disk) self.now.standing (values batch.now.commands.items) plan.body.items plan.sectors (Body 0)
-            × (batch.now.first ≡ self.now.standing.number + 1)
-            × (plan.next ≡ after self.now.standing.state (values batch.now.commands.items))) }
+        ensures planned { IfOk result (λ plan. IsPlanned (D.disk self.now.disk) self.now.standing (values batch.now.commands.items) (Body 0)
+            × IsPlan self.now.standing (values batch.now.commands.items) plan
+            × (batch.now.first ≡ self.now.standing.number + 1)) }
         ensures follows { OnOk result (refusal self.now.standing batch.now.first (values batch.now.commands.items) ≡ None) }
         ensures cause { IfErr result (IsRefusal self.now.standing batch.now.first (values batch.now.commands.items)) }
     {
         if MOST_COMMANDS < batch.commands.len() {
             return Err(BeginCause::TooLarge);
         }
-        if self.place.used == self.place.geometry.slots() {
+        if self.place.used == self.place.layout.slots() {
             return Err(BeginCause::NeedsCheckpoint);
         }
         let body = body_of(self.alloc, self.place.epoch, batch.first, &batch.commands)?;

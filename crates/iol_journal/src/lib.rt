@@ -5,7 +5,7 @@
 //! journal on a disk, and the state; [`Journal::begin`] takes a [`Batch`], which [`Writing::step`] writes one
 //! disk call at a time. Each of these owns its disk, and hands it back.
 //!
-//! Modules in reading order: where things stand (`area`, `geometry`, `header`, `place`), what stands there
+//! Modules in reading order: where things stand (`area`, `geometry`, `layout`, `header`, `place`), what stands there
 //! (`numbers`, `batch`, `body`), reading it (`cause`, `reading`, `opening`, `snapshot`, `replay`, `recovery`), and
 //! writing it (`formatting`, `journal`, `phase`, `calls`, `writing`). What an image of a disk means is said in
 //! `specs/Meaning.antt`.
@@ -20,6 +20,7 @@ mod formatting;
 mod geometry;
 mod header;
 mod journal;
+mod layout;
 mod numbers;
 mod opening;
 mod phase;
@@ -27,6 +28,7 @@ mod place;
 mod reading;
 mod recovery;
 mod replay;
+mod sector;
 mod snapshot;
 mod writing;
 

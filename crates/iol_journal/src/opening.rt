@@ -4,7 +4,7 @@ ghost use Rattle.iol_disk.specs.Disk.{Same, FailsOnlyAs};
 ghost use Rattle.iol_disk.specs.declared.fault.DiskFault.{DiskFault};
 ghost use Rattle.iol_journal.specs.Layout.{other, total, header_at};
 ghost use Rattle.iol_journal.specs.Header.{header_of};
-ghost use Rattle.iol_journal.specs.Meaning.{geometry_in, greatest, in_use, in_use_in};
+ghost use Rattle.iol_journal.specs.Meaning.{layout_in, greatest, in_use, in_use_in};
 ghost use Rattle.iol_journal.specs.Reading.{Finds, Gives};
 ghost use Rattle.iol_journal.specs.declared.header.TheConstants.{LAST_NUMBER};
 
@@ -12,13 +12,14 @@ use crate::area::Area;
 use crate::cause::RecoverCause;
 use crate::geometry::{DISK_GATE, GEOMETRY, Geometry};
 use crate::header::Header;
+use crate::layout::Layout;
 use crate::reading::{gate, read_sector};
 use iol_disk::{DiskFault, SectorDisk};
 
-// The geometry of a formatted disk.
-pub fn find_geometry<D: SectorDisk>(disk: &mut D) -> Result<Geometry, RecoverCause>
-    ensures fits { IfOk result (λ g. total g ≤ (D.disk disk.old).sectors) }
-    ensures finds { Finds (λ g. g) (D.disk disk.old) (D.disk disk.new) (geometry_in (D.disk disk.old).sectors) result }
+// The layout of a formatted disk.
+pub fn find_layout<D: SectorDisk>(disk: &mut D) -> Result<Layout, RecoverCause>
+    ensures fits { IfOk result (λ layout. total layout ≤ (D.disk disk.old).sectors) }
+    ensures finds { Finds (λ layout. layout) (D.disk disk.old) (D.disk disk.new) (layout_in (D.disk disk.old).sectors) result }
     ensures same { Same (D.disk disk.old) (D.disk disk.new) }
 {
     let sectors = disk.sectors();
@@ -27,7 +28,7 @@ pub fn find_geometry<D: SectorDisk>(disk: &mut D) -> Result<Geometry, RecoverCau
     }
     let octets = read_sector(disk, GEOMETRY)?;
     match Geometry::read(&octets) {
-        Some(geometry) if geometry.sectors() <= sectors => Ok(geometry),
+        Some(geometry) if geometry.sectors() <= sectors => Ok(geometry.layout()),
         _ => Err(RecoverCause::Damaged { sector: GEOMETRY }),
     }
 }
@@ -47,19 +48,19 @@ pub struct Areas {
 }
 
 // Reads the gates, the headers of the open areas, and then those of the closed ones.
-pub fn find_areas<D: SectorDisk>(disk: &mut D, geometry: Geometry) -> Result<Areas, RecoverCause>
-    requires { total geometry ≤ (D.disk disk.old).sectors }
-    ensures finds { Finds (λ areas. areas.in_use) (D.disk disk.old) (D.disk disk.new) (in_use_in geometry) result }
+pub fn find_areas<D: SectorDisk>(disk: &mut D, layout: Layout) -> Result<Areas, RecoverCause>
+    requires { total layout ≤ (D.disk disk.old).sectors }
+    ensures finds { Finds (λ areas. areas.in_use) (D.disk disk.old) (D.disk disk.new) (in_use_in layout) result }
     ensures other { IfOk result (λ areas. IsTrue (D.disk disk.old).honest
-        → areas.other ≡ header_of (reads (D.disk disk.old).content (header_at geometry (other areas.in_use.area)))) }
+        → areas.other ≡ header_of (reads (D.disk disk.old).content (header_at layout (other areas.in_use.area)))) }
     ensures base { IfOk result (λ areas. areas.in_use.header.base ≤ LAST_NUMBER) }
     ensures same { Same (D.disk disk.old) (D.disk disk.new) }
 {
-    let open_a = gate(geometry.gate(Area::A)).is_open(disk)?;
-    let open_b = gate(geometry.gate(Area::B)).is_open(disk)?;
-    let a = read_if(disk, geometry, Area::A, open_a)?;
-    let b = read_if(disk, geometry, Area::B, open_b)?;
-    let in_use = greatest_of(geometry, a, b)?;
+    let open_a = gate(layout.gate(Area::A)).is_open(disk)?;
+    let open_b = gate(layout.gate(Area::B)).is_open(disk)?;
+    let a = read_if(disk, layout, Area::A, open_a)?;
+    let b = read_if(disk, layout, Area::B, open_b)?;
+    let in_use = greatest_of(layout, a, b)?;
     let other = in_use.area.other();
     let read = match other {
         Area::A => a,
@@ -67,39 +68,35 @@ pub fn find_areas<D: SectorDisk>(disk: &mut D, geometry: Geometry) -> Result<Are
     };
     let other = match read {
         Some(header) => header,
-        None => read_header(disk, geometry, other)?,
+        None => read_header(disk, layout, other)?,
     };
     Ok(Areas { in_use, other })
 }
 
-fn read_header<D: SectorDisk>(
-    disk: &mut D,
-    geometry: Geometry,
-    area: Area,
-) -> Result<Header, DiskFault>
-    requires { total geometry ≤ (D.disk disk.old).sectors }
-    ensures read { IfOk result (λ header. IsTrue (D.disk disk.old).honest → header ≡ header_of (reads (D.disk disk.old).content (header_at geometry area))) }
+fn read_header<D: SectorDisk>(disk: &mut D, layout: Layout, area: Area) -> Result<Header, DiskFault>
+    requires { total layout ≤ (D.disk disk.old).sectors }
+    ensures read { IfOk result (λ header. IsTrue (D.disk disk.old).honest → header ≡ header_of (reads (D.disk disk.old).content (header_at layout area))) }
     ensures same { Same (D.disk disk.old) (D.disk disk.new) }
     ensures fault { FailsOnlyAs DiskFault.Read (D.disk disk.old) (D.disk disk.new) result }
 {
-    let octets = read_sector(disk, geometry.header(area))?;
+    let octets = read_sector(disk, layout.header(area))?;
     Ok(Header::read(&octets))
 }
 
 fn read_if<D: SectorDisk>(
     disk: &mut D,
-    geometry: Geometry,
+    layout: Layout,
     area: Area,
     wanted: bool,
 ) -> Result<Option<Header>, DiskFault>
-    requires { total geometry ≤ (D.disk disk.old).sectors }
+    requires { total layout ≤ (D.disk disk.old).sectors }
     ensures read { IfOk result (λ header. IsTrue (D.disk disk.old).honest
-        → header ≡ (if wanted then Some (header_of (reads (D.disk disk.old).content (header_at geometry area))) else None)) }
+        → header ≡ (if wanted then Some (header_of (reads (D.disk disk.old).content (header_at layout area))) else None)) }
     ensures same { Same (D.disk disk.old) (D.disk disk.new) }
     ensures fault { FailsOnlyAs DiskFault.Read (D.disk disk.old) (D.disk disk.new) result }
 {
     if wanted {
-        Ok(Some(read_header(disk, geometry, area)?))
+        Ok(Some(read_header(disk, layout, area)?))
     } else {
         Ok(None)
     }
@@ -107,42 +104,42 @@ fn read_if<D: SectorDisk>(
 
 // Of the open areas the one with the greatest epoch.
 pub fn greatest_of(
-    geometry: Geometry,
+    layout: Layout,
     a: Option<Header>,
     b: Option<Header>,
 ) -> Result<InUse, RecoverCause>
-    ensures gives { Gives (greatest geometry a b) result }
+    ensures gives { Gives (greatest layout a b) result }
     ensures base { IfOk result (λ used. used.header.base ≤ LAST_NUMBER) }
 {
     match (a, b) {
         (None, None) => Err(RecoverCause::Damaged {
-            sector: geometry.gate(Area::A),
+            sector: layout.gate(Area::A),
         }),
-        (Some(a), None) => in_use_of(geometry, Area::A, a),
-        (None, Some(b)) => in_use_of(geometry, Area::B, b),
+        (Some(a), None) => in_use_of(layout, Area::A, a),
+        (None, Some(b)) => in_use_of(layout, Area::B, b),
         (Some(a), Some(b)) => {
             if a.epoch == b.epoch {
                 Err(RecoverCause::Damaged {
-                    sector: geometry.header(Area::B),
+                    sector: layout.header(Area::B),
                 })
             } else if a.epoch < b.epoch {
-                in_use_of(geometry, Area::B, b)
+                in_use_of(layout, Area::B, b)
             } else {
-                in_use_of(geometry, Area::A, a)
+                in_use_of(layout, Area::A, a)
             }
         }
     }
 }
 
-fn in_use_of(geometry: Geometry, area: Area, header: Header) -> Result<InUse, RecoverCause>
-    ensures gives { Gives (in_use geometry area header) result }
+fn in_use_of(layout: Layout, area: Area, header: Header) -> Result<InUse, RecoverCause>
+    ensures gives { Gives (in_use layout area header) result }
     ensures base { IfOk result (λ used. used.header.base ≤ LAST_NUMBER) }
 {
     if header.is_sound() {
         Ok(InUse { area, header })
     } else {
         Err(RecoverCause::Damaged {
-            sector: geometry.header(area),
+            sector: layout.header(area),
         })
     }
 }

@@ -15,7 +15,7 @@ pub enum Phase {
 
 impl Phase {
     ghost use Rattle.iol_journal.specs.declared.geometry.TheConstants.{BODY_SECTORS};
-    ghost use Rattle.iol_journal.specs.Calls.{next_phase, IsPhase};
+    ghost use Rattle.iol_journal.specs.Batches.{next_phase, IsPhase};
 
     // The phase after this one, with a body of so many sectors.
     pub fn next(self, sectors: usize) -> Option<Phase>

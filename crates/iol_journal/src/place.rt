@@ -1,5 +1,5 @@
 use crate::area::Area;
-use crate::geometry::Geometry;
+use crate::layout::Layout;
 use iol_slots::Slot;
 
 /// How the area that is not in use is harmless.
@@ -14,7 +14,7 @@ pub enum Idle {
 /// Where a journal writes next.
 #[derive(Clone, Copy, Debug, PartialEq, Eq)]
 pub struct Place {
-    pub geometry: Geometry,
+    pub layout: Layout,
     pub area: Area,
     pub epoch: u64,
     pub used: usize,
@@ -28,11 +28,11 @@ impl Place {
 
     // The first slot that is not used.
     pub fn slot(&self) -> Slot
-        requires { self.now.used < self.now.geometry.slots }
-        ensures gate { result.gate ≡ slot_at self.now.geometry self.now.area self.now.used }
-        ensures body { result.body ≡ body_at self.now.geometry self.now.area self.now.used 0 }
+        requires { self.now.used < self.now.layout.slots }
+        ensures gate { result.gate ≡ slot_at self.now.layout self.now.area self.now.used }
+        ensures body { result.body ≡ body_at self.now.layout self.now.area self.now.used 0 }
         ensures sectors { result.sectors ≡ BODY_SECTORS }
     {
-        self.geometry.slot(self.area, self.used)
+        self.layout.slot(self.area, self.used)
     }
 }

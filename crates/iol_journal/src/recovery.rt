@@ -10,7 +10,7 @@ ghost use Rattle.iol_journal.specs.declared.header.TheConstants.{LAST_NUMBER};
 
 use crate::cause::RecoverCause;
 use crate::journal::Journal;
-use crate::opening::{find_areas, find_geometry};
+use crate::opening::{find_areas, find_layout};
 use crate::place::{Idle, Place};
 use crate::replay::replay_slots;
 use crate::snapshot::read_ports;
@@ -78,17 +78,17 @@ fn find<D: SectorDisk>(alloc: Global, disk: &mut D) -> Result<Found, RecoverCaus
     // What it read is the only image.
     ensures settled { OnOk result (IsTrue (D.disk disk.old).honest → (image : Image) → IsImage (D.disk disk.new).content image → image ≡ reads (D.disk disk.old).content) }
     ensures any_moment { LeavesOnly (D.disk disk.old) (D.disk disk.new) (IsImage (D.disk disk.old).content) }
-    ensures fits { IfOk result (λ found. (total found.place.geometry ≤ (D.disk disk.new).sectors) × (found.place.used ≤ found.place.geometry.slots)
+    ensures fits { IfOk result (λ found. (total found.place.layout ≤ (D.disk disk.new).sectors) × (found.place.used ≤ found.place.layout.slots)
         × (found.number ≤ LAST_NUMBER) × (found.copy ≡ found.state)) }
 {
     disk.sync()?;
-    let geometry = find_geometry(disk)?;
-    let areas = find_areas(disk, geometry)?;
-    let mut state = read_ports(alloc, disk, geometry, areas.in_use.area)?;
+    let layout = find_layout(disk)?;
+    let areas = find_areas(disk, layout)?;
+    let mut state = read_ports(alloc, disk, layout, areas.in_use.area)?;
     let end = replay_slots(
         alloc,
         disk,
-        geometry,
+        layout,
         areas.in_use.area,
         areas.in_use.header,
         &mut state,
@@ -101,7 +101,7 @@ fn find<D: SectorDisk>(alloc: Global, disk: &mut D) -> Result<Found, RecoverCaus
     let copy = state.copy()?;
     Ok(Found {
         place: Place {
-            geometry,
+            layout,
             area: areas.in_use.area,
             epoch: areas.in_use.header.epoch,
             used: end.used,

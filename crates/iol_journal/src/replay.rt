@@ -14,8 +14,9 @@ use crate::area::Area;
 use crate::batch::{BODY_HEAD_OCTETS, MOST_RECORD_OCTETS};
 use crate::body::Head;
 use crate::cause::RecoverCause;
-use crate::geometry::{BODY_SECTORS, Geometry};
+use crate::geometry::BODY_SECTORS;
 use crate::header::{Header, LAST_NUMBER};
+use crate::layout::Layout;
 use crate::numbers::u32_at;
 use iol_disk::{DiskFault, SECTOR_OCTETS, SectorDisk};
 use iol_record::decode_command;
@@ -34,22 +35,22 @@ pub struct End {
 pub fn replay_slots<D: SectorDisk>(
     alloc: Global,
     disk: &mut D,
-    geometry: Geometry,
+    layout: Layout,
     area: Area,
     header: Header,
     state: &mut MasterState,
 ) -> Result<End, RecoverCause>
-    requires fits { total geometry ≤ (D.disk disk.old).sectors }
+    requires fits { total layout ≤ (D.disk disk.old).sectors }
     requires base { header.base ≤ LAST_NUMBER }
     ensures finds { Finds (λ end. record { used = end.used; number = end.number; state = state.new }) (D.disk disk.old) (D.disk disk.new)
-        (λ image. log_from geometry area header.epoch image 0 geometry.slots header.base state.old) result }
-    ensures within { IfOk result (λ end. (end.used ≤ geometry.slots) × (header.base + end.used ≤ end.number) × (end.number ≤ LAST_NUMBER)) }
+        (λ image. log_from layout area header.epoch image 0 layout.slots header.base state.old) result }
+    ensures within { IfOk result (λ end. (end.used ≤ layout.slots) × (header.base + end.used ≤ end.number) × (end.number ≤ LAST_NUMBER)) }
     ensures same { Same (D.disk disk.old) (D.disk disk.new) }
 {
     let mut body = Vec::with_capacity(alloc, BODY_SECTORS * SECTOR_OCTETS)?;
     let mut number = header.base;
-    for used in 0..geometry.slots() {
-        let slot = geometry.slot(area, used);
+    for used in 0..layout.slots() {
+        let slot = layout.slot(area, used);
         if !slot.is_open(disk)? {
             return Ok(End { used, number });
         }
@@ -60,7 +61,7 @@ pub fn replay_slots<D: SectorDisk>(
         };
     }
     Ok(End {
-        used: geometry.slots(),
+        used: layout.slots(),
         number,
     })
 }

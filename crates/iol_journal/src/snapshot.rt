@@ -6,7 +6,7 @@ ghost use Rattle.iol_journal.specs.Reading.{Finds};
 
 use crate::area::Area;
 use crate::cause::RecoverCause;
-use crate::geometry::Geometry;
+use crate::layout::Layout;
 use crate::reading::read_sector;
 use iol_disk::SectorDisk;
 use iol_record::decode_port;
@@ -17,17 +17,17 @@ use std::alloc::Global;
 pub fn read_ports<D: SectorDisk>(
     alloc: Global,
     disk: &mut D,
-    geometry: Geometry,
+    layout: Layout,
     area: Area,
 ) -> Result<MasterState, RecoverCause>
-    requires { total geometry ≤ (D.disk disk.old).sectors }
-    ensures finds { Finds (λ state. state) (D.disk disk.old) (D.disk disk.new) (λ image. ports_from geometry area image 0 geometry.ports) result }
-    ensures ports { IfOk result (λ state. length state ≡ geometry.ports) }
+    requires { total layout ≤ (D.disk disk.old).sectors }
+    ensures finds { Finds (λ state. state) (D.disk disk.old) (D.disk disk.new) (λ image. ports_from layout area image 0 layout.ports) result }
+    ensures ports { IfOk result (λ state. length state ≡ layout.ports) }
     ensures same { Same (D.disk disk.old) (D.disk disk.new) }
 {
-    let mut state = MasterState::new(alloc, geometry.ports())?;
-    for place in 0..geometry.ports() {
-        let sector = geometry.port(area, usize::from(place));
+    let mut state = MasterState::new(alloc, layout.ports())?;
+    for place in 0..layout.ports() {
+        let sector = layout.port(area, usize::from(place));
         let octets = read_sector(disk, sector)?;
         let Ok((port, _)) = decode_port(&octets) else {
             return Err(RecoverCause::Damaged { sector });

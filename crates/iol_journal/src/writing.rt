@@ -37,21 +37,19 @@ impl<D: SectorDisk> Model for Writing<D> {
 
     ghost Value = { WritingView D };
 
-    ghost use Rattle.iol_journal.specs.Journals.{standing_at, values};
+    ghost use Rattle.iol_journal.specs.Journals.{standing_at, values, IsPlan};
 
     ghost view = { λ w. record {
       disk = w.disk;
       standing = standing_at w.place w.number w.state;
       idle = w.place.idle;
       commands = values w.batch.commands.items;
-      body = w.plan.body.items;
-      sectors = w.plan.sectors;
       phase = w.phase;
     } };
 
-    ghost invariant = { λ w. IsPlanned (D.disk w.disk) (standing_at w.place w.number w.state) (values w.batch.commands.items) w.plan.body.items w.plan.sectors w.phase
-        × (w.batch.first ≡ w.number + 1)
-        × (w.plan.next ≡ after w.state (values w.batch.commands.items)) };
+    ghost invariant = { λ w. IsPlanned (D.disk w.disk) (standing_at w.place w.number w.state) (values w.batch.commands.items) w.phase
+        × IsPlan (standing_at w.place w.number w.state) (values w.batch.commands.items) w.plan
+        × (w.batch.first ≡ w.number + 1) };
 }
 
 /// A batch that every image of the disk has. It stands for that, and cannot be copied.
@@ -94,15 +92,12 @@ pub enum Progress<D: SectorDisk> {
 }
 
 impl<D: SectorDisk> Writing<D> {
-    ghost use Rattle.std.specs.Prelude.{◌≡◌, ◌≤◌, ◌<◌, ◌+◌};
-    ghost use Rattle.iol_types.specs.State.{after};
-    ghost use Rattle.iol_disk.specs.Disk.{HasFailed};
+    ghost use Rattle.std.specs.Prelude.{◌≡◌, ◌+◌};
     ghost use Rattle.iol_disk.specs.Moments.{LeavesOnly};
-    ghost use Rattle.iol_journal.specs.Calls.{calls_left};
     ghost use Rattle.iol_journal.specs.Kept.{KeptEither, EachMeans};
     ghost use Rattle.iol_journal.specs.Underway.{IsAtRest, IsUnderway};
-    ghost use Rattle.iol_journal.specs.Journals.{IsPlanned, standing_at, with_batch, values};
-    ghost use Rattle.iol_journal.specs.Progress.{disk_of, IfMore, IfDone, IfFailed};
+    ghost use Rattle.iol_journal.specs.Journals.{IsPlan, IsPlanned, calls_left, standing_at, with_batch, values};
+    ghost use Rattle.iol_journal.specs.Progress.{disk_of, IfMore, IfDone, StepMakes};
     ghost use Rattle.iol_journal.specs.declared.phase.Phase.TheVariants.{Body};
 
     // A batch before its first step.
@@ -115,16 +110,14 @@ impl<D: SectorDisk> Writing<D> {
         batch: Batch,
         plan: Plan,
     ) -> Writing<D>
-        requires planned { IsPlanned (D.disk disk) (standing_at place number state) (values batch.commands.items) plan.body.items plan.sectors (Body 0) }
+        requires planned { IsPlanned (D.disk disk) (standing_at place number state) (values batch.commands.items) (Body 0) }
+        requires plan { IsPlan (standing_at place number state) (values batch.commands.items) plan }
         requires first { batch.first ≡ number + 1 }
-        requires next { plan.next ≡ after state (values batch.commands.items) }
         ensures { result ≡ record {
           disk = disk;
           standing = standing_at place number state;
           idle = place.idle;
           commands = values batch.commands.items;
-          body = plan.body.items;
-          sectors = plan.sectors;
           phase = Body 0;
         } }
     {
@@ -159,6 +152,7 @@ impl<D: SectorDisk> Writing<D> {
 
     /// Makes one disk call: the sectors of the body in order, a sync, the open gate, a sync.
     pub fn step(self) -> Progress<D>
+        ensures call { StepMakes D.disk (calls_left self) result (D.disk self.disk) }
         // A stop at any moment of it leaves the state before the batch, or the state after it.
         ensures any_moment { IsUnderway D.disk self → LeavesOnly (D.disk self.disk) (D.disk (disk_of result))
             (KeptEither (D.disk self.disk).sectors self.standing.number self.standing.state self.commands) }
@@ -166,12 +160,10 @@ impl<D: SectorDisk> Writing<D> {
         // Every image has the batch.
         ensures durable { IsUnderway D.disk self → IfDone result (λ journal _. IsAtRest (D.disk journal.disk) journal.standing journal.idle
             × EachMeans (D.disk journal.disk) journal.standing.number journal.standing.state) }
-        ensures more { IfMore result (λ w. (w.standing ≡ self.standing) × (w.idle ≡ self.idle) × (w.commands ≡ self.commands)
-            × (calls_left w.sectors w.phase + 1 ≡ calls_left self.sectors self.phase)) }
+        ensures more { IfMore result (λ w. (w.standing ≡ self.standing) × (w.idle ≡ self.idle) × (w.commands ≡ self.commands)) }
         // The batch is behind those before it.
         ensures done { IfDone result (λ journal written. (journal.standing ≡ with_batch self.standing self.commands) × (journal.idle ≡ self.idle)
             × (written.first ≡ self.standing.number + 1) × (written.commands ≡ self.commands)) }
-        ensures failed { IfFailed result (λ disk _. HasFailed (D.disk self.disk) (D.disk disk)) }
     {
         let Writing {
             alloc,

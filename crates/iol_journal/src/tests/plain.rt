@@ -2,15 +2,16 @@
 ghost use Rattle.std.specs.Prelude.{◌≡◌, ◌<◌, ◌≤◌, ◌+◌, ◌*◌, length, IfOk};
 ghost use Rattle.iol_slots.specs.Gate.{is_open};
 ghost use Rattle.iol_journal.specs.Layout.{total};
-ghost use Rattle.iol_journal.specs.Meaning.{geometry_in, header_in, in_use_in, ports_from, log_from, meaning};
+ghost use Rattle.iol_journal.specs.Meaning.{layout_in, header_in, in_use_in, ports_from, log_from, meaning};
 ghost use Rattle.iol_journal.specs.Octets.{octets_at as octets_in};
 ghost use Rattle.iol_journal.specs.Plain.{image_of, Answers, IsPlain};
 ghost use Rattle.iol_journal.specs.declared.header.TheConstants.{LAST_NUMBER};
 
 use crate::area::Area;
 use crate::cause::RecoverCause;
-use crate::geometry::{BODY_SECTORS, DISK_GATE, GEOMETRY, Geometry, PORT_SECTORS};
+use crate::geometry::{BODY_SECTORS, DISK_GATE, GEOMETRY, Geometry};
 use crate::header::Header;
+use crate::layout::Layout;
 use crate::opening::{InUse, greatest_of};
 use crate::replay::{End, replay_body};
 use iol_disk::SECTOR_OCTETS;
@@ -43,43 +44,43 @@ fn read_all(
 ) -> Result<(u64, MasterState), RecoverCause>
     ensures { Answers (λ (number, state). record { number = number; state = state }) (meaning (length image.now) (image_of image.now)) result }
 {
-    let geometry = read_geometry(image)?;
-    let used = read_in_use(image, geometry)?;
-    let mut state = read_ports(alloc, image, geometry, used.area)?;
-    let end = read_slots(alloc, image, geometry, used, &mut state)?;
+    let layout = read_layout(image)?;
+    let used = read_in_use(image, layout)?;
+    let mut state = read_ports(alloc, image, layout, used.area)?;
+    let end = read_slots(alloc, image, layout, used, &mut state)?;
     Ok((end.number, state))
 }
 
-fn read_geometry(image: &[[u8; SECTOR_OCTETS]]) -> Result<Geometry, RecoverCause>
-    ensures answers { Answers (λ geometry. geometry) (geometry_in (length image.now) (image_of image.now)) result }
-    ensures fits { IfOk result (λ geometry. total geometry ≤ length image.now) }
+fn read_layout(image: &[[u8; SECTOR_OCTETS]]) -> Result<Layout, RecoverCause>
+    ensures answers { Answers (λ layout. layout) (layout_in (length image.now) (image_of image.now)) result }
+    ensures fits { IfOk result (λ layout. total layout ≤ length image.now) }
 {
     if image.len() < 2 || !gate_is_open(image, DISK_GATE) {
         return Err(RecoverCause::NotFormatted);
     }
     match Geometry::read(sector_at(image, GEOMETRY)) {
-        Some(geometry) if geometry.sectors() <= image.len() => Ok(geometry),
+        Some(geometry) if geometry.sectors() <= image.len() => Ok(geometry.layout()),
         _ => Err(RecoverCause::Damaged { sector: GEOMETRY }),
     }
 }
 
-fn read_in_use(image: &[[u8; SECTOR_OCTETS]], geometry: Geometry) -> Result<InUse, RecoverCause>
-    requires { total geometry ≤ length image.now }
-    ensures answers { Answers (λ used. used) (in_use_in geometry (image_of image.now)) result }
+fn read_in_use(image: &[[u8; SECTOR_OCTETS]], layout: Layout) -> Result<InUse, RecoverCause>
+    requires { total layout ≤ length image.now }
+    ensures answers { Answers (λ used. used) (in_use_in layout (image_of image.now)) result }
     ensures base { IfOk result (λ used. used.header.base ≤ LAST_NUMBER) }
 {
-    let a = read_header(image, geometry, Area::A);
-    let b = read_header(image, geometry, Area::B);
-    greatest_of(geometry, a, b)
+    let a = read_header(image, layout, Area::A);
+    let b = read_header(image, layout, Area::B);
+    greatest_of(layout, a, b)
 }
 
 // The header of an area whose gate is open.
-fn read_header(image: &[[u8; SECTOR_OCTETS]], geometry: Geometry, area: Area) -> Option<Header>
-    requires { total geometry ≤ length image.now }
-    ensures { result ≡ header_in geometry (image_of image.now) area }
+fn read_header(image: &[[u8; SECTOR_OCTETS]], layout: Layout, area: Area) -> Option<Header>
+    requires { total layout ≤ length image.now }
+    ensures { result ≡ header_in layout (image_of image.now) area }
 {
-    if gate_is_open(image, geometry.gate(area)) {
-        Some(Header::read(sector_at(image, geometry.header(area))))
+    if gate_is_open(image, layout.gate(area)) {
+        Some(Header::read(sector_at(image, layout.header(area))))
     } else {
         None
     }
@@ -89,16 +90,16 @@ fn read_header(image: &[[u8; SECTOR_OCTETS]], geometry: Geometry, area: Area) ->
 fn read_ports(
     alloc: Global,
     image: &[[u8; SECTOR_OCTETS]],
-    geometry: Geometry,
+    layout: Layout,
     area: Area,
 ) -> Result<MasterState, RecoverCause>
-    requires { total geometry ≤ length image.now }
-    ensures { Answers (λ state. state) (ports_from geometry area (image_of image.now) 0 geometry.ports) result }
+    requires { total layout ≤ length image.now }
+    ensures { Answers (λ state. state) (ports_from layout area (image_of image.now) 0 layout.ports) result }
 {
-    let mut state = MasterState::new(alloc, geometry.ports())?;
-    for place in 0..geometry.ports() {
-        let sector = geometry.port(area, usize::from(place));
-        let octets = octets_from(alloc, image, sector, PORT_SECTORS)?;
+    let mut state = MasterState::new(alloc, layout.ports())?;
+    for place in 0..layout.ports() {
+        let sector = layout.port(area, usize::from(place));
+        let octets = octets_from(alloc, image, sector, layout.port_sectors())?;
         let Ok((port, _)) = decode_port(&octets) else {
             return Err(RecoverCause::Damaged { sector });
         };
@@ -111,18 +112,18 @@ fn read_ports(
 fn read_slots(
     alloc: Global,
     image: &[[u8; SECTOR_OCTETS]],
-    geometry: Geometry,
+    layout: Layout,
     used: InUse,
     state: &mut MasterState,
 ) -> Result<End, RecoverCause>
-    requires fits { total geometry ≤ length image.now }
+    requires fits { total layout ≤ length image.now }
     requires base { used.header.base ≤ LAST_NUMBER }
     ensures { Answers (λ end. record { used = end.used; number = end.number; state = state.new })
-        (log_from geometry used.area used.header.epoch (image_of image.now) 0 geometry.slots used.header.base state.old) result }
+        (log_from layout used.area used.header.epoch (image_of image.now) 0 layout.slots used.header.base state.old) result }
 {
     let mut number = used.header.base;
-    for place in 0..geometry.slots() {
-        let slot = geometry.slot(used.area, place);
+    for place in 0..layout.slots() {
+        let slot = layout.slot(used.area, place);
         if !gate_is_open(image, slot.gate) {
             return Ok(End {
                 used: place,
@@ -136,7 +137,7 @@ fn read_slots(
         };
     }
     Ok(End {
-        used: geometry.slots(),
+        used: layout.slots(),
         number,
     })
 }

@@ -1,41 +1,72 @@
-use Rattle.std.proofs.Common.{◌≡◌, ◌+◌, ◌*◌, ◌≤◌, ◌-◌, ◌++◌, List, [], ℕ, length, take, replicate, Some, ◌∙◌, ap, sym, subst, arith, append_assoc, length-append}
-use Rattle.std.proofs.lemmas.List.{length-map, take_all}
-use Rattle.std.specs.Int.{w16, w32}
-use Rattle.iol_journal.specs.Octets.{number_at}
-use Rattle.iol_journal.specs.Body.{batch_of}
+use Rattle.std.proofs.Common.{◌≡◌, ◌+◌, ◌*◌, ◌/◌, ◌≤◌, ◌-◌, ◌++◌, List, ℕ, length, take, replicate, Some, ◌∙◌, ap, sym, subst, arith, length-append}
+use Rattle.std.proofs.lemmas.List.{length-map}
 use Rattle.iol_types.specs.Command.{value_of}
+use Rattle.iol_journal.specs.Body.{batch_of, records_of, head_octets, body_octets}
 use Rattle.iol_journal.specs.Journals.{values}
-use Rattle.iol_journal.proofs.Bodies.{batch_of-body}
+use Rattle.iol_journal.specs.Octets.{padded, sectors_reached}
+use Rattle.iol_journal.proofs.Bodies.{batch_of-body_octets, length-body}
+use Rattle.iol_journal.proofs.Paddings.{padded-front}
 use Rattle.iol_journal.proofs.body.body_of.Goals as goal
 
-pub returns-clause-whole : goal.returns-clause-whole
-returns-clause-whole c = (
-  c.div_ceil-sectors.result,
-  omega (arith, c.in_ok-resize.ensures.len, c.resize.new.self.ok),
-  omega (arith, c.div_ceil-sectors.ensures, c.len-2.ensures),
-  omega (arith, c.div_ceil-sectors.ensures, c.len-2.ensures, c.in_ok-records.ensures.size),
-)
+-- how many commands and octets of records the head tells of
+counted : (c : goal.After-drop-records-2) → length (values c.args.commands.now) ≡ length c.args.commands.now
+counted c = length-map c.args.commands.now value_of
 
-pub returns-clause-sound : goal.returns-clause-sound
-returns-clause-sound c some last rest =
+sized : (c : goal.After-drop-records-2) → length (records_of (values c.args.commands.now)) ≡ c.len-2.result
+sized c = omega (arith, c.len-2.ensures, c.in_ok-records.records.ok, ap (λ (os : List ℕ). length os) c.in_ok-records.ensures.records)
+
+-- what was pushed is the head and the records
+pushed : (c : goal.After-drop-records-2)
+    → c.extend_from_slice-2.new.self.items
+    ≡ head_octets c.args.epoch c.args.first (length (values c.args.commands.now)) (length (records_of (values c.args.commands.now))) ++ records_of (values c.args.commands.now)
+pushed c =
     let head = c.head_octets-head.result in
     let records = c.in_ok-records.records.items in
-    let octets = 512 * c.div_ceil-sectors.result in
-    let e = c.head_octets-head.ensures in
-    let count = length-map c.args.commands.now value_of in
+    let count = length (values c.args.commands.now) in
     let front : c.extend_from_slice.new.self.items ≡ head =
     c.in_ok-extend_from_slice.ensures.items ∙ ap (λ (body : List ℕ). body ++ head) c.in_ok-body.ensures.items in
     let both : c.extend_from_slice-2.new.self.items ≡ head ++ records =
     c.in_ok-extend_from_slice-2.ensures.items ∙ ap (λ (body : List ℕ). body ++ c.as_slice.result.now) front ∙ ap (λ (more : List ℕ). head ++ more) c.as_slice.ensures.value in
-    let size : c.len-2.result ≡ length records = omega (arith, c.len-2.ensures, c.in_ok-records.records.ok) in
-    let fits : length (head ++ records) ≤ octets = omega (arith, length-append head records, e.size, size, c.div_ceil-sectors.ensures) in
-    let zeros = replicate (octets - c.extend_from_slice-2.new.self.len) 0 in
-    let all : c.resize.new.self.items ≡ (head ++ records) ++ zeros =
-    c.in_ok-resize.ensures.items ∙ ap (λ (body : List ℕ). body ++ zeros) (ap (take octets) both ∙ take_all octets (head ++ records) fits) in
-    let count_at : (r : List ℕ) → number_at w16 16 (head ++ r) ≡ length (values c.args.commands.now) = λ r. e.count r ∙ sym count in
-    let size_at : (r : List ℕ) → number_at w32 18 (head ++ r) ≡ length records = λ r. e.octets r ∙ omega (arith, c.len.ensures, c.in_ok-records.records.ok) in
-    let sound : batch_of c.args.epoch c.args.first (head ++ (records ++ (zeros ++ rest))) ≡ Some (values c.args.commands.now) =
-    batch_of-body head records (zeros ++ rest) (values c.args.commands.now) c.args.epoch c.args.first e.size e.epoch e.first count_at size_at
-    (omega (arith, some, count)) (omega (arith, c.requires.most, count)) c.in_ok-records.ensures.size (omega (arith, last, count))
-    (rw count c.in_ok-records.ensures.records) in
-    rw (all, append_assoc (head ++ records) zeros rest, append_assoc head records (zeros ++ rest)) sound
+    let counts : length c.args.commands.now ≡ count = sym (counted c) in
+    let sizes : c.len.result ≡ length (records_of (values c.args.commands.now)) = omega (arith, sized c, c.len.ensures, c.len-2.ensures) in
+    let told : head ≡ head_octets c.args.epoch c.args.first count (length (records_of (values c.args.commands.now))) =
+    c.head_octets-head.ensures ∙ ap (λ (n : ℕ). head_octets c.args.epoch c.args.first n c.len.result) counts
+    ∙ ap (λ (n : ℕ). head_octets c.args.epoch c.args.first count n) sizes in
+    both ∙ ap (λ (h : List ℕ). h ++ records) told
+    ∙ ap (λ (os : List ℕ). head_octets c.args.epoch c.args.first count (length (records_of (values c.args.commands.now))) ++ os) c.in_ok-records.ensures.records
+
+-- the octets that were pushed, and zeros behind them
+spelled : (c : goal.After-drop-records-2) → c.resize.new.self.items ≡ body_octets c.args.epoch c.args.first (values c.args.commands.now)
+unfolding body_octets
+spelled c =
+    let front = head_octets c.args.epoch c.args.first (length (values c.args.commands.now)) (length (records_of (values c.args.commands.now))) ++ records_of (values c.args.commands.now) in
+    let octets = 512 * c.div_ceil-sectors.result in
+    let size : length front ≡ 22 + c.len-2.result =
+    length-append (head_octets c.args.epoch c.args.first (length (values c.args.commands.now)) (length (records_of (values c.args.commands.now)))) (records_of (values c.args.commands.now))
+    ∙ ap (λ (n : ℕ). 22 + n) (sized c) in
+    let reach : octets ≡ 512 * sectors_reached (length front) = omega (arith, c.div_ceil-sectors.ensures, size) in
+    let long : c.extend_from_slice-2.new.self.len ≡ length front = omega (arith, ap (λ (os : List ℕ). length os) (pushed c), c.extend_from_slice-2.new.self.ok) in
+    c.in_ok-resize.ensures.items
+    ∙ ap (λ (body : List ℕ). take octets body ++ replicate {A = ℕ} (octets - c.extend_from_slice-2.new.self.len) 0) (pushed c)
+    ∙ padded-front front octets c.extend_from_slice-2.new.self.len reach long
+
+pub returns-clause-octets : goal.returns-clause-octets
+returns-clause-octets c = spelled c
+
+pub returns-clause-whole : goal.returns-clause-whole
+returns-clause-whole c =
+    let size = ap (λ (os : List ℕ). length os) (spelled c) ∙ length-body c.args.epoch c.args.first (values c.args.commands.now) in
+    omega (arith, size)
+
+pub returns-clause-short : goal.returns-clause-short
+returns-clause-short c =
+    let size = ap (λ (os : List ℕ). length os) (spelled c) ∙ length-body c.args.epoch c.args.first (values c.args.commands.now) in
+    (omega (arith, size), omega (arith, size, sized c, c.len-2.ensures, c.in_ok-records.records.ok, c.in_ok-records.ensures.size))
+
+pub returns-clause-sound : goal.returns-clause-sound
+returns-clause-sound c some last rest =
+    let commands = values c.args.commands.now in
+    ap (λ (os : List ℕ). batch_of c.args.epoch c.args.first (os ++ rest)) (spelled c)
+    ∙ batch_of-body_octets c.args.epoch c.args.first commands rest c.ranges.epoch.fits (omega (arith, some, counted c)) (omega (arith, c.requires.most, counted c))
+    (omega (arith, sized c, c.len-2.ensures, c.in_ok-records.records.ok, c.in_ok-records.ensures.size)) (omega (arith, last, counted c))
+    (rw (counted c, ← c.in_ok-records.ensures.records) c.in_ok-records.ensures.read)

@@ -1,41 +1,45 @@
-use Rattle.std.proofs.Common.{◌≡◌, ◌+◌, refl, ap, ◌∙◌, rules, arith}
-use Rattle.iol_journal.specs.Calls.{call_of}
-use Rattle.iol_journal.specs.declared.phase.Phase.{Phase}
-use Rattle.iol_journal.proofs.CallLemmas.{made_write, made_some_write}
+use Rattle.std.proofs.Common.{◌≡◌, ◌+◌, [], ◌∷◌, refl, ap, ◌∙◌, sym, subst, rules, arith}
+use Rattle.iol_disk.specs.Calls.{Call, write, sync}
+use Rattle.iol_slots.specs.Gate.{open_gate}
+use Rattle.iol_journal.specs.Batches.{sector_of, call_of}
+use Rattle.iol_journal.specs.Journals.{standing_at}
+use Rattle.iol_journal.specs.Layout.{slot_at, body_at}
+use Rattle.iol_journal.specs.Orders.{Makes}
+use Rattle.iol_journal.proofs.Making.{makes_write, makes_sync}
 use Rattle.iol_journal.proofs.calls.make.Goals as goal
 
-pub returns-in-Body-clause-made : goal.returns-in-Body-clause-made
-returns-in-Body-clause-made g c =
-    let place = c.args.place.now in
-    let call = λ (phase : Phase). call_of place.geometry place.area place.used c.args.plan.now.body.items phase in
-    made_write _ _ _ _ _ _ _ _ (ap call c.in-Body.is) (omega (arith, c.slot-slot.ensures.body)) (rw (← c.deref.ensures.value) c.copy_from_slice.ensures.after) c.write_sector.ensures.wrote
+pub returns-in-Body : goal.returns-in-Body
+returns-in-Body g c = record {
+  makes = λ number state.
+      let d = g.D.SectorDisk.disk in
+      let place = c.args.place.now in
+      let body = c.args.plan.now.body.items in
+      let j = c.in-Body.j in
+      let e = c.write_sector.ensures in
+      rw c.in-Body.is
+      (makes_write c.write_sector.result _ (body_at place.layout place.area place.used j) _ (sector_of body j) _ _
+      (omega (arith, c.slot-slot.ensures.body)) (rw (← c.deref.ensures.value) c.copy_from_slice.ensures.after) e.wrote e.wrote_some e.fault);
+}
 
-pub returns-in-Body-clause-made_some : goal.returns-in-Body-clause-made_some
-returns-in-Body-clause-made_some g c =
-    let place = c.args.place.now in
-    let call = λ (phase : Phase). call_of place.geometry place.area place.used c.args.plan.now.body.items phase in
-    made_some_write _ _ _ _ _ _ _ (ap call c.in-Body.is) (omega (arith, c.slot-slot.ensures.body)) c.write_sector.ensures.wrote_some
+pub returns-in-SyncBody : goal.returns-in-SyncBody
+returns-in-SyncBody g c = record {
+  makes = λ number state.
+      let e = c.sync.ensures in
+      rw c.in-SyncBody.is (makes_sync c.sync.result _ _ e.synced e.same e.fault);
+}
 
-pub returns-in-SyncBody-clause-made : goal.returns-in-SyncBody-clause-made
-returns-in-SyncBody-clause-made g c = rw c.in-SyncBody.is c.sync.ensures.synced
+pub returns-in-Gate : goal.returns-in-Gate
+returns-in-Gate g c = record {
+  makes = λ number state.
+      let place = c.args.place.now in
+      let e = c.open_gate.ensures in
+      rw c.in-Gate.is
+      (makes_write c.open_gate.result _ (slot_at place.layout place.area place.used) _ open_gate _ _ c.slot-slot.ensures.gate refl e.wrote e.wrote_some e.fault);
+}
 
-pub returns-in-SyncBody-clause-made_some : goal.returns-in-SyncBody-clause-made_some
-returns-in-SyncBody-clause-made_some g c = rw c.in-SyncBody.is c.sync.ensures.same
-
-pub returns-in-Gate-clause-made : goal.returns-in-Gate-clause-made
-returns-in-Gate-clause-made g c =
-    let place = c.args.place.now in
-    let call = λ (phase : Phase). call_of place.geometry place.area place.used c.args.plan.now.body.items phase in
-    made_write _ _ _ _ _ _ _ _ (ap call c.in-Gate.is) (omega (arith, c.slot-slot.ensures.gate)) refl c.open_gate.ensures.wrote
-
-pub returns-in-Gate-clause-made_some : goal.returns-in-Gate-clause-made_some
-returns-in-Gate-clause-made_some g c =
-    let place = c.args.place.now in
-    let call = λ (phase : Phase). call_of place.geometry place.area place.used c.args.plan.now.body.items phase in
-    made_some_write _ _ _ _ _ _ _ (ap call c.in-Gate.is) (omega (arith, c.slot-slot.ensures.gate)) c.open_gate.ensures.wrote_some
-
-pub returns-in-SyncGate-clause-made : goal.returns-in-SyncGate-clause-made
-returns-in-SyncGate-clause-made g c = rw c.in-SyncGate.is c.sync-in-SyncGate.ensures.synced
-
-pub returns-in-SyncGate-clause-made_some : goal.returns-in-SyncGate-clause-made_some
-returns-in-SyncGate-clause-made_some g c = rw c.in-SyncGate.is c.sync-in-SyncGate.ensures.same
+pub returns-in-SyncGate : goal.returns-in-SyncGate
+returns-in-SyncGate g c = record {
+  makes = λ number state.
+      let e = c.sync-in-SyncGate.ensures in
+      rw c.in-SyncGate.is (makes_sync c.sync-in-SyncGate.result _ _ e.synced e.same e.fault);
+}

@@ -1,23 +1,45 @@
-use Rattle.std.proofs.Common.{arith}
+use Rattle.std.proofs.Common.{◌≡◌, ℕ, map, ap, ◌∙◌, refl, subst, rules, arith}
+use Rattle.std.proofs.lemmas.Result.{err_from_is_err_and}
+use Rattle.std.specs.List.{range_with_len}
+use Rattle.iol_disk.specs.Calls.{Call, write, Made}
+use Rattle.iol_disk.proofs.Orders.{made_none}
 use Rattle.iol_slots.specs.Gate.{closed_gate}
-use Rattle.iol_journal.specs.Layout.{slot_at}
+use Rattle.iol_journal.specs.Layout.{Layout, layout_of, slot_at}
 use Rattle.iol_journal.specs.declared.area.Area.TheVariants.{A}
-use Rattle.iol_journal.proofs.Shut.{keeps-write}
-use Rattle.iol_journal.proofs.Filled.{filled-more}
+use Rattle.iol_journal.proofs.Making.{makes_write, made_of, failed_of, made_more, failed_in_row}
 use Rattle.iol_journal.proofs.formatting.close_slots.Goals as goal
 
-pub returns-in_err-close_gate-clause-shut : goal.returns-in_err-close_gate-clause-shut
-returns-in_err-close_gate-clause-shut g c =
+pub loop-slot-init : goal.loop-slot-init
+loop-slot-init g c = made_none _ _ (search rules) refl
+
+pub close_gate-requires : goal.close_gate-requires
+close_gate-requires g c =
+    let at = c.slot.ensures.gate ∙ ap (λ (layout : Layout). slot_at layout A c.loop-slot.slot) c.layout-layout.ensures in
+    omega (arith, at, c.loop-slot.invariant.after.sectors, c.requires, c.slots-slot-end.ensures)
+
+pub returns-in_err-close_gate : goal.returns-in_err-close_gate
+returns-in_err-close_gate g c =
+    let geometry = c.args.geometry in
+    let f : ℕ → Call = λ k. write (slot_at (layout_of geometry) A k) closed_gate in
+    let at = c.slot.ensures.gate ∙ ap (λ (layout : Layout). slot_at layout A c.loop-slot.slot) c.layout-layout.ensures in
     let e = c.close_gate.ensures in
-    keeps-write _ _ _ _ _ _ (omega (arith, c.slot.ensures.gate)) c.loop-slot.invariant.shut e.wrote e.wrote_some
+    let closed = makes_write c.close_gate.result _ (slot_at (layout_of geometry) A c.loop-slot.slot) _ closed_gate _ _ at refl e.wrote e.wrote_some e.fault in
+    let p = err_from_is_err_and c.from_residual.result c.from_residual.ensures.1 in
+    rw (p.1, p.2)
+    (failed_in_row f geometry.slots c.loop-slot.slot _ _ _ _ (omega (arith, c.slots-slot-end.ensures)) c.loop-slot.invariant (failed_of _ _ _ _ _ c.in_err-close_gate.was closed))
 
 pub loop-slot-preserved : goal.loop-slot-preserved
 loop-slot-preserved g c =
-    let d = g.D.SectorDisk.disk in
+    let geometry = c.args.geometry in
+    let f : ℕ → Call = λ k. write (slot_at (layout_of geometry) A k) closed_gate in
+    let at = c.slot.ensures.gate ∙ ap (λ (layout : Layout). slot_at layout A c.loop-slot.slot) c.layout-layout.ensures in
     let e = c.close_gate.ensures in
-    let so_far = c.loop-slot.invariant in
-    record {
-      shut = keeps-write _ _ _ _ _ _ (omega (arith, c.slot.ensures.gate)) so_far.shut e.wrote e.wrote_some;
-      closed = filled-more (slot_at c.args.geometry A) closed_gate c.loop-slot.slot c.slot.result.gate (d c.args.disk.now) (d c.loop-slot.disk) (d c.close_gate.new.disk)
-          (omega (arith, c.slot.ensures.gate)) so_far.shut.honest so_far.closed c.in_ok-close_gate.ensures.wrote;
-    }
+    let closed = makes_write c.close_gate.result _ (slot_at (layout_of geometry) A c.loop-slot.slot) _ closed_gate _ _ at refl e.wrote e.wrote_some e.fault in
+    made_more f c.loop-slot.slot _ _ _ c.loop-slot.invariant (made_of _ _ _ _ _ c.in_ok-close_gate.was closed)
+
+pub returns : goal.returns
+returns g c =
+    let d = g.D.SectorDisk.disk in
+    let f : ℕ → Call = λ k. write (slot_at (layout_of c.args.geometry) A k) closed_gate in
+    let all : c.loop-slot.slot ≡ c.args.geometry.slots = omega (arith, c.slots-slot-end.ensures) in
+    subst (λ (n : ℕ). Made (map f (range_with_len 0 n)) (d c.args.disk.now) (d c.loop-slot.disk)) all c.loop-slot.invariant

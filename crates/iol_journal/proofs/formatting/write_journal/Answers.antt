@@ -1,41 +1,55 @@
-use Rattle.std.proofs.Common.{IsTrue, subst}
-use Rattle.iol_disk.proofs.Moments.{then_same, wrote_some}
-use Rattle.iol_journal.proofs.Formatted.{then_sync, shut-moments, gate-run, gate-durable}
+use Rattle.std.proofs.Common.{◌++◌}
+use Rattle.std.proofs.lemmas.Result.{err_from_is_err_and}
+use Rattle.iol_disk.proofs.Orders.{made_append, failed_first, failed_later}
+use Rattle.iol_journal.specs.Orders.{gate_writes, slot_writes, header_writes, port_writes, opening_calls}
+use Rattle.iol_journal.proofs.Making.{makes_then, made_of, failed_of}
 use Rattle.iol_journal.proofs.formatting.write_journal.Goals as goal
 
-pub returns-in_err-write_areas-clause-any_moment : goal.returns-in_err-write_areas-clause-any_moment
-returns-in_err-write_areas-clause-any_moment g c shut = shut-moments c.args.geometry _ _ _ c.write_areas.ensures.shut shut
+pub returns-in_err-write_gates : goal.returns-in_err-write_gates
+returns-in_err-write_gates g c =
+    let a = gate_writes c.args.geometry in
+    let b = slot_writes c.args.geometry in
+    let h = header_writes c.args.geometry in
+    let p = err_from_is_err_and c.from_residual.result c.from_residual.ensures.1 in
+    rw (p.1, p.2)
+    (failed_first (a ++ b ++ h ++ port_writes c.args.geometry) opening_calls _ _ _ (failed_first (a ++ b ++ h) _ _ _ _ (failed_first (a ++ b) h _ _ _ (failed_first a b _ _ _ c.in_err-write_gates.ensures))))
 
-pub returns-in_err-sync-clause-any_moment : goal.returns-in_err-sync-clause-any_moment
-returns-in_err-sync-clause-any_moment g c shut =
-    then_same _ _ _ _ (shut-moments c.args.geometry _ _ _ c.write_areas.ensures.shut shut) c.in_err-sync.ensures.same
+pub returns-in_err-close_slots : goal.returns-in_err-close_slots
+returns-in_err-close_slots g c =
+    let a = gate_writes c.args.geometry in
+    let b = slot_writes c.args.geometry in
+    let h = header_writes c.args.geometry in
+    let p = err_from_is_err_and c.from_residual-in_err-close_slots.result c.from_residual-in_err-close_slots.ensures.1 in
+    rw (p.1, p.2)
+    (failed_first (a ++ b ++ h ++ port_writes c.args.geometry) opening_calls _ _ _ (failed_first (a ++ b ++ h) _ _ _ _ (failed_first (a ++ b) h _ _ _
+    (failed_later a b _ _ _ _ c.in_ok-write_gates.ensures c.in_err-close_slots.ensures))))
 
-pub returns-in_err-open_gate-clause-any_moment : goal.returns-in_err-open_gate-clause-any_moment
-returns-in_err-open_gate-clause-any_moment g c shut =
-    let d = g.D.SectorDisk.disk in
-    let keeps = c.write_areas.ensures.shut in
-    let e = c.open_gate.ensures in
-    gate-run c.args.geometry _ _ _ _ c.gate.result.gate (d c.open_gate.new.disk) c.gate.ensures c.requires.fits keeps shut
-    (λ h. c.in_ok-write_areas.ensures.written (subst IsTrue keeps.honest h)) c.in_ok-sync.ensures.synced
-    (wrote_some _ _ _ _ _ e.wrote e.wrote_some)
+pub returns-in_err-write_headers : goal.returns-in_err-write_headers
+returns-in_err-write_headers g c =
+    let a = gate_writes c.args.geometry in
+    let b = slot_writes c.args.geometry in
+    let h = header_writes c.args.geometry in
+    let p = err_from_is_err_and c.from_residual-in_err-write_headers.result c.from_residual-in_err-write_headers.ensures.1 in
+    rw (p.1, p.2)
+    (failed_first (a ++ b ++ h ++ port_writes c.args.geometry) opening_calls _ _ _ (failed_first (a ++ b ++ h) _ _ _ _
+    (failed_later (a ++ b) h _ _ _ _ (made_append a b _ _ _ c.in_ok-write_gates.ensures c.in_ok-close_slots.ensures) c.in_err-write_headers.ensures)))
 
-pub returns-clause-any_moment : goal.returns-clause-any_moment
-returns-clause-any_moment g c shut =
-    let d = g.D.SectorDisk.disk in
-    let keeps = c.write_areas.ensures.shut in
-    let e = c.open_gate.ensures in
-    then_sync c.sync-2.result _ _ _ _
-    (gate-run c.args.geometry _ _ _ _ c.gate.result.gate (d c.open_gate.new.disk) c.gate.ensures c.requires.fits keeps shut
-    (λ h. c.in_ok-write_areas.ensures.written (subst IsTrue keeps.honest h)) c.in_ok-sync.ensures.synced
-    (wrote_some _ _ _ _ _ e.wrote e.wrote_some))
-    c.sync-2.ensures.synced c.sync-2.ensures.same
+pub returns-in_err-write_ports : goal.returns-in_err-write_ports
+returns-in_err-write_ports g c =
+    let a = gate_writes c.args.geometry in
+    let b = slot_writes c.args.geometry in
+    let h = header_writes c.args.geometry in
+    let p = err_from_is_err_and c.from_residual-in_err-write_ports.result c.from_residual-in_err-write_ports.ensures.1 in
+    rw (p.1, p.2)
+    (failed_first (a ++ b ++ h ++ port_writes c.args.geometry) opening_calls _ _ _
+    (failed_later (a ++ b ++ h) _ _ _ _ _ (made_append (a ++ b) h _ _ _ (made_append a b _ _ _ c.in_ok-write_gates.ensures c.in_ok-close_slots.ensures) c.in_ok-write_headers.ensures)
+    c.in_err-write_ports.ensures))
 
-pub returns-clause-done : goal.returns-clause-done
-returns-clause-done g c =
-    let d = g.D.SectorDisk.disk in
-    let keeps = c.write_areas.ensures.shut in
-    let e = c.in_ok-open_gate.ensures in
-    gate-durable c.sync-2.result c.args.geometry (d c.args.disk.now).sectors c.gate.result.gate
-    (d c.write_areas.new.disk) (d c.sync.new.self) (d c.open_gate.new.disk) (d c.sync-2.new.self)
-    c.gate.ensures c.requires.fits keeps.sectors
-    (λ h. c.in_ok-write_areas.ensures.written (subst IsTrue keeps.honest h)) c.in_ok-sync.ensures.synced e.wrote e.«open» c.sync-2.ensures.synced
+pub returns : goal.returns
+returns g c =
+    let a = gate_writes c.args.geometry in
+    let b = slot_writes c.args.geometry in
+    let h = header_writes c.args.geometry in
+    let areas = made_append (a ++ b) h _ _ _ (made_append a b _ _ _ c.in_ok-write_gates.ensures c.in_ok-close_slots.ensures) c.in_ok-write_headers.ensures in
+    makes_then (a ++ b ++ h ++ port_writes c.args.geometry) opening_calls _ _ _ _
+    (made_append (a ++ b ++ h) _ _ _ _ areas c.in_ok-write_ports.ensures) c.open_disk.ensures

@@ -13,18 +13,18 @@ loop-used-init g c = record {
   later = omega arith;
   bound = c.requires.base;
   read = λ h left is.
-      let all : left ≡ c.args.geometry.slots = omega arith in
-      ap (λ (n : ℕ). log_from c.args.geometry c.args.area c.args.header.epoch (reads (g.D.SectorDisk.disk c.args.disk.now).content) 0 n c.args.header.base c.args.state.now) all;
+      let all : left ≡ c.args.layout.slots = omega arith in
+      ap (λ (n : ℕ). log_from c.args.layout c.args.area c.args.header.epoch (reads (g.D.SectorDisk.disk c.args.disk.now).content) 0 n c.args.header.base c.args.state.now) all;
 }
 
 pub loop-used-preserved : goal.loop-used-preserved
 loop-used-preserved g c =
     let old = g.D.SectorDisk.disk c.args.disk.now in
     let kept = c.loop-used.invariant in
-    let opened = gate_read old (g.D.SectorDisk.disk c.loop-used.disk) (slot_at c.args.geometry c.args.area c.loop-used.used) c.slot-slot.result.gate _ true
+    let opened = gate_read old (g.D.SectorDisk.disk c.loop-used.disk) (slot_at c.args.layout c.args.area c.loop-used.used) c.slot-slot.result.gate _ true
     kept.same c.slot-slot.ensures.gate c.in_ok-is_open.ensures.open c.if-not-branch.false in
     let same = same-then old (g.D.SectorDisk.disk c.loop-used.disk) (g.D.SectorDisk.disk c.is_open.new.disk) kept.same c.is_open.ensures.same in
-    let batch = batch_read old (g.D.SectorDisk.disk c.is_open.new.disk) (body_at c.args.geometry c.args.area c.loop-used.used 0) c.slot-slot.result.body c.read_body.new.body.items
+    let batch = batch_read old (g.D.SectorDisk.disk c.is_open.new.disk) (body_at c.args.layout c.args.area c.loop-used.used 0) c.slot-slot.result.body c.read_body.new.body.items
     same c.slot-slot.ensures.body c.in_ok-read_body.ensures.reads in
     record {
       same = same-then _ _ _ same c.read_body.ensures.same;
@@ -33,7 +33,7 @@ loop-used-preserved g c =
       read = λ h left is.
           let holds = c.in_ok-read_body.ensures.holds (same-honest _ _ same h) in
           let leads = (rw c.deref.ensures.value at c.in-Some.ensures.reached) holds in
-          sym (log-open c.args.geometry c.args.area c.args.header.epoch (reads old.content) c.loop-used.used left c.loop-used.number c.loop-used.state _
+          sym (log-open c.args.layout c.args.area c.args.header.epoch (reads old.content) c.loop-used.used left c.loop-used.number c.loop-used.state _
           (opened h) (ap (reached c.loop-used.number c.loop-used.state) (batch h c.args.header.epoch (c.loop-used.number + 1)) ∙ leads))
           ∙ kept.read h (left + 1) (omega arith);
     }
@@ -41,27 +41,27 @@ loop-used-preserved g c =
 pub returns-then-not-branch-clause-finds : goal.returns-then-not-branch-clause-finds
 returns-then-not-branch-clause-finds g c = λ h.
     let old = g.D.SectorDisk.disk c.args.disk.now in
-    let left = c.args.geometry.slots - (c.loop-used.used + 1) in
-    let closed = gate_read old (g.D.SectorDisk.disk c.loop-used.disk) (slot_at c.args.geometry c.args.area c.loop-used.used) c.slot-slot.result.gate _ false
+    let left = c.args.layout.slots - (c.loop-used.used + 1) in
+    let closed = gate_read old (g.D.SectorDisk.disk c.loop-used.disk) (slot_at c.args.layout c.args.area c.loop-used.used) c.slot-slot.result.gate _ false
     c.loop-used.invariant.same c.slot-slot.ensures.gate c.in_ok-is_open.ensures.open c.if-not-branch.true in
     sym (c.loop-used.invariant.read h (left + 1) (omega arith))
-    ∙ log-closed c.args.geometry c.args.area c.args.header.epoch (reads old.content) c.loop-used.used left c.loop-used.number c.loop-used.state (closed h)
+    ∙ log-closed c.args.layout c.args.area c.args.header.epoch (reads old.content) c.loop-used.used left c.loop-used.number c.loop-used.state (closed h)
 
 pub returns-in-None-clause-finds : goal.returns-in-None-clause-finds
 returns-in-None-clause-finds g c = λ h.
     let old = g.D.SectorDisk.disk c.args.disk.now in
     let kept = c.loop-used.invariant in
-    let left = c.args.geometry.slots - (c.loop-used.used + 1) in
-    let opened = gate_read old (g.D.SectorDisk.disk c.loop-used.disk) (slot_at c.args.geometry c.args.area c.loop-used.used) c.slot-slot.result.gate _ true
+    let left = c.args.layout.slots - (c.loop-used.used + 1) in
+    let opened = gate_read old (g.D.SectorDisk.disk c.loop-used.disk) (slot_at c.args.layout c.args.area c.loop-used.used) c.slot-slot.result.gate _ true
     kept.same c.slot-slot.ensures.gate c.in_ok-is_open.ensures.open c.if-not-branch.false in
     let same = same-then old (g.D.SectorDisk.disk c.loop-used.disk) (g.D.SectorDisk.disk c.is_open.new.disk) kept.same c.is_open.ensures.same in
-    let batch = batch_read old (g.D.SectorDisk.disk c.is_open.new.disk) (body_at c.args.geometry c.args.area c.loop-used.used 0) c.slot-slot.result.body c.read_body.new.body.items
+    let batch = batch_read old (g.D.SectorDisk.disk c.is_open.new.disk) (body_at c.args.layout c.args.area c.loop-used.used 0) c.slot-slot.result.body c.read_body.new.body.items
     same c.slot-slot.ensures.body c.in_ok-read_body.ensures.reads in
     let holds = c.in_ok-read_body.ensures.holds (same-honest _ _ same h) in
     let leads = (rw c.deref.ensures.value at c.in-None.ensures.reached) holds in
     rw c.slot-slot.ensures.body
     (sym (kept.read h (left + 1) (omega arith))
-    ∙ log-damaged c.args.geometry c.args.area c.args.header.epoch (reads old.content) c.loop-used.used left c.loop-used.number c.loop-used.state
+    ∙ log-damaged c.args.layout c.args.area c.args.header.epoch (reads old.content) c.loop-used.used left c.loop-used.number c.loop-used.state
     (opened h) (ap (reached c.loop-used.number c.loop-used.state) (batch h c.args.header.epoch (c.loop-used.number + 1)) ∙ leads))
 
 pub returns-clause-finds : goal.returns-clause-finds

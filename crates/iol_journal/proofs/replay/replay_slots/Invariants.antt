@@ -10,7 +10,7 @@ invariant-loop-used g l = record {
   same : Same (g.D.SectorDisk.disk l.fn.disk) (g.D.SectorDisk.disk l.disk);
   later : l.fn.header.base + l.used ≤ l.number;
   bound : l.number ≤ LAST_NUMBER;
-  read : IsTrue (g.D.SectorDisk.disk l.fn.disk).honest → (left : ℕ) → left + l.used ≡ l.fn.geometry.slots
-      → log_from l.fn.geometry l.fn.area l.fn.header.epoch (reads (g.D.SectorDisk.disk l.fn.disk).content) l.used left l.number l.state
-      ≡ log_from l.fn.geometry l.fn.area l.fn.header.epoch (reads (g.D.SectorDisk.disk l.fn.disk).content) 0 l.fn.geometry.slots l.fn.header.base l.fn.state;
+  read : IsTrue (g.D.SectorDisk.disk l.fn.disk).honest → (left : ℕ) → left + l.used ≡ l.fn.layout.slots
+      → log_from l.fn.layout l.fn.area l.fn.header.epoch (reads (g.D.SectorDisk.disk l.fn.disk).content) l.used left l.number l.state
+      ≡ log_from l.fn.layout l.fn.area l.fn.header.epoch (reads (g.D.SectorDisk.disk l.fn.disk).content) 0 l.fn.layout.slots l.fn.header.base l.fn.state;
 }

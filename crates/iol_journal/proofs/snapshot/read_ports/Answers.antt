@@ -15,8 +15,8 @@ loop-place-init g c = record {
   same = search rules;
   ports = grind (arith, common_steps);
   read = λ h left is.
-      let all : left ≡ c.args.geometry.ports = omega arith in
-      with_front-none _ ∙ ap (λ (n : ℕ). ports_from c.args.geometry c.args.area (reads (g.D.SectorDisk.disk c.args.disk.now).content) 0 n) all;
+      let all : left ≡ c.args.layout.ports = omega arith in
+      with_front-none _ ∙ ap (λ (n : ℕ). ports_from c.args.layout c.args.area (reads (g.D.SectorDisk.disk c.args.disk.now).content) 0 n) all;
 }
 
 pub loop-place-preserved : goal.loop-place-preserved
@@ -33,12 +33,12 @@ loop-place-preserved g c =
       same = same-then _ _ _ kept.same c.read_sector.ensures.same;
       ports = ap (λ (state : State). length state) stored ∙ length-set c.loop-place.state c.loop-place.place c.in-Ok.port ∙ kept.ports;
       read = λ h left is.
-          let here = sector_read old (g.D.SectorDisk.disk c.loop-place.disk) (port_at c.args.geometry c.args.area c.loop-place.place) c.port-sector.result c.in_ok-octets.octets
-          kept.same (c.port-sector.ensures.at ∙ ap (port_at c.args.geometry c.args.area) c.from.ensures) c.in_ok-octets.ensures.read h in
-          ap (λ (state : State). with_front state (ports_from c.args.geometry c.args.area (reads old.content) (c.loop-place.place + 1) left))
+          let here = sector_read old (g.D.SectorDisk.disk c.loop-place.disk) (port_at c.args.layout c.args.area c.loop-place.place) c.port-sector.result c.in_ok-octets.octets
+          kept.same (c.port-sector.ensures.at ∙ ap (port_at c.args.layout c.args.area) c.from.ensures) c.in_ok-octets.ensures.read h in
+          ap (λ (state : State). with_front state (ports_from c.args.layout c.args.area (reads old.content) (c.loop-place.place + 1) left))
           (ap (λ (state : State). take (c.loop-place.place + 1) state) stored ∙ take_more_set c.loop-place.state c.loop-place.place c.in-Ok.port inside)
-          ∙ sym (ports-next c.args.geometry c.args.area (reads old.content) c.loop-place.place left (take c.loop-place.place c.loop-place.state)
-          c.in_ok-octets.octets _ c.in-Ok.port here whole c.in-Ok.ensures.exact)
+          ∙ sym (ports-next c.args.layout c.args.area (reads old.content) c.loop-place.place left (take c.loop-place.place c.loop-place.state)
+          c.in_ok-octets.octets _ c.in-Ok.port c.port-sector.ensures.some_sector here whole c.in-Ok.ensures.exact)
           ∙ kept.read h (left + 1) (omega arith);
     }
 
@@ -46,20 +46,20 @@ pub returns-in_default-clause-finds : goal.returns-in_default-clause-finds
 returns-in_default-clause-finds g c = λ h.
     let old = g.D.SectorDisk.disk c.args.disk.now in
     let kept = c.loop-place.invariant in
-    let left = c.args.geometry.ports - (c.loop-place.place + 1) in
+    let left = c.args.layout.ports - (c.loop-place.place + 1) in
     let whole : length c.in_ok-octets.octets ≡ 512 = search rules in
-    let at : c.port-sector.result ≡ port_at c.args.geometry c.args.area c.loop-place.place = c.port-sector.ensures.at ∙ ap (port_at c.args.geometry c.args.area) c.from.ensures in
-    let here = sector_read old (g.D.SectorDisk.disk c.loop-place.disk) (port_at c.args.geometry c.args.area c.loop-place.place) c.port-sector.result c.in_ok-octets.octets
+    let at : c.port-sector.result ≡ port_at c.args.layout c.args.area c.loop-place.place = c.port-sector.ensures.at ∙ ap (port_at c.args.layout c.args.area) c.from.ensures in
+    let here = sector_read old (g.D.SectorDisk.disk c.loop-place.disk) (port_at c.args.layout c.args.area c.loop-place.place) c.port-sector.result c.in_ok-octets.octets
     kept.same at c.in_ok-octets.ensures.read h in
     rw at
     (sym (kept.read h (left + 1) (omega (arith, c.ports-place-end.ensures.value)))
-    ∙ ports-damaged c.args.geometry c.args.area (reads old.content) c.loop-place.place left (take c.loop-place.place c.loop-place.state)
-    c.in_ok-octets.octets _ here whole c.in_default.ensures.exact)
+    ∙ ports-damaged c.args.layout c.args.area (reads old.content) c.loop-place.place left (take c.loop-place.place c.loop-place.state)
+    c.in_ok-octets.octets _ c.port-sector.ensures.some_sector here whole c.in_default.ensures.exact)
 
 pub returns-clause-finds : goal.returns-clause-finds
 returns-clause-finds g c = λ h.
-    let done : c.loop-place.place ≡ c.args.geometry.ports = omega (arith, c.ports-place-end.ensures.value) in
+    let done : c.loop-place.place ≡ c.args.layout.ports = omega (arith, c.ports-place-end.ensures.value) in
     let place : c.loop-place.place ≡ length c.loop-place.state = omega (arith, done, c.loop-place.invariant.ports) in
     let all : take c.loop-place.place c.loop-place.state ≡ c.loop-place.state =
     ap (λ (n : ℕ). take n c.loop-place.state) place ∙ take-length c.loop-place.state in
-    sym (c.loop-place.invariant.read h 0 (omega arith)) ∙ ports-ended c.args.geometry c.args.area (reads (g.D.SectorDisk.disk c.args.disk.now).content) c.loop-place.place _ ∙ ap (λ (state : State). Ok state) all
+    sym (c.loop-place.invariant.read h 0 (omega arith)) ∙ ports-ended c.args.layout c.args.area (reads (g.D.SectorDisk.disk c.args.disk.now).content) c.loop-place.place _ ∙ ap (λ (state : State). Ok state) all

@@ -8,7 +8,7 @@ use Rattle.iol_journal.proofs.tests.plain.read_ports.Goals as goal
 
 pub loop-place-preserved : goal.loop-place-preserved
 loop-place-preserved c =
-    let g = c.args.geometry in
+    let g = c.args.layout in
     let p = c.loop-place.place in
     let number : c.unwrap.result ≡ p + 1 = rw c.unwrap.ensures at c.new-in-loop-place.ensures.number in
     let grown = front_grows c.loop-place.state c.set_port.new.self p c.unwrap.result c.in-Ok.port c.set_port.ensures number (omega (arith, c.loop-place.invariant.size)) in
@@ -23,7 +23,7 @@ loop-place-preserved c =
 
 pub returns-in_default : goal.returns-in_default
 returns-in_default c =
-    let g = c.args.geometry in
+    let g = c.args.layout in
     let p = c.loop-place.place in
     let left = g.ports - (p + 1) in
     let octets = port_octets (image_of c.args.image.now) g c.args.area p _ _ _ _ c.deref.ensures.value c.in_ok-octets.ensures.octets c.port-sector.ensures.at c.from.ensures in
@@ -33,6 +33,6 @@ returns-in_default c =
 
 pub returns : goal.returns
 returns c =
-    let done : c.loop-place.place ≡ c.args.geometry.ports = omega (arith, c.ports.ensures.value) in
+    let done : c.loop-place.place ≡ c.args.layout.ports = omega (arith, c.ports.ensures.value) in
     sym (c.loop-place.invariant.read 0 (omega arith))
-    ∙ ports-ended c.args.geometry c.args.area (image_of c.args.image.now) c.loop-place.place c.loop-place.state (omega (arith, c.loop-place.invariant.size))
+    ∙ ports-ended c.args.layout c.args.area (image_of c.args.image.now) c.loop-place.place c.loop-place.state (omega (arith, c.loop-place.invariant.size))

@@ -6,8 +6,8 @@ use Rattle.iol_journal.proofs.tests.plain.read_ports.Given as goal
 
 abbrev pub invariant-loop-place : goal.invariant-loop-place
 invariant-loop-place l = record {
-  size : length l.state ≡ l.fn.geometry.ports;
-  read : (left : ℕ) → left + l.place ≡ l.fn.geometry.ports
-      → (ports_from l.fn.geometry l.fn.area (image_of l.fn.image) l.place left >>= behind (take l.place l.state))
-      ≡ ports_from l.fn.geometry l.fn.area (image_of l.fn.image) 0 l.fn.geometry.ports;
+  size : length l.state ≡ l.fn.layout.ports;
+  read : (left : ℕ) → left + l.place ≡ l.fn.layout.ports
+      → (ports_from l.fn.layout l.fn.area (image_of l.fn.image) l.place left >>= behind (take l.place l.state))
+      ≡ ports_from l.fn.layout l.fn.area (image_of l.fn.image) 0 l.fn.layout.ports;
 }

@@ -12,13 +12,13 @@ pub loop-place-init : goal.loop-place-init
 loop-place-init c = record {
   bound = c.requires.base;
   read = λ left is.
-      let all : left ≡ c.args.geometry.slots = omega arith in
-      ap (λ (n : ℕ). log_from c.args.geometry c.args.used.area c.args.used.header.epoch (image_of c.args.image.now) 0 n c.args.used.header.base c.args.state.now) all;
+      let all : left ≡ c.args.layout.slots = omega arith in
+      ap (λ (n : ℕ). log_from c.args.layout c.args.used.area c.args.used.header.epoch (image_of c.args.image.now) 0 n c.args.used.header.base c.args.state.now) all;
 }
 
 pub loop-place-preserved : goal.loop-place-preserved
 loop-place-preserved c =
-    let g = c.args.geometry in
+    let g = c.args.layout in
     let a = c.args.used.area in
     let epoch = c.args.used.header.epoch in
     let image = image_of c.args.image.now in
@@ -37,7 +37,7 @@ loop-place-preserved c =
 
 pub returns-then-not-gate_is_open : goal.returns-then-not-gate_is_open
 returns-then-not-gate_is_open c =
-    let g = c.args.geometry in
+    let g = c.args.layout in
     let a = c.args.used.area in
     let image = image_of c.args.image.now in
     let left = g.slots - (c.loop-place.place + 1) in
@@ -48,7 +48,7 @@ returns-then-not-gate_is_open c =
 
 pub returns-in-None : goal.returns-in-None
 returns-in-None c =
-    let g = c.args.geometry in
+    let g = c.args.layout in
     let a = c.args.used.area in
     let epoch = c.args.used.header.epoch in
     let image = image_of c.args.image.now in

@@ -7,7 +7,7 @@ use Rattle.iol_journal.proofs.tests.plain.read_slots.Given as goal
 abbrev pub invariant-loop-place : goal.invariant-loop-place
 invariant-loop-place l = record {
   bound : l.number ≤ LAST_NUMBER;
-  read : (left : ℕ) → left + l.place ≡ l.fn.geometry.slots
-      → log_from l.fn.geometry l.fn.used.area l.fn.used.header.epoch (image_of l.fn.image) l.place left l.number l.state
-      ≡ log_from l.fn.geometry l.fn.used.area l.fn.used.header.epoch (image_of l.fn.image) 0 l.fn.geometry.slots l.fn.used.header.base l.fn.state;
+  read : (left : ℕ) → left + l.place ≡ l.fn.layout.slots
+      → log_from l.fn.layout l.fn.used.area l.fn.used.header.epoch (image_of l.fn.image) l.place left l.number l.state
+      ≡ log_from l.fn.layout l.fn.used.area l.fn.used.header.epoch (image_of l.fn.image) 0 l.fn.layout.slots l.fn.used.header.base l.fn.state;
 }

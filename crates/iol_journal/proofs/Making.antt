@@ -1,0 +1,70 @@
+-- Calls that were made in their order, or up to one that failed, put together.
+use Rattle.std.proofs.Common.{◌≡◌, ◌<◌, ◌≤◌, ℕ, zero, suc, ◌+◌, ◌-◌, List, [], ◌∷◌, ◌++◌, map, Result, Ok, Err, OnOk, OnErr, refl, sym, ◌∙◌, ap, subst, arith}
+use Rattle.std.specs.List.{range_with_len}
+use Rattle.std.proofs.lemmas.List.FromFn.{take-map-range_with_len, map-range_with_len_more}
+use Rattle.iol_disk.specs.Content.{wrote, synced}
+use Rattle.iol_disk.specs.Disk.{Disk, After, Same, WroteSome, FailsOnlyAs}
+use Rattle.iol_disk.specs.Calls.{Call, write, sync, Made, FailedIn}
+use Rattle.iol_disk.specs.declared.fault.DiskFault.{DiskFault}
+use Rattle.iol_disk.specs.declared.fault.DiskFault.TheVariants.{Write, Sync}
+use Rattle.iol_disk.proofs.Orders.{made_one, made_append, failed_one, failed_first, failed_later}
+use Rattle.iol_journal.specs.Orders.{Makes}
+
+-- a sync, whether or not it failed
+pub makes_sync : (result : Result Unit DiskFault) (old new : Disk) → OnOk result (After synced old new) → OnErr result (Same old new)
+    → FailsOnlyAs Sync old new result → Makes (sync ∷ []) old new result
+makes_sync (Ok done) old new synced_is same fault = made_one sync old new synced_is fault
+makes_sync (Err told) old new synced_is same fault = failed_one sync told old new (record { kind = fault.0; left = same; counted = fault.1 })
+
+-- a write, whether or not it failed
+pub makes_write : (result : Result Unit DiskFault) (here sector : ℕ) (written octets : List ℕ) (old new : Disk) → here ≡ sector → written ≡ octets
+    → OnOk result (After (wrote here written) old new) → OnErr result (WroteSome here old new) → FailsOnlyAs Write old new result
+    → Makes (write sector octets ∷ []) old new result
+makes_write (Ok done) here sector written octets old new at same wrote_is some fault =
+    subst (λ (i : ℕ). Made (write i octets ∷ []) old new) at
+    (subst (λ (os : List ℕ). Made (write here os ∷ []) old new) same (made_one (write here written) old new wrote_is fault))
+makes_write (Err told) here sector written octets old new at same wrote_is some fault =
+    failed_one (write sector octets) told old new
+    (record { kind = fault.0; left = subst (λ (i : ℕ). WroteSome i old new) at some; counted = fault.1 })
+
+-- further calls behind those that succeeded
+pub makes_then : (first second : List Call) (result : Result Unit DiskFault) (old between new : Disk) → Made first old between
+    → Makes second between new result → Makes (first ++ second) old new result
+makes_then first second (Ok done) old between new made then = made_append first second old between new made then
+makes_then first second (Err told) old between new made then = failed_later first second told old between new made then
+
+-- a row of calls, and those behind it
+row_append : (f : ℕ → Call) (s m n : ℕ) → map f (range_with_len s (m + n)) ≡ map f (range_with_len s m) ++ map f (range_with_len (s + m) n)
+row_append f s zero n =
+    let start : s + 0 ≡ s = omega arith in
+    let count : 0 + n ≡ n = omega arith in
+    rw (start, count) refl
+row_append f s (suc m) n =
+    let count : suc m + n ≡ suc (m + n) = omega arith in
+    let start : s + suc m ≡ s + 1 + m = omega arith in
+    rw (count, start) (ap (λ (calls : List Call). f s ∷ calls) (row_append f (s + 1) m n))
+
+-- one call more of a row of calls
+pub made_more : (f : ℕ → Call) (k : ℕ) (old between new : Disk) → Made (map f (range_with_len 0 k)) old between → Made (f k ∷ []) between new
+    → Made (map f (range_with_len 0 (k + 1))) old new
+made_more f k old between new so_far one =
+    subst (λ (calls : List Call). Made calls old new) (sym (map-range_with_len_more f 0 k k (omega arith))) (made_append _ _ old between new so_far one)
+
+-- a call of a row failed
+pub failed_in_row : (f : ℕ → Call) (n k : ℕ) (told : DiskFault) (old between new : Disk) → k < n → Made (map f (range_with_len 0 k)) old between
+    → FailedIn (f k ∷ []) told between new → FailedIn (map f (range_with_len 0 n)) told old new
+failed_in_row f n k told old between new below so_far failed =
+    let front : FailedIn (map f (range_with_len 0 (k + 1))) told old new =
+    subst (λ (calls : List Call). FailedIn calls told old new) (sym (map-range_with_len_more f 0 k k (omega arith))) (failed_later _ _ told old between new so_far failed) in
+    let split : k + 1 + (n - (k + 1)) ≡ n = omega arith in
+    subst (λ (calls : List Call). FailedIn calls told old new)
+    (sym (row_append f 0 (k + 1) (n - (k + 1))) ∙ ap (λ (m : ℕ). map f (range_with_len 0 m)) split)
+    (failed_first _ _ told old new front)
+
+-- a call that succeeded, and one that failed, as a `?` tells them apart
+pub made_of : (calls : List Call) (result : Result Unit DiskFault) (done : Unit) (old new : Disk) → result ≡ Ok done → Makes calls old new result → Made calls old new
+made_of calls result done old new is makes = subst (λ (r : Result Unit DiskFault). Makes calls old new r) is makes
+
+pub failed_of : (calls : List Call) (result : Result Unit DiskFault) (told : DiskFault) (old new : Disk) → result ≡ Err told → Makes calls old new result
+    → FailedIn calls told old new
+failed_of calls result told old new is makes = subst (λ (r : Result Unit DiskFault). Makes calls old new r) is makes

@@ -1,0 +1,115 @@
+-- What a step of a batch makes of the disk, as its one call says.
+use Rattle.std.proofs.Common.{◌≡◌, ◌≤◌, ℕ, ◌+◌, nat_lt, if◌then◌else◌, Bool, true, false, List, [], ◌∷◌, length, Option, Some, None, IsTrue, Result, Ok, Err, refl, sym, ◌∙◌, ap, subst, arith}
+use Rattle.std.proofs.lemmas.Bool.Decides.{nat_tests}
+use Rattle.iol_types.specs.Command.{CommandValue}
+use Rattle.iol_disk.specs.Calls.{Call, Made, FailedIn}
+use Rattle.iol_disk.specs.Disk.{Disk}
+use Rattle.iol_disk.specs.Moments.{LeavesOnly}
+use Rattle.iol_disk.specs.declared.fault.DiskFault.{DiskFault}
+use Rattle.iol_disk.proofs.Orders.{HasOnTheWay, made_leaves, failed_leaves}
+use Rattle.iol_journal.specs.Batches.{body_for, sectors_for, call_of, calls_from, next_phase, IsPhase}
+use Rattle.iol_journal.specs.Journals.{IsPlanned, with_batch}
+use Rattle.iol_journal.specs.Kept.{KeptEither}
+use Rattle.iol_journal.specs.Meaning.{Standing}
+use Rattle.iol_journal.specs.Orders.{Makes}
+use Rattle.iol_journal.specs.Progress.{MakesFirst, FailsFirst}
+use Rattle.iol_journal.specs.Underway.{EachKept, Holds}
+use Rattle.iol_journal.specs.declared.place.Idle.{Idle}
+use Rattle.iol_journal.specs.Layout.{total}
+use Rattle.iol_journal.specs.declared.phase.Phase.{Phase}
+use Rattle.iol_journal.specs.declared.phase.Phase.TheVariants.{Body, SyncBody, Gate, SyncGate}
+use Rattle.iol_journal.proofs.BatchCalls.{first_call, last_call, some_call}
+use Rattle.iol_journal.proofs.Phases.{fit_of, on_the_way, next_holds, batch_durable}
+
+phase_of : (p q : Phase) → Some p ≡ Some q → p ≡ q
+phase_of p q is = cc
+
+-- the phase behind a phase is one
+in_next : (sectors : ℕ) (p q : Phase) → IsPhase sectors p → next_phase sectors p ≡ Some q → IsPhase sectors q
+in_next sectors (Body j) q in_phase next = by_test (nat_lt (j + 1) sectors) refl (phase_of _ q next)
+  where
+    by_test : (more : Bool) → nat_lt (j + 1) sectors ≡ more → (if more then Body (j + 1) else SyncBody) ≡ q → IsPhase sectors q
+    by_test true test is = subst (IsPhase sectors) is (grind (arith, nat_tests))
+    by_test false test is = subst (IsPhase sectors) is tt
+in_next sectors SyncBody q in_phase next = subst (IsPhase sectors) (phase_of _ q next) tt
+in_next sectors Gate q in_phase next = subst (IsPhase sectors) (phase_of _ q next) tt
+in_next sectors SyncGate q in_phase next = cc
+
+-- the call of a phase, for the body that the batch has
+body_is : (s : Standing) (commands : List CommandValue) (body : List ℕ) (p : Phase) (result : Result Unit DiskFault) (old new : Disk) → body ≡ body_for s commands
+    → Makes (call_of s body p ∷ []) old new result → Makes (call_of s (body_for s commands) p ∷ []) old new result
+body_is s commands body p result old new is makes = subst (λ (b : List ℕ). Makes (call_of s b p ∷ []) old new result) is makes
+
+module _ (s : Standing) (idle : Idle) (commands : List CommandValue) (body : List ℕ) (sectors : ℕ) (p : Phase) (old new : Disk)
+    (planned : IsPlanned old s commands p) (same_body : body ≡ body_for s commands) (same_sectors : sectors ≡ sectors_for s commands) where
+  abbrev Before : Type 0
+  Before = IsTrue old.honest → Holds old.sectors s idle commands (body_for s commands) (sectors_for s commands) p old.content
+
+  -- at any moment of the call
+  pub moment : (result : Result Unit DiskFault) → Makes (call_of s body p ∷ []) old new result → Before
+      → LeavesOnly old new (KeptEither old.sectors s.number s.state commands)
+  moment result makes holds = by_result result (body_is s commands body p result old new same_body makes)
+    where
+      way : IsTrue old.honest → HasOnTheWay (call_of s (body_for s commands) p ∷ []) old.content (KeptEither old.sectors s.number s.state commands)
+      way h = on_the_way s idle commands (body_for s commands) (sectors_for s commands) (fit_of old s commands p planned) old.sectors p old.content planned.in_phase (holds h)
+
+      by_result : (result : Result Unit DiskFault) → Makes (call_of s (body_for s commands) p ∷ []) old new result
+          → LeavesOnly old new (KeptEither old.sectors s.number s.state commands)
+      by_result (Ok done) made = made_leaves _ old new _ made way
+      by_result (Err told) failed = failed_leaves _ told old new _ failed way
+
+  next_is : (q : Option Phase) → q ≡ next_phase sectors p → q ≡ next_phase (sectors_for s commands) p
+  next_is q is = is ∙ ap (λ (n : ℕ). next_phase n p) same_sectors
+
+  -- before the call that comes next
+  pub underway : (q : Phase) → Some q ≡ next_phase sectors p → Made (call_of s body p ∷ []) old new → Before
+      → IsTrue new.honest → Holds new.sectors s idle commands (body_for s commands) (sectors_for s commands) q new.content
+  underway q is made holds =
+      next_holds s idle commands (body_for s commands) (sectors_for s commands) (fit_of old s commands p planned) old new p q planned.in_phase
+      (sym (next_is (Some q) is)) (subst (λ (b : List ℕ). Made (call_of s b p ∷ []) old new) same_body made) holds
+
+  -- behind the last call
+  pub durable : None ≡ next_phase sectors p → Made (call_of s body p ∷ []) old new → Before
+      → IsTrue new.honest → EachKept new.sectors (with_batch s commands) idle new.content
+  durable is made holds =
+      batch_durable s idle commands (body_for s commands) (sectors_for s commands) (fit_of old s commands p planned) old new p
+      (sym (next_is None is)) (subst (λ (b : List ℕ). Made (call_of s b p ∷ []) old new) same_body made) holds
+
+  pub planned_next : (q : Phase) → Some q ≡ next_phase sectors p → Made (call_of s body p ∷ []) old new → IsPlanned new s commands q
+  planned_next q is made = record {
+    fits = subst (λ (n : ℕ). total s.layout ≤ n) (sym made.after.sectors) planned.fits;
+    room = planned.room;
+    whole = planned.whole;
+    short = planned.short;
+    in_phase = in_next (sectors_for s commands) p q planned.in_phase (sym (next_is (Some q) is));
+    sound = planned.sound;
+    passes = planned.passes;
+    bound = planned.bound;
+  }
+
+  abbrev left : Phase → List Call
+  left q = calls_from s (body_for s commands) (sectors_for s commands) q
+
+  -- the first of the calls that are left is made, or fails
+  pub makes_first : (q : Phase) → Some q ≡ next_phase sectors p → Made (call_of s body p ∷ []) old new → MakesFirst (left p) (left q) old new
+  makes_first q is made = record {
+    call = call_of s (body_for s commands) p;
+    order = first_call s (body_for s commands) (sectors_for s commands) p q planned.in_phase (sym (next_is (Some q) is));
+    made = subst (λ (b : List ℕ). Made (call_of s b p ∷ []) old new) same_body made;
+  }
+
+  pub makes_last : None ≡ next_phase sectors p → Made (call_of s body p ∷ []) old new → MakesFirst (left p) [] old new
+  makes_last is made = record {
+    call = call_of s (body_for s commands) p;
+    order = last_call s (body_for s commands) (sectors_for s commands) p (sym (next_is None is));
+    made = subst (λ (b : List ℕ). Made (call_of s b p ∷ []) old new) same_body made;
+  }
+
+  pub fails_first : (told : DiskFault) → FailedIn (call_of s body p ∷ []) told old new → FailsFirst (left p) told old new
+  fails_first told failed =
+      let some = some_call s (body_for s commands) (sectors_for s commands) p planned.in_phase in record {
+        call = call_of s (body_for s commands) p;
+        left = some.0;
+        order = some.1;
+        failed = subst (λ (b : List ℕ). FailedIn (call_of s b p ∷ []) told old new) same_body failed;
+      }

@@ -1,0 +1,11 @@
+use Rattle.std.proofs.Common.{◌≡◌, ◌≤◌, ◌<◌, ℕ, ◌+◌, ◌-◌, ◌*◌, ◌/◌, List, ◌++◌, length, drop, replicate, ap, ◌∙◌, arith}
+use Rattle.iol_journal.specs.Octets.{padded}
+use Rattle.iol_journal.proofs.Paddings.{drop-zeros, one_sector}
+use Rattle.iol_journal.proofs.sector.sector_of.Goals as goal
+
+pub returns : goal.returns
+unfolding padded
+returns c =
+    let n = length c.args.octets.now in
+    rw (c.copy_from_slice.ensures.after, one_sector n c.requires.some c.requires.most)
+    (ap (λ (zeros : List ℕ). c.args.octets.now ++ zeros) (drop-zeros n 512 c.requires.most))
