@@ -19,7 +19,8 @@ pub struct MemoryDisk {
 }
 
 impl MemoryDisk {
-    ghost use Rattle.std.specs.Prelude.{IfOk};
+    ghost use Rattle.std.specs.Prelude.{◌≡◌, IfOk};
+    ghost use Rattle.iol_disk.specs.Content.{Image, IsImage, reads};
     ghost use Rattle.iol_disk.specs.Fresh.{IsFresh};
     ghost use Rattle.iol_disk.specs.Stops.{IsStopped};
     ghost use Rattle.iol_disk.specs.Memory.{disk_of};
@@ -38,7 +39,10 @@ impl MemoryDisk {
 
     /// The disk after a power stop, which leaves of each sector written since the last sync what `pick` says.
     pub fn stop(self, pick: Pick) -> MemoryDisk
-        ensures { IsStopped pick (disk_of self) (disk_of result) }
+        ensures stopped { IsStopped pick (disk_of self) (disk_of result) }
+        // What it reads as then is an image of the disk before, and from then on the only one.
+        ensures image { IsImage (disk_of self).content (reads (disk_of result).content) }
+        ensures only { (image : Image) → IsImage (disk_of result).content image → image ≡ reads (disk_of result).content }
     {
         let MemoryDisk {
             alloc,
