@@ -13,9 +13,9 @@ mod disk;
 mod fault;
 mod memory;
 mod pick;
-mod record;
 #[cfg(test)]
 mod tests;
+mod undo;
 
 pub use disk::{SECTOR_OCTETS, SectorDisk};
 pub use fault::DiskFault;

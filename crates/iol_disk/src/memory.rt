@@ -1,19 +1,21 @@
-use crate::cell::Cell;
-use crate::cells::{blank_cells, settle_all, stop_all};
+//! A disk in memory.
+
+use crate::cells::Cells;
 use crate::disk::{SECTOR_OCTETS, SectorDisk};
 use crate::fault::DiskFault;
 use crate::pick::Pick;
-use crate::record::{Replaced, keep};
+use crate::undo::{Replaced, keep};
 use std::alloc::{AllocError, Global};
 
 /// A disk in memory, for tests and trials. It is honest, and it can be stopped.
 ///
 /// It keeps for each sync what the sync replaced, so that contracts can speak of what a stop at an earlier moment
-/// might have left. A sync that finds no memory for that fails.
+/// might have left. A sync that finds no memory for that fails; nothing else does. A sync takes time and memory for
+/// the sectors written since the last one, and a write takes no memory.
 #[derive(Drop)]
 pub struct MemoryDisk {
     alloc: Global,
-    cells: Vec<Cell>,
+    cells: Cells,
     past: Vec<Vec<Replaced>>,
     failures: u64,
 }
@@ -25,13 +27,13 @@ impl MemoryDisk {
     ghost use Rattle.iol_disk.specs.Stops.{IsStopped};
     ghost use Rattle.iol_disk.specs.Memory.{disk_of};
 
-    /// A disk of so many sectors of zeros.
+    /// A disk of so many sectors of zeros. It fails where memory does.
     pub fn new(alloc: Global, sectors: usize) -> Result<MemoryDisk, AllocError>
         ensures { IfOk result (λ disk. IsFresh sectors (disk_of disk)) }
     {
         Ok(MemoryDisk {
             alloc,
-            cells: blank_cells(alloc, sectors)?,
+            cells: Cells::new(alloc, sectors)?,
             past: Vec::new(alloc),
             failures: 0,
         })
@@ -50,7 +52,7 @@ impl MemoryDisk {
             past: _,
             failures,
         } = self;
-        stop_all(&mut cells, pick);
+        cells.stop(pick);
         MemoryDisk {
             alloc,
             cells,
@@ -70,24 +72,19 @@ impl SectorDisk for MemoryDisk {
     }
 
     fn read(&mut self, n: usize, octets: &mut [u8; SECTOR_OCTETS]) -> Result<(), DiskFault> {
-        let cell = &self.cells[n];
-        *octets = match cell.newest {
-            Some(newest) => newest,
-            None => cell.durable,
-        };
+        *octets = self.cells.read(n);
         Ok(())
     }
 
     fn write(&mut self, n: usize, octets: &[u8; SECTOR_OCTETS]) -> Result<(), DiskFault> {
-        let cell = &mut self.cells[n];
-        cell.newest = Some(*octets);
+        self.cells.write(n, octets);
         Ok(())
     }
 
     fn sync(&mut self) -> Result<(), DiskFault> {
         match keep(self.alloc, &self.cells, &mut self.past) {
             Ok(()) => {
-                settle_all(&mut self.cells);
+                self.cells.settle();
                 Ok(())
             }
             Err(AllocError) => {

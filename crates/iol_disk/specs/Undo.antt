@@ -4,7 +4,7 @@ use Rattle.std.specs.declared.alloc.Global.{Global}
 use Rattle.iol_disk.specs.Content.{Image, Epoch, Content}
 use Rattle.iol_disk.specs.Cells.{durable_of, written_of}
 use Rattle.iol_disk.specs.declared.cell.Cell.{Cell}
-use Rattle.iol_disk.specs.declared.record.Replaced.{Replaced}
+use Rattle.iol_disk.specs.declared.undo.Replaced.{Replaced}
 
 -- what a sync replaced in a sector, if it made the sector durable
 abbrev pub replaced_at : List Replaced → ℕ → Option (List ℕ)
@@ -30,8 +30,8 @@ epochs [] after = []
 epochs (sync ∷ syncs) after =
     record { durable = before_all (sync ∷ syncs) after; pending = λ i. is_some (replaced_at sync i) } ∷ epochs syncs after
 
-abbrev pub records : List (Vec Replaced Global) → List (List Replaced)
-records syncs = map (λ (sync : Vec Replaced Global). sync.items) syncs
+abbrev pub undos : List (Vec Replaced Global) → List (List Replaced)
+undos syncs = map (λ (sync : Vec Replaced Global). sync.items) syncs
 
 abbrev pub content_of : List Cell → List (List Replaced) → Content
 content_of cells past = record { durable = durable_of cells; written = written_of cells; past = epochs past (durable_of cells) }

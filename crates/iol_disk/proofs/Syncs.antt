@@ -1,61 +1,46 @@
 -- What a disk in memory keeps of its syncs, step by step.
-use Rattle.std.proofs.Common.{is_some, unwrap_or, slice_get, ◌≡◌, ◌≢◌, ℕ, ◌==◌, Bool, true, false, if◌then◌else◌, List, [], ◌∷◌, ◌++◌, Option, Some, None, ◌<◌, ◌≤◌, ◌+◌, length, inl, inr, sym, refl, ◌∙◌, ap, arith}
+use Rattle.std.proofs.Common.{is_some, unwrap_or, slice_get, ◌≡◌, ℕ, ◌==◌, ◌||◌, Bool, true, false, if◌then◌else◌, List, [], ◌∷◌, ◌++◌, Option, Some, None, sym, refl, ◌∙◌, ap}
 use Rattle.std.specs.Option.{option_map}
-use Rattle.std.proofs.lemmas.Bool.Decides.{nat_tests}
-use Rattle.std.proofs.lemmas.Bool.{cases_lt}
-use Rattle.std.proofs.lemmas.Option.{slice_get_past}
 use std.Path.{fun_ext, fun_ext⁻}
 use Rattle.iol_disk.specs.Content.{Image, Epoch, reads, now, synced}
 use Rattle.iol_disk.specs.Cells.{durable_in, newest_in, durable_of, written_of, settled}
-use Rattle.iol_disk.specs.Records.{replaced_at, replaces, before, before_all, epochs, content_of}
+use Rattle.iol_disk.specs.Undo.{replaced_at, replaces, before, before_all, epochs, content_of}
 use Rattle.iol_disk.specs.declared.cell.Cell.{Cell}
-use Rattle.iol_disk.specs.declared.record.Replaced.{Replaced}
+use Rattle.iol_disk.proofs.Written.{same_sector}
+use Rattle.iol_disk.specs.declared.undo.Replaced.{Replaced}
 
-replaced_at-other : (rs : List Replaced) (r : Replaced) (i : ℕ) → i ≢ r.sector → replaced_at (rs ++ r ∷ []) i ≡ replaced_at rs i
-replaced_at-other [] r i other = grind (arith, nat_tests)
-replaced_at-other (x ∷ rs) r i other =
-    ap (λ (o : Option (List ℕ)). if i == x.sector then Some x.octets else o) (replaced_at-other rs r i other)
-
-replaced_at-here : (rs : List Replaced) (r : Replaced) (i : ℕ) → i ≡ r.sector → replaced_at rs i ≡ None → replaced_at (rs ++ r ∷ []) i ≡ Some r.octets
-replaced_at-here [] r i here none = grind (arith, nat_tests)
-replaced_at-here (x ∷ rs) r i here none = at (i == x.sector) (replaced_at-here rs r i here) none
+replaced_at-push : (rs : List Replaced) (r : Replaced) (i : ℕ)
+    → replaced_at (rs ++ r ∷ []) i ≡ (if is_some (replaced_at rs i) then replaced_at rs i else (if i == r.sector then Some r.octets else None))
+replaced_at-push [] r i = refl
+replaced_at-push (x ∷ rs) r i = at (i == x.sector) (replaced_at-push rs r i)
   where
-    at : (b : Bool) → (replaced_at rs i ≡ None → replaced_at (rs ++ r ∷ []) i ≡ Some r.octets)
-        → (if b then Some x.octets else replaced_at rs i) ≡ None → (if b then Some x.octets else replaced_at (rs ++ r ∷ []) i) ≡ Some r.octets
-    at true go none = cc
-    at false go none = go none
+    last : Option (List ℕ)
+    last = if i == r.sector then Some r.octets else None
 
--- so many sectors have been looked at
-pub record ReplacesBelow (cells : List Cell) (rs : List Replaced) (n : ℕ) : Type 0 where
-  pub done : (i : ℕ) → i < n → replaced_at rs i ≡ replaces cells i
-  pub ahead : (i : ℕ) → n ≤ i → replaced_at rs i ≡ None
+    at : (here : Bool) → replaced_at (rs ++ r ∷ []) i ≡ (if is_some (replaced_at rs i) then replaced_at rs i else last)
+        → (if here then Some x.octets else replaced_at (rs ++ r ∷ []) i)
+        ≡ (if is_some (if here then Some x.octets else replaced_at rs i) then (if here then Some x.octets else replaced_at rs i) else last)
+    at true rest = refl
+    at false rest = rest
 
-pub one_more : (cells : List Cell) (rs : List Replaced) (r : Replaced) (n : ℕ) → r.sector ≡ n → ReplacesBelow cells rs n
-    → replaces cells n ≡ Some r.octets → ReplacesBelow cells (rs ++ r ∷ []) (n + 1)
-one_more cells rs r n at so_far is = record {
-  done = λ i below. elim (cases_lt i n) [
-    | inl before ↦ replaced_at-other rs r i (omega arith) ∙ so_far.done i before
-    | inr last ↦
-        let same : i ≡ n = omega arith in
-        replaced_at-here rs r i (same ∙ sym at) (so_far.ahead i last) ∙ sym is ∙ ap (replaces cells) (sym same)
-  ];
-  ahead = λ i above. replaced_at-other rs r i (omega arith) ∙ so_far.ahead i (omega arith);
-}
+-- one listed sector more
+pub replaced_more : (cells : List Cell) (rs : List Replaced) (r : Replaced) (i : ℕ) (listed : Bool) → durable_of cells r.sector ≡ r.octets
+    → replaced_at rs i ≡ (if listed then Some (durable_of cells i) else None)
+    → replaced_at (rs ++ r ∷ []) i ≡ (if listed || (i == r.sector) then Some (durable_of cells i) else None)
+replaced_more cells rs r i listed is so_far =
+    replaced_at-push rs r i
+    ∙ ap (λ (o : Option (List ℕ)). if is_some o then o else (if i == r.sector then Some r.octets else None)) so_far
+    ∙ at listed (i == r.sector) (λ here. sym is ∙ ap (durable_of cells) (sym (same_sector i r.sector here)))
+  where
+    durable : Option (List ℕ)
+    durable = Some (durable_of cells i)
 
-pub none_more : (cells : List Cell) (rs : List Replaced) (n : ℕ) → ReplacesBelow cells rs n → replaces cells n ≡ None → ReplacesBelow cells rs (n + 1)
-none_more cells rs n so_far is = record {
-  done = λ i below. elim (cases_lt i n) [
-    | inl before ↦ so_far.done i before
-    | inr last ↦
-        let same : i ≡ n = omega arith in
-        so_far.ahead i last ∙ sym is ∙ ap (replaces cells) (sym same)
-  ];
-  ahead = λ i above. so_far.ahead i (omega arith);
-}
-
-pub replaces_past : (cells : List Cell) (i : ℕ) → length cells ≤ i → replaces cells i ≡ None
-replaces_past cells i past =
-    ap (λ (o : Option Cell). if is_some (newest_in o) then Some (durable_in o) else None) (slice_get_past cells i past)
+    at : (l here : Bool) → (here ≡ true → r.octets ≡ durable_of cells i)
+        → (if is_some (if l then durable else None) then (if l then durable else None) else (if here then Some r.octets else None))
+        ≡ (if l || here then durable else None)
+    at true here octets = refl
+    at false true octets = ap Some (octets refl)
+    at false false octets = refl
 
 before_all-push : (past : List (List Replaced)) (sync : List Replaced) (after : Image) → before_all (past ++ sync ∷ []) after ≡ before_all past (before sync after)
 before_all-push [] sync after = refl
