@@ -10,6 +10,7 @@
 mod cell;
 mod cells;
 mod disk;
+pub mod examples;
 mod fault;
 mod memory;
 mod pick;
