@@ -28,6 +28,7 @@ settled cell = record { durable = unwrap_or cell.newest cell.durable; newest = N
 abbrev pub blank : Cell
 blank = record { durable = replicate 512 0; newest = None }
 
+-- whether the sector stands in the list
 abbrev pub is_listed : List ℕ → ℕ → Bool
 is_listed listed i = list_any (nat_eq i) listed
 

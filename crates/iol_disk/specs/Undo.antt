@@ -30,8 +30,10 @@ epochs [] after = []
 epochs (sync ∷ syncs) after =
     record { durable = before_all (sync ∷ syncs) after; pending = λ i. is_some (replaced_at sync i) } ∷ epochs syncs after
 
+-- what each sync replaced, the first one first
 abbrev pub undos : List (Vec Replaced Global) → List (List Replaced)
 undos syncs = map (λ (sync : Vec Replaced Global). sync.items) syncs
 
+-- what is durable, what was written since, and the times that the syncs have ended, told back from what they replaced
 abbrev pub content_of : List Cell → List (List Replaced) → Content
 content_of cells past = record { durable = durable_of cells; written = written_of cells; past = epochs past (durable_of cells) }

@@ -63,6 +63,10 @@ impl MemoryDisk {
 }
 
 impl SectorDisk for MemoryDisk {
+    ghost use Rattle.std.specs.Prelude.{◌≡◌, ◌<◌, IsTrue, IsOk, OnOk, OnErr};
+    ghost use Rattle.iol_disk.specs.Content.{reads, wrote};
+    ghost use Rattle.iol_disk.specs.Disk.{After, Same, WroteSome, FailsOnlyAs};
+    ghost use Rattle.iol_disk.specs.declared.fault.DiskFault.{DiskFault};
     ghost use Rattle.iol_disk.specs.Memory.{disk_of};
 
     ghost disk = { disk_of };
@@ -71,12 +75,27 @@ impl SectorDisk for MemoryDisk {
         self.cells.len()
     }
 
-    fn read(&mut self, n: usize, octets: &mut [u8; SECTOR_OCTETS]) -> Result<(), DiskFault> {
+    /// Reads the sector `n`, and never fails.
+    fn read(&mut self, n: usize, octets: &mut [u8; SECTOR_OCTETS]) -> Result<(), DiskFault>
+        requires { n < (disk_of self.old).sectors }
+        ensures works { IsOk result }
+        ensures read { OnOk result (IsTrue (disk_of self.old).honest → octets.new ≡ reads (disk_of self.old).content n) }
+        ensures kept { OnErr result (octets.new ≡ octets.old) }
+        ensures same { Same (disk_of self.old) (disk_of self.new) }
+        ensures fault { FailsOnlyAs DiskFault.Read (disk_of self.old) (disk_of self.new) result }
+    {
         *octets = self.cells.read(n);
         Ok(())
     }
 
-    fn write(&mut self, n: usize, octets: &[u8; SECTOR_OCTETS]) -> Result<(), DiskFault> {
+    /// Writes the sector `n`, takes no memory, and never fails.
+    fn write(&mut self, n: usize, octets: &[u8; SECTOR_OCTETS]) -> Result<(), DiskFault>
+        requires { n < (disk_of self.old).sectors }
+        ensures works { IsOk result }
+        ensures wrote { OnOk result (After (wrote n octets.now) (disk_of self.old) (disk_of self.new)) }
+        ensures wrote_some { OnErr result (WroteSome n (disk_of self.old) (disk_of self.new)) }
+        ensures fault { FailsOnlyAs DiskFault.Write (disk_of self.old) (disk_of self.new) result }
+    {
         self.cells.write(n, octets);
         Ok(())
     }
