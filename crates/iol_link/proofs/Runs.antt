@@ -1,6 +1,6 @@
 -- Runs of a link.
 use Rattle.std.proofs.Common.{ℕ, List, [], ◌∷◌, ◌++◌, subst, sym}
-use Rattle.iol_sim.specs.Link.{LinkCall, LinkAnswer, Made, Run}
+use Rattle.iol_link.specs.Link.{LinkCall, LinkAnswer, Made, Run}
 
 module _ {L : Type 0} (number : L → ℕ) (steps : L → LinkCall → LinkAnswer → L → Type 0) where
   -- a run goes on with another

@@ -1,7 +1,7 @@
 -- Calls of a link to devices, and runs of them.
 use Rattle.std.specs.Prelude.{◌≡◌, ◌+◌, ◌-◌, ◌^◌, ℕ, List, [], ◌∷◌, Option, Some, None, Result, Ok, Err, min}
 use Rattle.arrayvec.specs.ArrayVec.{ArrayVec}
-use Rattle.iol_sim.specs.declared.link.Lost.{Lost}
+use Rattle.iol_link.specs.declared.link.Lost.{Lost}
 
 -- what a link is asked
 pub data LinkCall : Type 0 where
