@@ -6,3 +6,4 @@ pub mod FirstFaults
 pub mod AnswerTexts
 pub mod RequestTexts
 pub mod Lengths
+pub mod ShortIsdus
