@@ -5,9 +5,9 @@ ghost use Rattle.std.specs.Prelude.{◌≡◌, [], map, replicate, slice_set, ta
 ghost use Rattle.std.specs.List.{range_with_len};
 ghost use Rattle.iol_types.specs.Command.{Configure};
 ghost use Rattle.iol_types.specs.State.{blank};
+ghost use Rattle.iol_types.specs.Examples.{example_config};
 ghost use Rattle.iol_record.specs.Record.{IsCommandRecord, IsPortRecord};
 ghost use Rattle.iol_record.specs.Reading.{command_at, port_record_at};
-ghost use Rattle.iol_record.specs.Examples.{example_config};
 
 use crate::fault::RecordFault;
 

@@ -1,17 +1,17 @@
--- Configurations and states that the examples speak of.
+-- The configuration and the state that examples speak of.
 use Rattle.std.specs.Prelude.{ℕ, [], ◌∷◌}
 use Rattle.iol_types.specs.State.{State}
 use Rattle.iol_types.specs.declared.config.PortConfig.{PortConfig}
 use Rattle.iol_types.specs.declared.config.PortMode.TheVariants.{IolManual}
-use Rattle.iol_types.specs.declared.config.Validation.{Validation}
+use Rattle.iol_types.specs.declared.config.Validation.TheVariants.{BackupAndRestore}
 
--- IOL_MANUAL, with this validation, vendor and device
-abbrev pub manual : Validation → ℕ → ℕ → PortConfig
-manual validation vendor device = record {
+-- IOL_MANUAL, Backup and Restore, vendor 500, device 43981
+abbrev pub example_config : PortConfig
+example_config = record {
   mode = IolManual;
-  validation = validation;
-  vendor = vendor;
-  device = device;
+  validation = BackupAndRestore;
+  vendor = 500;
+  device = 43981;
 }
 
 -- a master's one port, with this configuration and revision

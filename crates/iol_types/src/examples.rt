@@ -6,7 +6,7 @@ ghost use Rattle.iol_types.specs.Numbers.{IsPortNumber, IsDeviceNumber};
 ghost use Rattle.iol_types.specs.Config.{mode_octet, mode_of, validation_octet, validation_of, keeps_set};
 ghost use Rattle.iol_types.specs.Command.{Configure};
 ghost use Rattle.iol_types.specs.State.{check, apply};
-ghost use Rattle.iol_types.specs.Examples.{manual, one_port};
+ghost use Rattle.iol_types.specs.Examples.{example_config, one_port};
 ghost use Rattle.iol_types.specs.declared.config.PortConfig.{PortConfig};
 
 use crate::command::CommandFault;
@@ -63,18 +63,12 @@ pub fn last_revisions()
 /// From Backup and Restore to Restore a parameter set stays, and under the same configuration; not
 /// under another vendor, device or mode, nor where Restore is given up.
 pub fn sets_kept()
-    ensures to_restore { keeps_set (manual Validation.BackupAndRestore 500 43981)
-        (manual Validation.Restore 500 43981) ≡ true }
-    ensures again { keeps_set (manual Validation.BackupAndRestore 500 43981)
-        (manual Validation.BackupAndRestore 500 43981) ≡ true }
-    ensures without_restore { keeps_set (manual Validation.Restore 500 43981)
-        (manual Validation.TypeCompatibleV11 500 43981) ≡ false }
-    ensures without_check { keeps_set (manual Validation.BackupAndRestore 500 43981)
-        (manual Validation.NoCheck 500 43981) ≡ false }
-    ensures another_vendor { keeps_set (manual Validation.BackupAndRestore 500 43981)
-        (manual Validation.BackupAndRestore 501 43981) ≡ false }
-    ensures another_device { keeps_set (manual Validation.BackupAndRestore 500 43981)
-        (manual Validation.BackupAndRestore 500 43982) ≡ false }
-    ensures another_mode { keeps_set (manual Validation.BackupAndRestore 500 43981)
-        (record (manual Validation.BackupAndRestore 500 43981) { mode = PortMode.IolAutostart }) ≡ false }
+    ensures to_restore { keeps_set example_config (record example_config { validation = Validation.Restore }) ≡ true }
+    ensures again { keeps_set example_config example_config ≡ true }
+    ensures without_restore { keeps_set (record example_config { validation = Validation.Restore })
+        (record example_config { validation = Validation.TypeCompatibleV11 }) ≡ false }
+    ensures without_check { keeps_set example_config (record example_config { validation = Validation.NoCheck }) ≡ false }
+    ensures another_vendor { keeps_set example_config (record example_config { vendor = 501 }) ≡ false }
+    ensures another_device { keeps_set example_config (record example_config { device = 43982 }) ≡ false }
+    ensures another_mode { keeps_set example_config (record example_config { mode = PortMode.IolAutostart }) ≡ false }
 {}
