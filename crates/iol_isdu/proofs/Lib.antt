@@ -7,4 +7,4 @@ pub mod Served
 pub mod AnswerTexts
 pub mod RequestTexts
 pub mod Lengths
-pub mod ShortIsdus
+pub mod Spelled

@@ -1,11 +1,13 @@
 //! ISDUs with octets of the standard (IO-Link V1.1, ISDU), worked out by the check: an octet that is
 //! wrong in a definition and in the code alike is refused here.
 
-ghost use Rattle.std.specs.Prelude.{◌≡◌, ℕ, List, [], ◌∷◌, length, map, replicate, take};
+ghost use Rattle.std.specs.Prelude.{◌≡◌, ℕ, List, [], ◌∷◌, ◌++◌, length, map, replicate, take};
 ghost use Rattle.arrayvec.specs.ArrayVec.{ArrayVec};
 ghost use Rattle.iol_isdu.specs.Service.{code_of, service_at};
 ghost use Rattle.iol_isdu.specs.Isdu.{IsAnswer, IsRequest, IsShortestRequest};
 ghost use Rattle.iol_isdu.specs.Faults.{request_fault, answer_fault};
+ghost use Rattle.iol_isdu.specs.declared.messages.TheConstants.{DATA_OCTETS};
+ghost use Rattle.iol_isdu.specs.declared.parts.TheConstants.{ISDU_OCTETS};
 
 use crate::faults::IsduFault;
 use crate::messages::{Answer, Request};
@@ -40,15 +42,40 @@ pub fn longer_read_requests()
     ensures with_16_bits { IsRequest (0xB5 ∷ 0x00 ∷ 0x10 ∷ 0x00 ∷ 0xA5 ∷ []) (Request.Read 0x0010 0) }
 {}
 
-/// How positive answers to a read begin: Length counts up to 13 data octets, ExtLength more.
+/// The longest ISDU has 238 octets, and a message at most 232 data octets.
+pub fn limits()
+    ensures octets { ISDU_OCTETS ≡ 238 }
+    ensures data_octets { DATA_OCTETS ≡ 232 }
+{}
+
+/// Positive answers to a read, with no data, with 0A 64, and with 13, 14 and 232 zeros.
 pub fn positive_answers()
     ensures no_data { IsAnswer (0xD2 ∷ 0xD2 ∷ []) (Answer.ReadOk (record { items = [] })) }
+    ensures of_2 { IsAnswer (0xD4 ∷ 0x0A ∷ 0x64 ∷ 0xBA ∷ [])
+        (Answer.ReadOk (record { items = 0x0A ∷ 0x64 ∷ [] })) }
+    ensures of_13 { IsAnswer (0xDF ∷ (replicate 13 0x00 ++ 0xDF ∷ []))
+        (Answer.ReadOk (record { items = replicate 13 0x00 })) }
+    ensures of_14 { IsAnswer (0xD1 ∷ 0x11 ∷ (replicate 14 0x00 ++ 0xC0 ∷ []))
+        (Answer.ReadOk (record { items = replicate 14 0x00 })) }
+    ensures of_232 { IsAnswer (0xD1 ∷ 0xEB ∷ (replicate 232 0x00 ++ 0x3A ∷ []))
+        (Answer.ReadOk (record { items = replicate 232 0x00 })) }
+{}
+
+/// How each positive answer to a read with 13, 14 and 232 data octets begins.
+pub fn beginnings()
     ensures of_13 { (octets : List ℕ) (values : ArrayVec ℕ) → length values.items ≡ 13
         → IsAnswer octets (Answer.ReadOk values) → take 1 octets ≡ 0xDF ∷ [] }
     ensures of_14 { (octets : List ℕ) (values : ArrayVec ℕ) → length values.items ≡ 14
         → IsAnswer octets (Answer.ReadOk values) → take 2 octets ≡ 0xD1 ∷ 0x11 ∷ [] }
     ensures of_232 { (octets : List ℕ) (values : ArrayVec ℕ) → length values.items ≡ 232
         → IsAnswer octets (Answer.ReadOk values) → take 2 octets ≡ 0xD1 ∷ 0xEB ∷ [] }
+{}
+
+/// The longest request: 232 zeros to Index 0100, Subindex 0.
+pub fn the_longest_write()
+    ensures { IsShortestRequest
+        (0x31 ∷ 0xEE ∷ 0x01 ∷ 0x00 ∷ 0x00 ∷ (replicate 232 0x00 ++ 0xDE ∷ []))
+        (Request.Write 0x0100 0 (record { items = replicate 232 0x00 })) }
 {}
 
 /// Negative answers with ErrorCode 80 and AdditionalCode 11, and Device busy.
@@ -66,10 +93,16 @@ pub fn other_answers()
 pub fn faults()
     ensures empty { answer_fault [] ≡ Some IsduFault.Empty }
     ensures empty_request { request_fault [] ≡ Some IsduFault.Empty }
+    ensures no_service_request { request_fault (0x00 ∷ []) ≡ Some IsduFault.WrongService }
+    ensures busy_request { request_fault (0x01 ∷ []) ≡ Some IsduFault.WrongService }
     ensures ext_length_16 { (rest : List ℕ)
         → answer_fault (0xD1 ∷ 0x10 ∷ rest) ≡ Some IsduFault.Reserved }
+    ensures ext_length_239 { (rest : List ℕ)
+        → answer_fault (0xD1 ∷ 0xEF ∷ rest) ≡ Some IsduFault.Reserved }
     ensures no_service { answer_fault (0x00 ∷ []) ≡ Some IsduFault.WrongService }
     ensures behind_busy { answer_fault (0x01 ∷ 0x01 ∷ []) ≡ Some IsduFault.Length }
+    ensures of_233_data_octets { (rest : List ℕ) → length rest ≡ 234
+        → answer_fault (0xD1 ∷ 0xEC ∷ rest) ≡ Some IsduFault.Length }
     ensures of_235_data_octets { (rest : List ℕ) → length rest ≡ 236
         → answer_fault (0xD1 ∷ 0xEE ∷ rest) ≡ Some IsduFault.Length }
     ensures check { answer_fault (0x44 ∷ 0x80 ∷ 0x11 ∷ 0xD4 ∷ []) ≡ Some IsduFault.Check }

@@ -6,6 +6,7 @@ ghost use Rattle.std.specs.List.{range_with_len};
 ghost use Rattle.iol_types.specs.Command.{Configure};
 ghost use Rattle.iol_types.specs.State.{blank};
 ghost use Rattle.iol_types.specs.Examples.{example_config};
+ghost use Rattle.iol_record.specs.declared.encode.TheConstants.{LARGEST_COMMAND_RECORD, LARGEST_PORT_RECORD};
 ghost use Rattle.iol_record.specs.Record.{IsCommandRecord, IsPortRecord};
 ghost use Rattle.iol_record.specs.Reading.{command_at, port_record_at};
 
@@ -67,4 +68,10 @@ pub fn records_cut_off()
         ≡ replicate 10 (Err RecordFault.Short) }
     ensures port { map (λ count. port_record_at (take count PORT_RECORD)) (range_with_len 0 17)
         ≡ replicate 17 (Err RecordFault.Short) }
+{}
+
+/// A command's record has at most 10 octets, a port's at most 17.
+pub fn largest_records()
+    ensures command { LARGEST_COMMAND_RECORD ≡ 10 }
+    ensures port { LARGEST_PORT_RECORD ≡ 17 }
 {}

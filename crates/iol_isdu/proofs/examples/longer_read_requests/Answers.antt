@@ -1,5 +1,5 @@
 use Rattle.std.proofs.Common.{[], ◌∷◌, refl, lit≤}
-use Rattle.iol_isdu.proofs.ShortIsdus.{short_isdu}
+use Rattle.iol_isdu.proofs.Spelled.{short_isdu}
 use Rattle.iol_isdu.specs.declared.service.Access.TheVariants.{Read}
 use Rattle.iol_isdu.specs.declared.service.IndexForm.TheVariants.{Index8Subindex, Index16Subindex}
 use Rattle.iol_isdu.specs.declared.service.Service.TheVariants.{Request}

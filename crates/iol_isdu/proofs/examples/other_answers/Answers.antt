@@ -1,5 +1,5 @@
 use Rattle.std.proofs.Common.{[], ◌∷◌, refl, lit≤}
-use Rattle.iol_isdu.proofs.ShortIsdus.{short_isdu}
+use Rattle.iol_isdu.proofs.Spelled.{short_isdu}
 use Rattle.iol_isdu.specs.declared.service.Access.TheVariants.{Read, Write}
 use Rattle.iol_isdu.specs.declared.service.Sign.TheVariants.{Minus}
 use Rattle.iol_isdu.specs.declared.service.Service.TheVariants.{Response}
