@@ -1,4 +1,6 @@
 pub mod Images
 pub mod Moments
-pub mod Records
+pub mod Written
+pub mod Settled
+pub mod Syncs
 pub mod Orders

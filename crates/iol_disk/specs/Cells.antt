@@ -1,5 +1,8 @@
 -- The sectors of a disk in memory: what is durable in each, and what was written to it since.
-use Rattle.std.specs.Prelude.{ℕ, List, [], Option, Some, None, slice_get, unwrap_or, replicate}
+use Rattle.std.specs.Prelude.{◌≡◌, ◌≤◌, ℕ, Bool, List, [], Option, Some, None, Vec, is_some, length, slice_get, unwrap_or, replicate, nat_eq}
+use Rattle.std.specs.List.{list_any, IsDistinct}
+use Rattle.std.specs.Vec.{vec_capacity}
+use Rattle.std.specs.declared.alloc.Global.{Global}
 use Rattle.iol_disk.specs.Content.{Image}
 use Rattle.iol_disk.specs.declared.cell.Cell.{Cell}
 
@@ -24,3 +27,13 @@ settled cell = record { durable = unwrap_or cell.newest cell.durable; newest = N
 -- a sector that was never written
 abbrev pub blank : Cell
 blank = record { durable = replicate 512 0; newest = None }
+
+-- whether the sector stands in the list
+abbrev pub is_listed : List ℕ → ℕ → Bool
+is_listed listed i = list_any (nat_eq i) listed
+
+-- The list has exactly the sectors that were written, each once, and room for all.
+pub record ListsWritten (cells : List Cell) (listed : Vec ℕ Global) : Type 0 where
+  pub exactly : (i : ℕ) → is_listed listed.items i ≡ is_some (written_of cells i)
+  pub once : IsDistinct nat_eq listed.items
+  pub room : length cells ≤ vec_capacity listed

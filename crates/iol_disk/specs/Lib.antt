@@ -3,7 +3,7 @@ pub mod Disk
 pub mod Calls
 pub mod Moments
 pub mod Cells
-pub mod Records
+pub mod Undo
 pub mod Stops
 pub mod Memory
 pub mod Fresh

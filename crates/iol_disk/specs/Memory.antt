@@ -1,13 +1,13 @@
 -- A disk in memory as contracts see it.
 use Rattle.std.specs.Prelude.{true, length}
 use Rattle.iol_disk.specs.Disk.{Disk}
-use Rattle.iol_disk.specs.Records.{content_of, records}
+use Rattle.iol_disk.specs.Undo.{content_of, undos}
 use Rattle.iol_disk.specs.declared.memory.MemoryDisk.{MemoryDisk}
 
 abbrev pub disk_of : MemoryDisk → Disk
 disk_of d = record {
-  sectors = length d.cells.items;
+  sectors = length d.cells;
   honest = true;
   failures = d.failures;
-  content = content_of d.cells.items (records d.past.items);
+  content = content_of d.cells (undos d.past.items);
 }

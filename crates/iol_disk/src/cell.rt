@@ -1,3 +1,5 @@
+//! One sector of a disk in memory.
+
 ghost use Rattle.std.specs.Prelude.{◌≡◌, None};
 ghost use Rattle.iol_disk.specs.Cells.{settled};
 ghost use Rattle.iol_disk.specs.Stops.{Leaves};

@@ -1,3 +1,15 @@
+//! A disk as its callers see it.
+//!
+//! Of an honest disk it is assumed that
+//!
+//! - a read gives the newest octets of its sector,
+//! - a write touches its own sector alone,
+//! - a sync that succeeds makes durable all that was written since the last one that did, also after one that
+//!   failed (many systems drop pages then),
+//! - a sector that is settled does not change by itself.
+//!
+//! It is not assumed that a sector is written whole, or that writes arrive in order.
+
 ghost use Rattle.std.specs.Prelude.{◌≡◌, ◌<◌, IsTrue, OnOk, OnErr};
 ghost use Rattle.iol_disk.specs.Content.{reads, wrote, synced};
 ghost use Rattle.iol_disk.specs.Disk.{Disk, After, Same, WroteSome, FailsOnlyAs};
@@ -9,9 +21,11 @@ pub const SECTOR_OCTETS: usize = 512;
 
 /// A disk of sectors, numbered from 0.
 ///
-/// Each call is told of by what it does to the disk's content: what is durable, and what was written since the
-/// last sync that succeeded. A power stop leaves the durable octets in each sector that was not written since,
-/// and any octets in the others. All this holds of an honest disk: whether a disk is, no call gives or takes.
+/// Each contract says what the call does to the disk's content: to what is durable, and to what was written since
+/// the last sync that succeeded. A power stop leaves the durable octets in each sector that was not written since,
+/// and any octets in the others. All this holds of an honest disk, and no call changes whether a disk is honest.
+///
+/// Each call that fails is counted, up to 2^64 - 1, and one that succeeds is not.
 pub trait SectorDisk {
     /// What contracts see of the disk.
     ghost disk: { Self → Disk };
@@ -20,7 +34,8 @@ pub trait SectorDisk {
     fn sectors(&self) -> usize
         ensures { result ≡ (disk self.now).sectors };
 
-    /// Reads a sector. Where it fails, `octets` is as it was.
+    /// Reads the sector `n`, which is less than `sectors()`. Where it fails, `octets` is as it was, and the fault is
+    /// `Read`.
     fn read(&mut self, n: usize, octets: &mut [u8; SECTOR_OCTETS]) -> Result<(), DiskFault>
         requires { n < (disk self.old).sectors }
         ensures read { OnOk result (IsTrue (disk self.old).honest → octets.new ≡ reads (disk self.old).content n) }
@@ -28,14 +43,15 @@ pub trait SectorDisk {
         ensures same { Same (disk self.old) (disk self.new) }
         ensures fault { FailsOnlyAs DiskFault.Read (disk self.old) (disk self.new) result };
 
-    /// Writes a sector. Where it fails, the sector counts as written all the same.
+    /// Writes the sector `n`, which is less than `sectors()`. Where it fails, the sector counts as written all the
+    /// same, with some octets, and the fault is `Write`.
     fn write(&mut self, n: usize, octets: &[u8; SECTOR_OCTETS]) -> Result<(), DiskFault>
         requires { n < (disk self.old).sectors }
         ensures wrote { OnOk result (After (wrote n octets.now) (disk self.old) (disk self.new)) }
         ensures wrote_some { OnErr result (WroteSome n (disk self.old) (disk self.new)) }
         ensures fault { FailsOnlyAs DiskFault.Write (disk self.old) (disk self.new) result };
 
-    /// Makes durable all that was written. Where it fails, nothing is settled.
+    /// Makes durable all that was written. Where it fails, nothing is settled, and the fault is `Sync`.
     fn sync(&mut self) -> Result<(), DiskFault>
         ensures synced { OnOk result (After synced (disk self.old) (disk self.new)) }
         ensures same { OnErr result (Same (disk self.old) (disk self.new)) }

@@ -1,3 +1,5 @@
+//! What a disk call says when it fails.
+
 use thiserror::Error;
 
 /// The kind of disk call that failed.

@@ -10,12 +10,13 @@
 mod cell;
 mod cells;
 mod disk;
+pub mod examples;
 mod fault;
 mod memory;
 mod pick;
-mod record;
 #[cfg(test)]
 mod tests;
+mod undo;
 
 pub use disk::{SECTOR_OCTETS, SectorDisk};
 pub use fault::DiskFault;

@@ -1,36 +1,39 @@
-use crate::cell::Cell;
-use crate::cells::{blank_cells, settle_all, stop_all};
+//! A disk in memory.
+
+use crate::cells::Cells;
 use crate::disk::{SECTOR_OCTETS, SectorDisk};
 use crate::fault::DiskFault;
 use crate::pick::Pick;
-use crate::record::{Replaced, keep};
+use crate::undo::{Replaced, keep};
 use std::alloc::{AllocError, Global};
 
 /// A disk in memory, for tests and trials. It is honest, and it can be stopped.
 ///
 /// It keeps for each sync what the sync replaced, so that contracts can speak of what a stop at an earlier moment
-/// might have left. A sync that finds no memory for that fails.
+/// might have left. A sync that finds no memory for that fails; nothing else does. A sync takes time and memory for
+/// the sectors written since the last one, and a write takes no memory.
 #[derive(Drop)]
 pub struct MemoryDisk {
     alloc: Global,
-    cells: Vec<Cell>,
+    cells: Cells,
     past: Vec<Vec<Replaced>>,
     failures: u64,
 }
 
 impl MemoryDisk {
-    ghost use Rattle.std.specs.Prelude.{IfOk};
+    ghost use Rattle.std.specs.Prelude.{◌≡◌, IfOk};
+    ghost use Rattle.iol_disk.specs.Content.{Image, IsImage, reads};
     ghost use Rattle.iol_disk.specs.Fresh.{IsFresh};
     ghost use Rattle.iol_disk.specs.Stops.{IsStopped};
     ghost use Rattle.iol_disk.specs.Memory.{disk_of};
 
-    /// A disk of so many sectors of zeros.
+    /// A disk of so many sectors of zeros. It fails where memory does.
     pub fn new(alloc: Global, sectors: usize) -> Result<MemoryDisk, AllocError>
         ensures { IfOk result (λ disk. IsFresh sectors (disk_of disk)) }
     {
         Ok(MemoryDisk {
             alloc,
-            cells: blank_cells(alloc, sectors)?,
+            cells: Cells::new(alloc, sectors)?,
             past: Vec::new(alloc),
             failures: 0,
         })
@@ -38,7 +41,10 @@ impl MemoryDisk {
 
     /// The disk after a power stop, which leaves of each sector written since the last sync what `pick` says.
     pub fn stop(self, pick: Pick) -> MemoryDisk
-        ensures { IsStopped pick (disk_of self) (disk_of result) }
+        ensures stopped { IsStopped pick (disk_of self) (disk_of result) }
+        // What it reads as then is an image of the disk before, and from then on the only one.
+        ensures image { IsImage (disk_of self).content (reads (disk_of result).content) }
+        ensures only { (image : Image) → IsImage (disk_of result).content image → image ≡ reads (disk_of result).content }
     {
         let MemoryDisk {
             alloc,
@@ -46,7 +52,7 @@ impl MemoryDisk {
             past: _,
             failures,
         } = self;
-        stop_all(&mut cells, pick);
+        cells.stop(pick);
         MemoryDisk {
             alloc,
             cells,
@@ -57,6 +63,10 @@ impl MemoryDisk {
 }
 
 impl SectorDisk for MemoryDisk {
+    ghost use Rattle.std.specs.Prelude.{◌≡◌, ◌<◌, IsTrue, IsOk, OnOk, OnErr};
+    ghost use Rattle.iol_disk.specs.Content.{reads, wrote};
+    ghost use Rattle.iol_disk.specs.Disk.{After, Same, WroteSome, FailsOnlyAs};
+    ghost use Rattle.iol_disk.specs.declared.fault.DiskFault.{DiskFault};
     ghost use Rattle.iol_disk.specs.Memory.{disk_of};
 
     ghost disk = { disk_of };
@@ -65,25 +75,35 @@ impl SectorDisk for MemoryDisk {
         self.cells.len()
     }
 
-    fn read(&mut self, n: usize, octets: &mut [u8; SECTOR_OCTETS]) -> Result<(), DiskFault> {
-        let cell = &self.cells[n];
-        *octets = match cell.newest {
-            Some(newest) => newest,
-            None => cell.durable,
-        };
+    /// Reads the sector `n`, and never fails.
+    fn read(&mut self, n: usize, octets: &mut [u8; SECTOR_OCTETS]) -> Result<(), DiskFault>
+        requires { n < (disk_of self.old).sectors }
+        ensures works { IsOk result }
+        ensures read { OnOk result (IsTrue (disk_of self.old).honest → octets.new ≡ reads (disk_of self.old).content n) }
+        ensures kept { OnErr result (octets.new ≡ octets.old) }
+        ensures same { Same (disk_of self.old) (disk_of self.new) }
+        ensures fault { FailsOnlyAs DiskFault.Read (disk_of self.old) (disk_of self.new) result }
+    {
+        *octets = self.cells.read(n);
         Ok(())
     }
 
-    fn write(&mut self, n: usize, octets: &[u8; SECTOR_OCTETS]) -> Result<(), DiskFault> {
-        let cell = &mut self.cells[n];
-        cell.newest = Some(*octets);
+    /// Writes the sector `n`, takes no memory, and never fails.
+    fn write(&mut self, n: usize, octets: &[u8; SECTOR_OCTETS]) -> Result<(), DiskFault>
+        requires { n < (disk_of self.old).sectors }
+        ensures works { IsOk result }
+        ensures wrote { OnOk result (After (wrote n octets.now) (disk_of self.old) (disk_of self.new)) }
+        ensures wrote_some { OnErr result (WroteSome n (disk_of self.old) (disk_of self.new)) }
+        ensures fault { FailsOnlyAs DiskFault.Write (disk_of self.old) (disk_of self.new) result }
+    {
+        self.cells.write(n, octets);
         Ok(())
     }
 
     fn sync(&mut self) -> Result<(), DiskFault> {
         match keep(self.alloc, &self.cells, &mut self.past) {
             Ok(()) => {
-                settle_all(&mut self.cells);
+                self.cells.settle();
                 Ok(())
             }
             Err(AllocError) => {

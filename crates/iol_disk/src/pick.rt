@@ -1,3 +1,5 @@
+//! What a power stop leaves of a sector that no sync has settled.
+
 ghost use Rattle.iol_disk.specs.Stops.{IsPattern};
 
 use crate::disk::SECTOR_OCTETS;

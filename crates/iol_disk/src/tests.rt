@@ -1,3 +1,5 @@
+//! Reads, writes, syncs and stops of a disk in memory.
+
 use crate::{DiskFault, MemoryDisk, Pick, SECTOR_OCTETS, SectorDisk};
 use std::test::Fail;
 
@@ -87,5 +89,23 @@ fn a_stop_after_a_sync_leaves_what_was_written(rt: HostRuntime) -> Result<(), Fa
         assert_eq!(rt; read(&mut disk, 0)?, SECOND, "under {pick:?}");
         assert_eq!(rt; read(&mut disk, 1)?, SECOND, "under {pick:?}");
     }
+    Ok(())
+}
+
+#[test]
+fn every_sector_may_be_written_again_before_a_sync(rt: HostRuntime) -> Result<(), Fail> {
+    let mut disk = MemoryDisk::new(rt.alloc(), 3)?;
+    for octets in [&FIRST, &SECOND] {
+        for sector in 0..3 {
+            write(&mut disk, sector, octets)?;
+        }
+    }
+    disk.sync()?;
+    write(&mut disk, 1, &FIRST)?;
+    disk.sync()?;
+    let mut disk = disk.stop(Pick::Zero);
+    assert_eq!(rt; read(&mut disk, 0)?, SECOND);
+    assert_eq!(rt; read(&mut disk, 1)?, FIRST);
+    assert_eq!(rt; read(&mut disk, 2)?, SECOND);
     Ok(())
 }

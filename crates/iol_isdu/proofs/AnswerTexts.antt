@@ -5,11 +5,12 @@ use Rattle.std.proofs.lemmas.Bool.Decides.{nat_tests}
 use Rattle.std.proofs.lemmas.List.{nil_from_length}
 use Rattle.iol_isdu.specs.Isdu.{IsIsduOf, IsAnswer}
 use Rattle.iol_isdu.specs.Service.{carries}
-use Rattle.iol_isdu.specs.Reading.{service_in, carried_in, answer_by, answer_of, answer_with, ◌>>=◌}
+use Rattle.iol_isdu.specs.Reading.{service_in, answer_by, answer_of, answer_with, ◌>>=◌}
 use Rattle.iol_isdu.proofs.Services.{code_of-service_at, code_of-fits}
 use Rattle.iol_isdu.proofs.Lists.{one_left, two_left}
 use Rattle.iol_isdu.proofs.Steps.{bind_ok, ok_is}
-use Rattle.iol_isdu.proofs.IsduParts.{HasService, service_in_ok, carried_found, isdu_reads}
+use Rattle.iol_isdu.proofs.IsduParts.{HasService, service_in_ok, isdu_reads}
+use Rattle.iol_isdu.proofs.Served.{served_found, served_reads}
 use Rattle.iol_isdu.specs.declared.messages.Answer.{Answer}
 use Rattle.iol_isdu.specs.declared.messages.Answer.TheVariants.{ReadOk, ReadFault, WriteOk, WriteFault, Busy}
 use Rattle.iol_isdu.specs.declared.service.Access.{Access}
@@ -41,9 +42,8 @@ by_found : (s : Service) (octets : List ℕ) (a : Answer) → HasService octets 
     → answer_by s octets ≡ Ok a → IsAnswer octets a
 by_found (service.Request access form) octets a h ok = cc
 by_found (service.Response access sign) octets a h ok =
-    let b = bind_ok (carried_in (service.Response access sign) octets) _ a ok in
-    let f = carried_found octets b.0 _ h b.1 in
-    subst (IsAnswer octets) (ok_is _ _ b.2) (with_found access sign octets b.0 f.0 f.1)
+    let f = served_found (answer_with access sign) _ octets a h ok in
+    subst (IsAnswer octets) f.is (with_found access sign octets f.carried f.isdu f.fits)
 
 -- what is read is the answer of these octets
 pub answer_found : (octets : List ℕ) (a : Answer) → answer_of octets ≡ Ok a → IsAnswer octets a
@@ -69,12 +69,12 @@ response_reads : (access : Access) (sign : Sign) (octets carried : List ℕ)
     → answer_of octets ≡ Ok (answer_with access sign carried)
 unfolding answer_of
 response_reads access sign octets carried h fits =
-    let r = isdu_reads octets carried (service.Response access sign) h fits in
-    let served = service_in_ok octets _ r.service_read in
+    let s = service.Response access sign in
+    let served = service_in_ok octets _ (isdu_reads octets carried s h fits).service_read in
     let code = code_of-service_at _ _ served.service in
     let idle : (slice_index octets 0 == 1) ≡ false =
-    grind (arith, nat_tests, code, (code_of-fits (service.Response access sign)).0) in
-    rw (idle, r.service_read, r.carried_read) refl
+    grind (arith, nat_tests, code, (code_of-fits s).0) in
+    rw idle (served_reads answer_by (answer_with access sign) s octets carried refl h fits)
 
 pub answer_reads : (octets : List ℕ) (a : Answer) → IsAnswer octets a → answer_of octets ≡ Ok a
 unfolding answer_of

@@ -208,6 +208,31 @@ carries_in octets carried s count middle fits xor =
     let unit : (xor_of octets == 0) ≡ true = grind (arith, nat_tests, xor) in
     rw (count, middle, fits, unit) refl
 
+-- octets whose first state their service and their count
+record Announces (octets : List ℕ) (s : Service) : Type 0 where
+  some : 0 < length octets
+  code : i_service octets ≡ code_of s
+  unreserved_length : Stated octets
+  count : is_counted octets ≡ true
+
+announced_reads : (octets carried : List ℕ) (s : Service) → Announces octets s
+    → between octets ≡ carried → carries s (length carried) ≡ true → xor_of octets ≡ 0
+    → Reads octets s carried
+announced_reads octets carried s h middle fits xor =
+    let at : service_at (i_service octets) ≡ Some s = ap service_at h.code ∙ service_at-code_of s in
+    let free = unreserved octets s at h.unreserved_length in
+    record {
+      service_read =
+          service_in_found octets s (record { some = h.some; free = free; service = at });
+      carried_read = carries_in octets carried s h.count middle fits xor;
+    }
+
+-- the octets before CHKPDU
+before_check : (count : ℕ) (carried : List ℕ) (check : ℕ) → count ≡ length carried
+    → take count (carried ++ check ∷ []) ≡ carried
+before_check count carried check is =
+    ap (λ k. take k (carried ++ check ∷ [])) is ∙ take-append_seam carried (check ∷ [])
+
 length-checked : (carried : List ℕ) (check : ℕ)
     → length (carried ++ check ∷ []) ≡ length carried + 1
 length-checked carried check = length-append carried (check ∷ [])
@@ -219,30 +244,21 @@ short_reads : (first : ℕ) (carried : List ℕ) (check : ℕ) (s : Service)
 short_reads first carried check s b xor fits =
     let octets = first ∷ (carried ++ check ∷ []) in
     let n : length octets ≡ length carried + 2 = omega (arith, length-checked carried check) in
-    let code : first / 16 ≡ code_of s = omega (arith, b.0, b.1, b.2) in
     let low : first % 16 ≡ length octets = omega (arith, b.0, b.1, b.2) in
-    let at : service_at (i_service octets) ≡ Some s = ap service_at code ∙ service_at-code_of s in
-    let l : Stated octets =
-    record {
-      nonzero = omega (arith, low, b.1);
-      extended =
-          λ one. absurd (omega (arith, one, low, b.1));
-    } in
-    let h : HasService octets s =
-    record { some = omega arith; free = unreserved octets s at l; service = at } in
     let plain : (length_field octets == 1) ≡ false = grind (arith, nat_tests, low, b.1) in
     let same : (length_field octets == length octets) ≡ true = grind (arith, nat_tests, low) in
-    let count : is_counted octets ≡ true = rw (plain, same) refl in
     let few : nat_le (length octets) 15 ≡ true = grind (arith, nat_tests, b.2) in
-    let less : length octets - 2 ≡ length carried = omega (arith, n) in
-    let middle : between octets ≡ carried =
-    rw few (ap (λ k. take k (carried ++ check ∷ [])) less
-    ∙ take-append_seam carried (check ∷ [])) in
-    record {
-      service_read = service_in_found octets s h;
-      carried_read =
-          carries_in octets carried s count middle fits xor;
-    }
+    announced_reads octets carried s
+    (record {
+      some = omega arith;
+      code = omega (arith, b.0, b.1, b.2);
+      unreserved_length = record {
+        nonzero = omega (arith, low, b.1);
+        extended = λ one. absurd (omega (arith, one, low, b.1));
+      };
+      count = rw (plain, same) refl;
+    })
+    (rw few (before_check (length octets - 2) carried check (omega (arith, n)))) fits xor
 
 long_reads : (first extended : ℕ) (carried : List ℕ) (check : ℕ) (s : Service)
     → Begins s (length (first ∷ extended ∷ (carried ++ check ∷ []))) (first ∷ extended ∷ [])
@@ -251,29 +267,24 @@ long_reads : (first extended : ℕ) (carried : List ℕ) (check : ℕ) (s : Serv
 long_reads first extended carried check s b xor fits =
     let octets = first ∷ extended ∷ (carried ++ check ∷ []) in
     let n : length octets ≡ length carried + 3 = omega (arith, length-checked carried check) in
-    let code : first / 16 ≡ code_of s = omega (arith, b.0) in
     let low : first % 16 ≡ 1 = omega (arith, b.0) in
-    let at : service_at (i_service octets) ≡ Some s = ap service_at code ∙ service_at-code_of s in
     let above : nat_lt extended 17 ≡ false = grind (arith, nat_tests, b.1, b.2) in
     let below : nat_lt 238 extended ≡ false = grind (arith, nat_tests, b.1, b.3) in
     let there : has_ext_length octets ≡ true = grind (arith, nat_tests, n) in
-    let l : Stated octets =
-    record { nonzero = omega (arith, low); extended = λ one. rw (there, above, below) refl } in
-    let h : HasService octets s =
-    record { some = omega arith; free = unreserved octets s at l; service = at } in
     let marked : (length_field octets == 1) ≡ true = grind (arith, nat_tests, low) in
     let same : (ext_length octets == length octets) ≡ true = grind (arith, nat_tests, b.1) in
-    let count : is_counted octets ≡ true = rw (marked, there, same) refl in
     let many : nat_le (length octets) 15 ≡ false = grind (arith, nat_tests, b.2) in
-    let less : length octets - 3 ≡ length carried = omega (arith, n) in
-    let middle : between octets ≡ carried =
-    rw many (ap (λ k. take k (carried ++ check ∷ [])) less
-    ∙ take-append_seam carried (check ∷ [])) in
-    record {
-      service_read = service_in_found octets s h;
-      carried_read =
-          carries_in octets carried s count middle fits xor;
-    }
+    announced_reads octets carried s
+    (record {
+      some = omega arith;
+      code = omega (arith, b.0);
+      unreserved_length = record {
+        nonzero = omega (arith, low);
+        extended = λ one. rw (there, above, below) refl;
+      };
+      count = rw (marked, there, same) refl;
+    })
+    (rw many (before_check (length octets - 3) carried check (omega (arith, n)))) fits xor
 
 -- an ISDU is read as its service and what it carries
 pub isdu_reads : (octets carried : List ℕ) (s : Service) → IsIsduOf octets s carried

@@ -3,7 +3,7 @@
 use Rattle.std.proofs.Common.{◌≡◌, ◌≢◌, ℕ, ◌+◌, ◌%◌, ◌<◌, ◌≤◌, Bool, true, false, cond, List, [], ◌∷◌, ◌++◌, length, get_or, refl, ap, sym, ◌∙◌, subst, inl, inr, arith, length-append}
 use Rattle.std.specs.Prelude.{◌==◌, nat_lt}
 use Rattle.std.proofs.lemmas.Bool.Decides.{nat_tests}
-use Rattle.std.proofs.lemmas.List.{get_or_append_left, nil_from_length}
+use Rattle.std.proofs.lemmas.List.{get_or_append_left, nil_from_length, append-nil}
 use Rattle.arrayvec.specs.ArrayVec.{ArrayVec}
 use Rattle.iol_isdu.specs.Isdu.{IsIsduOf, Begins, IsRequestIn, IsShortestRequest, IsAnswer, IsIsdu}
 use Rattle.iol_isdu.specs.Service.{address, address_count, FitsForm, shortest_form}
@@ -12,7 +12,7 @@ use Rattle.iol_isdu.specs.declared.messages.Request.{Request}
 use Rattle.iol_isdu.specs.declared.messages.Request.TheVariants as request
 use Rattle.iol_isdu.specs.declared.messages.Answer.{Answer}
 use Rattle.iol_isdu.specs.declared.messages.Answer.TheVariants.{ReadOk, ReadFault, WriteOk, WriteFault, Busy}
-use Rattle.iol_isdu.specs.declared.service.Access.TheVariants.{Write}
+use Rattle.iol_isdu.specs.declared.service.Access.TheVariants.{Read, Write}
 use Rattle.iol_isdu.specs.declared.service.IndexForm.{IndexForm}
 use Rattle.iol_isdu.specs.declared.service.IndexForm.TheVariants.{Index8, Index8Subindex, Index16Subindex}
 use Rattle.iol_isdu.specs.declared.service.Service.{Service}
@@ -71,6 +71,38 @@ shortest_count form index subindex can =
     by_tests false false is at Index8Subindex can = omega arith
     by_tests false false is at Index16Subindex can = omega arith
 
+-- the shortest form's ISDU, with as many octets behind each address, is the shortest
+shortest_isdu : (octets others : List ℕ) (here there : Service) (form : IndexForm)
+    (index subindex : ℕ) (values : List ℕ) → FitsForm form index subindex
+    → IsIsduOf octets here (address (shortest_form index subindex) index subindex ++ values)
+    → IsIsduOf others there (address form index subindex ++ values) → length octets ≤ length others
+shortest_isdu octets others here there form index subindex values can h other =
+    let shortest = shortest_form index subindex in
+    longer _ _ _ _ (isdu_length octets _ _ h) (isdu_length others _ _ other)
+    (omega (
+      arith,
+      length-append (address shortest index subindex) values,
+      length-append (address form index subindex) values,
+      length-address shortest index subindex,
+      length-address form index subindex,
+      shortest_count form index subindex can,
+    ))
+
+pub shortest_read : (octets : List ℕ) (index subindex : ℕ)
+    → IsIsduOf octets (service.Request Read (shortest_form index subindex))
+    (address (shortest_form index subindex) index subindex)
+    → IsShortestRequest octets (request.Read index subindex)
+shortest_read octets index subindex h =
+    let whole = λ (o : List ℕ) (s : Service) (a : List ℕ). subst (IsIsduOf o s) (sym (append-nil a)) in
+    let form = shortest_form index subindex in
+    record {
+      of_request = (form, (fits_shortest index subindex, h));
+      shortest = λ others other.
+          shortest_isdu octets others _ _ other.0 index subindex [] other.1.0
+          (whole octets _ (address form index subindex) h)
+          (whole others _ (address other.0 index subindex) other.1.1);
+    }
+
 pub shortest_write : (octets : List ℕ) (index subindex : ℕ) (values : ArrayVec ℕ)
     → length values.items ≤ 232
     → IsIsduOf octets (service.Request Write (shortest_form index subindex))
@@ -81,15 +113,7 @@ shortest_write octets index subindex values fits h =
     record {
       of_request = (form, (fits_shortest index subindex, h, fits));
       shortest = λ others other.
-          longer _ _ _ _ (isdu_length octets _ _ h) (isdu_length others _ _ other.1.1)
-          (omega (
-            arith,
-            length-append (address form index subindex) values.items,
-            length-append (address other.0 index subindex) values.items,
-            length-address form index subindex,
-            length-address other.0 index subindex,
-            shortest_count other.0 index subindex other.1.0,
-          ));
+          shortest_isdu octets others _ _ other.0 index subindex values.items other.1.0 h other.1.1;
     }
 
 -- the first octets state that there are n octets in all

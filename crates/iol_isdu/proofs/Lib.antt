@@ -3,6 +3,8 @@ pub mod Services
 pub mod Steps
 pub mod IsduParts
 pub mod FirstFaults
+pub mod Served
 pub mod AnswerTexts
 pub mod RequestTexts
 pub mod Lengths
+pub mod Spelled

@@ -6,11 +6,12 @@ use Rattle.std.proofs.lemmas.List.{nil_from_length, append-nil}
 use Rattle.std.proofs.Math.Nat.{div-add-mod}
 use Rattle.iol_isdu.specs.Isdu.{IsIsduOf, IsRequest, IsRequestIn}
 use Rattle.iol_isdu.specs.Service.{address, address_count, FitsForm, carries}
-use Rattle.iol_isdu.specs.Reading.{service_in, carried_in, index_in, subindex_in, request_by, request_of, request_with}
+use Rattle.iol_isdu.specs.Reading.{service_in, index_in, subindex_in, request_by, request_of, request_with}
 use Rattle.iol_isdu.proofs.Lists.{AreOctets, octets_between}
 use Rattle.iol_isdu.proofs.Services.{length-address}
-use Rattle.iol_isdu.proofs.Steps.{bind_ok, ok_is, and_true}
-use Rattle.iol_isdu.proofs.IsduParts.{HasService, service_in_ok, carried_found, isdu_reads}
+use Rattle.iol_isdu.proofs.Steps.{bind_ok, and_true}
+use Rattle.iol_isdu.proofs.IsduParts.{HasService, service_in_ok}
+use Rattle.iol_isdu.proofs.Served.{served_found, served_reads}
 use Rattle.iol_isdu.specs.declared.messages.Request.{Request}
 use Rattle.iol_isdu.specs.declared.messages.Request.TheVariants as request
 use Rattle.iol_isdu.specs.declared.service.Access.{Access}
@@ -73,11 +74,10 @@ by_found : (s : Service) (octets : List ℕ) (r : Request) → AreOctets octets 
     → request_by s octets ≡ Ok r → IsRequest octets r
 by_found (service.Response access sign) octets r all h ok = cc
 by_found (service.Request access form) octets r all h ok =
-    let b = bind_ok (carried_in (service.Request access form) octets) _ r ok in
-    let f = carried_found octets b.0 _ h b.1 in
-    let inside = octets_between f.0.header b.0 (f.0.check ∷ []) octets f.0.parts all in
-    subst (IsRequest octets) (ok_is _ _ b.2)
-    (form, with_found access form octets b.0 inside f.0 f.1)
+    let f = served_found (request_with access form) _ octets r h ok in
+    let inside = octets_between f.isdu.header f.carried (f.isdu.check ∷ []) octets f.isdu.parts all in
+    subst (IsRequest octets) f.is
+    (form, with_found access form octets f.carried inside f.isdu f.fits)
 
 -- what is read is the request of these octets
 pub request_found : (octets : List ℕ) (r : Request) → AreOctets octets → request_of octets ≡ Ok r
@@ -102,18 +102,9 @@ address_reads Index8Subindex index subindex more can =
 address_reads Index16Subindex index subindex more can =
     record { index_is = omega (arith, div-add-mod index 256); subindex_is = refl; rest = refl }
 
--- an ISDU of a request is read as its request
-asked_reads : (access : Access) (form : IndexForm) (octets carried : List ℕ)
-    → IsIsduOf octets (service.Request access form) carried
-    → carries (service.Request access form) (length carried) ≡ true
-    → request_of octets ≡ Ok (request_with access form carried)
-unfolding request_of
-asked_reads access form octets carried h fits =
-    let r = isdu_reads octets carried (service.Request access form) h fits in
-    rw (r.service_read, r.carried_read) refl
-
 form_reads : (form : IndexForm) (octets : List ℕ) (r : Request) → IsRequestIn form octets r
     → request_of octets ≡ Ok r
+unfolding request_of
 form_reads form octets (request.Read index subindex) h =
     let a = address form index subindex in
     let s = address_reads form index subindex [] h.0 in
@@ -122,7 +113,7 @@ form_reads form octets (request.Read index subindex) h =
     let count = length-address form index subindex in
     let fits : carries (service.Request Read form) (length a) ≡ true =
     grind (arith, nat_tests, count) in
-    asked_reads Read form octets a h.1 fits
+    served_reads request_by (request_with Read form) _ octets a refl h.1 fits
     ∙ ap (λ i. Ok (request.Read i (subindex_in form a))) plain.index_is
     ∙ ap (λ k. Ok (request.Read index k)) plain.subindex_is
 form_reads form octets (request.Write index subindex values) h =
@@ -138,7 +129,8 @@ form_reads form octets (request.Write index subindex values) h =
     grind (arith, nat_tests, count) in
     let high : nat_le (length carried) (address_count form + 232) ≡ true =
     grind (arith, nat_tests, count, h.2) in
-    asked_reads Write form octets carried h.1 (rw (low, high) refl)
+    served_reads request_by (request_with Write form) _ octets carried refl h.1
+    (rw (low, high) refl)
     ∙ ap (λ i. Ok (request.Write i (subindex_in form carried)
     (record { items = drop (address_count form) carried }))) s.index_is
     ∙ ap (λ k. Ok (request.Write index k

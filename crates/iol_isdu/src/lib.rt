@@ -4,9 +4,11 @@
 //! go out. No call takes memory.
 //!
 //! In reading order: `messages` (requests and answers), `faults`, `service` (I-Service and what
-//! each service carries), `parts` (the parts of an ISDU), `reading`, `writing` and `laws`.
+//! each service carries), `parts` (the parts of an ISDU), `reading`, `writing`, `laws` and `examples`
+//! (octets worked out).
 #![tactic(auto)]
 
+pub mod examples;
 mod faults;
 mod laws;
 mod messages;

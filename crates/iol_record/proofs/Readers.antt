@@ -1,5 +1,5 @@
 -- What holds of each reader of a field or a record, and that readers put together keep it.
-use Rattle.std.proofs.Common.{◌≡◌, ℕ, ◌+◌, ◌-◌, ◌<◌, ◌≤◌, List, ◌++◌, length, get_or, take, drop, Option, Some, None, Result, Ok, Err, ◌⊎◌, inl, inr, refl, sym, ap, subst, ◌∙◌, append_assoc, arith}
+use Rattle.std.proofs.Common.{◌≡◌, ℕ, ◌+◌, ◌-◌, ◌<◌, ◌≤◌, List, [], ◌++◌, length, get_or, take, drop, Option, Some, None, Result, Ok, Err, ◌⊎◌, inl, inr, refl, sym, ap, subst, ◌∙◌, append_assoc, arith}
 use Rattle.std.specs.Option.{ok_or}
 use Rattle.std.specs.Int.{Width, byte_len, from_be_bytes}
 use Rattle.std.proofs.lemmas.Bool.{cases_lt, le-ltb, lt-ltb}
@@ -272,43 +272,54 @@ joined_reads whole parts reader s t P Q n are reads = record {
 
 -- ---- a spelling in front of some octets
 
--- the octets before the rest are the spelling of the value
-pub record Fronts {A : Type 0} (spelling : A → List ℕ) (InRange : A → Type 0) (octets : List ℕ) (value : A) (rest : List ℕ) : Type 0 where
-  pub within : length rest ≤ length octets
-  pub front : take (length octets - length rest) octets ≡ spelling value
-  pub behind : drop (length octets - length rest) octets ≡ rest
-  pub in_range : InRange value
-
-pub found_front : {A : Type 0} (reader : Reader A) (spelling : A → List ℕ) (InRange : A → Type 0) (largest : ℕ) → IsReader reader spelling InRange largest
-    → (octets : List ℕ) (value : A) (rest : List ℕ) → AreOctets octets → reader octets ≡ Ok (value, rest) → Fronts spelling InRange octets value rest
-found_front reader spelling InRange largest reads octets value rest are e =
-    let taken = reads.takes octets value rest are e in
-    let parts : octets ≡ spelling value ++ rest = taken.0.parts in
-    let n = length octets - length rest in
-    let long : length octets ≡ length (spelling value) + length rest = ap length parts ∙ length-append (spelling value) rest in
-    let len : length (spelling value) ≡ n = omega (arith, long) in
-    record {
-      within = omega (arith, long);
-      front = ap (take n) parts ∙ take_at (spelling value) rest n len;
-      behind = ap (drop n) parts ∙ drop_at (spelling value) rest n len;
-      in_range = taken.1;
-    }
-
 -- what is read where a spelling stands in front
-pub only_front : {A : Type 0} (reader : Reader A) (spelling : A → List ℕ) (InRange : A → Type 0) (largest : ℕ) → IsReader reader spelling InRange largest
+pub only_front : {A : Type 0} {reader : Reader A} {spelling : A → List ℕ} {InRange : A → Type 0} {largest : ℕ} → IsReader reader spelling InRange largest
     → (octets front : List ℕ) (value : A) (rest : List ℕ) → front ≡ spelling value → InRange value → octets ≡ front ++ rest → reader octets ≡ Ok (value, rest)
-only_front reader spelling InRange largest reads octets front value rest spelled in_range whole =
+only_front {A} {reader} reads octets front value rest spelled in_range whole =
     ap reader (whole ∙ ap (λ f. f ++ rest) spelled) ∙ reads.again value rest in_range
 
--- two answers of one reading are one
-pub same_front : {A : Type 0} (reader : Reader A) (octets front : List ℕ) (value found : A) (rest left : List ℕ)
-    → reader octets ≡ Ok (value, rest) → reader octets ≡ Ok (found, left) → octets ≡ front ++ rest → (found ≡ value) × (length octets - length left ≡ length front)
-same_front reader octets front value found rest left e f whole =
-    let is = ok_is (found, left) (value, rest) (sym f ∙ e) in
-    let left-is : length left ≡ length rest = ap (λ x. length x.1) is in
-    let long : length octets ≡ length front + length rest = ap length whole ∙ length-append front rest in
-    (ap (λ x. x.0) is, omega (arith, left-is, long))
+-- a spelling has at least one octet, and at most the largest's
+pub length-spelled : {A : Type 0} {reader : Reader A} {spelling : A → List ℕ} {InRange : A → Type 0} {largest : ℕ} → IsReader reader spelling InRange largest
+    → (front : List ℕ) (value : A) → front ≡ spelling value → InRange value → (0 < length front) × (length front ≤ largest)
+length-spelled reads front value spelled in_range =
+    let within = reads.within (front ++ []) value [] (only_front reads (front ++ []) front value [] spelled in_range refl) in
+    (omega (arith, within.0, length-append front []), omega (arith, within.1, length-append front []))
+
+-- a value is read from so many octets, which are its spelling, and no other value stands in front
+pub record Decodes {A : Type 0} (reader : Reader A) (spelling : A → List ℕ) (InRange : A → Type 0) (octets : List ℕ) (value : A) (count : ℕ) : Type 0 where
+  pub within : count ≤ length octets
+  pub front : take count octets ≡ spelling value
+  pub in_range : InRange value
+  pub only : (front rest : List ℕ) (other : A) → front ≡ spelling other → InRange other → octets ≡ front ++ rest → (value ≡ other) × (count ≡ length front)
+  pub exact : reader octets ≡ Ok (value, drop count octets)
+
+same_front : {A : Type 0} (reader : Reader A) (octets front : List ℕ) (value other : A) (rest behind : List ℕ)
+    → reader octets ≡ Ok (other, behind) → reader octets ≡ Ok (value, rest) → octets ≡ front ++ behind → (value ≡ other) × (length octets - length rest ≡ length front)
+same_front reader octets front value other rest behind e f whole =
+    let is = ok_is (value, rest) (other, behind) (sym f ∙ e) in
+    let same : length rest ≡ length behind = ap (λ x. length x.1) is in
+    let long : length octets ≡ length front + length behind = ap length whole ∙ length-append front behind in
+    (ap (λ x. x.0) is, omega (arith, same, long))
+
+pub decodes : {A : Type 0} {reader : Reader A} {spelling : A → List ℕ} {InRange : A → Type 0} {largest : ℕ} → IsReader reader spelling InRange largest
+    → (octets : List ℕ) (value : A) (rest : List ℕ) (count : ℕ) → AreOctets octets → reader octets ≡ Ok (value, rest) → length octets - length rest ≡ count
+    → Decodes reader spelling InRange octets value count
+decodes {A} {reader} {spelling} reads octets value rest count are e is =
+    let taken = reads.takes octets value rest are e in
+    let parts : octets ≡ spelling value ++ rest = taken.0.parts in
+    let long : length octets ≡ length (spelling value) + length rest = ap length parts ∙ length-append (spelling value) rest in
+    let len : length (spelling value) ≡ count = omega (arith, long, is) in
+    let behind : rest ≡ drop count octets = sym (ap (drop count) parts ∙ drop_at (spelling value) rest count len) in
+    record {
+      within = omega (arith, is);
+      front = ap (take count) parts ∙ take_at (spelling value) rest count len;
+      in_range = taken.1;
+      only = λ front more other spelled in_range whole.
+          let same = same_front reader octets front value other rest more (only_front reads octets front other more spelled in_range whole) e whole in
+          (same.0, sym is ∙ same.1);
+      exact = e ∙ ap (λ r. Ok (value, r)) behind;
+    }
 
 -- a value is not read where a fault is
 pub no_fault_at : {A : Type 0} (reader : Reader A) (octets : List ℕ) (value : A) (rest : List ℕ) (fault : RecordFault) → reader octets ≡ Ok (value, rest) → reader octets ≡ Err fault → ⊥
-no_fault_at reader octets value rest fault e f = let is : done (value, rest) ≡ Err fault = sym e ∙ f in cc
+no_fault_at {A} reader octets value rest fault e f = let is : done {A = A × List ℕ} (value, rest) ≡ Err fault = sym e ∙ f in cc

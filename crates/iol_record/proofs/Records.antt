@@ -1,6 +1,5 @@
 -- Records read back: a record is read, whatever follows it, and what is read is a record.
-use Rattle.std.proofs.Common.{◌≡◌, ℕ, ◌+◌, ◌<◌, ◌≤◌, List, [], ◌∷◌, ◌++◌, length, Ok, Err, refl, ap, lit≤, arith}
-use Rattle.std.proofs.lemmas.List.{length-append}
+use Rattle.std.proofs.Common.{◌≡◌, ℕ, ◌<◌, ◌≤◌, List, [], ◌∷◌, ◌++◌, length, Ok, Err, refl, ap, lit≤, arith}
 use Rattle.iol_types.specs.declared.config.PortConfig.{PortConfig}
 use Rattle.iol_types.specs.declared.config.PortMode.{PortMode}
 use Rattle.iol_types.specs.declared.config.Validation.{Validation}
@@ -13,7 +12,7 @@ use Rattle.iol_record.specs.declared.encode.TheConstants.{LARGEST_COMMAND_RECORD
 use Rattle.iol_record.specs.declared.reader.TheConstants.{CONFIGURE, NO_SET}
 use Rattle.iol_record.specs.Record.{config_octets, command_octets, port_octets, IsCommandRecord, IsPortRecord}
 use Rattle.iol_record.specs.Reading.{config_at, command_at, port_record_at}
-use Rattle.iol_record.proofs.Readers.{AreOctets, extended, IsReader, field_reads, both_reads, joined_reads, only_front, found_front, Fronts}
+use Rattle.iol_record.proofs.Readers.{extended, IsReader, field_reads, both_reads, joined_reads, only_front, length-spelled}
 use Rattle.iol_record.proofs.Fields.{tag_reads, port_reads, mode_reads, validation_reads, vendor_reads, device_reads, revision_reads, set_reads}
 
 -- ---- configurations
@@ -104,81 +103,21 @@ port_record_reads =
 
 -- ---- for the crates above
 
--- the record of a value stands in front of the rest
-pub record InFront {A : Type 0} (IsRecord : List ℕ → A → Type 0) (octets : List ℕ) (value : A) (rest : List ℕ) : Type 0 where
-  pub front : List ℕ
-  pub is_record : IsRecord front value
-  pub parts : octets ≡ front ++ rest
-  pub rest_octets : AreOctets rest
-
--- what is read where a command's record stands in front
-pub command_at-front : (octets front rest : List ℕ) (command : CommandValue) → IsCommandRecord front command → octets ≡ front ++ rest → command_at octets ≡ Ok (command, rest)
-command_at-front octets front rest command is parts = only_front command_at command_octets IsCommand LARGEST_COMMAND_RECORD command_reads octets front command rest is.spelling is.in_range parts
-
 -- a command's record is read, whatever follows it
 pub command_at-record : (front rest : List ℕ) (command : CommandValue) → IsCommandRecord front command → command_at (front ++ rest) ≡ Ok (command, rest)
-command_at-record front rest command is = command_at-front (front ++ rest) front rest command is refl
-
--- what is read as a command is the octets before the rest
-pub command_at-fronts : (octets : List ℕ) (command : CommandValue) (rest : List ℕ) → AreOctets octets → command_at octets ≡ Ok (command, rest) → Fronts command_octets IsCommand octets command rest
-command_at-fronts octets command rest are e = found_front command_at command_octets IsCommand LARGEST_COMMAND_RECORD command_reads octets command rest are e
-
--- what is read as a command is its record
-pub command_at-is : (octets : List ℕ) (command : CommandValue) (rest : List ℕ) → AreOctets octets → command_at octets ≡ Ok (command, rest) → InFront IsCommandRecord octets command rest
-command_at-is octets command rest are e =
-    let taken = command_reads.takes octets command rest are e in
-    record { front = command_octets command; is_record = record { spelling = refl; in_range = taken.1 }; parts = taken.0.parts; rest_octets = taken.0.rest_octets }
-
--- a command has at least one octet, and at most the largest record's
-pub command_at-within : (octets : List ℕ) (command : CommandValue) (rest : List ℕ) → command_at octets ≡ Ok (command, rest)
-    → (length rest < length octets) × (length octets ≤ length rest + LARGEST_COMMAND_RECORD)
-command_at-within octets command rest e = command_reads.within octets command rest e
-
--- what is short as a command is shorter than the largest record
-pub command_at-short : (octets : List ℕ) → command_at octets ≡ Err Short → length octets < LARGEST_COMMAND_RECORD
-command_at-short octets e = command_reads.short octets e
-
--- what is not short as a command is read the same before more octets
-pub command_at-append : (octets more : List ℕ) → (command_at octets ≡ Err Short → ⊥) → command_at (octets ++ more) ≡ extended more (command_at octets)
-command_at-append octets more not_short = command_reads.stays octets more not_short
+command_at-record front rest command is = only_front command_reads (front ++ rest) front command rest is.spelling is.in_range refl
 
 pub length-command_record : (front : List ℕ) (command : CommandValue) → IsCommandRecord front command → (0 < length front) × (length front ≤ LARGEST_COMMAND_RECORD)
-length-command_record front command is =
-    let within = command_at-within (front ++ []) command [] (command_at-record front [] command is) in
-    (omega (arith, within.0, length-append front []), omega (arith, within.1, length-append front []))
-
--- what is read where a port's record stands in front
-pub port_record_at-front : (octets front rest : List ℕ) (port : Port) → IsPortRecord front port → octets ≡ front ++ rest → port_record_at octets ≡ Ok (port, rest)
-port_record_at-front octets front rest port is parts = only_front port_record_at port_octets IsPort LARGEST_PORT_RECORD port_record_reads octets front port rest is.spelling is.in_range parts
+length-command_record front command is = length-spelled command_reads front command is.spelling is.in_range
 
 -- a port's record is read, whatever follows it
 pub port_record_at-record : (front rest : List ℕ) (port : Port) → IsPortRecord front port → port_record_at (front ++ rest) ≡ Ok (port, rest)
-port_record_at-record front rest port is = port_record_at-front (front ++ rest) front rest port is refl
-
--- what is read as a port is the octets before the rest
-pub port_record_at-fronts : (octets : List ℕ) (port : Port) (rest : List ℕ) → AreOctets octets → port_record_at octets ≡ Ok (port, rest) → Fronts port_octets IsPort octets port rest
-port_record_at-fronts octets port rest are e = found_front port_record_at port_octets IsPort LARGEST_PORT_RECORD port_record_reads octets port rest are e
-
--- what is read as a port is its record
-pub port_record_at-is : (octets : List ℕ) (port : Port) (rest : List ℕ) → AreOctets octets → port_record_at octets ≡ Ok (port, rest) → InFront IsPortRecord octets port rest
-port_record_at-is octets port rest are e =
-    let taken = port_record_reads.takes octets port rest are e in
-    record { front = port_octets port; is_record = record { spelling = refl; in_range = taken.1 }; parts = taken.0.parts; rest_octets = taken.0.rest_octets }
-
--- a port has at least one octet, and at most the largest record's
-pub port_record_at-within : (octets : List ℕ) (port : Port) (rest : List ℕ) → port_record_at octets ≡ Ok (port, rest)
-    → (length rest < length octets) × (length octets ≤ length rest + LARGEST_PORT_RECORD)
-port_record_at-within octets port rest e = port_record_reads.within octets port rest e
+port_record_at-record front rest port is = only_front port_record_reads (front ++ rest) front port rest is.spelling is.in_range refl
 
 -- what is short as a port is shorter than the largest record
 pub port_record_at-short : (octets : List ℕ) → port_record_at octets ≡ Err Short → length octets < LARGEST_PORT_RECORD
-port_record_at-short octets e = port_record_reads.short octets e
+port_record_at-short = port_record_reads.short
 
 -- what is not short as a port is read the same before more octets
 pub port_record_at-append : (octets more : List ℕ) → (port_record_at octets ≡ Err Short → ⊥) → port_record_at (octets ++ more) ≡ extended more (port_record_at octets)
-port_record_at-append octets more not_short = port_record_reads.stays octets more not_short
-
-pub length-port_record : (front : List ℕ) (port : Port) → IsPortRecord front port → (0 < length front) × (length front ≤ LARGEST_PORT_RECORD)
-length-port_record front port is =
-    let within = port_record_at-within (front ++ []) port [] (port_record_at-record front [] port is) in
-    (omega (arith, within.0, length-append front []), omega (arith, within.1, length-append front []))
+port_record_at-append = port_record_reads.stays

@@ -5,11 +5,12 @@
 //! how many octets it has, and leave what follows unread. What a record is stands in
 //! `specs/Record.antt`; what a decoder answers to any octets, in `specs/Reading.antt`.
 //!
-//! Modules in reading order: `fault`, `reader`, `decode`, `encode`.
+//! Modules in reading order: `fault`, `reader`, `decode`, `encode`, `examples` (records worked out).
 #![tactic(auto)]
 
 mod decode;
 mod encode;
+pub mod examples;
 mod fault;
 mod reader;
 

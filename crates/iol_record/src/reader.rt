@@ -1,5 +1,5 @@
 //! The fields of records, each read from the front of the octets that are left.
-ghost use Rattle.std.specs.Prelude.{◌≡◌, ◌≤◌, ◌^◌, ◌<◌, List, length};
+ghost use Rattle.std.specs.Prelude.{◌≡◌, ◌≤◌, ◌^◌, ◌<◌, List, length, take, drop, IfOk, IfErr, OnOk};
 ghost use Rattle.std.specs.Int.{w8};
 ghost use Rattle.iol_types.specs.Command.{value_of};
 ghost use Rattle.iol_record.specs.Reading.{Reads, number_at, field_at, tag_field, port_field, mode_field, validation_field, vendor_field, device_field, revision_field, set_field, config_at, command_at, port_record_at};
@@ -43,15 +43,24 @@ impl<'a> Reader<'a> {
         self.rest.len()
     }
 
-    fn octet(&mut self) -> Result<u8, RecordFault>
-        ensures { Reads (λ octet. (octet, self.new)) result (number_at w8 self.old) }
+    /// The next `N` octets.
+    fn front<const N: usize>(&mut self) -> Result<[u8; N], RecordFault>
+        ensures front { IfOk result (λ front. (N ≤ length self.old) × (front ≡ take N self.old)) }
+        ensures rest { OnOk result (self.new ≡ drop N self.old) }
+        ensures short { IfErr result (λ fault. (length self.old < N) × (fault ≡ RecordFault.Short)) }
     {
         let (front, rest) = self
             .rest
-            .split_first_chunk::<1>()
+            .split_first_chunk::<N>()
             .ok_or(RecordFault::Short)?;
         self.rest = rest;
-        Ok(u8::from_be_bytes(*front))
+        Ok(*front)
+    }
+
+    fn octet(&mut self) -> Result<u8, RecordFault>
+        ensures { Reads (λ octet. (octet, self.new)) result (number_at w8 self.old) }
+    {
+        Ok(u8::from_be_bytes(self.front()?))
     }
 
     /// The tag of a Configure record.
@@ -91,36 +100,21 @@ impl<'a> Reader<'a> {
     fn vendor(&mut self) -> Result<u16, RecordFault>
         ensures { Reads (λ vendor. (vendor, self.new)) result (field_at vendor_field self.old) }
     {
-        let (front, rest) = self
-            .rest
-            .split_first_chunk::<2>()
-            .ok_or(RecordFault::Short)?;
-        self.rest = rest;
-        Ok(u16::from_be_bytes(*front))
+        Ok(u16::from_be_bytes(self.front()?))
     }
 
     /// A DeviceID, four octets of which the first is 0.
     fn device(&mut self) -> Result<DeviceId, RecordFault>
         ensures { Reads (λ device. (device, self.new)) result (field_at device_field self.old) }
     {
-        let (front, rest) = self
-            .rest
-            .split_first_chunk::<4>()
-            .ok_or(RecordFault::Short)?;
-        self.rest = rest;
-        DeviceId::new(u32::from_be_bytes(*front)).ok_or(RecordFault::BadField)
+        DeviceId::new(u32::from_be_bytes(self.front()?)).ok_or(RecordFault::BadField)
     }
 
     /// A revision, eight octets.
     fn revision(&mut self) -> Result<u64, RecordFault>
         ensures { Reads (λ revision. (revision, self.new)) result (field_at revision_field self.old) }
     {
-        let (front, rest) = self
-            .rest
-            .split_first_chunk::<8>()
-            .ok_or(RecordFault::Short)?;
-        self.rest = rest;
-        Ok(u64::from_be_bytes(*front))
+        Ok(u64::from_be_bytes(self.front()?))
     }
 
     /// The flag that no parameter set follows.

@@ -1,12 +1,11 @@
 use super::*;
+use crate::examples::CONFIGURE_RECORD;
 use iol_types::{Command, PortMode, Validation};
 use std::test::Fail;
 
-/// Port 1, IOL_MANUAL, Backup and Restore, vendor 500, device 43981.
-const CONFIGURE_RECORD: [u8; 10] = [0x01, 0x01, 0x01, 0x03, 0x01, 0xF4, 0x00, 0x00, 0xAB, 0xCD];
-
-/// DO_C/Q, Restore, vendor 65535, device 2^24 - 1, revision 2^64 - 1, no parameter set.
-const PORT_RECORD: [u8; 17] = [
+/// A port with the highest numbers: DO_C/Q, Restore, vendor 65535, device 2^24 - 1, revision 2^64 - 1,
+/// no parameter set.
+const HIGHEST_RECORD: [u8; 17] = [
     0x04, 0x04, 0xFF, 0xFF, 0x00, 0xFF, 0xFF, 0xFF, 0xFF, 0xFF, 0xFF, 0xFF, 0xFF, 0xFF, 0xFF, 0xFF,
     0x00,
 ];
@@ -31,7 +30,7 @@ fn a_configure_record_is_read_and_written(rt: HostRuntime) -> Result<(), Fail> {
 
 #[test]
 fn a_port_record_is_read_and_written(rt: HostRuntime) -> Result<(), Fail> {
-    let (port, octets) = decode_port(&PORT_RECORD)?;
+    let (port, octets) = decode_port(&HIGHEST_RECORD)?;
     assert_eq!(rt; octets, 17);
     let config = port.config();
     assert_eq!(rt; config.mode, PortMode::DigitalOutput);
@@ -40,7 +39,7 @@ fn a_port_record_is_read_and_written(rt: HostRuntime) -> Result<(), Fail> {
     assert_eq!(rt; config.device.number(), 16777215);
     assert_eq!(rt; port.revision(), 18446744073709551615);
     let written = encode_port(rt.alloc(), &port)?;
-    assert_eq!(rt; written.as_slice(), PORT_RECORD.as_slice());
+    assert_eq!(rt; written.as_slice(), HIGHEST_RECORD.as_slice());
     Ok(())
 }
 
@@ -75,7 +74,7 @@ fn each_field_of_a_command_has_its_range(rt: HostRuntime) {
 
 #[test]
 fn a_flag_of_a_port_is_out_of_range(rt: HostRuntime) {
-    let mut octets = PORT_RECORD;
+    let mut octets = HIGHEST_RECORD;
     octets[16] = 0x01;
     assert_eq!(rt; decode_port(&octets).err(), Some(RecordFault::BadField));
 }
@@ -87,7 +86,7 @@ fn a_front_of_a_record_is_short(rt: HostRuntime) {
         assert_eq!(rt; fault, Some(RecordFault::Short), "{octets} octets");
     }
     for octets in 0..17 {
-        let fault = decode_port(&PORT_RECORD[..octets]).err();
+        let fault = decode_port(&HIGHEST_RECORD[..octets]).err();
         assert_eq!(rt; fault, Some(RecordFault::Short), "{octets} octets");
     }
 }
@@ -97,7 +96,7 @@ fn what_follows_a_record_is_left_unread(rt: HostRuntime) -> Result<(), Fail> {
     let mut octets = [0xFF; 20];
     octets[..10].copy_from_slice(&CONFIGURE_RECORD);
     assert_eq!(rt; decode_command(&octets)?.1, 10);
-    octets[..17].copy_from_slice(&PORT_RECORD);
+    octets[..17].copy_from_slice(&HIGHEST_RECORD);
     assert_eq!(rt; decode_port(&octets)?.1, 17);
     Ok(())
 }

@@ -1,7 +1,7 @@
 -- What a link of a script is, and what it does.
 use Rattle.std.specs.Prelude.{◌≡◌, ◌+◌, ◌==◌, ◌||◌, nat_lt, ℕ, Bool, List, [], ◌∷◌, ◌++◌, length, min, map, take, ◌-◌, replicate, if◌then◌else◌}
 use Rattle.iol_isdu.specs.declared.parts.TheConstants.{ISDU_OCTETS}
-use Rattle.iol_sim.specs.Link.{LinkCall, TakeEvent, ReadPage, Exchange, LinkAnswer, NoEvent, Octets, Gone, last_connection}
+use Rattle.iol_link.specs.Link.{LinkCall, TakeEvent, ReadPage, Exchange, LinkAnswer, NoEvent, Octets, Gone, last_connection}
 
 -- the answers that are left, the requests that were answered, and the number of the connection
 pub record Script : Type 0 where

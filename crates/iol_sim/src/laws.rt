@@ -1,18 +1,9 @@
-//! Laws of links, which no code calls.
+//! Laws of simulated links, which no code calls.
 
-ghost use Rattle.std.specs.Prelude.{◌≡◌, ◌≤◌, ◌<◌, ℕ, List, ◌++◌, length, map, All};
+ghost use Rattle.std.specs.Prelude.{◌≡◌, ◌≤◌, ◌<◌, ℕ, List, length, map, All};
 ghost use Rattle.iol_isdu.specs.declared.parts.TheConstants.{ISDU_OCTETS};
-ghost use Rattle.iol_sim.specs.Link.{Made, Run, Exchange, last_connection};
+ghost use Rattle.iol_link.specs.Link.{Made, Run, Exchange, last_connection};
 ghost use Rattle.iol_sim.specs.Script.{Script, ScriptStep, AnswersInOrder};
-
-use crate::link::DeviceLink;
-
-/// Where one run of a link ends another may begin, and both are one run.
-pub fn runs_join<L: DeviceLink>()
-    ensures { (first middle last : L) (early late : List Made)
-        → Run L.number L.steps first early middle → Run L.number L.steps middle late last
-        → Run L.number L.steps first (early ++ late) last }
-{}
 
 /// Exchanges with the link of a script, before its last connection, have its answers in order and
 /// are then `Lost`.

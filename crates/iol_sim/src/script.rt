@@ -2,9 +2,9 @@
 
 ghost use Rattle.std.specs.Prelude.{◌≡◌, ◌≤◌, [], length, map, IfOk};
 
-use crate::link::{DeviceLink, Lost, PAGE_OCTETS};
 use arrayvec::ArrayVec;
 use iol_isdu::ISDU_OCTETS;
+use iol_link::{DeviceLink, Lost, PAGE_OCTETS};
 use std::alloc::{AllocError, Global};
 use std::marker::Model;
 

@@ -1,6 +1,7 @@
-use crate::{DeviceLink, Lost, ScriptLink, a_script_answers_in_order, runs_join};
+use crate::{DeviceLink, Lost, ScriptLink, a_script_answers_in_order};
 use arrayvec::ArrayVec;
 use iol_isdu::{Answer, ISDU_OCTETS, Request, write_answer, write_request};
+use iol_link::runs_join;
 use std::test::Fail;
 
 const WRITE_DONE: [u8; 2] = [0x52, 0x52];

@@ -5,6 +5,7 @@
 //! [`Slot`] has the five calls of that, each one call of the disk; nothing here takes memory.
 #![tactic(auto)]
 
+pub mod examples;
 mod slot;
 #[cfg(test)]
 mod tests;

@@ -1,3 +1,5 @@
+//! A slot: its five calls, each one call of the disk.
+
 ghost use Rattle.std.specs.Prelude.{◌≡◌, ◌<◌, ◌≤◌, ◌+◌, ◌^◌, ℕ, true, false, IsTrue, OnOk, OnErr, IfOk};
 ghost use Rattle.iol_disk.specs.Content.{reads, wrote};
 ghost use Rattle.iol_disk.specs.Disk.{After, Same, WroteSome, FailsOnlyAs};

@@ -1,3 +1,5 @@
+//! Gates that open and close, and the octets that stand for them.
+
 use crate::Slot;
 use iol_disk::{DiskFault, MemoryDisk, SECTOR_OCTETS, SectorDisk};
 use std::test::Fail;

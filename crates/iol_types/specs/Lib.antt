@@ -2,3 +2,4 @@ pub mod Numbers
 pub mod Config
 pub mod Command
 pub mod State
+pub mod Examples

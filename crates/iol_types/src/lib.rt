@@ -6,13 +6,14 @@
 //! lists of commands, on a disk or in a queue, act through these two calls alone.
 //!
 //! Modules in reading order: `port_id`, `device_id`, `config`, `command`, `port_state`,
-//! `master_state`. What a configuration, a command and a state are to a contract stands in
-//! `specs/Config.antt`, `specs/Command.antt` and `specs/State.antt`.
+//! `master_state`, `examples` (values worked out). What a configuration, a command and a state are
+//! to a contract stands in `specs/Config.antt`, `specs/Command.antt` and `specs/State.antt`.
 #![tactic(auto)]
 
 mod command;
 mod config;
 mod device_id;
+pub mod examples;
 mod master_state;
 mod port_id;
 mod port_state;

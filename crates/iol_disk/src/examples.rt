@@ -1,0 +1,19 @@
+//! Facts with values from outside, which no code calls.
+
+ghost use Rattle.std.specs.Prelude.{◌≡◌, ◌∷◌, [], ℕ, List, length, take};
+ghost use Rattle.iol_disk.specs.Cells.{blank};
+ghost use Rattle.iol_disk.specs.Stops.{IsPattern};
+
+use crate::disk::SECTOR_OCTETS;
+
+/// A sector has 512 octets.
+pub fn a_sector()
+    ensures constant { SECTOR_OCTETS ≡ 512 }
+    ensures blank { length blank.durable ≡ 512 }
+{}
+
+/// The pattern that a stop may leave begins with the octets A5 5A A5, and has 512.
+pub fn a_pattern()
+    ensures begins { (octets : List ℕ) → IsPattern octets → take 3 octets ≡ 0xA5 ∷ 0x5A ∷ 0xA5 ∷ [] }
+    ensures whole { (octets : List ℕ) → IsPattern octets → length octets ≡ 512 }
+{}

@@ -1,0 +1,13 @@
+-- Runs of a link.
+use Rattle.std.proofs.Common.{ℕ, List, [], ◌∷◌, ◌++◌, subst, sym}
+use Rattle.iol_link.specs.Link.{LinkCall, LinkAnswer, Made, Run}
+
+module _ {L : Type 0} (number : L → ℕ) (steps : L → LinkCall → LinkAnswer → L → Type 0) where
+  -- a run goes on with another
+  pub run-append : (first middle last : L) (early late : List Made)
+      → Run number steps first early middle → Run number steps middle late last
+      → Run number steps first (early ++ late) last
+  run-append first middle last [] late h k = let P : L → Type 0 =
+      λ l. Run number steps l late last in subst P (sym h) k
+  run-append first middle last (made ∷ early) late h k =
+      (h.0, h.1, h.2, run-append h.0 middle last early late h.3 k)

@@ -1,5 +1,0 @@
-use Rattle.iol_sim.proofs.Runs.{run-append}
-use Rattle.iol_sim.proofs.laws.runs_join.Goals as goal
-
-pub returns : goal.returns
-returns g c = run-append g.L.DeviceLink.number g.L.DeviceLink.steps
