@@ -1,12 +1,16 @@
 -- What is read after a sync, and what the parts that were read say of the journal.
-use Rattle.std.proofs.Common.{◌≡◌, inl, inr, ⊎_elim, ℕ, IsTrue, Result, Ok, Err, refl, sym, ◌∙◌, ap, subst, arith}
+use Rattle.std.proofs.Common.{◌≡◌, ℕ, IsTrue, [], ◌∷◌, Result, Ok, Err, refl, sym, ◌∙◌, ap, subst, arith}
 use Rattle.iol_types.specs.State.{State}
 use Rattle.iol_disk.specs.Content.{Image, Content, IsImage, reads, synced}
+use Rattle.iol_disk.specs.Calls.{Call, write, sync, fault_of, FailedIn}
 use Rattle.iol_disk.specs.Disk.{Disk, After, Same}
+use Rattle.iol_disk.specs.declared.fault.DiskFault.{DiskFault}
+use Rattle.iol_disk.specs.declared.fault.DiskFault.TheVariants.{Read, Write, Sync}
 use Rattle.iol_disk.proofs.Images.{image-synced}
 use Rattle.iol_journal.specs.Layout.{Layout}
 use Rattle.iol_journal.specs.Meaning.{Cause, unformatted, damaged, layout_in, in_use_in, ports_from, Log, log_from, standing_in}
 use Rattle.iol_journal.specs.Reading.{IsCause}
+use Rattle.iol_journal.specs.Recoveries.{HasChosen, MakesRecovery}
 use Rattle.iol_journal.specs.declared.opening.InUse.{InUse}
 use Rattle.iol_journal.specs.declared.cause.RecoverCause.{RecoverCause}
 use Rattle.iol_journal.specs.declared.cause.RecoverCause.TheVariants as cause
@@ -44,12 +48,19 @@ pub cause_after : {Y Z : Type 0} (old mid new : Disk) (part : Image → Result Y
     → After synced old mid
     → (IsTrue old.honest → (met : Cause) → part (reads old.content) ≡ Err met → whole (reads old.content) ≡ Err met)
     → IsCause mid new part told → IsCause old new whole told
-cause_after old mid new part whole (cause.Disk fault) after carries is = ⊎_elim (λ rose. inl (omega (arith, rose, after.failures))) (λ most. inr most) is
+cause_after old mid new part whole (cause.Disk fault) after carries is = tt
 cause_after old mid new part whole cause.NotFormatted after carries is =
     λ h. carries h unformatted (ap part (sym (synced-reads old mid after h)) ∙ is (synced-honest old mid after h))
 cause_after old mid new part whole (cause.Damaged sector) after carries is =
     λ h. carries h (damaged sector) (ap part (sym (synced-reads old mid after h)) ∙ is (synced-honest old mid after h))
 cause_after old mid new part whole cause.Memory after carries is = tt
+
+-- the geometry is sound and an area is in use, where both were found after a sync
+pub chosen_after : (old mid new : Disk) (layout : Layout) (used : InUse) → After synced old mid → After synced old new
+    → (IsTrue mid.honest → layout_in mid.sectors (reads mid.content) ≡ Ok layout) → (IsTrue new.honest → in_use_in layout (reads new.content) ≡ Ok used)
+    → IsTrue old.honest → HasChosen old.sectors (reads old.content)
+chosen_after old mid new layout used first all laid_out in_use h =
+    (layout, used, layout_after old mid layout first laid_out h, found_after old new (in_use_in layout) used all in_use h)
 
 -- the parts of a journal on an image, as far as each was read
 pub no_layout : (sectors : ℕ) (image : Image) (met : Cause) → layout_in sectors image ≡ Err met → standing_in sectors image ≡ Err met
@@ -76,3 +87,13 @@ pub stands : (sectors : ℕ) (image : Image) (layout : Layout) (used : InUse) (p
     → standing_in sectors image ≡ Ok (record { layout = layout; area = used.area; epoch = used.header.epoch; used = log.used; number = log.number; state = log.state })
 unfolding standing_in
 stands sectors image layout used ports log laid_out area state is = rw (laid_out, area, state, is) refl
+
+no_read : (call : Call) → Read ≡ fault_of call → ⊥
+no_read (write sector octets) is = cc
+no_read sync is = cc
+
+-- a sync that failed ends a recovery
+pub recovery_failed : (T : Type 0) (told : DiskFault) (old new : Disk) → FailedIn (sync ∷ []) told old new → MakesRecovery {T = T} old new (Err (cause.Disk told))
+recovery_failed T Read old new failed = absurd (no_read failed.call failed.failed.kind)
+recovery_failed T Write old new failed = failed
+recovery_failed T Sync old new failed = failed

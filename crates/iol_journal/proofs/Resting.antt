@@ -1,12 +1,14 @@
 -- A recovery leaves a journal on a kept image at rest.
-use Rattle.std.proofs.Common.{◌≡◌, ℕ, nat_lt, Bool, true, false, if◌then◌else◌, IsTrue, Result, Ok, refl, sym, ◌∙◌, subst, arith}
+use Rattle.std.proofs.Common.{◌≡◌, ℕ, nat_lt, Bool, true, false, if◌then◌else◌, IsTrue, Result, Ok, refl, sym, ◌∙◌, ap, subst, arith}
 use Rattle.std.proofs.lemmas.Bool.Decides.{nat_tests}
 use Rattle.iol_disk.specs.Content.{Image, IsImage, reads}
+use Rattle.iol_types.specs.State.{State}
 use Rattle.iol_disk.specs.Disk.{Disk}
+use Rattle.iol_disk.proofs.Images.{reads-is_image}
 use Rattle.iol_journal.specs.Layout.{other, header_at}
 use Rattle.iol_journal.specs.Header.{header_of}
-use Rattle.iol_journal.specs.Meaning.{Cause, Standing, standing_in}
-use Rattle.iol_journal.specs.Kept.{IsIdle, IsKept, IsKeptAs}
+use Rattle.iol_journal.specs.Meaning.{Cause, ◌>>=◌, Standing, Meaning, standing_in}
+use Rattle.iol_journal.specs.Kept.{IsIdle, IsKept, IsKeptAs, KeptMeans, EachMeans}
 use Rattle.iol_journal.specs.Recoveries.{idle_in}
 use Rattle.iol_journal.specs.Underway.{IsAtRest}
 use Rattle.iol_journal.specs.declared.place.Idle.{Idle}
@@ -44,3 +46,28 @@ at_rest_after old new s idle sectors honest stands harmless only kept = λ h ima
     let so = subst (λ (how : Idle). IsKeptAs old.sectors s how (reads old.content)) (sym (harmless h')) found in
     let here = subst (λ (at : Image). IsKeptAs old.sectors s idle at) (sym (only h' image is)) so in
     subst (λ (n : ℕ). IsKeptAs n s idle image) (sym sectors) here
+
+-- what a standing means
+abbrev meaning_of : Standing → Result Meaning Cause
+meaning_of s = Ok (record { number = s.number; state = s.state })
+
+same_meaning : (m n : Meaning) → ◌≡◌ {A = Result Meaning Cause} (Ok m) (Ok n) → m ≡ n
+same_meaning m n is = cc
+
+-- on a disk all of whose images mean the same, what is found is that, and each image means it still
+pub means-after : (old new : Disk) (s : Standing) (idle : Idle) (number : ℕ) (state : State) → new.sectors ≡ old.sectors → new.honest ≡ old.honest
+    → (IsTrue old.honest → standing_in old.sectors (reads old.content) ≡ Ok s)
+    → (IsTrue old.honest → idle ≡ idle_in s (reads old.content))
+    → (IsTrue old.honest → (image : Image) → IsImage new.content image → image ≡ reads old.content)
+    → IsTrue old.honest → EachMeans old number state
+    → (s.number ≡ number) × (s.state ≡ state) × IsAtRest new s idle × EachMeans new number state
+means-after old new s idle number state sectors honest stands harmless only h each =
+    let here = each h (reads old.content) (reads-is_image old.content) in
+    let same = same_meaning (record { number = s.number; state = s.state }) (record { number = number; state = state })
+    (ap (λ (r : Result Standing Cause). r >>= meaning_of) (sym (stands h)) ∙ here.1) in (
+      ap (λ (m : Meaning). m.number) same,
+      ap (λ (m : Meaning). m.state) same,
+      at_rest_after old new s idle sectors honest stands harmless only (λ _. here.0),
+      λ h' image is. subst (λ (n : ℕ). KeptMeans n number state image) (sym sectors)
+          (subst (KeptMeans old.sectors number state) (sym (only h image is)) here),
+    )

@@ -1,10 +1,19 @@
--- Faults that say nothing of what a disk holds.
+-- What a fault of reading says of the disk.
+use Rattle.std.specs.Prelude.{◌≡◌, Result, Ok, Err}
 use Rattle.iol_disk.specs.Disk.{Disk, HasFailed}
+use Rattle.iol_disk.specs.declared.fault.DiskFault.{DiskFault}
+use Rattle.iol_disk.specs.declared.fault.DiskFault.TheVariants.{Read}
 use Rattle.iol_journal.specs.declared.cause.RecoverCause.{RecoverCause}
 use Rattle.iol_journal.specs.declared.cause.RecoverCause.TheVariants as cause
 
 -- the disk failed, or memory ran out
-abbrev pub IsFault : Disk → Disk → RecoverCause → Type 0
-IsFault old new (cause.Disk fault) = HasFailed old new
-IsFault old new cause.Memory = Unit {0}
-IsFault old new other = ⊥
+abbrev pub IsFault : RecoverCause → Type 0
+IsFault (cause.Disk fault) = Unit {0}
+IsFault cause.Memory = Unit {0}
+IsFault other = ⊥
+
+-- a fault of the disk is that of a read, and was counted; no other answer counts a failure
+abbrev pub Counted : {T : Type 0} → Disk → Disk → Result T RecoverCause → Type 0
+Counted old new (Ok x) = new.failures ≡ old.failures
+Counted old new (Err (cause.Disk fault)) = (fault ≡ Read) × HasFailed old new
+Counted old new (Err other) = new.failures ≡ old.failures

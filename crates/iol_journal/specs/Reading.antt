@@ -1,14 +1,14 @@
 -- What a function that reads a disk answers.
 use Rattle.std.specs.Prelude.{◌≡◌, IsTrue, Result, Ok, Err}
 use Rattle.iol_disk.specs.Content.{Image, reads}
-use Rattle.iol_disk.specs.Disk.{Disk, Same, HasFailed}
+use Rattle.iol_disk.specs.Disk.{Disk, Same}
 use Rattle.iol_journal.specs.Meaning.{Cause, unformatted, damaged}
 use Rattle.iol_journal.specs.declared.cause.RecoverCause.{RecoverCause}
 use Rattle.iol_journal.specs.declared.cause.RecoverCause.TheVariants as cause
 
--- a fault of the disk is told only where it failed, and another cause, of an honest disk, only where it is met
+-- a cause, of an honest disk, is the first that reading meets; of a failed call and of memory `Counted` and `HasChosen` speak
 abbrev pub IsCause : {Y : Type 0} → Disk → Disk → (Image → Result Y Cause) → RecoverCause → Type 0
-IsCause old new read (cause.Disk fault) = HasFailed old new
+IsCause old new read (cause.Disk fault) = Unit {0}
 IsCause old new read cause.NotFormatted = IsTrue old.honest → read (reads old.content) ≡ Err unformatted
 IsCause old new read (cause.Damaged sector) = IsTrue old.honest → read (reads old.content) ≡ Err (damaged sector)
 IsCause old new read cause.Memory = Unit {0}

@@ -1,7 +1,8 @@
-ghost use Rattle.std.specs.Prelude.{◌≡◌, ◌<◌, ◌≤◌, ◌+◌, Some, None, IsTrue, IfOk, if◌then◌else◌};
+ghost use Rattle.std.specs.Prelude.{◌≡◌, ◌<◌, ◌≤◌, ◌+◌, Some, None, Err, IsTrue, IfOk, if◌then◌else◌};
 ghost use Rattle.iol_disk.specs.Content.{reads};
 ghost use Rattle.iol_disk.specs.Disk.{Same, FailsOnlyAs};
 ghost use Rattle.iol_disk.specs.declared.fault.DiskFault.{DiskFault};
+ghost use Rattle.iol_journal.specs.Faults.{Counted};
 ghost use Rattle.iol_journal.specs.Layout.{other, total, header_at};
 ghost use Rattle.iol_journal.specs.Header.{header_of};
 ghost use Rattle.iol_journal.specs.Meaning.{layout_in, greatest, in_use, in_use_in};
@@ -20,6 +21,8 @@ use iol_disk::{DiskFault, SectorDisk};
 pub fn find_layout<D: SectorDisk>(disk: &mut D) -> Result<Layout, RecoverCause>
     ensures fits { IfOk result (λ layout. total layout ≤ (D.disk disk.old).sectors) }
     ensures finds { Finds (λ layout. layout) (D.disk disk.old) (D.disk disk.new) (layout_in (D.disk disk.old).sectors) result }
+    ensures counted { Counted (D.disk disk.old) (D.disk disk.new) result }
+    ensures takes_no_memory { result ≡ Err RecoverCause.Memory → ⊥ }
     ensures same { Same (D.disk disk.old) (D.disk disk.new) }
 {
     let sectors = disk.sectors();
@@ -54,6 +57,8 @@ pub fn find_areas<D: SectorDisk>(disk: &mut D, layout: Layout) -> Result<Areas, 
     ensures other { IfOk result (λ areas. IsTrue (D.disk disk.old).honest
         → areas.other ≡ header_of (reads (D.disk disk.old).content (header_at layout (other areas.in_use.area)))) }
     ensures base { IfOk result (λ areas. areas.in_use.header.base ≤ LAST_NUMBER) }
+    ensures counted { Counted (D.disk disk.old) (D.disk disk.new) result }
+    ensures takes_no_memory { result ≡ Err RecoverCause.Memory → ⊥ }
     ensures same { Same (D.disk disk.old) (D.disk disk.new) }
 {
     let open_a = gate(layout.gate(Area::A)).is_open(disk)?;

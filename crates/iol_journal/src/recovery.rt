@@ -1,11 +1,11 @@
-ghost use Rattle.std.specs.Prelude.{◌≡◌, ◌≤◌, IsTrue, IfOk, OnOk};
+ghost use Rattle.std.specs.Prelude.{◌≡◌, ◌≤◌, Err, IsTrue, IfOk, OnOk};
 ghost use Rattle.iol_disk.specs.Content.{Image, IsImage, reads};
 ghost use Rattle.iol_disk.specs.Moments.{LeavesOnly};
 ghost use Rattle.iol_journal.specs.Journals.{standing_at};
 ghost use Rattle.iol_journal.specs.Layout.{total};
 ghost use Rattle.iol_journal.specs.Meaning.{standing_in};
 ghost use Rattle.iol_journal.specs.Reading.{Finds};
-ghost use Rattle.iol_journal.specs.Recoveries.{idle_in};
+ghost use Rattle.iol_journal.specs.Recoveries.{HasChosen, MakesRecovery, idle_in};
 ghost use Rattle.iol_journal.specs.declared.header.TheConstants.{LAST_NUMBER};
 
 use crate::cause::RecoverCause;
@@ -35,11 +35,12 @@ struct Found {
 }
 
 impl<D: SectorDisk> Journal<D> {
-    ghost use Rattle.std.specs.Prelude.{◌≡◌, Ok, IsTrue, IfOk, IfErr};
-    ghost use Rattle.iol_journal.specs.Kept.{IsKept};
+    ghost use Rattle.std.specs.Prelude.{◌≡◌, ℕ, Ok, IsTrue, IfOk, IfErr};
+    ghost use Rattle.iol_types.specs.State.{State};
+    ghost use Rattle.iol_journal.specs.Kept.{IsKept, EachMeans};
     ghost use Rattle.iol_journal.specs.Underway.{IsAtRest};
     ghost use Rattle.iol_journal.specs.Reading.{IsCause};
-    ghost use Rattle.iol_journal.specs.Recoveries.{disk_of};
+    ghost use Rattle.iol_journal.specs.Recoveries.{disk_of, cause_of};
 
     /// Finds the journal that a disk holds, and the state after its commands. It begins with a sync, and writes nothing.
     ///
@@ -55,6 +56,15 @@ impl<D: SectorDisk> Journal<D> {
             → IsAtRest (D.disk found.0.disk) found.0.standing found.0.idle) }
         ensures idle { IfOk result (λ found. IsTrue (D.disk disk).honest → found.0.idle ≡ idle_in found.0.standing (reads (D.disk disk).content)) }
         ensures cause { IfErr result (λ fault. IsCause (D.disk disk) (D.disk fault.disk) (standing_in (D.disk disk).sectors) fault.cause) }
+        // It makes one sync and reads, and a fault is that of the call that failed.
+        ensures makes { MakesRecovery (D.disk disk) (D.disk (disk_of result)) (cause_of result) }
+        // Memory is asked for only behind a sound geometry and an area in use.
+        ensures memory { IfErr result (λ fault. fault.cause ≡ RecoverCause.Memory → IsTrue (D.disk disk).honest
+            → HasChosen (D.disk disk).sectors (reads (D.disk disk).content)) }
+        // Where all images mean the same, that is what is found, and each image means it still.
+        ensures means { IfOk result (λ found. (number : ℕ) (state : State) → IsTrue (D.disk disk).honest → EachMeans (D.disk disk) number state
+            → (found.0.standing.number ≡ number) × (found.0.standing.state ≡ state)
+            × IsAtRest (D.disk found.0.disk) found.0.standing found.0.idle × EachMeans (D.disk found.0.disk) number state) }
         // No image is added.
         ensures any_moment { LeavesOnly (D.disk disk) (D.disk (disk_of result)) (IsImage (D.disk disk).content) }
     {
@@ -71,6 +81,9 @@ impl<D: SectorDisk> Journal<D> {
 
 // Syncs, and reads in the order of the layout.
 fn find<D: SectorDisk>(alloc: Global, disk: &mut D) -> Result<Found, RecoverCause>
+    ensures makes { MakesRecovery (D.disk disk.old) (D.disk disk.new) result }
+    ensures memory { result ≡ Err RecoverCause.Memory → IsTrue (D.disk disk.old).honest
+        → HasChosen (D.disk disk.old).sectors (reads (D.disk disk.old).content) }
     ensures finds { Finds (λ found. standing_at found.place found.number found.state) (D.disk disk.old) (D.disk disk.new)
         (standing_in (D.disk disk.old).sectors) result }
     ensures idle { IfOk result (λ found. IsTrue (D.disk disk.old).honest

@@ -3,7 +3,7 @@ ghost use Rattle.std.specs.Option.{option_map};
 ghost use Rattle.iol_disk.specs.Content.{reads};
 ghost use Rattle.iol_disk.specs.Disk.{Same};
 ghost use Rattle.iol_journal.specs.Body.{batch_of, commands_of};
-ghost use Rattle.iol_journal.specs.Faults.{IsFault};
+ghost use Rattle.iol_journal.specs.Faults.{Counted, IsFault};
 ghost use Rattle.iol_journal.specs.Layout.{total};
 ghost use Rattle.iol_journal.specs.Meaning.{log_from};
 ghost use Rattle.iol_journal.specs.Octets.{octets_at};
@@ -44,6 +44,7 @@ pub fn replay_slots<D: SectorDisk>(
     requires base { header.base ≤ LAST_NUMBER }
     ensures finds { Finds (λ end. record { used = end.used; number = end.number; state = state.new }) (D.disk disk.old) (D.disk disk.new)
         (λ image. log_from layout area header.epoch image 0 layout.slots header.base state.old) result }
+    ensures counted { Counted (D.disk disk.old) (D.disk disk.new) result }
     ensures within { IfOk result (λ end. (end.used ≤ layout.slots) × (header.base + end.used ≤ end.number) × (end.number ≤ LAST_NUMBER)) }
     ensures same { Same (D.disk disk.old) (D.disk disk.new) }
 {
@@ -79,7 +80,8 @@ fn read_body<D: SectorDisk>(
         → batch_of epoch first body.new.items ≡ batch_of epoch first (octets_at (reads (D.disk disk.old).content) slot.body BODY_SECTORS)) }
     ensures holds { OnOk result (IsTrue (D.disk disk.old).honest → HoldsRecords body.new.items) }
     ensures some { OnOk result (512 ≤ length body.new.items) }
-    ensures fault { IfErr result (IsFault (D.disk disk.old) (D.disk disk.new)) }
+    ensures fault { IfErr result IsFault }
+    ensures counted { Counted (D.disk disk.old) (D.disk disk.new) result }
     ensures same { Same (D.disk disk.old) (D.disk disk.new) }
 {
     body.clear();
@@ -104,7 +106,8 @@ fn push_sector<D: SectorDisk>(
     requires fits { slot.body + slot.sectors ≤ (D.disk disk.old).sectors }
     ensures pushed { OnOk result (IsTrue (D.disk disk.old).honest → body.new.items ≡ body.old.items ++ reads (D.disk disk.old).content (slot.body + j)) }
     ensures longer { OnOk result (length body.new.items ≡ length body.old.items + 512) }
-    ensures fault { IfErr result (IsFault (D.disk disk.old) (D.disk disk.new)) }
+    ensures fault { IfErr result IsFault }
+    ensures counted { Counted (D.disk disk.old) (D.disk disk.new) result }
     ensures same { Same (D.disk disk.old) (D.disk disk.new) }
 {
     let mut octets = [0; SECTOR_OCTETS];

@@ -1,5 +1,6 @@
 ghost use Rattle.std.specs.Prelude.{◌≡◌, ◌≤◌, length, IfOk};
 ghost use Rattle.iol_disk.specs.Disk.{Same};
+ghost use Rattle.iol_journal.specs.Faults.{Counted};
 ghost use Rattle.iol_journal.specs.Layout.{total};
 ghost use Rattle.iol_journal.specs.Meaning.{ports_from};
 ghost use Rattle.iol_journal.specs.Reading.{Finds};
@@ -22,6 +23,7 @@ pub fn read_ports<D: SectorDisk>(
 ) -> Result<MasterState, RecoverCause>
     requires { total layout ≤ (D.disk disk.old).sectors }
     ensures finds { Finds (λ state. state) (D.disk disk.old) (D.disk disk.new) (λ image. ports_from layout area image 0 layout.ports) result }
+    ensures counted { Counted (D.disk disk.old) (D.disk disk.new) result }
     ensures ports { IfOk result (λ state. length state ≡ layout.ports) }
     ensures same { Same (D.disk disk.old) (D.disk disk.new) }
 {

@@ -1,4 +1,4 @@
-use Rattle.std.proofs.Common.{◌≡◌, ◌*◌, length, IsTrue, arith, w32}
+use Rattle.std.proofs.Common.{◌≡◌, ◌*◌, length, IsTrue, ◌∙◌, arith, w32}
 use Rattle.iol_disk.specs.Content.{reads}
 use Rattle.iol_journal.specs.Octets.{octets_at, number_at}
 use Rattle.iol_journal.proofs.Readings.{same-then}
@@ -9,6 +9,7 @@ use Rattle.iol_journal.proofs.replay.read_body.Goals as goal
 pub loop-j-init : goal.loop-j-init
 loop-j-init g c = record {
   same = c.push_sector.ensures.same;
+  quiet = c.in_ok-push_sector.ensures.counted;
   whole = omega (arith, c.in_ok-push_sector.ensures.longer, c.clear.ensures.len);
   read = first_read (g.D.SectorDisk.disk c.args.disk.now) c.args.slot.body c.clear.new.self.items c.push_sector.new.body.items c.clear.ensures.items c.in_ok-push_sector.ensures.pushed;
 }
@@ -16,6 +17,7 @@ loop-j-init g c = record {
 pub loop-j-preserved : goal.loop-j-preserved
 loop-j-preserved g c = record {
   same = same-then _ _ _ c.loop-j.invariant.same c.push_sector-in-loop-j.ensures.same;
+  quiet = c.in_ok-push_sector-2.ensures.counted ∙ c.loop-j.invariant.quiet;
   whole = omega (arith, c.in_ok-push_sector-2.ensures.longer, c.loop-j.invariant.whole);
   read = one_more (g.D.SectorDisk.disk c.args.disk.now) (g.D.SectorDisk.disk c.loop-j.disk) c.args.slot.body c.loop-j.j c.loop-j.body.items c.push_sector-in-loop-j.new.body.items
       c.loop-j.invariant.same c.loop-j.invariant.read c.in_ok-push_sector-2.ensures.pushed;

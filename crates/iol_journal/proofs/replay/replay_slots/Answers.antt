@@ -1,4 +1,4 @@
-use Rattle.std.proofs.Common.{◌≡◌, ◌+◌, ◌-◌, ℕ, Ok, true, false, ap, ◌∙◌, sym, arith, rules}
+use Rattle.std.proofs.Common.{◌≡◌, ◌+◌, ◌-◌, ℕ, Ok, true, false, ap, ◌∙◌, refl, sym, arith, rules}
 use Rattle.iol_disk.specs.Content.{reads}
 use Rattle.iol_journal.specs.Layout.{slot_at, body_at}
 use Rattle.iol_journal.specs.Meaning.{Log, log_from}
@@ -10,6 +10,7 @@ use Rattle.iol_journal.proofs.replay.replay_slots.Goals as goal
 pub loop-used-init : goal.loop-used-init
 loop-used-init g c = record {
   same = search rules;
+  quiet = refl;
   later = omega arith;
   bound = c.requires.base;
   read = λ h left is.
@@ -28,6 +29,7 @@ loop-used-preserved g c =
     same c.slot-slot.ensures.body c.in_ok-read_body.ensures.reads in
     record {
       same = same-then _ _ _ same c.read_body.ensures.same;
+      quiet = c.in_ok-read_body.ensures.counted ∙ c.in_ok-is_open.ensures.fault ∙ kept.quiet;
       later = omega (arith, kept.later, c.in-Some.ensures.later);
       bound = omega (arith, c.in-Some.ensures.later);
       read = λ h left is.

@@ -8,6 +8,7 @@ use Rattle.iol_journal.proofs.replay.replay_slots.Given as goal
 abbrev pub invariant-loop-used : goal.invariant-loop-used
 invariant-loop-used g l = record {
   same : Same (g.D.SectorDisk.disk l.fn.disk) (g.D.SectorDisk.disk l.disk);
+  quiet : (g.D.SectorDisk.disk l.disk).failures ≡ (g.D.SectorDisk.disk l.fn.disk).failures;
   later : l.fn.header.base + l.used ≤ l.number;
   bound : l.number ≤ LAST_NUMBER;
   read : IsTrue (g.D.SectorDisk.disk l.fn.disk).honest → (left : ℕ) → left + l.used ≡ l.fn.layout.slots

@@ -1,4 +1,4 @@
-use Rattle.std.proofs.Common.{◌≡◌, ◌+◌, ◌-◌, ◌<◌, ℕ, Ok, length, take, set, ap, ◌∙◌, sym, arith, rules}
+use Rattle.std.proofs.Common.{◌≡◌, ◌+◌, ◌-◌, ◌<◌, ℕ, Ok, length, take, set, ap, ◌∙◌, refl, sym, arith, rules}
 use Rattle.std.proofs.Math.Seq.{take-length}
 use Rattle.std.proofs.lemmas.Grind.{common_steps}
 use Rattle.std.proofs.lemmas.List.{take_more_set, length-set}
@@ -13,6 +13,7 @@ use Rattle.iol_journal.proofs.snapshot.read_ports.Goals as goal
 pub loop-place-init : goal.loop-place-init
 loop-place-init g c = record {
   same = search rules;
+  quiet = refl;
   ports = grind (arith, common_steps);
   read = λ h left is.
       let all : left ≡ c.args.layout.ports = omega arith in
@@ -31,6 +32,7 @@ loop-place-preserved g c =
     let whole : length c.in_ok-octets.octets ≡ 512 = search rules in
     record {
       same = same-then _ _ _ kept.same c.read_sector.ensures.same;
+      quiet = c.in_ok-octets.ensures.fault ∙ kept.quiet;
       ports = ap (λ (state : State). length state) stored ∙ length-set c.loop-place.state c.loop-place.place c.in-Ok.port ∙ kept.ports;
       read = λ h left is.
           let here = sector_read old (g.D.SectorDisk.disk c.loop-place.disk) (port_at c.args.layout c.args.area c.loop-place.place) c.port-sector.result c.in_ok-octets.octets

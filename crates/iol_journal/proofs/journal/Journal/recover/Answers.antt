@@ -1,5 +1,5 @@
 use Rattle.iol_journal.specs.Journals.{standing_at}
-use Rattle.iol_journal.proofs.Resting.{at_rest_after}
+use Rattle.iol_journal.proofs.Resting.{at_rest_after, means-after}
 use Rattle.iol_journal.proofs.journal.Journal.recover.Goals as goal
 
 pub returns-in-Ok-clause-at_rest : goal.returns-in-Ok-clause-at_rest
@@ -9,3 +9,11 @@ returns-in-Ok-clause-at_rest g c = λ kept.
     rw (c.at_rest-journal.ensures.disk, c.at_rest-journal.ensures.standing, c.at_rest-journal.ensures.idle)
     (at_rest_after (g.D.SectorDisk.disk c.args.disk) (g.D.SectorDisk.disk c.find.new.disk) (standing_at found.place found.number found.state) found.place.idle
     read.any_moment.sectors read.any_moment.honest read.finds read.idle read.settled kept)
+
+pub returns-in-Ok-clause-means : goal.returns-in-Ok-clause-means
+returns-in-Ok-clause-means g c = λ number state h each.
+    let found = c.in-Ok.found in
+    let read = c.in-Ok.ensures in
+    rw (c.at_rest-journal.ensures.disk, c.at_rest-journal.ensures.standing, c.at_rest-journal.ensures.idle)
+    (means-after (g.D.SectorDisk.disk c.args.disk) (g.D.SectorDisk.disk c.find.new.disk) (standing_at found.place found.number found.state) found.place.idle number state
+    read.any_moment.sectors read.any_moment.honest read.finds read.idle read.settled h each)
