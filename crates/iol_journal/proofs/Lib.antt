@@ -6,6 +6,7 @@ pub mod Frames
 pub mod Bodies
 pub mod Phases
 pub mod BatchCalls
+pub mod JournalLaws
 pub mod Steps
 pub mod Replays
 pub mod Readings

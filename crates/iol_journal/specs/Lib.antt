@@ -17,4 +17,5 @@ pub mod Formats
 pub mod Faults
 pub mod Replays
 pub mod Orders
+pub mod Examples
 pub mod Plain

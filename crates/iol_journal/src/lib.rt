@@ -7,8 +7,9 @@
 //!
 //! Modules in reading order: where things stand (`area`, `geometry`, `layout`, `header`, `place`), what stands there
 //! (`numbers`, `batch`, `body`), reading it (`cause`, `reading`, `opening`, `snapshot`, `replay`, `recovery`), and
-//! writing it (`formatting`, `journal`, `phase`, `calls`, `writing`). What an image of a disk means is said in
-//! `specs/Meaning.antt`.
+//! writing it (`formatting`, `journal`, `phase`, `calls`, `writing`); then `laws`, for proofs of other crates, and
+//! `examples`, facts with values of the layout. What an image of a disk means is said in `specs/Meaning.antt`. [`Area`],
+//! [`Head`], [`Header`], [`Idle`], [`InUse`] and [`Phase`] are what contracts show of a journal.
 #![tactic(auto)]
 
 mod area;
@@ -16,10 +17,12 @@ mod batch;
 mod body;
 mod calls;
 mod cause;
+pub mod examples;
 mod formatting;
 mod geometry;
 mod header;
 mod journal;
+pub mod laws;
 mod layout;
 mod numbers;
 mod opening;
@@ -32,11 +35,17 @@ mod sector;
 mod snapshot;
 mod writing;
 
+pub use area::Area;
 pub use batch::Batch;
+pub use body::Head;
 pub use cause::RecoverCause;
 pub use formatting::{FormatFault, format};
 pub use geometry::Geometry;
+pub use header::{Header, LAST_NUMBER};
 pub use journal::{BeginCause, BeginFault, Journal};
+pub use opening::InUse;
+pub use phase::Phase;
+pub use place::Idle;
 pub use recovery::RecoverFault;
 pub use writing::{Progress, Writing, Written};
 

@@ -1,0 +1,55 @@
+-- The laws of journals, for proofs of other crates.
+use Rattle.std.proofs.Common.{◌≡◌, ◌⊎◌, ◌≤◌, ◌<◌, ◌==◌, nat_lt, if◌then◌else◌, Bool, true, false, IsTrue, ℕ, List, length, Option, Some, None, inl, inr, refl, sym, ◌∙◌, ap, arith}
+use Rattle.std.proofs.lemmas.Bool.Decides.{nat_tests}
+use Rattle.iol_types.specs.Command.{CommandValue}
+use Rattle.iol_disk.specs.Content.{Image, Content, IsImage}
+use Rattle.iol_disk.specs.Disk.{Disk}
+use Rattle.iol_slots.specs.Gate.{is_open}
+use Rattle.iol_journal.specs.Batches.{body_for, sectors_for}
+use Rattle.iol_journal.specs.Begin.{follows, refusal}
+use Rattle.iol_journal.specs.Journals.{WritingView, with_batch}
+use Rattle.iol_journal.specs.Kept.{KeptEither, EachMeans}
+use Rattle.iol_journal.specs.Layout.{slot_at}
+use Rattle.iol_journal.specs.Meaning.{Standing}
+use Rattle.iol_journal.specs.Underway.{IsAtRest, IsUnderway, IsBetween, Holds}
+use Rattle.iol_journal.specs.declared.batch.TheConstants.{MOST_COMMANDS}
+use Rattle.iol_journal.specs.declared.journal.BeginCause.TheVariants.{NeedsCheckpoint}
+use Rattle.iol_journal.specs.declared.place.Idle.{Idle}
+use Rattle.iol_journal.specs.declared.phase.Phase.{Phase}
+use Rattle.iol_journal.specs.declared.phase.Phase.TheVariants.{Body, SyncBody, Gate, SyncGate}
+use Rattle.iol_journal.proofs.Chains.{by_test}
+use Rattle.iol_journal.proofs.Frames.{kept_means}
+
+-- with its gate open the slot counts, with its gate closed it does not
+pub between_means_either : (size : ℕ) (s : Standing) (idle : Idle) (commands : List CommandValue) (image : Image)
+    → IsBetween size s idle commands image → KeptEither size s.number s.state commands image
+between_means_either size s idle commands image between = by_test (is_open (image (slot_at s.layout s.area s.used))) _
+    (λ opened. inr (kept_means size (with_batch s commands) idle image (between.1 opened)))
+    (λ closed. inl (kept_means size s idle image (between.0 closed)))
+
+-- before the call of each phase
+holds_means_either : (size : ℕ) (s : Standing) (idle : Idle) (commands : List CommandValue) (body : List ℕ) (sectors : ℕ) (p : Phase) (c : Content)
+    → Holds size s idle commands body sectors p c → (image : Image) → IsImage c image → KeptEither size s.number s.state commands image
+holds_means_either size s idle commands body sectors (Body j) c holds image is = inl (kept_means size s idle image (holds.0 image is))
+holds_means_either size s idle commands body sectors SyncBody c holds image is = inl (kept_means size s idle image (holds.0 image is))
+holds_means_either size s idle commands body sectors Gate c holds image is = inl (kept_means size s idle image (holds.0 image is))
+holds_means_either size s idle commands body sectors SyncGate c holds image is = between_means_either size s idle commands image (holds.0 image is)
+
+-- while a batch is under way each image means the state before it or after it
+pub underway_means_either : {D : Type 0} (disk : D → Disk) (w : WritingView D) → IsUnderway disk w → IsTrue (disk w.disk).honest
+    → (image : Image) → IsImage (disk w.disk).content image → KeptEither (disk w.disk).sectors w.standing.number w.standing.state w.commands image
+underway_means_either disk w under h =
+    holds_means_either (disk w.disk).sectors w.standing w.idle w.commands (body_for w.standing w.commands) (sectors_for w.standing w.commands) w.phase (disk w.disk).content (under h)
+
+-- a journal at rest means its number and state
+pub rest_means_its_state : (d : Disk) (s : Standing) (idle : Idle) → IsAtRest d s idle → EachMeans d s.number s.state
+rest_means_its_state d s idle rests h image is = kept_means d.sectors s idle image (rests h image is)
+
+-- a batch that goes on where the journal stands wants a slot, or nothing
+pub following_batch_wants_a_slot : (s : Standing) (first : ℕ) (commands : List CommandValue) → length commands ≤ MOST_COMMANDS → follows s first commands ≡ true
+    → (refusal s first commands ≡ None) ⊎ ((refusal s first commands ≡ Some NeedsCheckpoint) × (s.used ≡ s.layout.slots))
+following_batch_wants_a_slot s first commands most goes_on =
+    let small : nat_lt MOST_COMMANDS (length commands) ≡ false = grind (arith, nat_tests) in
+    by_test (s.used == s.layout.slots) _
+    (λ full. inr (rw (small, full) refl, grind (arith, nat_tests)))
+    (λ free. inl (rw (small, free, goes_on) refl))
