@@ -34,6 +34,7 @@ pub use batch::Batch;
 pub use cause::RecoverCause;
 pub use formatting::{FormatFault, format};
 pub use geometry::Geometry;
+pub use header::LAST_NUMBER;
 pub use journal::{BeginCause, BeginFault, Journal};
 pub use recovery::RecoverFault;
 pub use writing::{Progress, Writing, Written};
