@@ -1,5 +1,5 @@
 -- The disk of a run.
-use Rattle.std.specs.Prelude.{◌≡◌, Bool, true, false, List, ℕ}
+use Rattle.std.specs.Prelude.{◌≡◌, Bool, true, false, List}
 use Rattle.iol_types.specs.Command.{CommandValue}
 use Rattle.iol_journal.specs.Journals.{JournalView, with_batch}
 use Rattle.iol_journal.specs.Meaning.{Standing}
