@@ -1,6 +1,11 @@
 //! The run of a script on one thread, over a disk that is empty at first.
-ghost use Rattle.std.specs.Prelude.{◌≡◌, IfErr};
+ghost use Rattle.std.specs.Prelude.{◌≡◌, true, false, Ok, IfOk, IfErr, OnOk};
+ghost use Rattle.iol_types.specs.Command.{value_of};
 ghost use Rattle.iol_tool.specs.Fault.{status_of};
+ghost use Rattle.iol_tool.specs.Queue.{answer, refusal, waiting_after};
+ghost use Rattle.iol_tool.specs.Store.{has_failed};
+ghost use Rattle.iol_tool.specs.declared.event.Event.TheVariants.{Refused};
+ghost use Rattle.iol_tool.specs.declared.event.Refusal.TheVariants.{Stopped};
 
 use crate::disk::{Stoppable, pick_of};
 use crate::event::{Event, Refusal};
@@ -62,7 +67,10 @@ fn submit<D: SectorDisk>(
     queue: &mut Queue,
     command: Command,
 ) -> Result<Event, Fault<'static>>
-    ensures { IfErr result (λ fault. status_of fault ≡ 1) }
+    ensures stopped { has_failed store.now ≡ true → (result ≡ Ok (Refused Stopped)) × (queue.new ≡ queue.old) }
+    ensures event { has_failed store.now ≡ false → IfOk result (λ event. event ≡ answer (refusal queue.old (value_of command)) queue.old) }
+    ensures queue { has_failed store.now ≡ false → OnOk result (queue.new ≡ waiting_after (refusal queue.old (value_of command)) queue.old (value_of command)) }
+    ensures status { IfErr result (λ fault. status_of fault ≡ 1) }
 {
     if store.has_failed() {
         Ok(Event::Refused(Refusal::Stopped))
