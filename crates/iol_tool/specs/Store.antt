@@ -13,6 +13,11 @@ abbrev pub has_failed : {D : Type 0} → Store D → Bool
 has_failed (Journal journal) = false
 has_failed (Failed disk) = true
 
+-- the disk itself
+abbrev pub disk_of : {D : Type 0} → Store D → D
+disk_of (Journal journal) = journal.disk
+disk_of (Failed disk) = disk
+
 -- a fact of the journal, unless a disk call has failed
 abbrev pub IfWorks : {D : Type 0} → Store D → (JournalView D → Type 0) → Type 0
 IfWorks (Journal journal) P = P journal

@@ -18,7 +18,7 @@ pub enum Store<D: SectorDisk> {
 
 impl<D: SectorDisk> Store<D> {
     ghost use Rattle.std.specs.Prelude.{◌≡◌};
-    ghost use Rattle.iol_tool.specs.Store.{has_failed};
+    ghost use Rattle.iol_tool.specs.Store.{disk_of, has_failed};
 
     /// Whether a disk call has failed.
     pub fn has_failed(&self) -> bool
@@ -28,7 +28,9 @@ impl<D: SectorDisk> Store<D> {
     }
 
     // The disk, to be recovered again.
-    fn into_disk(self) -> D {
+    fn into_disk(self) -> D
+        ensures { result ≡ disk_of self }
+    {
         match self {
             Store::Journal(journal) => journal.disk(),
             Store::Failed(disk) => disk,
