@@ -5,11 +5,12 @@ use Rattle.iol_types.specs.State.{State, check, apply}
 use Rattle.iol_types.specs.declared.command.CommandFault.{CommandFault}
 use Rattle.iol_types.specs.declared.command.CommandFault.TheVariants as fault
 use Rattle.iol_journal.specs.declared.batch.Batch.{Batch}
+use Rattle.iol_journal.specs.declared.header.TheConstants.{LAST_NUMBER}
 use Rattle.iol_tool.specs.declared.event.Event.{Event}
 use Rattle.iol_tool.specs.declared.event.Event.TheVariants.{Accepted, Refused}
 use Rattle.iol_tool.specs.declared.event.Refusal.{Refusal}
 use Rattle.iol_tool.specs.declared.event.Refusal.TheVariants.{UnknownPort, RevisionSpent, QueueFull, Exhausted}
-use Rattle.iol_tool.specs.declared.queue.TheConstants.{QUEUE_COMMANDS, LAST_NUMBER}
+use Rattle.iol_tool.specs.declared.queue.TheConstants.{QUEUE_COMMANDS}
 
 -- commands that are written together, and the number of the first
 pub record Numbered : Type 0 where
