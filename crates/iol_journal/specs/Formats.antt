@@ -9,10 +9,6 @@ use Rattle.iol_journal.specs.Kept.{KeptMeans}
 use Rattle.iol_journal.specs.declared.formatting.FormatFault.{FormatFault}
 use Rattle.iol_journal.specs.declared.formatting.FormatFault.TheVariants.{TooSmall, AlreadyFormatted, Memory, Disk as DiskFailed}
 
-abbrev pub IfDisk : FormatFault → Type 0 → Type 0
-IfDisk (DiskFailed fault) P = P
-IfDisk fault P = Unit {0}
-
 -- the refusals that come before anything is written
 abbrev pub IfUntouched : FormatFault → Type 0 → Type 0
 IfUntouched (DiskFailed fault) P = Unit {0}
