@@ -4,3 +4,4 @@ pub mod Written
 pub mod Settled
 pub mod Syncs
 pub mod Orders
+pub mod DiskLaws

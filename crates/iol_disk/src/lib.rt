@@ -5,6 +5,8 @@
 //! be stopped: a [`Pick`] says what the stop leaves of the sectors that no sync has settled.
 //!
 //! Read `disk` first, then `memory`; `specs/Content.antt` has the words.
+//!
+//! Proofs of other crates cite the laws of `proofs/DiskLaws.antt`.
 #![tactic(auto)]
 
 mod cell;

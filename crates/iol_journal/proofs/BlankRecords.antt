@@ -3,7 +3,7 @@ use Rattle.std.proofs.Common.{◌≡◌, ℕ, List, ◌++◌, Option, Some, ◌�
 use Rattle.iol_types.specs.State.{Port, State, blank, empty_state, port_at}
 use Rattle.iol_record.specs.Record.{IsPortRecord}
 use Rattle.iol_record.specs.Reading.{port_record_at}
-use Rattle.iol_record.proofs.Records.{port_record_at-record}
+use Rattle.iol_record.proofs.RecordLaws.{port_record_at-record}
 use Rattle.iol_journal.specs.Meaning.{port_of}
 use Rattle.iol_journal.proofs.EmptyParts.{IsBlankRecord}
 

@@ -10,7 +10,7 @@ use Rattle.iol_types.specs.Command.{CommandValue, value_of}
 use Rattle.iol_types.specs.declared.command.Command.{Command}
 use Rattle.iol_record.specs.Record.{IsCommandRecord, command_octets}
 use Rattle.iol_record.specs.Reading.{command_at}
-use Rattle.iol_record.proofs.Records.{command_at-record}
+use Rattle.iol_record.proofs.RecordLaws.{command_at-record}
 use Rattle.iol_disk.specs.Content.{Image}
 use Rattle.iol_journal.specs.Octets.{number_at, octets_at, padded, sectors_reached}
 use Rattle.iol_journal.specs.Journals.{values}

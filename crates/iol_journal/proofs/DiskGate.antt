@@ -4,10 +4,9 @@ use Rattle.std.specs.List.{range_with_len}
 use Rattle.iol_types.specs.State.{empty_state}
 use Rattle.iol_disk.specs.Content.{Image, Content, IsImage, reads, wrote, synced}
 use Rattle.iol_disk.specs.Calls.{Call, write, sync, content_after, content_after_all}
-use Rattle.iol_disk.proofs.Images.{reads-is_image, image-wrote, image-synced, reads-wrote_here, reads-wrote_other}
-use Rattle.iol_disk.proofs.Orders.{HasOnTheWay}
+use Rattle.iol_disk.proofs.DiskLaws.{reads-is_image, image-wrote, image-synced, reads-wrote_here, reads-wrote_other, HasOnTheWay}
 use Rattle.iol_slots.specs.Gate.{is_open, open_gate}
-use Rattle.iol_slots.proofs.Gates.{is_open-open_gate}
+use Rattle.iol_slots.proofs.SlotLaws.{is_open-open_gate}
 use Rattle.iol_journal.specs.Geometry.{Geometry}
 use Rattle.iol_journal.specs.Layout.{layout_of, total}
 use Rattle.iol_journal.specs.Kept.{KeptMeans}

@@ -5,7 +5,7 @@ use Rattle.std.proofs.lemmas.Bool.Decides.{nat_tests}
 use Rattle.iol_types.specs.State.{State, blank, empty_state}
 use Rattle.iol_disk.specs.Content.{Image}
 use Rattle.iol_slots.specs.Gate.{is_open, closed_gate}
-use Rattle.iol_slots.proofs.Gates.{is_open-closed_gate}
+use Rattle.iol_slots.proofs.SlotLaws.{is_open-closed_gate}
 use Rattle.iol_journal.specs.Geometry.{Geometry}
 use Rattle.iol_journal.specs.Layout.{layout_of, total, gate_at, header_at, port_at, slot_at}
 use Rattle.iol_journal.specs.Octets.{octets_at}

@@ -3,7 +3,7 @@ use Rattle.std.proofs.Common.{◌≡◌, ◌≢◌, ◌<◌, ℕ, ◌+◌, List,
 use Rattle.std.proofs.lemmas.Bool.{cases_lt}
 use Rattle.std.proofs.lemmas.Bool.Decides.{eqb_tells}
 use Rattle.iol_disk.specs.Content.{Content, reads, wrote}
-use Rattle.iol_disk.proofs.Images.{reads-wrote_here, reads-wrote_other}
+use Rattle.iol_disk.proofs.DiskLaws.{reads-wrote_here, reads-wrote_other}
 use Rattle.iol_journal.proofs.EmptyParts.{HasFilled}
 
 pub filled-none : (place : ℕ → ℕ) (octets : List ℕ) (c : Content) → HasFilled place octets 0 (reads c) (reads c)

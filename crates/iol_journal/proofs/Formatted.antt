@@ -6,10 +6,8 @@ use Rattle.iol_disk.specs.Disk.{Disk, After, Same, WroteSome}
 use Rattle.iol_disk.specs.Moments.{LeavesOnly}
 use Rattle.iol_disk.specs.declared.fault.DiskFault.{DiskFault}
 use Rattle.iol_disk.specs.declared.fault.DiskFault.TheVariants.{Read, Write, Sync}
-use Rattle.iol_disk.proofs.Images.{image-synced, reads-wrote_other}
+use Rattle.iol_disk.proofs.DiskLaws.{image-synced, reads-wrote_other, HasOnTheWay, content_after_append, made_leaves, failed_leaves, started, leaves_same, leaves_sync, leaves_write, and_then, then_same, weaker, each_now, quiet_sync}
 use Rattle.iol_disk.specs.Calls.{Call, write, sync, content_after_all, Made, fault_of, FailedIn}
-use Rattle.iol_disk.proofs.Orders.{HasOnTheWay, content_after_append, made_leaves, failed_leaves}
-use Rattle.iol_disk.proofs.Moments.{started, leaves_same, leaves_sync, leaves_write, and_then, then_same, weaker, each_now, quiet_sync}
 use Rattle.iol_slots.specs.Gate.{is_open, open_gate, IsShut}
 use Rattle.iol_journal.specs.Geometry.{Geometry, IsGeometry}
 use Rattle.iol_journal.specs.Layout.{layout_of, total}

@@ -7,7 +7,7 @@ use Rattle.iol_disk.specs.Disk.{Disk, After, Same, WroteSome, FailsOnlyAs}
 use Rattle.iol_disk.specs.Calls.{Call, write, sync, Made, FailedIn}
 use Rattle.iol_disk.specs.declared.fault.DiskFault.{DiskFault}
 use Rattle.iol_disk.specs.declared.fault.DiskFault.TheVariants.{Write, Sync}
-use Rattle.iol_disk.proofs.Orders.{made_one, made_append, failed_one, failed_first, failed_later}
+use Rattle.iol_disk.proofs.DiskLaws.{made_one, made_append, failed_one, failed_first, failed_later}
 use Rattle.iol_journal.specs.Orders.{Makes}
 
 -- a sync, whether or not it failed

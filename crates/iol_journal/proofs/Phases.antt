@@ -6,16 +6,15 @@ use Rattle.iol_types.specs.Command.{CommandValue}
 use Rattle.iol_types.specs.State.{State, after, legal}
 use Rattle.iol_disk.specs.Content.{Image, Content, reads, IsImage, IsSettled, wrote, synced}
 use Rattle.iol_disk.specs.Disk.{Disk}
-use Rattle.iol_disk.proofs.Images.{reads-is_image, image-settled, image-synced, image-wrote, reads-wrote_here, reads-wrote_other}
+use Rattle.iol_disk.proofs.DiskLaws.{reads-is_image, image-settled, image-synced, image-wrote, reads-wrote_here, reads-wrote_other, HasOnTheWay}
 use Rattle.iol_slots.specs.Gate.{is_open, open_gate}
-use Rattle.iol_slots.proofs.Gates.{is_open-open_gate}
+use Rattle.iol_slots.proofs.SlotLaws.{is_open-open_gate}
 use Rattle.iol_journal.specs.Layout.{slot_at, body_at}
 use Rattle.iol_journal.specs.Octets.{octets_at}
 use Rattle.iol_journal.specs.Body.{batch_of}
 use Rattle.iol_journal.specs.Meaning.{Standing}
 use Rattle.iol_journal.specs.Kept.{IsKeptAs, KeptEither, EachMeans}
 use Rattle.iol_disk.specs.Calls.{Call, content_after, content_after_all, Made}
-use Rattle.iol_disk.proofs.Orders.{HasOnTheWay}
 use Rattle.iol_journal.specs.Batches.{body_for, sectors_for, sector_of, call_of, next_phase, IsPhase}
 use Rattle.iol_journal.specs.Journals.{standing_at, with_batch, IsPlanned}
 use Rattle.iol_journal.specs.Underway.{EachKept, IsAtRest, HasWritten, IsBetween, Holds}

@@ -6,7 +6,7 @@ use Rattle.iol_disk.specs.Calls.{Call, write, sync, fault_of, FailedIn}
 use Rattle.iol_disk.specs.Disk.{Disk, After, Same}
 use Rattle.iol_disk.specs.declared.fault.DiskFault.{DiskFault}
 use Rattle.iol_disk.specs.declared.fault.DiskFault.TheVariants.{Read, Write, Sync}
-use Rattle.iol_disk.proofs.Images.{image-synced}
+use Rattle.iol_disk.proofs.DiskLaws.{image-synced}
 use Rattle.iol_journal.specs.Layout.{Layout}
 use Rattle.iol_journal.specs.Meaning.{Cause, unformatted, damaged, layout_in, in_use_in, ports_from, Log, log_from, standing_in}
 use Rattle.iol_journal.specs.Reading.{IsCause}

@@ -4,7 +4,7 @@ use Rattle.std.proofs.lemmas.Bool.Decides.{nat_tests}
 use Rattle.iol_disk.specs.Content.{Image, IsImage, reads}
 use Rattle.iol_types.specs.State.{State}
 use Rattle.iol_disk.specs.Disk.{Disk}
-use Rattle.iol_disk.proofs.Images.{reads-is_image}
+use Rattle.iol_disk.proofs.DiskLaws.{reads-is_image}
 use Rattle.iol_journal.specs.Layout.{other, header_at}
 use Rattle.iol_journal.specs.Header.{header_of}
 use Rattle.iol_journal.specs.Meaning.{Cause, ◌>>=◌, Standing, Meaning, standing_in}

@@ -4,8 +4,7 @@ use Rattle.std.proofs.lemmas.List.{append-nil}
 use Rattle.iol_types.specs.State.{Port, State}
 use Rattle.iol_record.specs.Reading.{port_record_at}
 use Rattle.iol_record.specs.declared.fault.RecordFault.{RecordFault}
-use Rattle.iol_record.proofs.Readers.{extended}
-use Rattle.iol_record.proofs.Records.{port_record_at-short, port_record_at-append}
+use Rattle.iol_record.proofs.RecordLaws.{extended, port_record_at-short, port_record_at-append}
 use Rattle.iol_disk.specs.Content.{Image, reads}
 use Rattle.iol_disk.specs.Disk.{Disk, Same}
 use Rattle.iol_journal.specs.Layout.{Layout}

@@ -6,7 +6,7 @@ use Rattle.iol_disk.specs.Calls.{Call, Made, FailedIn}
 use Rattle.iol_disk.specs.Disk.{Disk}
 use Rattle.iol_disk.specs.Moments.{LeavesOnly}
 use Rattle.iol_disk.specs.declared.fault.DiskFault.{DiskFault}
-use Rattle.iol_disk.proofs.Orders.{HasOnTheWay, made_leaves, failed_leaves}
+use Rattle.iol_disk.proofs.DiskLaws.{HasOnTheWay, made_leaves, failed_leaves}
 use Rattle.iol_journal.specs.Batches.{body_for, sectors_for, call_of, calls_from, next_phase, IsPhase}
 use Rattle.iol_journal.specs.Journals.{IsPlanned, with_batch}
 use Rattle.iol_journal.specs.Kept.{KeptEither}

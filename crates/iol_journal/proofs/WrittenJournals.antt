@@ -6,10 +6,9 @@ use Rattle.iol_types.specs.State.{blank, IsPort}
 use Rattle.iol_record.specs.Record.{port_octets, IsPortRecord}
 use Rattle.iol_disk.specs.Content.{Content, reads, wrote}
 use Rattle.iol_disk.specs.Calls.{Call, write, content_after_all}
-use Rattle.iol_disk.proofs.Images.{reads-wrote_here, reads-wrote_other}
-use Rattle.iol_disk.proofs.Orders.{HasOnTheWay, content_after_append}
+use Rattle.iol_disk.proofs.DiskLaws.{reads-wrote_here, reads-wrote_other, HasOnTheWay, content_after_append}
 use Rattle.iol_slots.specs.Gate.{is_open, open_gate, closed_gate}
-use Rattle.iol_slots.proofs.Gates.{is_open-open_gate, is_open-closed_gate}
+use Rattle.iol_slots.proofs.SlotLaws.{is_open-open_gate, is_open-closed_gate}
 use Rattle.iol_journal.specs.Geometry.{Geometry, IsGeometry, geometry_of, geometry_octets}
 use Rattle.iol_journal.specs.Header.{header_of, header_octets}
 use Rattle.iol_journal.specs.Layout.{layout_of, gate_at, header_at, port_at, slot_at}

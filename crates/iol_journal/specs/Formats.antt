@@ -9,11 +9,6 @@ use Rattle.iol_journal.specs.Kept.{KeptMeans}
 use Rattle.iol_journal.specs.declared.formatting.FormatFault.{FormatFault}
 use Rattle.iol_journal.specs.declared.formatting.FormatFault.TheVariants.{TooSmall, AlreadyFormatted, Memory, Disk as DiskFailed}
 
--- a fact of a format that a disk call failed in (own)
-abbrev pub IfDisk : FormatFault → Type 0 → Type 0
-IfDisk (DiskFailed fault) P = P
-IfDisk fault P = Unit {0}
-
 -- a fact of a format that refuses before anything is written (own)
 abbrev pub IfUntouched : FormatFault → Type 0 → Type 0
 IfUntouched (DiskFailed fault) P = Unit {0}

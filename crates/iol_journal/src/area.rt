@@ -1,3 +1,5 @@
+//! One of the two areas of a disk.
+
 ghost use Rattle.std.specs.Prelude.{◌≡◌};
 
 /// One of the two areas of a disk. The open one with the greater epoch is in use.

@@ -1,3 +1,5 @@
+//! Commands that are written together.
+
 ghost use Rattle.std.specs.Prelude.{◌≡◌, true, IfOk};
 ghost use Rattle.iol_types.specs.State.{after, legal};
 ghost use Rattle.iol_journal.specs.Journals.{values};

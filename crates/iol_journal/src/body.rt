@@ -1,3 +1,5 @@
+//! The body of a slot: its head, and the records of a batch.
+
 ghost use Rattle.std.specs.Prelude.{◌≡◌, ◌≤◌, ◌<◌, ◌+◌, ◌*◌, ◌++◌, ℕ, List, length, Some, IfOk};
 ghost use Rattle.iol_journal.specs.Octets.{sectors_reached};
 ghost use Rattle.iol_journal.specs.Body.{batch_of, commands_of, records_of, head_octets, body_octets};

@@ -1,3 +1,5 @@
+//! The disk calls of a batch, by phase.
+
 ghost use Rattle.std.specs.Prelude.{◌≡◌, ◌≤◌, ◌<◌, ◌*◌, [], ◌∷◌, ℕ, length};
 ghost use Rattle.iol_types.specs.State.{State};
 ghost use Rattle.iol_journal.specs.Batches.{call_of, IsPhase};

@@ -1,3 +1,5 @@
+//! Why a disk is not recovered.
+
 use iol_disk::DiskFault;
 use std::alloc::AllocError;
 use thiserror::Error;

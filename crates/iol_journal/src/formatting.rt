@@ -1,3 +1,5 @@
+//! An empty journal is written.
+
 ghost use Rattle.std.specs.Prelude.{◌≡◌, ◌≤◌, ◌<◌, ◌⊎◌, ◌↔◌, ◌++◌, true, false, IsTrue, Err, OnOk, IfOk, IfErr, IsErrOf};
 ghost use Rattle.iol_types.specs.State.{blank, empty_state};
 ghost use Rattle.iol_record.specs.Record.{port_octets};

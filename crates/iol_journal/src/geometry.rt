@@ -1,3 +1,5 @@
+//! The ports and slots of a journal.
+
 use crate::layout::Layout;
 use crate::numbers::u16_at;
 use crate::sector::sector_of;

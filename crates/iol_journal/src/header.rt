@@ -1,3 +1,5 @@
+//! The header of an area.
+
 ghost use Rattle.std.specs.Prelude.{◌≡◌};
 
 use crate::numbers::u64_at;

@@ -1,3 +1,5 @@
+//! A journal at rest, and which batches it takes.
+
 use crate::batch::{Batch, MOST_COMMANDS, apply_all};
 use crate::body::body_of;
 use crate::header::LAST_NUMBER;

@@ -1,3 +1,5 @@
+//! Where everything stands on a disk.
+
 use crate::area::Area;
 use crate::geometry::{BODY_SECTORS, Geometry, PORT_SECTORS};
 use iol_slots::Slot;

@@ -1,3 +1,5 @@
+//! Numbers in octets.
+
 ghost use Rattle.std.specs.Prelude.{◌≡◌, ◌+◌, ◌≤◌, length};
 ghost use Rattle.std.specs.Int.{w16, w32, w64};
 ghost use Rattle.iol_journal.specs.Octets.{number_at};

@@ -1,3 +1,5 @@
+//! The first reads of a recovery: the layout, and the area in use.
+
 ghost use Rattle.std.specs.Prelude.{◌≡◌, ◌<◌, ◌≤◌, ◌+◌, Some, None, Err, IsTrue, IfOk, if◌then◌else◌};
 ghost use Rattle.iol_disk.specs.Content.{reads};
 ghost use Rattle.iol_disk.specs.Disk.{Same, FailsOnlyAs};

@@ -1,3 +1,5 @@
+//! The disk call that comes next where a batch is written.
+
 ghost use Rattle.std.specs.Prelude.{◌≡◌, ◌≤◌};
 
 /// The disk call that comes next where a batch is written.

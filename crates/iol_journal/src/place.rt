@@ -1,3 +1,5 @@
+//! Where a journal writes next.
+
 use crate::area::Area;
 use crate::layout::Layout;
 use iol_slots::Slot;

@@ -1,3 +1,5 @@
+//! Reads of a sector and of a gate.
+
 ghost use Rattle.std.specs.Prelude.{◌≡◌, ◌<◌, ◌≤◌, ◌+◌, IsTrue, IfOk};
 ghost use Rattle.iol_disk.specs.Content.{reads};
 ghost use Rattle.iol_disk.specs.Disk.{Same, FailsOnlyAs};

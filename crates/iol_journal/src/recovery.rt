@@ -1,3 +1,5 @@
+//! A journal is found on a disk.
+
 ghost use Rattle.std.specs.Prelude.{◌≡◌, ◌≤◌, Err, IsTrue, IfOk, OnOk};
 ghost use Rattle.iol_disk.specs.Content.{Image, IsImage, reads};
 ghost use Rattle.iol_disk.specs.Moments.{LeavesOnly};

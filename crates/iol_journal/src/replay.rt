@@ -1,3 +1,5 @@
+//! The commands of an area's slots, applied in order.
+
 ghost use Rattle.std.specs.Prelude.{◌≡◌, ◌≤◌, ◌<◌, ◌+◌, ◌++◌, ℕ, length, IsTrue, IfOk, IfErr, IfSome, OnOk, Some, None, if◌then◌else◌};
 ghost use Rattle.std.specs.Option.{option_map};
 ghost use Rattle.iol_disk.specs.Content.{reads};

@@ -1,3 +1,5 @@
+//! The state that an area's port records say.
+
 ghost use Rattle.std.specs.Prelude.{◌≡◌, ◌≤◌, length, IfOk};
 ghost use Rattle.iol_disk.specs.Disk.{Same};
 ghost use Rattle.iol_journal.specs.Faults.{Counted};

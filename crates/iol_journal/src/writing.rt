@@ -1,3 +1,5 @@
+//! A batch on its way to the disk.
+
 use crate::batch::Batch;
 use crate::calls::make;
 use crate::journal::Journal;

@@ -1,3 +1,4 @@
 pub mod Readers
 pub mod Fields
 pub mod Records
+pub mod RecordLaws

@@ -6,6 +6,8 @@
 //! `specs/Record.antt`; what a decoder answers to any octets, in `specs/Reading.antt`.
 //!
 //! Modules in reading order: `fault`, `reader`, `decode`, `encode`, `examples` (records worked out).
+//!
+//! Proofs of other crates cite the laws of `proofs/RecordLaws.antt`.
 #![tactic(auto)]
 
 mod decode;

@@ -3,7 +3,7 @@ use Rattle.std.proofs.Common.{◌≡◌, ℕ, Bool, true, false, IsTrue, Result,
 use Rattle.iol_disk.specs.Content.{Content, reads, wrote}
 use Rattle.iol_disk.specs.Disk.{Disk, After}
 use Rattle.iol_disk.specs.declared.fault.DiskFault.{DiskFault}
-use Rattle.iol_disk.proofs.Images.{reads-wrote_here}
+use Rattle.iol_disk.proofs.DiskLaws.{reads-wrote_here}
 use Rattle.iol_slots.specs.Gate.{is_open, open_gate, closed_gate}
 
 pub is_open-open_gate : is_open open_gate ≡ true

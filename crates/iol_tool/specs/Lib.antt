@@ -1,8 +1,6 @@
 pub mod Fault
-pub mod Queue
-pub mod Table
-pub mod Step
-pub mod Steps
 pub mod Geometry
+pub mod Runs
+pub mod Queue
+pub mod Stop
 pub mod Store
-pub mod Script

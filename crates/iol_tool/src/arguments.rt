@@ -2,9 +2,9 @@
 
 use crate::commands::{print, report, run_text};
 use crate::fault::Fault;
-use crate::script::SCRIPT_OCTETS;
 use clap::error::ErrorKind;
 use clap::{Arg, Command, Error};
+use iol_script::SCRIPT_OCTETS;
 use std::alloc::Global;
 use std::fs::File;
 use std::io::{self, Read, Write};
@@ -31,7 +31,8 @@ fn words<R: Env + AllocGlobal>(rt: &R) -> Result<Vec<String>, Fault<'static>> {
     }
 }
 
-fn run_words<R: Files + AllocGlobal, W: Write, E: Write>(
+/// Carries out the command that these words name, the first of which is the name of the program.
+pub fn run_words<R: Files + AllocGlobal, W: Write, E: Write>(
     rt: &R,
     words: &[String],
     out: &mut W,

@@ -1,12 +1,14 @@
 //! The program's commands, over a writer for their output and one for their faults.
-ghost use Rattle.std.specs.Prelude.{◌≡◌, ◌⊎◌, IfErr, OnOk};
+ghost use Rattle.std.specs.Prelude.{◌≡◌, ◌≤◌, ◌⊎◌, IfErr, OnOk};
 ghost use Rattle.std.specs.Io.KnownBytes.{Appends};
 ghost use Rattle.iol_tool.specs.Fault.{status_of};
-ghost use Rattle.iol_tool.specs.Script.{CanRun};
+ghost use Rattle.iol_tool.specs.Runs.{CanRun, IsCause};
 
 use crate::fault::Fault;
+use crate::geometry::geometry_of;
 use crate::run::run;
-use crate::script::Script;
+use iol_disk::MemoryDisk;
+use iol_script::Script;
 use std::alloc::Global;
 use std::io::{self, Write};
 
@@ -14,6 +16,8 @@ use std::io::{self, Write};
 /// written to `out`; 1, or 2 where the script or its geometry is not valid, after a line on `err` that says why, and
 /// then nothing is written to `out`; 1 where writing to `out` fails, with nothing written to `err`.
 pub fn run_text<W: Write, E: Write>(alloc: Global, script: &[u8], out: &mut W, err: &mut E) -> u8
+    ensures statuses { result ≤ 2 }
+    ensures one_writer { (out.new ≡ out.old) ⊎ (err.new ≡ err.old) }
     ensures ran { result ≡ 0 → CanRun script.now }
     ensures quiet { result ≡ 0 → err.new ≡ err.old }
     ensures not_valid { result ≡ 2 → CanRun script.now → ⊥ }
@@ -25,12 +29,15 @@ pub fn run_text<W: Write, E: Write>(alloc: Global, script: &[u8], out: &mut W, e
     }
 }
 
-fn text_of_run(alloc: Global, script: &[u8]) -> Result<String, Fault<'static>>
-    ensures ran { OnOk result (CanRun script.now) }
-    ensures not_valid { IfErr result (λ fault. status_of fault ≡ 2 → CanRun script.now → ⊥) }
+// What a run prints: the text is judged first, then its numbers, and then it is run.
+fn text_of_run(alloc: Global, text: &[u8]) -> Result<String, Fault<'static>>
+    ensures ran { OnOk result (CanRun text.now) }
+    ensures cause { IfErr result (IsCause text.now) }
 {
-    let script = Script::read(alloc, script)?;
-    let trace = run(alloc, &script)?;
+    let script = Script::read(alloc, text)?;
+    let geometry = geometry_of(script.ports, script.slots).ok_or(Fault::Geometry)?;
+    let disk = MemoryDisk::new(alloc, geometry.sectors())?;
+    let trace = run(alloc, disk, geometry, &script)?;
     Ok(trace.to_string(alloc)?)
 }
 

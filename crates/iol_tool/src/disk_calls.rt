@@ -1,12 +1,13 @@
 //! The disk calls of a run: those of a recovery, and those of a batch.
 ghost use Rattle.std.specs.Prelude.{◌≡◌, IfOk, IfErr};
-ghost use Rattle.iol_journal.specs.Journals.{with_batch};
 ghost use Rattle.iol_tool.specs.Fault.{status_of};
-ghost use Rattle.iol_tool.specs.Store.{IfWorks};
+ghost use Rattle.iol_tool.specs.Store.{IsWritten};
 
+use crate::acknowledgement::Acknowledgement;
+use crate::event::Event;
 use crate::fault::Fault;
 use crate::store::Store;
-use iol_disk::MemoryDisk;
+use iol_disk::SectorDisk;
 use iol_journal::{BeginCause, Journal, Progress, RecoverFault, Writing};
 use iol_types::MasterState;
 use std::alloc::Global;
@@ -15,10 +16,10 @@ use std::alloc::Global;
 ///
 /// # Errors
 /// Why the disk is not recovered.
-pub fn recover(
+pub fn recover<D: SectorDisk + Drop>(
     alloc: Global,
-    disk: MemoryDisk,
-) -> Result<(Journal<MemoryDisk>, MasterState), Fault<'static>>
+    disk: D,
+) -> Result<(Journal<D>, MasterState), Fault<'static>>
     ensures state { IfOk result (λ found. found.1 ≡ found.0.standing.state) }
     ensures status { IfErr result (λ fault. status_of fault ≡ 1) }
 {
@@ -28,18 +29,18 @@ pub fn recover(
     }
 }
 
-/// Makes the disk calls of a batch, up to one that fails.
-pub fn finish(mut writing: Writing<MemoryDisk>) -> Store
-    ensures { IfWorks result (λ journal. journal.standing ≡ with_batch writing.standing writing.commands) }
+/// Makes the disk calls of a batch, up to one that fails, and says what is told of it.
+pub fn finish<D: SectorDisk>(mut writing: Writing<D>) -> (Store<D>, Event)
+    ensures { IsWritten writing.standing writing.commands result.0 result.1 }
 {
     loop {
         match writing.step() {
             Progress::More(more) => writing = more,
             Progress::Done(journal, written) => {
-                let _batch = written.into_batch();
-                return Store::Journal(journal);
+                let acknowledged = Acknowledgement::of(written);
+                return (Store::Journal(journal), Event::Acknowledged(acknowledged));
             }
-            Progress::Failed(disk, _fault) => return Store::Failed(disk),
+            Progress::Failed(disk, _fault) => return (Store::Failed(disk), Event::DiskFailed),
         }
     }
 }

@@ -1,17 +1,18 @@
 //! The events of a run, each of which is a line of its trace (docs/FORMATS.md, "Texts").
 
+use crate::acknowledgement::Acknowledgement;
 use iol_types::CommandFault;
 use std::fmt;
 
 /// What happens in a run.
-#[derive(Clone, Copy, Debug, PartialEq, Eq)]
+#[derive(Debug, PartialEq, Eq, Drop)]
 pub enum Event {
     /// The command with this number is in the queue.
     Accepted(u64),
     /// A command is refused.
     Refused(Refusal),
-    /// The commands up to this number are durable.
-    Acknowledged(u64),
+    /// Commands are durable.
+    Acknowledged(Acknowledgement),
     /// A call of the disk failed, and nothing more is written.
     DiskFailed,
     /// The power stopped.
@@ -52,7 +53,10 @@ impl fmt::Display for Event {
         match self {
             Event::Accepted(number) => write!(f, "accepted {number}"),
             Event::Refused(refusal) => write!(f, "refused {refusal}"),
-            Event::Acknowledged(number) => write!(f, "acknowledged {number}"),
+            Event::Acknowledged(acknowledged) => {
+                let number = acknowledged.number();
+                write!(f, "acknowledged {number}")
+            }
             Event::DiskFailed => f.write_str("disk failed"),
             Event::Stopped => f.write_str("stopped"),
         }

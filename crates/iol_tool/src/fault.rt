@@ -2,8 +2,8 @@
 ghost use Rattle.std.specs.Prelude.{◌≡◌};
 ghost use Rattle.iol_tool.specs.Fault.{status_of};
 
-use crate::script::ScriptFault;
 use iol_journal::{FormatFault, RecoverCause};
+use iol_script::ScriptFault;
 use std::alloc::{AllocError, AllocFailed};
 use thiserror::Error;
 
@@ -88,7 +88,6 @@ impl From<ScriptFault> for Fault<'_> {
     fn from(fault: ScriptFault) -> Self {
         match fault {
             ScriptFault::NotValid => Fault::Script,
-            ScriptFault::Geometry => Fault::Geometry,
             ScriptFault::Memory => Fault::Memory,
         }
     }

@@ -1,7 +1,7 @@
 //! The commands that wait for the disk.
 
 use crate::event::{Event, Refusal};
-use iol_journal::Batch;
+use iol_journal::{Batch, LAST_NUMBER};
 use iol_types::{Command, MasterState};
 use std::alloc::{AllocError, Global};
 use std::collections::VecDeque;
@@ -9,9 +9,6 @@ use std::marker::Model;
 
 /// The most commands that wait, a batch in flight included.
 pub const QUEUE_COMMANDS: usize = 64;
-
-/// The greatest number of a command.
-pub const LAST_NUMBER: u64 = 1 << 62;
 
 /// The commands that wait for the disk, and the state after them. A contract sees the record `Waiting` of
 /// `specs/Queue.antt`.

@@ -1,13 +1,20 @@
-//! The run of a script on one thread, over a disk in memory.
-ghost use Rattle.std.specs.Prelude.{◌≡◌, IfErr};
+//! The run of a script on one thread, over a disk that is empty at first.
+ghost use Rattle.std.specs.Prelude.{◌≡◌, true, false, Ok, IfOk, IfErr, OnOk};
+ghost use Rattle.iol_types.specs.Command.{value_of};
 ghost use Rattle.iol_tool.specs.Fault.{status_of};
+ghost use Rattle.iol_tool.specs.Queue.{answer, refusal, waiting_after};
+ghost use Rattle.iol_tool.specs.Store.{has_failed};
+ghost use Rattle.iol_tool.specs.declared.event.Event.TheVariants.{Refused};
+ghost use Rattle.iol_tool.specs.declared.event.Refusal.TheVariants.{Stopped};
 
+use crate::disk::{Stoppable, pick_of};
 use crate::event::{Event, Refusal};
 use crate::fault::Fault;
 use crate::queue::Queue;
-use crate::script::Script;
-use crate::step::Step;
 use crate::store::Store;
+use iol_disk::SectorDisk;
+use iol_journal::Geometry;
+use iol_script::{Script, Step};
 use iol_types::{Command, MasterState};
 use std::alloc::Global;
 
@@ -21,14 +28,19 @@ pub struct Trace {
     pub state: MasterState,
 }
 
-/// Runs a script on a disk that is formatted for it.
+/// Runs a script on a disk, which it formats for this geometry.
 ///
 /// # Errors
-/// `Memory`, `Disk` or `JournalFull`, where it is first met.
-pub fn run(alloc: Global, script: &Script) -> Result<Trace, Fault<'static>>
+/// `Memory`, `Disk`, `TooSmall`, `AlreadyFormatted` or `JournalFull`, where it is first met.
+pub fn run<D: Stoppable + Drop>(
+    alloc: Global,
+    disk: D,
+    geometry: Geometry,
+    script: &Script,
+) -> Result<Trace, Fault<'static>>
     ensures { IfErr result (λ fault. status_of fault ≡ 1) }
 {
-    let (mut store, state) = Store::format(alloc, script.geometry)?;
+    let (mut store, state) = Store::format(alloc, disk, geometry)?;
     let mut queue = Queue::new(alloc, state)?;
     let mut events = Vec::new(alloc);
     for step in &script.steps {
@@ -41,7 +53,7 @@ pub fn run(alloc: Global, script: &Script) -> Result<Trace, Fault<'static>>
         }
     }
     events.push(Event::Stopped)?;
-    let (number, state) = store.stop(alloc, script.keep)?;
+    let (number, state) = store.stop(alloc, pick_of(script.keep))?;
     Ok(Trace {
         events,
         number,
@@ -50,8 +62,15 @@ pub fn run(alloc: Global, script: &Script) -> Result<Trace, Fault<'static>>
 }
 
 // Queues a command, unless the disk has failed.
-fn submit(store: &Store, queue: &mut Queue, command: Command) -> Result<Event, Fault<'static>>
-    ensures { IfErr result (λ fault. status_of fault ≡ 1) }
+fn submit<D: SectorDisk>(
+    store: &Store<D>,
+    queue: &mut Queue,
+    command: Command,
+) -> Result<Event, Fault<'static>>
+    ensures stopped { has_failed store.now ≡ true → (result ≡ Ok (Refused Stopped)) × (queue.new ≡ queue.old) }
+    ensures event { has_failed store.now ≡ false → IfOk result (λ event. event ≡ answer (refusal queue.old (value_of command)) queue.old) }
+    ensures queue { has_failed store.now ≡ false → OnOk result (queue.new ≡ waiting_after (refusal queue.old (value_of command)) queue.old (value_of command)) }
+    ensures status { IfErr result (λ fault. status_of fault ≡ 1) }
 {
     if store.has_failed() {
         Ok(Event::Refused(Refusal::Stopped))
@@ -61,23 +80,19 @@ fn submit(store: &Store, queue: &mut Queue, command: Command) -> Result<Event, F
 }
 
 // Writes all that is queued, unless the disk fails.
-fn drain(
-    mut store: Store,
+fn drain<D: SectorDisk + Drop>(
+    mut store: Store<D>,
     queue: &mut Queue,
     events: &mut Vec<Event>,
-) -> Result<Store, Fault<'static>>
+) -> Result<Store<D>, Fault<'static>>
     ensures { IfErr result (λ fault. status_of fault ≡ 1) }
 {
     while !store.has_failed()
         && let Some(batch) = queue.take()
     {
-        let number = batch.first;
-        store = store.write(batch)?;
-        events.push(if store.has_failed() {
-            Event::DiskFailed
-        } else {
-            Event::Acknowledged(number)
-        })?;
+        let (behind, event) = store.write(batch)?;
+        store = behind;
+        events.push(event)?;
     }
     Ok(store)
 }

@@ -1,7 +1,11 @@
 //! What the commands write, and their statuses.
 
+mod failing;
+mod failures;
+mod faults;
 mod runs;
 mod scripts;
+mod words;
 mod writers;
 
 use crate::commands::run_text;

@@ -1,3 +1,5 @@
+//! What a run prints.
+
 use super::answer_to;
 use crate::queue::QUEUE_COMMANDS;
 use std::alloc::{AllocError, Global};
@@ -171,6 +173,27 @@ port 2 revision 1 mode 4 validation 4 vendor FFFF device FFFFFF set none
 ";
         assert_eq!(rt; str::from_utf8(&answer.out)?, lines, "{keep}");
         assert_eq!(rt; answer.status, 0, "{keep}");
+    }
+    Ok(())
+}
+
+#[test]
+fn what_was_not_drained_is_lost_whatever_a_stop_keeps(rt: HostRuntime) -> Result<(), Fail> {
+    for keep in ["old", "new", "zero", "pattern"] {
+        let further = format!(in rt.alloc();
+            "{CONFIGURE}[[step]]\ndo = \"stop\"\nkeep = \"{keep}\"\n"
+        )?;
+        let script = repeated(rt.alloc(), 1, CONFIGURE_AND_DRAIN, &further)?;
+        let answer = answer_to(rt.alloc(), script.as_bytes());
+        let lines = "accepted 1
+acknowledged 1
+accepted 2
+stopped
+recovered 1
+port 1 revision 0 mode 0 validation 0 vendor 0000 device 000000 set none
+port 2 revision 1 mode 4 validation 4 vendor FFFF device FFFFFF set none
+";
+        assert_eq!(rt; str::from_utf8(&answer.out)?, lines, "{keep}");
     }
     Ok(())
 }

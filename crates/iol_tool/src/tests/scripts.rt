@@ -1,172 +1,9 @@
+//! Scripts that are not run, and why.
+
 use super::answer_to;
-use crate::script::SCRIPT_OCTETS;
-use std::alloc::{AllocError, Global};
 use std::process::Abort;
 use std::str;
 use std::test::Fail;
-
-const CONFIGURE: &str =
-    r#"do = "configure", port = 1, mode = 1, validation = 3, vendor = 500, device = 43981"#;
-
-// What stands at the top of a script, and why it is not valid.
-const TOPS: [(&str, &str); 20] = [
-    ("it is no TOML", "ports"),
-    ("a key stands twice", "ports = 2\nports = 2\nslots = 4"),
-    ("ports are missing", "slots = 4"),
-    ("slots are missing", "ports = 2"),
-    ("ports are a float", "ports = 2.0\nslots = 4"),
-    ("slots are a float", "ports = 2\nslots = 4.0"),
-    ("ports are a boolean", "ports = true\nslots = 4"),
-    ("slots are a text", "ports = 2\nslots = \"4\""),
-    (
-        "ports are no 64-bit number",
-        "ports = 9223372036854775808\nslots = 4",
-    ),
-    ("a key is unknown", "ports = 2\nslots = 4\nspeed = 1"),
-    ("a key is spelled otherwise", "Ports = 2\nslots = 4"),
-    (
-        "step is a table",
-        "ports = 2\nslots = 4\n[step]\ndo = \"drain\"",
-    ),
-    ("step is a number", "ports = 2\nslots = 4\nstep = 1"),
-    ("a step is no table", "ports = 2\nslots = 4\nstep = [1]"),
-    (
-        "a stop is not last",
-        "ports = 2\nslots = 4\nstep = [{ do = \"stop\", keep = \"old\" }, { do = \"drain\" }]",
-    ),
-    (
-        "there are two stops",
-        "ports = 2\nslots = 4\nstep = [{ do = \"stop\", keep = \"old\" }, { do = \"stop\", keep = \"old\" }]",
-    ),
-    (
-        "devices are not simulated",
-        "ports = 2\nslots = 4\n[[device]]\nport = 1\nvendor = 500\ndevice = 43981",
-    ),
-    (
-        "disks do not fail",
-        "ports = 2\nslots = 4\nfail = \"sync 2\"",
-    ),
-    (
-        "the geometry is judged last",
-        "ports = 0\nslots = 4\nstep = [{ do = \"jump\" }]",
-    ),
-    (
-        "a step of a script with no slots is wrong",
-        "ports = 2\nslots = 0\nstep = [{ do = \"stop\" }]",
-    ),
-];
-
-// What a step says, and why it is not valid.
-const STEPS: [(&str, &str); 36] = [
-    ("do is missing", "port = 1"),
-    ("a step is empty", ""),
-    ("do is a number", "do = 1"),
-    ("do is unknown", "do = \"jump\""),
-    ("do is spelled otherwise", "do = \"Drain\""),
-    ("clear is not done", "do = \"clear\", port = 1"),
-    (
-        "ports are not stepped",
-        "do = \"port\", port = 1, times = 1",
-    ),
-    ("flush is not done", "do = \"flush\", times = 1"),
-    ("a drain has a key of its own", "do = \"drain\", times = 1"),
-    ("a drain has a key of configure", "do = \"drain\", port = 1"),
-    ("keep is missing", "do = \"stop\""),
-    ("keep is a number", "do = \"stop\", keep = 1"),
-    ("keep is unknown", "do = \"stop\", keep = \"all\""),
-    (
-        "a stop has a key of configure",
-        "do = \"stop\", keep = \"old\", port = 1",
-    ),
-    (
-        "a configure has a key of stop",
-        "do = \"configure\", port = 1, mode = 1, validation = 3, vendor = 500, device = 43981, keep = \"old\"",
-    ),
-    (
-        "a configure has an unknown key",
-        "do = \"configure\", port = 1, mode = 1, validation = 3, vendor = 500, device = 43981, cycle = 0",
-    ),
-    (
-        "port is missing",
-        "do = \"configure\", mode = 1, validation = 3, vendor = 500, device = 43981",
-    ),
-    (
-        "mode is missing",
-        "do = \"configure\", port = 1, validation = 3, vendor = 500, device = 43981",
-    ),
-    (
-        "validation is missing",
-        "do = \"configure\", port = 1, mode = 1, vendor = 500, device = 43981",
-    ),
-    (
-        "vendor is missing",
-        "do = \"configure\", port = 1, mode = 1, validation = 3, device = 43981",
-    ),
-    (
-        "device is missing",
-        "do = \"configure\", port = 1, mode = 1, validation = 3, vendor = 500",
-    ),
-    (
-        "port is a text",
-        "do = \"configure\", port = \"1\", mode = 1, validation = 3, vendor = 500, device = 43981",
-    ),
-    (
-        "mode is a boolean",
-        "do = \"configure\", port = 1, mode = true, validation = 3, vendor = 500, device = 43981",
-    ),
-    (
-        "validation is a float",
-        "do = \"configure\", port = 1, mode = 1, validation = 3.0, vendor = 500, device = 43981",
-    ),
-    (
-        "vendor is an array",
-        "do = \"configure\", port = 1, mode = 1, validation = 3, vendor = [1, 244], device = 43981",
-    ),
-    (
-        "device is a text",
-        "do = \"configure\", port = 1, mode = 1, validation = 3, vendor = 500, device = \"ABCD\"",
-    ),
-    (
-        "port is 0",
-        "do = \"configure\", port = 0, mode = 1, validation = 3, vendor = 500, device = 43981",
-    ),
-    (
-        "port is 33",
-        "do = \"configure\", port = 33, mode = 1, validation = 3, vendor = 500, device = 43981",
-    ),
-    (
-        "port is 257",
-        "do = \"configure\", port = 257, mode = 1, validation = 3, vendor = 500, device = 43981",
-    ),
-    (
-        "mode is 5",
-        "do = \"configure\", port = 1, mode = 5, validation = 3, vendor = 500, device = 43981",
-    ),
-    (
-        "mode is -1",
-        "do = \"configure\", port = 1, mode = -1, validation = 3, vendor = 500, device = 43981",
-    ),
-    (
-        "validation is 5",
-        "do = \"configure\", port = 1, mode = 1, validation = 5, vendor = 500, device = 43981",
-    ),
-    (
-        "vendor is 65536",
-        "do = \"configure\", port = 1, mode = 1, validation = 3, vendor = 65536, device = 43981",
-    ),
-    (
-        "vendor is -1",
-        "do = \"configure\", port = 1, mode = 1, validation = 3, vendor = -1, device = 43981",
-    ),
-    (
-        "device is 2^24",
-        "do = \"configure\", port = 1, mode = 1, validation = 3, vendor = 500, device = 16777216",
-    ),
-    (
-        "device is 2^32",
-        "do = \"configure\", port = 1, mode = 1, validation = 3, vendor = 500, device = 4294967296",
-    ),
-];
 
 // Numbers of ports and slots that are no geometry.
 const GEOMETRIES: [(&str, &str); 7] = [
@@ -179,109 +16,30 @@ const GEOMETRIES: [(&str, &str); 7] = [
     ("2", "9223372036854775807"),
 ];
 
-// Scripts that can be run.
-const VALID: [(&str, &str); 8] = [
-    ("there is no step", "ports = 2\nslots = 4"),
-    ("there are no steps", "ports = 2\nslots = 4\nstep = []"),
-    (
-        "steps are tables",
-        "slots = 4\nports = 2\n[[step]]\ndo = \"drain\"\n[[step]]\ndo = \"stop\"\nkeep = \"zero\"",
-    ),
-    (
-        "steps are inline tables",
-        "ports = 2\nslots = 4\nstep = [{ do = \"drain\" }, { keep = \"pattern\", do = \"stop\" }]",
-    ),
-    (
-        "numbers are least",
-        "ports = 1\nslots = 1\nstep = [{ do = \"configure\", port = 1, mode = 0, validation = 0, vendor = 0, device = 0 }]",
-    ),
-    (
-        "numbers are greatest",
-        "ports = 32\nslots = 256\nstep = [{ do = \"configure\", port = 32, mode = 4, validation = 4, vendor = 65535, device = 16777215 }]",
-    ),
-    (
-        "numbers are hexadecimal",
-        "ports = 0x2\nslots = 0x4\nstep = [{ do = \"configure\", port = 1, mode = 1, validation = 3, vendor = 0x01F4, device = 0x00_ABCD }]",
-    ),
-    (
-        "lines end as on other systems",
-        "ports = 2\r\nslots = 4\r\n# nothing to do\r\n",
-    ),
-];
-
-fn with_step(alloc: Global, step: &str) -> Result<String, AllocError> {
-    format!(in alloc; "ports = 2\nslots = 4\nstep = [{{ {step} }}]\n")
-}
-
-// A script of so many octets, most of which are a comment.
-fn long_script(alloc: Global, octets: usize) -> Result<String, AllocError> {
-    let mut script = String::from_str(alloc, "ports = 2\nslots = 4\n#")?;
-    for _ in 0..octets.saturating_sub(script.len()) {
-        script.push('.')?;
-    }
-    Ok(script)
-}
-
-fn expect_not_valid(rt: &(impl Abort + AllocGlobal), script: &[u8], why: &str) -> Result<(), Fail> {
+fn expect_error(rt: &(impl Abort + AllocGlobal), script: &[u8], line: &str) -> Result<(), Fail> {
     let answer = answer_to(rt.alloc(), script);
-    assert_eq!(rt;
-        str::from_utf8(&answer.err)?,
-        "error: the script is not valid\n",
-        "{why}"
-    );
-    assert_eq!(rt; answer.status, 2, "{why}");
-    assert_eq!(rt; str::from_utf8(&answer.out)?, "", "{why}");
-    Ok(())
-}
-
-fn expect_valid(rt: &(impl Abort + AllocGlobal), script: &[u8], why: &str) -> Result<(), Fail> {
-    let answer = answer_to(rt.alloc(), script);
-    assert_eq!(rt; str::from_utf8(&answer.err)?, "", "{why}");
-    assert_eq!(rt; answer.status, 0, "{why}");
+    assert_eq!(rt; str::from_utf8(&answer.err)?, line);
+    assert_eq!(rt; answer.status, 2);
+    assert_eq!(rt; str::from_utf8(&answer.out)?, "");
     Ok(())
 }
 
 #[test]
-fn these_scripts_are_not_valid(rt: HostRuntime) -> Result<(), Fail> {
-    for (why, script) in TOPS {
-        expect_not_valid(&rt, script.as_bytes(), why)?;
-    }
-    for (why, step) in STEPS {
-        expect_not_valid(&rt, with_step(rt.alloc(), step)?.as_bytes(), why)?;
-    }
-    expect_not_valid(&rt, b"ports = 2\nslots = 4\n# \xFF\n", "it is no UTF-8")?;
-    let long = long_script(rt.alloc(), 65_537)?;
-    expect_not_valid(&rt, long.as_bytes(), "it is over 65,536 octets")
-}
-
-#[test]
-fn these_scripts_are_valid(rt: HostRuntime) -> Result<(), Fail> {
-    for (why, script) in VALID {
-        expect_valid(&rt, script.as_bytes(), why)?;
-    }
-    expect_valid(
-        &rt,
-        with_step(rt.alloc(), CONFIGURE)?.as_bytes(),
-        "all keys are there",
-    )?;
-    assert_eq!(rt; SCRIPT_OCTETS, 65_536);
-    let long = long_script(rt.alloc(), SCRIPT_OCTETS)?;
-    expect_valid(&rt, long.as_bytes(), "it is of 65,536 octets")
-}
-
-#[test]
-fn these_geometries_are_not_valid(rt: HostRuntime) -> Result<(), Fail> {
+fn a_geometry_is_judged_after_the_text(rt: HostRuntime) -> Result<(), Fail> {
     for (ports, slots) in GEOMETRIES {
         let script = format!(in rt.alloc(); "ports = {ports}\nslots = {slots}\n")?;
-        let answer = answer_to(rt.alloc(), script.as_bytes());
-        let text = str::from_utf8(&answer.err)?;
-        assert_eq!(rt;
-            text,
-            "error: the geometry is not valid\n",
-            "{ports} {slots}"
-        );
-        assert_eq!(rt; answer.status, 2, "{ports} {slots}");
-        assert_eq!(rt; str::from_utf8(&answer.out)?, "", "{ports} {slots}");
+        expect_error(&rt, script.as_bytes(), "error: the geometry is not valid\n")?;
+        let wrong = format!(in rt.alloc(); "{script}step = [{{ do = \"jump\" }}]\n")?;
+        expect_error(&rt, wrong.as_bytes(), "error: the script is not valid\n")?;
     }
     Ok(())
+}
+
+#[test]
+fn what_is_no_text_is_no_script(rt: HostRuntime) -> Result<(), Fail> {
+    expect_error(
+        &rt,
+        b"ports = 0\nslots = 4\n# \xFF\n",
+        "error: the script is not valid\n",
+    )
 }

@@ -1,3 +1,5 @@
+//! Writers that fail.
+
 use crate::commands::run_text;
 use std::io;
 use std::io::Write;

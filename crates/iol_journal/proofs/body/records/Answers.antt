@@ -1,6 +1,6 @@
 use Rattle.std.proofs.Common.{◌≡◌, ◌+◌, ◌≤◌, ℕ, List, ◌++◌, length, take, ◌∙◌, refl, ap, sym, subst, arith, length-append}
 use Rattle.std.proofs.Math.Seq.{take-length}
-use Rattle.iol_record.proofs.Records.{length-command_record}
+use Rattle.iol_record.proofs.RecordLaws.{length-command_record}
 use Rattle.std.proofs.lemmas.List.{length-map}
 use Rattle.iol_types.specs.Command.{value_of}
 use Rattle.iol_journal.specs.Body.{records_of}

@@ -2,7 +2,7 @@ use Rattle.std.proofs.Common.{◌≡◌, ℕ, map, ap, ◌∙◌, refl, subst, r
 use Rattle.std.proofs.lemmas.Result.{err_from_is_err_and}
 use Rattle.std.specs.List.{range_with_len}
 use Rattle.iol_disk.specs.Calls.{Call, write, Made}
-use Rattle.iol_disk.proofs.Orders.{made_none}
+use Rattle.iol_disk.proofs.DiskLaws.{made_none}
 use Rattle.iol_slots.specs.Gate.{closed_gate}
 use Rattle.iol_journal.specs.Layout.{Layout, layout_of, slot_at}
 use Rattle.iol_journal.specs.declared.area.Area.TheVariants.{A}

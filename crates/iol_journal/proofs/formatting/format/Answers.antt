@@ -1,7 +1,7 @@
 use Rattle.std.proofs.Common.{[], ◌∷◌, ◌++◌, arith}
 use Rattle.std.proofs.lemmas.Result.{err_from_is_err_and}
 use Rattle.iol_disk.specs.Calls.{sync}
-use Rattle.iol_disk.proofs.Orders.{made_one, made_append, made_then_same, failed_first, failed_later}
+use Rattle.iol_disk.proofs.DiskLaws.{made_one, made_append, made_then_same, failed_first, failed_later}
 use Rattle.iol_journal.specs.Orders.{journal_writes, opening_calls}
 use Rattle.iol_journal.proofs.Making.{makes_sync, failed_of}
 use Rattle.iol_journal.proofs.Formatted.{quiet-moments, quiet-any_moment, closed-before, behind-nothing, written-any_moment, written-since, closed-or_kept, untouched, read_shut, shut-same, behind-makes, made-means, format_failed}

@@ -1,7 +1,7 @@
 use Rattle.std.proofs.Common.{[], ◌∷◌, refl}
 use Rattle.std.proofs.lemmas.Result.{err_from_is_err_and}
 use Rattle.iol_disk.specs.Calls.{write, sync}
-use Rattle.iol_disk.proofs.Orders.{failed_first, failed_later}
+use Rattle.iol_disk.proofs.DiskLaws.{failed_first, failed_later}
 use Rattle.iol_slots.specs.Gate.{open_gate}
 use Rattle.iol_journal.specs.declared.geometry.TheConstants.{DISK_GATE}
 use Rattle.iol_journal.proofs.Making.{makes_sync, makes_write, makes_then, made_of, failed_of}

@@ -1,7 +1,7 @@
 use Rattle.std.proofs.Common.{[], ◌∷◌, ap, ◌∙◌, refl}
 use Rattle.std.proofs.lemmas.Result.{err_from_is_err_and}
 use Rattle.iol_disk.specs.Calls.{write}
-use Rattle.iol_disk.proofs.Orders.{failed_first, failed_later}
+use Rattle.iol_disk.proofs.DiskLaws.{failed_first, failed_later}
 use Rattle.iol_slots.specs.Gate.{open_gate, closed_gate}
 use Rattle.iol_journal.specs.Geometry.{geometry_octets}
 use Rattle.iol_journal.specs.Layout.{Layout, layout_of, gate_at}

@@ -1,7 +1,7 @@
 use Rattle.std.proofs.Common.{[], ◌∷◌, ap, ◌∙◌, sym, refl}
 use Rattle.std.proofs.lemmas.Result.{err_from_is_err_and}
 use Rattle.iol_disk.specs.Calls.{write}
-use Rattle.iol_disk.proofs.Orders.{failed_first}
+use Rattle.iol_disk.proofs.DiskLaws.{failed_first}
 use Rattle.iol_journal.specs.Header.{header_octets}
 use Rattle.iol_journal.specs.Layout.{Layout, layout_of, header_at}
 use Rattle.iol_journal.specs.declared.area.Area.TheVariants.{A, B}

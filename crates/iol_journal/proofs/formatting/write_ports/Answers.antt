@@ -4,7 +4,7 @@ use Rattle.iol_types.specs.State.{blank}
 use Rattle.iol_record.specs.Record.{port_octets}
 use Rattle.std.specs.List.{range_with_len}
 use Rattle.iol_disk.specs.Calls.{Call, write, Made}
-use Rattle.iol_disk.proofs.Orders.{made_none}
+use Rattle.iol_disk.proofs.DiskLaws.{made_none}
 use Rattle.iol_journal.specs.Layout.{Layout, layout_of, port_at}
 use Rattle.iol_journal.specs.Octets.{padded}
 use Rattle.iol_journal.specs.declared.area.Area.TheVariants.{A}

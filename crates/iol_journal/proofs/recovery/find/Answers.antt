@@ -2,7 +2,7 @@ use Rattle.std.proofs.Common.{ℕ, [], ◌∷◌, ap, ◌∙◌, sym}
 use Rattle.std.proofs.lemmas.Result.{err_from_is_err_and}
 use Rattle.iol_disk.specs.Calls.{sync}
 use Rattle.iol_disk.specs.Content.{reads}
-use Rattle.iol_disk.proofs.Moments.{quiet_sync}
+use Rattle.iol_disk.proofs.DiskLaws.{quiet_sync}
 use Rattle.iol_journal.specs.Meaning.{layout_in, in_use_in, ports_from, log_from, standing_in}
 use Rattle.iol_journal.proofs.Recovered.{synced-then, synced-only, recovery_failed, chosen_after, found_after, layout_after, cause_after, no_layout, no_area, no_ports, no_log, stands}
 use Rattle.iol_journal.proofs.Making.{makes_sync, failed_of}

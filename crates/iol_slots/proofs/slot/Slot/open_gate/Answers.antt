@@ -1,6 +1,5 @@
 use Rattle.std.proofs.Common.{true, ◌+◌, ◌∙◌, arith}
-use Rattle.iol_disk.proofs.Images.{image-clean}
-use Rattle.iol_disk.proofs.Moments.{wrote_some, leaves_write}
+use Rattle.iol_disk.proofs.DiskLaws.{image-clean, wrote_some, leaves_write}
 use Rattle.iol_slots.specs.Gate.{open_gate}
 use Rattle.iol_slots.proofs.Gates.{is_open-open_gate, gate-after_write}
 use Rattle.iol_slots.proofs.slot.Slot.open_gate.Goals as goal

@@ -1,6 +1,6 @@
 use Rattle.std.proofs.Common.{◌+◌, ◌≢◌, ◌∙◌, ap, arith}
 use Rattle.iol_slots.specs.Gate.{is_open}
-use Rattle.iol_disk.proofs.Moments.{wrote_some, leaves_write}
+use Rattle.iol_disk.proofs.DiskLaws.{wrote_some, leaves_write}
 use Rattle.iol_slots.proofs.slot.Slot.write_sector.Goals as goal
 
 pub returns-clause-behind : goal.returns-clause-behind

@@ -1,0 +1,5 @@
+pub mod Table
+pub mod Step
+pub mod Stop
+pub mod Steps
+pub mod Script

@@ -1,0 +1,110 @@
+//! The text of a script (docs/FORMATS.md, "Scripts").
+
+use crate::step::Step;
+use crate::steps::{before_stop, read_steps, values_in};
+use crate::stop::Keep;
+use crate::table::{has_only_keys, number_at};
+use std::alloc::{AllocError, AllocFailed, Global};
+use std::str;
+use thiserror::Error;
+use toml::Table;
+
+/// The most octets that a script has.
+pub const SCRIPT_OCTETS: usize = 65_536;
+
+/// What a script says.
+#[derive(Debug, Drop)]
+pub struct Script {
+    /// The number of ports, as it stands in the text.
+    pub ports: i64,
+    /// The number of slots in each area, as it stands in the text.
+    pub slots: i64,
+    /// What is done, in order.
+    pub steps: Vec<Step>,
+    /// What the stop at the end leaves of the sectors that no sync has settled.
+    pub keep: Keep,
+}
+
+/// Why a text is not read as a script.
+#[derive(Clone, Copy, Debug, PartialEq, Eq, Error)]
+pub enum ScriptFault {
+    /// It is over [`SCRIPT_OCTETS`], no UTF-8, no TOML, or says something else than a script.
+    #[error("the script is not valid")]
+    NotValid,
+    /// Memory ran out.
+    #[error("out of memory")]
+    Memory,
+}
+
+impl<T: Drop> From<AllocFailed<T>> for ScriptFault {
+    ghost use Rattle.std.specs.Prelude.{◌≡◌};
+    ghost use Rattle.iol_script.specs.declared.script.ScriptFault.TheVariants.{Memory};
+
+    ghost from_gives = { λ _ fault. fault ≡ Memory };
+
+    fn from(_error: AllocFailed<T>) -> ScriptFault {
+        ScriptFault::Memory
+    }
+}
+
+impl From<AllocError> for ScriptFault {
+    ghost use Rattle.std.specs.Prelude.{◌≡◌};
+    ghost use Rattle.iol_script.specs.declared.script.ScriptFault.TheVariants.{Memory};
+
+    ghost from_gives = { λ _ fault. fault ≡ Memory };
+
+    fn from(_error: AllocError) -> ScriptFault {
+        ScriptFault::Memory
+    }
+}
+
+impl Script {
+    ghost use Rattle.std.specs.Prelude.{◌≡◌, None, Some, IfOk, OnOk};
+    ghost use Rattle.toml.specs.View.{table_view};
+    ghost use Rattle.iol_script.specs.Script.{IsText, said_by, said_in, said_of};
+
+    /// The script in a text of at most 65,536 octets: TOML with the whole numbers `ports` and `slots`, of any size
+    /// that 64 bits hold, and the steps, of which a stop is the last. Where there is none, one that keeps what is new
+    /// is added.
+    ///
+    /// # Errors
+    /// `NotValid` where the text is no script; `Memory` where memory runs out over a text.
+    pub fn read(alloc: Global, text: &[u8]) -> Result<Script, ScriptFault>
+        ensures text { OnOk result (IsText text.now) }
+        ensures script { IfOk result (λ script. said_in text.now ≡ Some (said_of script)) }
+        ensures not_valid { result ≡ Err ScriptFault.NotValid → IsText text.now → said_in text.now ≡ None }
+        ensures memory { result ≡ Err ScriptFault.Memory → IsText text.now }
+    {
+        if SCRIPT_OCTETS < text.len() {
+            return Err(ScriptFault::NotValid);
+        }
+        let Ok(text) = str::from_utf8(text) else {
+            return Err(ScriptFault::NotValid);
+        };
+        match toml::table_from_str(alloc, text) {
+            Ok(table) => Script::from_table(alloc, &table),
+            Err(error) if error.is_memory() => Err(ScriptFault::Memory),
+            Err(_) => Err(ScriptFault::NotValid),
+        }
+    }
+
+    fn from_table(alloc: Global, table: &Table) -> Result<Script, ScriptFault>
+        ensures script { IfOk result (λ script. said_by (table_view table.now) ≡ Some (said_of script)) }
+        ensures not_valid { result ≡ Err ScriptFault.NotValid → said_by (table_view table.now) ≡ None }
+    {
+        if !has_only_keys(table, &["ports", "slots", "step"]) {
+            return Err(ScriptFault::NotValid);
+        }
+        let ports = number_at(table, "ports").ok_or(ScriptFault::NotValid)?;
+        let slots = number_at(table, "slots").ok_or(ScriptFault::NotValid)?;
+        let values = values_in(table).ok_or(ScriptFault::NotValid)?;
+        let (values, keep) = before_stop(values);
+        let steps = read_steps(alloc, values)?;
+        Ok(Script {
+            ports,
+            slots,
+            steps,
+            keep,
+        })
+    }
+}

@@ -1,0 +1,106 @@
+//! One step of a script.
+ghost use Rattle.std.specs.Prelude.{◌≡◌, ◌^◌};
+ghost use Rattle.toml.specs.View.{table_view};
+ghost use Rattle.iol_script.specs.Step.{configure_in, drain_in, config_in, number_below, port_in, mode_in, validation_in, vendor_in, device_in};
+
+use crate::table::{has_only_keys, number_at, text_at};
+use iol_types::{DeviceId, PortConfig, PortId, PortMode, Validation};
+use toml::{Table, Value};
+
+/// A step of a script, but for the stop that ends it.
+#[derive(Clone, Copy, Debug, PartialEq, Eq)]
+pub enum Step {
+    /// A client gives a port a configuration.
+    Configure { port: PortId, config: PortConfig },
+    /// All that is queued is written to the disk.
+    Drain,
+}
+
+impl Step {
+    ghost use Rattle.std.specs.Prelude.{◌≡◌};
+    ghost use Rattle.toml.specs.View.{view};
+    ghost use Rattle.iol_script.specs.Step.{step_of};
+
+    /// The step that a value says: `{ do = "drain" }`, or `{ do = "configure", .. }` with its five whole numbers.
+    pub fn read(value: &Value) -> Option<Step>
+        ensures { result ≡ step_of (view value.now) }
+    {
+        let table = value.as_table()?;
+        match text_at(table, "do")? {
+            "configure" => configure_in(table),
+            "drain" => drain_in(table),
+            _ => None,
+        }
+    }
+}
+
+fn configure_in(table: &Table) -> Option<Step>
+    ensures { result ≡ configure_in (table_view table.now) }
+{
+    let keys = ["do", "port", "mode", "validation", "vendor", "device"];
+    if !has_only_keys(table, &keys) {
+        return None;
+    }
+    Some(Step::Configure {
+        port: port_in(table)?,
+        config: config_in(table)?,
+    })
+}
+
+fn drain_in(table: &Table) -> Option<Step>
+    ensures { result ≡ drain_in (table_view table.now) }
+{
+    if has_only_keys(table, &["do"]) {
+        Some(Step::Drain)
+    } else {
+        None
+    }
+}
+
+fn config_in(table: &Table) -> Option<PortConfig>
+    ensures { result ≡ config_in (table_view table.now) }
+{
+    Some(PortConfig {
+        mode: mode_in(table)?,
+        validation: validation_in(table)?,
+        vendor: vendor_in(table)?,
+        device: device_in(table)?,
+    })
+}
+
+fn port_in(table: &Table) -> Option<PortId>
+    ensures { result ≡ port_in (table_view table.now) }
+{
+    PortId::new(octet_at(table, "port")?)
+}
+
+fn mode_in(table: &Table) -> Option<PortMode>
+    ensures { result ≡ mode_in (table_view table.now) }
+{
+    PortMode::from_octet(octet_at(table, "mode")?)
+}
+
+fn validation_in(table: &Table) -> Option<Validation>
+    ensures { result ≡ validation_in (table_view table.now) }
+{
+    Validation::from_octet(octet_at(table, "validation")?)
+}
+
+fn vendor_in(table: &Table) -> Option<u16>
+    ensures { result ≡ vendor_in (table_view table.now) }
+{
+    u16::try_from(number_at(table, "vendor")?).ok()
+}
+
+fn device_in(table: &Table) -> Option<DeviceId>
+    ensures { result ≡ device_in (table_view table.now) }
+{
+    DeviceId::new(u32::try_from(number_at(table, "device")?).ok()?)
+}
+
+// The whole number of 0 to 255 at a key.
+fn octet_at(table: &Table, key: &str) -> Option<u8>
+    ensures { result ≡ number_below (2 ^ 8) key.now (table_view table.now) }
+{
+    u8::try_from(number_at(table, key)?).ok()
+}

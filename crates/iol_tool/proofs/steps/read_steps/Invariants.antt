@@ -1,9 +1,0 @@
-use Rattle.std.proofs.Common.{◌≡◌, ◌++◌, drop, option_map}
-use Rattle.toml.specs.View.{items_view}
-use Rattle.iol_tool.specs.Steps.{steps_of}
-use Rattle.iol_tool.proofs.steps.read_steps.Given as goal
-
--- the values say the steps so far, and then those of the values that are left
-abbrev pub invariant-loop-value : goal.invariant-loop-value
-invariant-loop-value l =
-    steps_of (items_view l.values) ≡ option_map (λ steps. l.steps.items ++ steps) (steps_of (items_view (drop l.value-index l.values)))

@@ -1,0 +1,38 @@
+//! The line and the status of each fault.
+
+use crate::commands::report;
+use crate::fault::Fault;
+use std::str;
+use std::test::Fail;
+
+const FAULTS: [(Fault<'_>, &str, u8); 11] = [
+    (Fault::NotFormatted, "error: the disk is not formatted\n", 1),
+    (
+        Fault::AlreadyFormatted,
+        "error: the disk is already formatted\n",
+        1,
+    ),
+    (Fault::TooSmall, "error: the disk is too small\n", 1),
+    (
+        Fault::Damaged { sector: 23 },
+        "error: damaged at sector 23\n",
+        1,
+    ),
+    (Fault::Disk, "error: the disk failed\n", 1),
+    (Fault::Memory, "error: out of memory\n", 1),
+    (Fault::JournalFull, "error: the journal is full\n", 1),
+    (Fault::File { path: "a b" }, "error: cannot open a b\n", 1),
+    (Fault::Words, "error: a word is not UTF-8\n", 2),
+    (Fault::Script, "error: the script is not valid\n", 2),
+    (Fault::Geometry, "error: the geometry is not valid\n", 2),
+];
+
+#[test]
+fn each_fault_has_its_line_and_its_status(rt: HostRuntime) -> Result<(), Fail> {
+    for (fault, line, status) in FAULTS {
+        let mut err = Vec::new(rt.alloc());
+        assert_eq!(rt; report(&mut err, &fault), status, "{line}");
+        assert_eq!(rt; str::from_utf8(&err)?, line);
+    }
+    Ok(())
+}
