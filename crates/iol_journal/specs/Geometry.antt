@@ -17,7 +17,7 @@ pub record IsGeometry (g : Geometry) : Type 0 where
   pub some_slot : 1 ≤ g.slots
   pub most_slots : g.slots ≤ MOST_SLOTS
 
--- the same, as a test (format, Disk layout)
+-- a geometry is in its ranges, as a test (format, Disk layout)
 abbrev pub is_geometry : Geometry → Bool
 is_geometry g = nat_le 1 g.ports && nat_le g.ports MOST_PORTS && nat_le 1 g.slots && nat_le g.slots MOST_SLOTS
 

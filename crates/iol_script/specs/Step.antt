@@ -64,7 +64,7 @@ configure_in table =
 abbrev pub drain_in : Members → Option Step
 drain_in table = if has_only_keys drain_keys table then Some Drain else None
 
--- the step that a table of this kind says, whichever the kind (format, Scripts)
+-- the step that a table says, by its kind (format, Scripts)
 abbrev pub step_of_kind : List ℕ → Members → Option Step
 step_of_kind kind table =
     if bytes_eq kind (codes "configure") then configure_in table

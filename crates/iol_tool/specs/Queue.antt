@@ -17,7 +17,7 @@ pub record Numbered : Type 0 where
   pub first : ℕ
   pub commands : List CommandValue
 
--- a batch in memory, as those (own)
+-- a batch in memory, as such commands and number (own)
 abbrev pub numbered : Batch → Numbered
 numbered batch = record { first = batch.first; commands = map value_of batch.commands.items }
 

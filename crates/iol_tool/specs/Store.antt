@@ -30,7 +30,8 @@ IsWritten before commands (Journal behind) (Acknowledged number) = (behind.stand
 IsWritten before commands (Failed disk) DiskFailed = Unit {0}
 IsWritten before commands store event = ⊥
 
--- the same of a disk of which a call may have failed before: nothing is written then, and nothing acknowledged (own)
+-- what a write of commands makes of the disk of a run: where a call had failed before nothing is written, and nothing
+-- acknowledged (own)
 abbrev pub Writes : {D : Type 0} → Store D → List CommandValue → Store D → Event → Type 0
 Writes (Journal before) commands behind event = IsWritten before.standing commands behind event
 Writes (Failed before) commands (Failed behind) DiskFailed = Unit {0}
