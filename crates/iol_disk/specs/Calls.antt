@@ -5,43 +5,43 @@ use Rattle.iol_disk.specs.Disk.{Disk, After, Same, WroteSome, HasFailed}
 use Rattle.iol_disk.specs.declared.fault.DiskFault.{DiskFault}
 use Rattle.iol_disk.specs.declared.fault.DiskFault.TheVariants.{Write, Sync}
 
--- a write of these octets to this sector, or a sync; a read changes nothing and is in no order
+-- a disk call: a write of these octets to this sector, or a sync; a read changes nothing and is in no order (own)
 pub data Call : Type 0 where
   write : (sector : ℕ) (octets : List ℕ) → Call
   sync : Call
 
--- the content after a call that succeeded
+-- the content after a call that succeeded (own)
 abbrev pub content_after : Call → Content → Content
 content_after (write sector octets) c = wrote sector octets c
 content_after sync c = synced c
 
--- the content after calls one behind the other
+-- the content after calls one behind the other (own)
 abbrev pub content_after_all : List Call → Content → Content
 content_after_all [] c = c
 content_after_all (call ∷ calls) c = content_after_all calls (content_after call c)
 
--- the calls were made in their order, and each succeeded
+-- the calls were made in their order, and each succeeded (own)
 pub record Made (calls : List Call) (old new : Disk) : Type 0 where
   pub after : After (content_after_all calls) old new
   pub no_failure : new.failures ≡ old.failures
 
--- the kind of fault of a call
+-- the kind of fault of a call (own)
 abbrev pub fault_of : Call → DiskFault
 fault_of (write sector octets) = Write
 fault_of sync = Sync
 
--- what a call that failed leaves: a write its sector written with some octets, a sync all as it was
+-- what a call that failed leaves: a write its sector written with some octets, a sync all as it was (own)
 abbrev pub LeftBy : Call → Disk → Disk → Type 0
 LeftBy (write sector octets) = WroteSome sector
 LeftBy sync = Same
 
--- the call failed, with the fault of its kind, and the failure was counted
+-- the call failed, with the fault of its kind, and the failure was counted (own)
 pub record Failed (call : Call) (fault : DiskFault) (old new : Disk) : Type 0 where
   pub kind : fault ≡ fault_of call
   pub left : LeftBy call old new
   pub counted : HasFailed old new
 
--- the calls were made in their order up to one that failed
+-- the calls were made in their order up to one that failed, with this fault (own)
 pub record FailedIn (calls : List Call) (fault : DiskFault) (old new : Disk) : Type 0 where
   pub place : ℕ
   pub call : Call

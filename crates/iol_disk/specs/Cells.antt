@@ -6,33 +6,36 @@ use Rattle.std.specs.declared.alloc.Global.{Global}
 use Rattle.iol_disk.specs.Content.{Image}
 use Rattle.iol_disk.specs.declared.cell.Cell.{Cell}
 
+-- the durable octets of a sector in memory, if it is there (own)
 abbrev pub durable_in : Option Cell → List ℕ
 durable_in (Some cell) = cell.durable
 durable_in None = []
 
+-- what was written since the last sync to a sector in memory (own)
 abbrev pub newest_in : Option Cell → Option (List ℕ)
 newest_in (Some cell) = cell.newest
 newest_in None = None
 
+-- the durable octets of each sector, and the newest ones of those written since the last sync (own)
 abbrev pub durable_of : List Cell → Image
 durable_of cells i = durable_in (slice_get cells i)
 
 abbrev pub written_of : List Cell → ℕ → Option (List ℕ)
 written_of cells i = newest_in (slice_get cells i)
 
--- a sector once its newest octets are durable
+-- a sector once its newest octets are durable (own)
 abbrev pub settled : Cell → Cell
 settled cell = record { durable = unwrap_or cell.newest cell.durable; newest = None }
 
--- a sector that was never written
+-- a sector that was never written: 512 zeros (own)
 abbrev pub blank : Cell
 blank = record { durable = replicate 512 0; newest = None }
 
--- whether the sector stands in the list
+-- whether the sector stands in the list (own)
 abbrev pub is_listed : List ℕ → ℕ → Bool
 is_listed listed i = list_any (nat_eq i) listed
 
--- The list has exactly the sectors that were written, each once, and room for all.
+-- The list has exactly the sectors that were written, each once, and room for all (own)
 pub record ListsWritten (cells : List Cell) (listed : Vec ℕ Global) : Type 0 where
   pub exactly : (i : ℕ) → is_listed listed.items i ≡ is_some (written_of cells i)
   pub once : IsDistinct nat_eq listed.items

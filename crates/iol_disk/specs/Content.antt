@@ -1,23 +1,27 @@
 -- What a disk holds, and what a power stop may leave of it.
 use Rattle.std.specs.Prelude.{◌≡◌, ◌⊎◌, ◌==◌, ℕ, Bool, false, if◌then◌else◌, List, [], ◌∷◌, ◌++◌, length, drop, Option, Some, None, unwrap_or, is_some}
 
--- the octets of each sector, by its number
+-- an image: the octets of each sector, by its number (own)
 abbrev pub Image : Type 0
 Image = ℕ → List ℕ
 
--- the time between two syncs, as it ended: what was durable, and which sectors were written
+-- the time between two syncs, as it ended: what was durable, and which sectors were written (own)
 pub record Epoch : Type 0 where
   pub durable : Image
   pub pending : ℕ → Bool
 
--- a stop leaves any octets in the pending sectors, and the durable ones elsewhere
+-- what a stop at the end of such a time may leave: any octets in the sectors written in it, the durable ones
+-- elsewhere (own)
 abbrev pub IsImageOf : Epoch → Image → Type 0
 IsImageOf e image = (i : ℕ) → e.pending i ≡ false → image i ≡ e.durable i
 
+-- what a stop at the end of one of these times may leave (own)
 abbrev pub IsImageOfSome : List Epoch → Image → Type 0
 IsImageOfSome [] image = ⊥
 IsImageOfSome (e ∷ es) image = IsImageOf e image ⊎ IsImageOfSome es image
 
+-- what a disk holds: what is durable, what was written since the last sync, and the times between syncs that have
+-- ended (own)
 pub record Content : Type 0 where
   -- what the last sync that succeeded made sure of
   pub durable : Image
@@ -26,26 +30,28 @@ pub record Content : Type 0 where
   -- the times that a sync has ended, the first one first
   pub past : List Epoch
 
--- what a read gives
+-- what a read gives: the newest octets of a sector (own)
 abbrev pub reads : Content → Image
 reads c i = unwrap_or (c.written i) (c.durable i)
 
+-- the time since the last sync, as it is now (own)
 abbrev pub now : Content → Epoch
 now c = record { durable = c.durable; pending = λ i. is_some (c.written i) }
 
--- what a stop at this moment may leave
+-- what a power stop at this moment may leave: any octets in the sectors written since the last sync, the durable ones
+-- elsewhere (own)
 abbrev pub IsImage : Content → Image → Type 0
 IsImage c image = IsImageOf (now c) image
 
--- the number of syncs that have succeeded
+-- the number of syncs that have succeeded (own)
 abbrev pub clock : Content → ℕ
 clock c = length c.past
 
--- what a stop at some moment since t may leave
+-- what a power stop at some moment since the clock showed t may leave (own)
 abbrev pub IsImageSince : ℕ → Content → Image → Type 0
 IsImageSince t c image = IsImageOfSome (drop t c.past) image ⊎ IsImage c image
 
--- after a write of these octets
+-- the content after a write of these octets to a sector (own)
 abbrev pub wrote : ℕ → List ℕ → Content → Content
 wrote n octets c = record {
   durable = c.durable;
@@ -53,10 +59,10 @@ wrote n octets c = record {
   past = c.past;
 }
 
--- after a sync
+-- the content after a sync: what was written is durable (own)
 abbrev pub synced : Content → Content
 synced c = record { durable = reads c; written = λ i. None; past = c.past ++ now c ∷ [] }
 
--- all that was written is settled: what is read is the only image
+-- all that was written is settled: what is read is the only image (own)
 abbrev pub IsSettled : Content → Type 0
 IsSettled c = (i : ℕ) → c.written i ≡ None

@@ -3,7 +3,7 @@ use Rattle.std.specs.Prelude.{◌≡◌, ◌≤◌, ◌⊎◌, ℕ, IsTrue}
 use Rattle.iol_disk.specs.Content.{Image, IsImageSince, clock}
 use Rattle.iol_disk.specs.Disk.{Disk}
 
--- On an honest disk a stop at any moment from `old` to `new`, inside a call too, leaves an image that has P.
+-- On an honest disk a stop at any moment from `old` to `new`, inside a call too, leaves an image that has P (own)
 pub record LeavesOnly (old new : Disk) (P : Image → Type 0) : Type 0 where
   pub sectors : new.sectors ≡ old.sectors
   pub honest : new.honest ≡ old.honest

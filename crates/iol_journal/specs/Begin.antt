@@ -8,12 +8,13 @@ use Rattle.iol_journal.specs.declared.header.TheConstants.{LAST_NUMBER}
 use Rattle.iol_journal.specs.declared.journal.BeginCause.{BeginCause}
 use Rattle.iol_journal.specs.declared.journal.BeginCause.TheVariants.{TooLarge, NeedsCheckpoint, Memory, Misfit}
 
--- the commands, the first with this number, go on where the journal stands
+-- the commands, the first with this number, go on where the journal stands: at least one, in range, and each passes
+-- (own)
 abbrev pub follows : Standing → ℕ → List CommandValue → Bool
 follows s first commands =
     nat_le 1 (length commands) && (first == s.number + 1) && nat_le (s.number + length commands) LAST_NUMBER && legal s.state commands
 
--- why a batch is refused, but for memory; none where it is taken
+-- why a batch is refused, but for memory; none where it is taken (own)
 abbrev pub refusal : Standing → ℕ → List CommandValue → Option BeginCause
 refusal s first commands =
     if nat_lt MOST_COMMANDS (length commands) then Some TooLarge
@@ -21,7 +22,8 @@ refusal s first commands =
     else if follows s first commands then None
     else Some Misfit
 
--- memory is asked for after the size of the batch and the free slot, and before what the commands say
+-- why a batch is refused, memory in its place: after the size of the batch and the free slot, before what the
+-- commands say (own)
 abbrev pub IsRefusal : Standing → ℕ → List CommandValue → BeginCause → Type 0
 IsRefusal s first commands Memory = (length commands ≤ MOST_COMMANDS) × (s.used < s.layout.slots)
 IsRefusal s first commands cause = refusal s first commands ≡ Some cause

@@ -11,7 +11,7 @@ use Rattle.iol_journal.specs.declared.body.Head.{Head}
 use Rattle.iol_journal.specs.declared.header.TheConstants.{LAST_NUMBER}
 use Rattle.iol_journal.specs.declared.batch.TheConstants.{MOST_COMMANDS, MOST_RECORD_OCTETS, BODY_HEAD_OCTETS}
 
--- epoch 8, number of the first command 8, count 2, octets of the records 4
+-- the head of a body: epoch 8, number of the first command 8, count 2, octets of the records 4 (format, Slots)
 unfoldable pub head_of : List ℕ → Head
 head_of body = record {
   epoch = number_at w64 0 body;
@@ -20,40 +20,44 @@ head_of body = record {
   octets = number_at w32 18 body;
 }
 
--- a batch under this epoch, the first command of which has this number, may have the head
+-- a head may be that of a batch under this epoch whose first command has this number (format, Slots)
 abbrev pub fits : Head → ℕ → ℕ → Bool
 fits head epoch first =
     (head.epoch == epoch) && (head.first == first) && nat_le 1 head.count && nat_le head.count MOST_COMMANDS
     && nat_le head.octets MOST_RECORD_OCTETS && nat_le (first + head.count) (LAST_NUMBER + 1)
 
+-- a command in front of others, if they are there (own)
 abbrev pub before : CommandValue → Option (List CommandValue) → Option (List CommandValue)
 before command None = None
 before command (Some commands) = Some (command ∷ commands)
 
+-- the command that was read, and those that the octets behind it give (own)
 abbrev pub first_then : Result (CommandValue × List ℕ) RecordFault → (List ℕ → Option (List CommandValue)) → Option (List CommandValue)
 first_then (Err fault) others = None
 first_then (Ok read) others = before read.0 (others read.1)
 
--- so many commands whose records fill the octets exactly
+-- so many commands, whose records fill the octets exactly (format, Slots)
 abbrev pub commands_of : ℕ → List ℕ → Option (List CommandValue)
 commands_of zero [] = Some []
 commands_of zero (octet ∷ octets) = None
 commands_of (suc n) octets = first_then (command_at octets) (λ rest. commands_of n rest)
 
--- the commands of a slot's body, under this epoch, the first with this number
+-- the commands of a slot's body, if it is a batch under this epoch whose first command has this number (format,
+-- Slots)
 unfoldable pub batch_of : ℕ → ℕ → List ℕ → Option (List CommandValue)
 batch_of epoch first body =
     let head = head_of body in
     if fits head epoch first then commands_of head.count (take head.octets (drop BODY_HEAD_OCTETS body)) else None
 
--- the records of commands, one behind the other
+-- the records of commands, one behind the other (format, Slots)
 abbrev pub records_of : List CommandValue → List ℕ
 records_of commands = flat_map command_octets commands
 
--- a head as it is written
+-- a head as it is written (format, Slots)
 abbrev pub head_octets : ℕ → ℕ → ℕ → ℕ → List ℕ
 head_octets epoch first count octets = to_be_bytes w64 epoch ++ to_be_bytes w64 first ++ to_be_bytes w16 count ++ to_be_bytes w32 octets
 
--- a body as it is written: its head, the records, and zeros to the end of the last sector that they reach
+-- a body as it is written: its head, the records, and zeros to the end of the last sector that they reach (format,
+-- Slots)
 unfoldable pub body_octets : ℕ → ℕ → List CommandValue → List ℕ
 body_octets epoch first commands = padded (head_octets epoch first (length commands) (length (records_of commands)) ++ records_of commands)

@@ -6,16 +6,17 @@ use Rattle.iol_journal.specs.Layout.{layout_of}
 use Rattle.iol_journal.specs.Meaning.{Standing}
 use Rattle.iol_journal.specs.declared.area.Area.TheVariants.{A}
 
--- 2 ports and 4 slots
+-- for worked examples: 2 ports and 4 slots (format, Disk layout)
 abbrev pub two_by_four : Geometry
 two_by_four = record { ports = 2; slots = 4 }
 
--- epoch 1, number 1, one command, 10 octets; Configure port 1: IOL_MANUAL, Backup and Restore, vendor 500, device 43981; zeros
+-- for worked examples: epoch 1, number 1, one command, 10 octets; Configure port 1: IOL_MANUAL, Backup and Restore,
+-- vendor 500, device 43981; zeros (format, Slots)
 abbrev pub first_body : List ℕ
 first_body =
     (0 ∷ 0 ∷ 0 ∷ 0 ∷ 0 ∷ 0 ∷ 0 ∷ 1 ∷ 0 ∷ 0 ∷ 0 ∷ 0 ∷ 0 ∷ 0 ∷ 0 ∷ 1 ∷ 0 ∷ 1 ∷ 0 ∷ 0 ∷ 0 ∷ 10 ∷ [])
     ++ (0x01 ∷ 0x01 ∷ 0x01 ∷ 0x03 ∷ 0x01 ∷ 0xF4 ∷ 0x00 ∷ 0x00 ∷ 0xAB ∷ 0xCD ∷ []) ++ replicate 480 0
 
--- a journal of them that was just formatted, with this state
+-- for worked examples: how a journal of 2 ports and 4 slots stands that was just formatted (own)
 abbrev pub first_standing : State → Standing
 first_standing state = record { layout = layout_of two_by_four; area = A; epoch = 1; used = 0; number = 0; state = state }

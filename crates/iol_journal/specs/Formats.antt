@@ -9,16 +9,17 @@ use Rattle.iol_journal.specs.Kept.{KeptMeans}
 use Rattle.iol_journal.specs.declared.formatting.FormatFault.{FormatFault}
 use Rattle.iol_journal.specs.declared.formatting.FormatFault.TheVariants.{TooSmall, AlreadyFormatted, Memory, Disk as DiskFailed}
 
--- the refusals that come before anything is written
+-- a fact of a format that refuses before anything is written (own)
 abbrev pub IfUntouched : FormatFault → Type 0 → Type 0
 IfUntouched (DiskFailed fault) P = Unit {0}
 IfUntouched fault P = P
 
--- an image of so many sectors is not formatted, or an empty journal of this geometry
+-- an image of so many sectors is not formatted, or an empty journal of this geometry (own)
 abbrev pub IsEmptyOrUnformatted : Geometry → ℕ → Image → Type 0
 IsEmptyOrUnformatted g sectors image = (meaning sectors image ≡ Err unformatted) ⊎ KeptMeans sectors 0 (empty_state g.ports) image
 
--- since the first sync that succeeded, which puts the clock on by one
+-- each image since the first sync of a format, which puts the clock on by one, is not formatted or an empty journal
+-- (own)
 abbrev pub LeavesFormat : Geometry → Disk → Disk → Type 0
 LeavesFormat g old new =
     IsTrue old.honest → clock old.content < clock new.content

@@ -16,15 +16,18 @@ use Rattle.iol_disk.specs.Calls.{Call}
 use Rattle.iol_journal.specs.Batches.{IsPhase, body_for, sectors_for, calls_from}
 use Rattle.iol_journal.specs.Body.{batch_of}
 
--- the values of commands
+-- the values of commands (own)
 abbrev pub values : List Command → List CommandValue
 values commands = map value_of commands
 
+-- a journal as contracts see it: its disk, how it stands, and how the other area is harmless (own)
 pub record JournalView (D : Type 0) : Type 0 where
   pub disk : D
   pub standing : Standing
   pub idle : Idle
 
+-- a batch on its way as contracts see it: the disk, how the journal stood before it, its commands and its next disk
+-- call (own)
 pub record WritingView (D : Type 0) : Type 0 where
   pub disk : D
   pub standing : Standing
@@ -33,11 +36,11 @@ pub record WritingView (D : Type 0) : Type 0 where
   pub commands : List CommandValue
   pub phase : Phase
 
--- the disk calls that are left
+-- the disk calls that a batch on its way still makes (own)
 abbrev pub calls_left : {D : Type 0} → WritingView D → List Call
 calls_left w = calls_from w.standing (body_for w.standing w.commands) (sectors_for w.standing w.commands) w.phase
 
--- the standing of a journal that writes here next, after so many commands
+-- how a journal stands that writes here next, after so many commands (own)
 abbrev pub standing_at : Place → ℕ → State → Standing
 standing_at place number state = record {
   layout = place.layout;
@@ -48,7 +51,7 @@ standing_at place number state = record {
   state = state;
 }
 
--- the standing after a batch
+-- how a journal stands after a batch: one more slot, more commands, the state after them (own)
 abbrev pub with_batch : Standing → List CommandValue → Standing
 with_batch s commands = record {
   layout = s.layout;
@@ -59,7 +62,7 @@ with_batch s commands = record {
   state = after s.state commands;
 }
 
--- What holds of a batch on its way, on any disk.
+-- What holds of a batch on its way, on any disk (own)
 pub record IsPlanned (d : Disk) (s : Standing) (commands : List CommandValue) (phase : Phase) : Type 0 where
   pub fits : total s.layout ≤ d.sectors
   pub room : s.used < s.layout.slots
@@ -71,7 +74,7 @@ pub record IsPlanned (d : Disk) (s : Standing) (commands : List CommandValue) (p
   pub passes : legal s.state commands ≡ true
   pub bound : s.number + length commands ≤ LAST_NUMBER
 
--- A plan has the body of the batch, its sectors, and the state behind it.
+-- A plan has the body of the batch, its sectors, and the state behind it (own)
 pub record IsPlan (s : Standing) (commands : List CommandValue) (plan : Plan) : Type 0 where
   pub body : plan.body.items ≡ body_for s commands
   pub sectors : plan.sectors ≡ sectors_for s commands

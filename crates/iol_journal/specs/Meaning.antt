@@ -16,42 +16,43 @@ use Rattle.iol_journal.specs.declared.geometry.TheConstants.{BODY_SECTORS, GEOME
 use Rattle.iol_journal.specs.declared.header.Header.{Header}
 use Rattle.iol_journal.specs.declared.opening.InUse.{InUse}
 
--- why an image means no state: it was not formatted, or this sector is the first that is damaged
+-- why an image means no state: it was not formatted, or this sector is the first that is damaged (format, Recovery)
 pub data Cause : Type 0 where
   unformatted : Cause
   damaged : (sector : ℕ) → Cause
 
+-- reading goes on with a value, and ends at a cause (own)
 infixl 10 ◌>>=◌
 abbrev pub ◌>>=◌ : {A B : Type 0} → Result A Cause → (A → Result B Cause) → Result B Cause
 (Ok x) >>= next = next x
 (Err cause) >>= next = Err cause
 
--- this value where the test holds, else the sector is damaged
+-- a value where the test holds, else the sector is damaged (own)
 abbrev pub sound : {A : Type 0} → Bool → ℕ → A → Result A Cause
 sound true sector x = Ok x
 sound false sector x = Err (damaged sector)
 
--- this value if it is there, else the sector is damaged
+-- a value if it is there, else the sector is damaged (own)
 abbrev pub found : {A : Type 0} → Option A → ℕ → Result A Cause
 found (Some x) sector = Ok x
 found None sector = Err (damaged sector)
 
--- the layout of a formatted disk of so many sectors
+-- the layout that a disk of so many sectors is formatted with (format, Recovery)
 abbrev pub layout_in : ℕ → Image → Result Layout Cause
 layout_in sectors image =
     if nat_lt 1 sectors && is_open (image DISK_GATE)
     then (found (geometry_of (image GEOMETRY)) GEOMETRY >>= λ g. sound (nat_le (total (layout_of g)) sectors) GEOMETRY (layout_of g))
     else Err unformatted
 
--- the header of an area, where the area's gate is open
+-- the header of an area, where the area's gate is open (format, Recovery)
 abbrev pub header_in : Layout → Image → Area → Option Header
 header_in layout image a = if is_open (image (gate_at layout a)) then Some (header_of (image (header_at layout a))) else None
 
--- an area in use, where its header is sound
+-- an area in use, where its header is sound (format, Recovery)
 abbrev pub in_use : Layout → Area → Header → Result InUse Cause
 in_use layout a header = sound (is_sound header) (header_at layout a) (record { area = a; header = header })
 
--- of the open areas the one with the greatest epoch
+-- of the open areas the one with the greatest epoch (format, Recovery)
 abbrev pub greatest : Layout → Option Header → Option Header → Result InUse Cause
 greatest layout None None = Err (damaged (gate_at layout A))
 greatest layout (Some a) None = in_use layout A a
@@ -60,29 +61,30 @@ greatest layout (Some a) (Some b) =
     if a.epoch == b.epoch then Err (damaged (header_at layout B))
     else if nat_lt a.epoch b.epoch then in_use layout B b else in_use layout A a
 
--- the area that is in use
+-- the area that is in use (format, Recovery)
 abbrev pub in_use_in : Layout → Image → Result InUse Cause
 in_use_in layout image = greatest layout (header_in layout image A) (header_in layout image B)
 
--- a port's record, and what stands behind it, as the port alone
+-- a port's record, and what stands behind it, as the port alone (format, Recovery)
 abbrev pub port_of : Result (Port × List ℕ) RecordFault → Option Port
 port_of (Ok read) = Some read.0
 port_of (Err fault) = None
 
--- the ports from this one on, as their records say
+-- the ports from this one on, as their records say (format, Recovery)
 unfoldable pub ports_from : Layout → Area → Image → ℕ → ℕ → Result State Cause
 ports_from layout a image p zero = Ok []
 ports_from layout a image p (suc left) =
     found (port_of (port_record_at (octets_at image (port_at layout a p) layout.port_sectors))) (port_at layout a p)
     >>= λ port. ports_from layout a image (p + 1) left >>= λ ports. Ok (port ∷ ports)
 
--- where a journal goes on: slots used, commands so far, the state after them
+-- where a journal goes on: slots used, commands so far, the state after them (own)
 pub record Log : Type 0 where
   pub used : ℕ
   pub number : ℕ
   pub state : State
 
 -- the slots from this one on, up to the first whose gate is closed, on top of a number of commands and a state
+-- (format, Recovery)
 abbrev pub log_from : Layout → Area → ℕ → Image → ℕ → ℕ → ℕ → State → Result Log Cause
 log_from layout a epoch image k zero number state = Ok (record { used = k; number = number; state = state })
 log_from layout a epoch image k (suc left) number state =
@@ -92,7 +94,7 @@ log_from layout a epoch image k (suc left) number state =
     >>= λ legal_commands. log_from layout a epoch image (k + 1) left (number + length legal_commands) (after state legal_commands))
     else Ok (record { used = k; number = number; state = state })
 
--- how a journal stands: where it writes next, and the state after its commands
+-- how a journal stands: where it writes next, how many commands it has, and the state after them (own)
 pub record Standing : Type 0 where
   pub layout : Layout
   pub area : Area
@@ -102,6 +104,7 @@ pub record Standing : Type 0 where
   pub state : State
 
 -- how a journal stands on an image of so many sectors, or the first cause, in the order of reading, why none does
+-- (format, Recovery)
 unfoldable pub standing_in : ℕ → Image → Result Standing Cause
 standing_in sectors image =
     layout_in sectors image
@@ -110,11 +113,12 @@ standing_in sectors image =
     >>= λ ports. log_from layout used.area used.header.epoch image 0 layout.slots used.header.base ports
     >>= λ log. Ok (record { layout = layout; area = used.area; epoch = used.header.epoch; used = log.used; number = log.number; state = log.state })
 
--- the state of a master after so many commands
+-- a meaning: the state of a master after so many commands (own)
 pub record Meaning : Type 0 where
   pub number : ℕ
   pub state : State
 
--- what an image of so many sectors means
+-- what an image of so many sectors means: a number of commands and the state after them, or the first cause why none
+-- (format, Recovery)
 abbrev pub meaning : ℕ → Image → Result Meaning Cause
 meaning sectors image = standing_in sectors image >>= λ s. Ok (record { number = s.number; state = s.state })

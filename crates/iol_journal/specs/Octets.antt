@@ -3,19 +3,19 @@ use Rattle.std.specs.Prelude.{ℕ, zero, suc, ◌+◌, ◌-◌, ◌*◌, ◌/◌
 use Rattle.std.specs.Int.{Width, byte_len, from_be_bytes}
 use Rattle.iol_disk.specs.Content.{Image}
 
--- the number of this width at a place, most significant octet first
+-- the number of this width at a place of some octets, most significant octet first (format, Disk layout)
 abbrev pub number_at : Width → ℕ → List ℕ → ℕ
 number_at width place octets = from_be_bytes width (take (byte_len width) (drop place octets))
 
--- the octets of so many sectors from the first one on
+-- the octets of so many sectors from the first one on (format, Disk layout)
 unfoldable pub octets_at : Image → ℕ → ℕ → List ℕ
 octets_at image first zero = []
 octets_at image first (suc n) = image first ++ octets_at image (first + 1) n
 
--- how many sectors so many octets reach
+-- how many sectors so many octets reach (format, Disk layout)
 abbrev pub sectors_reached : ℕ → ℕ
 sectors_reached octets = (octets + 511) / 512
 
--- octets, and zeros behind them to the end of the last sector that they reach
+-- octets, and zeros behind them to the end of the last sector that they reach (format, Disk layout)
 unfoldable pub padded : List ℕ → List ℕ
 padded octets = octets ++ replicate (512 * sectors_reached (length octets) - length octets) 0

@@ -17,41 +17,45 @@ use Rattle.iol_journal.specs.declared.geometry.TheConstants.{GEOMETRY, DISK_GATE
 use Rattle.iol_journal.specs.declared.formatting.FormatFault.{FormatFault}
 use Rattle.iol_journal.specs.declared.formatting.FormatFault.TheVariants.{TooSmall, AlreadyFormatted, Memory, Disk as DiskFailed}
 
--- the calls were made in their order: each with success, or up to one that failed with this fault
+-- the calls were made in their order: each with success, or up to one that failed with this fault (format, Orders of
+-- disk calls)
 abbrev pub Makes : List Call → Disk → Disk → Result Unit DiskFault → Type 0
 Makes calls old new (Ok done) = Made calls old new
 Makes calls old new (Err fault) = FailedIn calls fault old new
 
--- the geometry, and the gates of the areas: A is open, and B is closed
+-- the geometry, and the gates of the areas: A is open, and B is closed (format, Orders of disk calls)
 abbrev pub gate_writes : Geometry → List Call
 gate_writes g =
     write GEOMETRY (geometry_octets g) ∷ write (gate_at (layout_of g) A) open_gate ∷ write (gate_at (layout_of g) B) closed_gate ∷ []
 
--- the gates of A's slots: each is closed
+-- the gates of A's slots: each is closed (format, Orders of disk calls)
 abbrev pub slot_writes : Geometry → List Call
 slot_writes g = map (λ k. write (slot_at (layout_of g) A k) closed_gate) (range_with_len 0 g.slots)
 
--- the headers: A is in its first epoch, and B was never in use
+-- the headers: A is in its first epoch, and B was never in use (format, Orders of disk calls)
 abbrev pub header_writes : Geometry → List Call
 header_writes g = write (header_at (layout_of g) A) (header_octets 1 0) ∷ write (header_at (layout_of g) B) (header_octets 0 0) ∷ []
 
--- the records of A's ports: none was ever configured
+-- the records of A's ports: none was ever configured (format, Orders of disk calls)
 abbrev pub port_writes : Geometry → List Call
 port_writes g = map (λ p. write (port_at (layout_of g) A p) (padded (port_octets blank))) (range_with_len 0 g.ports)
 
--- an empty journal
+-- the writes of an empty journal (format, Orders of disk calls)
 abbrev pub journal_writes : Geometry → List Call
 journal_writes g = gate_writes g ++ slot_writes g ++ header_writes g ++ port_writes g
 
--- the gate of the disk is opened once all that was written is durable
+-- the gate of the disk is opened once all that was written is durable: sync, open gate, sync (format, Orders of disk
+-- calls)
 abbrev pub opening_calls : List Call
 opening_calls = sync ∷ write DISK_GATE open_gate ∷ sync ∷ []
 
--- all calls of a format but reads
+-- the disk calls of a format, reads apart: a sync, the writes of an empty journal, and the opening of the disk's gate
+-- (format, Orders of disk calls)
 abbrev pub format_calls : Geometry → List Call
 format_calls g = sync ∷ (journal_writes g ++ opening_calls)
 
--- a format made these calls: all where it succeeds, none or the first sync alone where it refuses, and else those up to the one that failed
+-- a format made these calls: all where it succeeds, none or the first sync alone where it refuses, and else those up
+-- to the one that failed (format, Orders of disk calls)
 abbrev pub MakesFormat : Geometry → Disk → Disk → Result Unit FormatFault → Type 0
 MakesFormat g old new (Ok done) = Made (format_calls g) old new
 MakesFormat g old new (Err TooSmall) = Made [] old new

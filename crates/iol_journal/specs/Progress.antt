@@ -9,11 +9,13 @@ use Rattle.iol_journal.specs.Written.{WrittenView}
 use Rattle.iol_journal.specs.declared.writing.Progress.{Progress}
 use Rattle.iol_journal.specs.declared.writing.Progress.TheVariants.{More, Done, Failed}
 
+-- the disk of what a step answers (own)
 abbrev pub disk_of : {D : Type 0} → Progress D → D
 disk_of (More writing) = writing.disk
 disk_of (Done journal written) = journal.disk
 disk_of (Failed disk fault) = disk
 
+-- a fact of what a step answers, where it answers that more steps are owed, or that the batch is done (own)
 abbrev pub IfMore : {D : Type 0} → Progress D → (WritingView D → Type 0) → Type 0
 IfMore (More writing) P = P writing
 IfMore progress P = Unit {0}
@@ -22,20 +24,20 @@ abbrev pub IfDone : {D : Type 0} → Progress D → (JournalView D → WrittenVi
 IfDone (Done journal written) P = P journal written
 IfDone progress P = Unit {0}
 
--- the first of the calls was made, and these are left
+-- the first of the calls was made, and these are left (own)
 pub record MakesFirst (calls left : List Call) (old new : Disk) : Type 0 where
   pub call : Call
   pub order : calls ≡ call ∷ left
   pub made : Made (call ∷ []) old new
 
--- the first of the calls failed, with this fault
+-- the first of the calls failed, with this fault (own)
 pub record FailsFirst (calls : List Call) (fault : DiskFault) (old new : Disk) : Type 0 where
   pub call : Call
   pub left : List Call
   pub order : calls ≡ call ∷ left
   pub failed : FailedIn (call ∷ []) fault old new
 
--- a step makes the first of the calls that are left, or it fails in it
+-- a step makes the first of the calls that are left, or it fails in it (own)
 abbrev pub StepMakes : {D : Type 0} → (D → Disk) → List Call → Progress D → Disk → Type 0
 StepMakes disk calls (More writing) old = MakesFirst calls (calls_left writing) old (disk writing.disk)
 StepMakes disk calls (Done journal written) old = MakesFirst calls [] old (disk journal.disk)

@@ -16,25 +16,26 @@ use Rattle.iol_journal.specs.declared.cause.RecoverCause.{RecoverCause}
 use Rattle.iol_journal.specs.declared.cause.RecoverCause.TheVariants as cause
 use Rattle.iol_journal.specs.declared.recovery.RecoverFault.{RecoverFault}
 
--- the disk, in the journal or handed back
+-- the disk of what a recovery answers: in the journal, or handed back (own)
 abbrev pub disk_of : {D : Type 0} → Result (JournalView D × State) (RecoverFault D) → D
 disk_of (Ok found) = found.0.disk
 disk_of (Err fault) = fault.disk
 
--- the answer without the disk
+-- what a recovery answers, without the disk (own)
 abbrev pub cause_of : {D : Type 0} → Result (JournalView D × State) (RecoverFault D) → Result State RecoverCause
 cause_of (Ok found) = Ok found.1
 cause_of (Err fault) = Err fault.cause
 
--- how the other area is harmless, as its header says: older, or else it has to be closed
+-- how the other area is harmless, as its header says: older, or else it has to be closed (own)
 abbrev pub idle_in : Standing → Image → Idle
 idle_in s image = if nat_lt (header_of (image (header_at s.layout (other s.area)))).epoch s.epoch then Older else Closed
 
--- of an image of so many sectors the geometry is sound, and an area is in use
+-- an image of so many sectors has a sound geometry and an area in use (own)
 abbrev pub HasChosen : ℕ → Image → Type 0
 HasChosen sectors image = (layout : Layout) × (used : InUse) × (layout_in sectors image ≡ Ok layout) × (in_use_in layout image ≡ Ok used)
 
--- a recovery makes one sync and reads: it fails in the sync or in a read, or counts no failure
+-- a recovery makes one sync and reads: it fails in the sync or in a read, or counts no failure (format, Orders of
+-- disk calls)
 abbrev pub MakesRecovery : {T : Type 0} → Disk → Disk → Result T RecoverCause → Type 0
 MakesRecovery old new (Ok x) = Made (sync ∷ []) old new
 MakesRecovery old new (Err (cause.Disk Read)) = After (content_after_all (sync ∷ [])) old new × HasFailed old new

@@ -3,54 +3,54 @@ use Rattle.std.specs.Prelude.{◌≡◌, ◌+◌, ◌-◌, ◌^◌, ℕ, List, [
 use Rattle.arrayvec.specs.ArrayVec.{ArrayVec}
 use Rattle.iol_link.specs.declared.link.Lost.{Lost}
 
--- what a link is asked
+-- what a link is asked: an event, the page, or a request of these octets (own)
 pub data LinkCall : Type 0 where
   TakeEvent : LinkCall
   ReadPage : LinkCall
   Exchange : (request : List ℕ) → LinkCall
 
--- what it answers
+-- what a link answers: no event, an event's code, octets, or that the device is gone (own)
 pub data LinkAnswer : Type 0 where
   NoEvent : LinkAnswer
   Event : (code : ℕ) → LinkAnswer
   Octets : (octets : List ℕ) → LinkAnswer
   Gone : LinkAnswer
 
--- the answer of `take_event`
+-- the answer of `take_event` (own)
 abbrev pub event_answer : Option ℕ → LinkAnswer
 event_answer None = NoEvent
 event_answer (Some code) = Event code
 
--- the answer of `read_page`
+-- the answer of `read_page` (own)
 abbrev pub page_answer : Result (List ℕ) Lost → LinkAnswer
 page_answer (Ok octets) = Octets octets
 page_answer (Err _) = Gone
 
--- the answer of `exchange`
+-- the answer of `exchange` (own)
 abbrev pub exchange_answer : Result (ArrayVec ℕ) Lost → LinkAnswer
 exchange_answer (Ok octets) = Octets octets.items
 exchange_answer (Err _) = Gone
 
--- the largest number of a connection
+-- the largest number of a connection (own)
 abbrev pub last_connection : ℕ
 last_connection = 2 ^ 64 - 1
 
 -- the number of the connection after an answer: one more where the device is lost, and never more
--- than the largest
+-- than the largest (own)
 abbrev pub connection_after : ℕ → LinkAnswer → ℕ
 connection_after number Gone = min (number + 1) last_connection
 connection_after number NoEvent = number
 connection_after number (Event _) = number
 connection_after number (Octets _) = number
 
--- a call that was made, on a connection, and its answer
+-- a call that was made, on a connection, and its answer (own)
 pub record Made : Type 0 where
   pub connection : ℕ
   pub call : LinkCall
   pub answer : LinkAnswer
 
 module _ {L : Type 0} (number : L → ℕ) (steps : L → LinkCall → LinkAnswer → L → Type 0) where
-  -- the calls, each on the connection of its moment, lead from one link to another
+  -- calls, each on the connection of its moment, lead from one link to another (own)
   abbrev pub Run : L → List Made → L → Type 0
   Run link [] last = link ≡ last
   Run link (made ∷ more) last =

@@ -9,22 +9,24 @@ use Rattle.iol_script.specs.declared.script.TheConstants.{SCRIPT_OCTETS}
 use Rattle.iol_script.specs.declared.step.Step.{Step}
 use Rattle.iol_script.specs.declared.stop.Keep.{Keep}
 
--- what a script says: two numbers, the steps before the stop, and what the stop keeps
+-- what a script says: two numbers, the steps before the stop, and what the stop keeps (format, Scripts)
 pub record Said : Type 0 where
   pub ports : ℤ
   pub slots : ℤ
   pub steps : List Step
   pub keep : Keep
 
+-- the keys of a script (format, Scripts)
 abbrev pub script_keys : List (List ℕ)
 script_keys = codes "ports" ∷ codes "slots" ∷ codes "step" ∷ []
 
+-- what these numbers and values say together (format, Scripts)
 abbrev pub said_with : ℤ → ℤ → Items → Option Said
 said_with ports slots values =
     option_map (λ steps. record { ports = ports; slots = slots; steps = steps; keep = (before_stop values).1 })
     (steps_of (before_stop values).0)
 
--- what a table says, if it is that of a script
+-- what a table says, if it is that of a script (format, Scripts)
 abbrev pub said_by : Members → Option Said
 said_by table =
     if has_only_keys script_keys table then
@@ -32,16 +34,16 @@ said_by table =
     (values_in table)) (number_at (codes "slots") table)) (number_at (codes "ports") table)
     else None
 
--- what a text says, if it is TOML and that of a script
+-- what a text says, if it is TOML and that of a script (format, Scripts)
 abbrev pub said_in : List ℕ → Option Said
 said_in text = option_and_then said_by (parse_document text)
 
--- a text that is judged
+-- a text that is judged: UTF-8 of at most 65,536 octets (format, Scripts)
 pub record IsText (text : List ℕ) : Type 0 where
   pub short : length text ≤ SCRIPT_OCTETS
   pub utf8 : IsUtf8 text
 
--- what a script that was read says
+-- what a script that was read says (format, Scripts)
 abbrev pub said_of : Script → Said
 said_of script = record {
   ports = script.ports;

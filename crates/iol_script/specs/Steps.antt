@@ -7,7 +7,7 @@ use Rattle.iol_script.specs.Step.{step_of}
 use Rattle.iol_script.specs.Stop.{stop_of}
 use Rattle.iol_script.specs.declared.step.Step.{Step}
 
--- the values of the key `step`, an array where it is there
+-- the values of the key `step`, an array where it is there (format, Scripts)
 abbrev pub values_of : Option Data → Option Items
 values_of None = Some no_items
 values_of (Some value) = as_array value
@@ -15,18 +15,19 @@ values_of (Some value) = as_array value
 abbrev pub values_in : Members → Option Items
 values_in table = values_of (get_member (codes "step") table)
 
--- the last value without the stop that it may say, and what the stop keeps
+-- the last value without the stop that it may say, and what the stop keeps (format, Scripts)
 abbrev pub without_stop : Data → Option Keep → Items × Keep
 without_stop value (Some keep) = (no_items, keep)
 without_stop value None = (item value no_items, New)
 
 -- the values before the stop, which is the last one, and what it keeps; a script without a stop keeps what is new
+-- (format, Scripts)
 abbrev pub before_stop : Items → Items × Keep
 before_stop no_items = (no_items, New)
 before_stop (item value no_items) = without_stop value (stop_of value)
 before_stop (item value values) = (item value (before_stop values).0, (before_stop values).1)
 
--- the steps that the values say, if each says one
+-- the steps that the values say, if each says one (format, Scripts)
 abbrev pub steps_of : Items → Option (List Step)
 steps_of no_items = Some []
 steps_of (item value values) = option_and_then (λ step. option_map (λ steps. step ∷ steps) (steps_of values)) (step_of value)

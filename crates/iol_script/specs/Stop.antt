@@ -6,11 +6,11 @@ use Rattle.iol_script.specs.Table.{text_at, has_only_keys}
 use Rattle.iol_script.specs.declared.stop.Keep.{Keep}
 use Rattle.iol_script.specs.declared.stop.Keep.TheVariants.{Old, New, Zero, Pattern}
 
--- its keys
+-- the keys of a stop (format, Scripts)
 abbrev pub stop_keys : List (List ℕ)
 stop_keys = codes "do" ∷ codes "keep" ∷ []
 
--- what a stop keeps
+-- what a stop keeps, by its word (format, Scripts)
 abbrev pub keep_of : List ℕ → Option Keep
 keep_of word =
     if bytes_eq word (codes "old") then Some Old
@@ -19,12 +19,13 @@ keep_of word =
     else if bytes_eq word (codes "pattern") then Some Pattern
     else None
 
+-- what the stop keeps that a table says (format, Scripts)
 abbrev pub stop_in : Members → Option Keep
 stop_in table = if has_only_keys stop_keys table then option_and_then keep_of (text_at (codes "keep") table) else None
 
 abbrev pub stop_of_kind : List ℕ → Members → Option Keep
 stop_of_kind kind table = if bytes_eq kind (codes "stop") then stop_in table else None
 
--- what the stop keeps that a value says
+-- what the stop keeps that a value says (format, Scripts)
 abbrev pub stop_of : Data → Option Keep
 stop_of value = option_and_then (λ table. option_and_then (λ kind. stop_of_kind kind table) (text_at (codes "do") table)) (as_table value)

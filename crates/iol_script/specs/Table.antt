@@ -4,23 +4,23 @@ use Rattle.std.specs.List.{list_any, list_all}
 use Rattle.std.specs.Str.{bytes_eq}
 use Rattle.toml.specs.Data.{Members, no_members, member, as_integer, as_str, get_member}
 
--- the keys of a table
+-- the keys of a table (TOML)
 abbrev pub keys_of : Members → List (List ℕ)
 keys_of no_members = []
 keys_of (member key value others) = key ∷ keys_of others
 
--- a key is one of these
+-- a key is one of these (own)
 abbrev pub is_among : List (List ℕ) → List ℕ → Bool
 is_among keys key = list_any (λ other. bytes_eq other key) keys
 
--- a table has no key but these
+-- a table has no key but these (own)
 abbrev pub has_only_keys : List (List ℕ) → Members → Bool
 has_only_keys keys table = list_all (is_among keys) (keys_of table)
 
--- the whole number at a key, if there is one
+-- the whole number at a key of a table, if there is one (TOML)
 abbrev pub number_at : List ℕ → Members → Option ℤ
 number_at key table = option_and_then as_integer (get_member key table)
 
--- the text at a key, if there is one
+-- the text at a key of a table, if there is one (TOML)
 abbrev pub text_at : List ℕ → Members → Option (List ℕ)
 text_at key table = option_and_then as_str (get_member key table)

@@ -5,21 +5,21 @@ use Rattle.iol_disk.specs.Content.{Image, IsImage}
 use Rattle.iol_disk.specs.Disk.{Disk}
 use Rattle.iol_slots.specs.declared.slot.TheConstants.{GATE_MARK}
 
--- a gate is open exactly where its sector begins with the mark; the rest of it is not read
+-- a gate is open exactly where its sector begins with the mark; the rest of it is not read (format, Gates)
 unfoldable pub is_open : List ℕ → Bool
 is_open octets = starts_with nat_eq octets GATE_MARK
 
--- the two sectors that are written as a gate
+-- the two sectors that are written as a gate: the mark and zeros, or zeros (format, Gates)
 unfoldable pub open_gate : List ℕ
 open_gate = GATE_MARK ++ replicate 504 0
 
 unfoldable pub closed_gate : List ℕ
 closed_gate = replicate 512 0
 
--- whatever a stop leaves now, this gate is closed
+-- whatever a stop leaves now, this gate is closed (own)
 abbrev pub IsShut : ℕ → Disk → Type 0
 IsShut gate d = IsTrue d.honest → (image : Image) → IsImage d.content image → is_open (image gate) ≡ false
 
--- so many sectors from the first on are written and synced
+-- so many sectors from the first on are written and synced (own)
 abbrev pub AreSynced : ℕ → ℕ → Disk → Type 0
 AreSynced first count d = IsTrue d.honest → (j : ℕ) → j < count → d.content.written (first + j) ≡ None

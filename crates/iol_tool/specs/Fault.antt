@@ -5,14 +5,15 @@ use Rattle.iol_tool.specs.declared.fault.Fault.TheVariants.{Words, Script, Geome
 use Rattle.iol_script.specs.declared.script.ScriptFault.{ScriptFault}
 use Rattle.iol_script.specs.declared.script.ScriptFault.TheVariants as script
 
--- 2 where what the user wrote is not valid, and 1 where a command that is valid fails
+-- the exit status of a fault: 2 where what the user wrote is not valid, and 1 where a command that is valid fails
+-- (format, Texts)
 abbrev pub status_of : Fault → ℕ
 status_of Words = 2
 status_of Script = 2
 status_of Geometry = 2
 status_of _ = 1
 
--- why a command fails whose script cannot be read
+-- why a command fails whose script cannot be read (format, Texts)
 abbrev pub fault_for : ScriptFault → Fault
 fault_for script.NotValid = Script
 fault_for script.Memory = Memory

@@ -2,6 +2,6 @@
 use Rattle.std.specs.Prelude.{◌≡◌, ℤ, pos}
 use Rattle.iol_journal.specs.Geometry.{Geometry, IsGeometry}
 
--- the numbers are those of a geometry
+-- two whole numbers are the ports and slots of a geometry (format, Disk layout)
 abbrev pub HasGeometry : ℤ → ℤ → Type 0
 HasGeometry ports slots = (g : Geometry) × IsGeometry g × (ports ≡ pos g.ports) × (slots ≡ pos g.slots)

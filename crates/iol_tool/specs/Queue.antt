@@ -12,36 +12,38 @@ use Rattle.iol_tool.specs.declared.event.Refusal.{Refusal}
 use Rattle.iol_tool.specs.declared.event.Refusal.TheVariants.{UnknownPort, RevisionSpent, QueueFull, Exhausted}
 use Rattle.iol_tool.specs.declared.queue.TheConstants.{QUEUE_COMMANDS}
 
--- commands that are written together, and the number of the first
+-- commands that are written together, and the number of the first (own)
 pub record Numbered : Type 0 where
   pub first : ℕ
   pub commands : List CommandValue
 
+-- a batch in memory, as those (own)
 abbrev pub numbered : Batch → Numbered
 numbered batch = record { first = batch.first; commands = map value_of batch.commands.items }
 
--- the batches that wait, the number of the last command, and the state after it
+-- the batches that wait, the number of the last command, and the state after it (own)
 pub record Waiting : Type 0 where
   pub batches : List Numbered
   pub last : ℕ
   pub live : State
 
--- the refusal of a command that does not pass
+-- the refusal of a command that does not pass (own)
 abbrev pub refusal_for : CommandFault → Refusal
 refusal_for fault.UnknownPort = UnknownPort
 refusal_for fault.RevisionSpent = RevisionSpent
 
--- why a command may not wait, first by the state that it meets, then by the room, then by its number
+-- why a command may not wait, first by the state that it meets, then by the room, then by its number (own)
 abbrev pub refusal_after : Option CommandFault → Waiting → Option Refusal
 refusal_after (Some cause) waiting = Some (refusal_for cause)
 refusal_after None waiting =
     if nat_le QUEUE_COMMANDS (length waiting.batches) then Some QueueFull
     else if nat_le LAST_NUMBER waiting.last then Some Exhausted else None
 
+-- why a command may not wait in this queue (own)
 abbrev pub refusal : Waiting → CommandValue → Option Refusal
 refusal waiting command = refusal_after (check waiting.live command) waiting
 
--- a command waits as a batch of its own, under the next number
+-- a command waits as a batch of its own, under the next number (own)
 abbrev pub with_command : Waiting → CommandValue → Waiting
 with_command waiting command = record {
   batches = waiting.batches ++ record { first = waiting.last + 1; commands = command ∷ [] } ∷ [];
@@ -49,7 +51,7 @@ with_command waiting command = record {
   live = apply waiting.live command;
 }
 
--- what is told of a command, and what then waits
+-- what is told of a command, and what then waits (own)
 abbrev pub answer : Option Refusal → Waiting → Event
 answer None waiting = Accepted (waiting.last + 1)
 answer (Some cause) waiting = Refused cause

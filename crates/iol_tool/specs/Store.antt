@@ -8,29 +8,29 @@ use Rattle.iol_tool.specs.declared.event.Event.TheVariants.{Acknowledged, DiskFa
 use Rattle.iol_tool.specs.declared.store.Store.{Store}
 use Rattle.iol_tool.specs.declared.store.Store.TheVariants.{Journal, Failed}
 
--- a disk call has failed
+-- a disk call has failed (own)
 abbrev pub has_failed : {D : Type 0} → Store D → Bool
 has_failed (Journal journal) = false
 has_failed (Failed disk) = true
 
--- the disk itself
+-- the disk of a run (own)
 abbrev pub disk_of : {D : Type 0} → Store D → D
 disk_of (Journal journal) = journal.disk
 disk_of (Failed disk) = disk
 
--- a fact of the journal, unless a disk call has failed
+-- a fact of the journal, unless a disk call has failed (own)
 abbrev pub IfWorks : {D : Type 0} → Store D → (JournalView D → Type 0) → Type 0
 IfWorks (Journal journal) P = P journal
 IfWorks (Failed disk) P = Unit {0}
 
 -- the journal has these commands behind those before, and its number is acknowledged; or a disk call has failed, and
--- this is told
+-- this is told (own)
 abbrev pub IsWritten : {D : Type 0} → Standing → List CommandValue → Store D → Event → Type 0
 IsWritten before commands (Journal behind) (Acknowledged number) = (behind.standing ≡ with_batch before commands) × (number ≡ behind.standing.number)
 IsWritten before commands (Failed disk) DiskFailed = Unit {0}
 IsWritten before commands store event = ⊥
 
--- the same of a disk of which a call may have failed before
+-- the same of a disk of which a call may have failed before: nothing is written then, and nothing acknowledged (own)
 abbrev pub Writes : {D : Type 0} → Store D → List CommandValue → Store D → Event → Type 0
 Writes (Journal before) commands behind event = IsWritten before.standing commands behind event
 Writes (Failed before) commands (Failed behind) DiskFailed = Unit {0}

@@ -7,7 +7,7 @@ use Rattle.iol_types.specs.declared.config.PortMode.TheVariants.{Deactivated, Io
 use Rattle.iol_types.specs.declared.config.Validation.{Validation}
 use Rattle.iol_types.specs.declared.config.Validation.TheVariants.{NoCheck, TypeCompatibleV10, TypeCompatibleV11, BackupAndRestore, Restore}
 
--- the octet of a mode
+-- the octet of a mode (standard, port configuration)
 abbrev pub mode_octet : PortMode → ℕ
 mode_octet Deactivated = 0
 mode_octet IolManual = 1
@@ -15,12 +15,12 @@ mode_octet IolAutostart = 2
 mode_octet DigitalInput = 3
 mode_octet DigitalOutput = 4
 
--- the mode, if any, that has this octet
+-- the mode, if any, that has this octet (standard, port configuration)
 abbrev pub mode_of : ℕ → Option PortMode
 mode_of octet =
     find (λ mode. mode_octet mode == octet) (Deactivated ∷ IolManual ∷ IolAutostart ∷ DigitalInput ∷ DigitalOutput ∷ [])
 
--- the octet of a validation
+-- the octet of a validation (standard, port configuration)
 abbrev pub validation_octet : Validation → ℕ
 validation_octet NoCheck = 0
 validation_octet TypeCompatibleV10 = 1
@@ -28,32 +28,35 @@ validation_octet TypeCompatibleV11 = 2
 validation_octet BackupAndRestore = 3
 validation_octet Restore = 4
 
--- the validation, if any, that has this octet
+-- the validation, if any, that has this octet (standard, port configuration)
 abbrev pub validation_of : ℕ → Option Validation
 validation_of octet =
     find (λ validation. validation_octet validation == octet) (NoCheck ∷ TypeCompatibleV10 ∷ TypeCompatibleV11 ∷ BackupAndRestore ∷ Restore ∷ [])
 
--- the numbers of a configuration are in their ranges
+-- the numbers of a configuration are in their ranges (standard, port configuration)
 pub record IsConfig (config : PortConfig) : Type 0 where
   pub vendor : config.vendor < 2 ^ 16
   pub device : IsDeviceNumber config.device
 
--- the mode in which a device's parameters are kept
+-- a device's parameters are kept in the mode IOL_MANUAL alone (standard, port configuration)
 abbrev pub is_manual : PortMode → Bool
 is_manual IolManual = true
 is_manual _ = false
 
--- the validations under which a device's parameters are restored
+-- a device's parameters are restored under Backup and Restore, and under Restore (standard, port
+-- configuration)
 abbrev pub restores : Validation → Bool
 restores BackupAndRestore = true
 restores Restore = true
 restores _ = false
 
--- a port with this configuration may have a parameter set
+-- a port with this configuration may have a parameter set: its mode and its validation are such
+-- (own)
 abbrev pub may_keep_set : PortConfig → Bool
 may_keep_set config = is_manual config.mode && restores config.validation
 
--- a port keeps its parameter set where the old configuration gives way to the new one
+-- a port keeps its parameter set under a new configuration: the old one and the new one may have
+-- a set, with equal vendor and device (own)
 abbrev pub keeps_set : PortConfig → PortConfig → Bool
 keeps_set old new =
     may_keep_set old && may_keep_set new && (old.vendor == new.vendor) && (old.device == new.device)

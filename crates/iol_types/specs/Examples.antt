@@ -5,7 +5,7 @@ use Rattle.iol_types.specs.declared.config.PortConfig.{PortConfig}
 use Rattle.iol_types.specs.declared.config.PortMode.TheVariants.{IolManual}
 use Rattle.iol_types.specs.declared.config.Validation.TheVariants.{BackupAndRestore}
 
--- IOL_MANUAL, Backup and Restore, vendor 500, device 43981
+-- for worked examples: IOL_MANUAL, Backup and Restore, vendor 500, device 43981 (own)
 abbrev pub example_config : PortConfig
 example_config = record {
   mode = IolManual;
@@ -14,6 +14,6 @@ example_config = record {
   device = 43981;
 }
 
--- a master's one port, with this configuration and revision
+-- for worked examples: a master's one port, with this configuration and revision (own)
 abbrev pub one_port : PortConfig → ℕ → State
 one_port config revision = record { config = config; revision = revision } ∷ []
