@@ -1,6 +1,6 @@
 -- The geometry and the body that examples speak of.
 use Rattle.std.specs.Prelude.{ℕ, List, [], ◌∷◌, ◌++◌, replicate}
-use Rattle.iol_types.specs.State.{State}
+use Rattle.iol_types.specs.State.{State, empty_state}
 use Rattle.iol_journal.specs.Geometry.{Geometry}
 use Rattle.iol_journal.specs.Layout.{layout_of}
 use Rattle.iol_journal.specs.Meaning.{Standing}
@@ -20,3 +20,7 @@ first_body =
 -- for worked examples: how a journal of 2 ports and 4 slots stands that was just formatted (own)
 abbrev pub first_standing : State → Standing
 first_standing state = record { layout = layout_of two_by_four; area = A; epoch = 1; used = 0; number = 0; state = state }
+
+-- a journal of them with so many slots used and commands so far, whose ports were never configured (own)
+abbrev pub standing_of : ℕ → ℕ → Standing
+standing_of used number = record { layout = layout_of two_by_four; area = A; epoch = 1; used = used; number = number; state = empty_state 2 }

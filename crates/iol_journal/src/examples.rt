@@ -7,13 +7,15 @@ ghost use Rattle.iol_types.specs.Examples.{example_config};
 ghost use Rattle.iol_disk.specs.Calls.{write, sync};
 ghost use Rattle.iol_journal.specs.Batches.{batch_calls};
 ghost use Rattle.iol_journal.specs.Body.{body_octets, fits};
-ghost use Rattle.iol_journal.specs.Examples.{two_by_four, first_body, first_standing};
+ghost use Rattle.iol_journal.specs.Examples.{two_by_four, first_body, first_standing, standing_of};
 ghost use Rattle.iol_journal.specs.Geometry.{IsGeometry, geometry_of, geometry_octets};
 ghost use Rattle.iol_journal.specs.Header.{header_of, header_octets, is_sound};
 ghost use Rattle.iol_slots.specs.Gate.{open_gate, closed_gate};
 ghost use Rattle.iol_types.specs.State.{State};
 ghost use Rattle.iol_record.specs.declared.examples.TheConstants.{BLANK_RECORD};
 ghost use Rattle.iol_journal.specs.Octets.{padded};
+ghost use Rattle.iol_journal.specs.Begin.{refusal};
+ghost use Rattle.iol_journal.specs.Meaning.{unformatted, damaged, layout_in, greatest};
 ghost use Rattle.iol_journal.specs.Orders.{format_calls};
 ghost use Rattle.iol_journal.specs.Layout.{layout_of, total, gate_at, header_at, port_at, slot_at, body_at};
 ghost use Rattle.iol_journal.specs.declared.batch.TheConstants.{MOST_COMMANDS, MOST_RECORD_OCTETS, BODY_HEAD_OCTETS};
@@ -21,6 +23,7 @@ ghost use Rattle.iol_journal.specs.declared.header.TheConstants.{LAST_NUMBER};
 
 use crate::area::Area;
 use crate::geometry::{DISK_GATE, GEOMETRY};
+use crate::journal::BeginCause;
 
 /// A geometry has 1 to 32 ports and 1 to 256 slots.
 pub fn geometries()
@@ -105,4 +108,31 @@ pub fn a_format()
         ∷ write 22 closed_gate ∷ write 39 closed_gate ∷ write 56 closed_gate ∷ write 73 closed_gate
         ∷ write 3 (header_octets 1 0) ∷ write 91 (header_octets 0 0) ∷ write 4 (padded BLANK_RECORD) ∷ write 13 (padded BLANK_RECORD)
         ∷ sync ∷ write 1 open_gate ∷ sync ∷ [] }
+{}
+
+/// Why an image means nothing: there is no gate of the disk, the disk is smaller than its geometry, no area is open, both are
+/// open under one epoch, or the header in use is out of its bounds.
+#[tactic(auto, unfolding(crate::specs::Geometry::geometry_of))]
+pub fn first_causes()
+    ensures one_sector { layout_in 1 (λ i. open_gate) ≡ Err unformatted }
+    ensures closed_disk { layout_in 178 (λ i. closed_gate) ≡ Err unformatted }
+    ensures no_geometry { layout_in 2 (λ i. open_gate) ≡ Err (damaged 0) }
+    ensures no_area { greatest (layout_of two_by_four) None None ≡ Err (damaged 2) }
+    ensures one_epoch { greatest (layout_of two_by_four) (Some (record { epoch = 1; base = 0 })) (Some (record { epoch = 1; base = 5 })) ≡ Err (damaged 91) }
+    ensures newer_b { greatest (layout_of two_by_four) (Some (record { epoch = 1; base = 0 })) (Some (record { epoch = 2; base = 1 }))
+        ≡ Ok (record { area = Area.B; header = record { epoch = 2; base = 1 } }) }
+    ensures unsound_a { greatest (layout_of two_by_four) (Some (record { epoch = 3; base = 0 })) (Some (record { epoch = 2; base = 1 })) ≡ Err (damaged 3) }
+    ensures unsound_b { greatest (layout_of two_by_four) None (Some (record { epoch = 0; base = 0 })) ≡ Err (damaged 91) }
+{}
+
+/// The order in which batches are refused, and the last number.
+pub fn refusals()
+    ensures too_large { refusal (standing_of 4 9) 10 (replicate 65 (Configure 1 example_config)) ≡ Some BeginCause.TooLarge }
+    ensures no_slot { refusal (standing_of 4 9) 10 [] ≡ Some BeginCause.NeedsCheckpoint }
+    ensures empty { refusal (standing_of 3 9) 10 [] ≡ Some BeginCause.Misfit }
+    ensures other_number { refusal (standing_of 3 9) 11 (Configure 1 example_config ∷ []) ≡ Some BeginCause.Misfit }
+    ensures no_port { refusal (standing_of 3 9) 10 (Configure 3 example_config ∷ []) ≡ Some BeginCause.Misfit }
+    ensures taken { refusal (standing_of 3 9) 10 (replicate 64 (Configure 1 example_config)) ≡ None }
+    ensures last { refusal (standing_of 0 4611686018427387903) 4611686018427387904 (Configure 1 example_config ∷ []) ≡ None }
+    ensures past_the_last { refusal (standing_of 0 4611686018427387904) 4611686018427387905 (Configure 1 example_config ∷ []) ≡ Some BeginCause.Misfit }
 {}
