@@ -1,6 +1,7 @@
 mod batches;
 mod failing;
 mod faults;
+mod growths;
 mod hostile_images;
 mod interrupted;
 mod layout;
