@@ -1,9 +1,14 @@
 mod batches;
+mod failing;
+mod faults;
+mod growths;
 mod hostile_images;
 mod interrupted;
 mod layout;
+mod orders;
 mod plain;
 mod power_stops;
+mod recorded;
 
 use crate::{Batch, Geometry, Journal, Progress, RecoverCause, Writing, format};
 use iol_disk::{MemoryDisk, Pick, SECTOR_OCTETS, SectorDisk};
@@ -46,7 +51,10 @@ fn formatted(alloc: Global) -> Result<MemoryDisk, Fail> {
     Ok(disk)
 }
 
-fn recovered(alloc: Global, disk: MemoryDisk) -> Result<(Journal<MemoryDisk>, MasterState), Fail> {
+fn recovered<D: SectorDisk + Drop>(
+    alloc: Global,
+    disk: D,
+) -> Result<(Journal<D>, MasterState), Fail> {
     match Journal::recover(alloc, disk) {
         Ok(found) => Ok(found),
         Err(fault) => Err(Fail::from(fault.cause)),
@@ -54,14 +62,14 @@ fn recovered(alloc: Global, disk: MemoryDisk) -> Result<(Journal<MemoryDisk>, Ma
 }
 
 // What a recovery answers, and the disk.
-fn answer(alloc: Global, disk: MemoryDisk) -> (Result<u64, RecoverCause>, MemoryDisk) {
+fn answer<D: SectorDisk + Drop>(alloc: Global, disk: D) -> (Result<u64, RecoverCause>, D) {
     match Journal::recover(alloc, disk) {
         Ok((journal, _)) => (Ok(journal.number()), journal.disk()),
         Err(fault) => (Err(fault.cause), fault.disk),
     }
 }
 
-fn begun(journal: Journal<MemoryDisk>, batch: Batch) -> Result<Writing<MemoryDisk>, Fail> {
+fn begun<D: SectorDisk + Drop>(journal: Journal<D>, batch: Batch) -> Result<Writing<D>, Fail> {
     match journal.begin(batch) {
         Ok(writing) => Ok(writing),
         Err(fault) => Err(Fail::from(fault.cause)),
@@ -69,7 +77,7 @@ fn begun(journal: Journal<MemoryDisk>, batch: Batch) -> Result<Writing<MemoryDis
 }
 
 // Makes every step that is left, and counts them.
-fn finished(writing: Writing<MemoryDisk>) -> Result<(Journal<MemoryDisk>, usize), Fail> {
+fn finished<D: SectorDisk + Drop>(writing: Writing<D>) -> Result<(Journal<D>, usize), Fail> {
     let mut writing = writing;
     for made in 1..20 {
         match writing.step() {
@@ -91,6 +99,25 @@ fn journal_of(alloc: Global, batches: u8) -> Result<Journal<MemoryDisk>, Fail> {
         journal = finished(begun(journal, batch(alloc, u64::from(before) + 1, 1)?)?)?.0;
     }
     Ok(journal)
+}
+
+// Puts octets into a sector.
+fn put(disk: &mut MemoryDisk, sector: usize, octets: &[u8; SECTOR_OCTETS]) -> Result<(), Fail> {
+    if sector < disk.sectors() {
+        disk.write(sector, octets)?;
+    }
+    Ok(())
+}
+
+// A journal of one command with another octet at a place of a sector.
+fn journal_with(alloc: Global, sector: usize, place: usize, octet: u8) -> Result<MemoryDisk, Fail> {
+    let mut disk = journal_of(alloc, 1)?.disk();
+    let mut octets = octets_at(&mut disk, sector)?;
+    if let Some(changed) = octets.get_mut(place) {
+        *changed = octet;
+    }
+    put(&mut disk, sector, &octets)?;
+    Ok(disk)
 }
 
 fn octets_at(disk: &mut MemoryDisk, sector: usize) -> Result<[u8; SECTOR_OCTETS], Fail> {

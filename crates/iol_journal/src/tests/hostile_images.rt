@@ -1,18 +1,11 @@
 //! Images that no journal wrote: each is answered with a state or a named cause.
 
 use super::plain::plain_meaning;
-use super::{answer, journal_of, octets_at};
+use super::{answer, journal_of, journal_with, octets_at, put};
 use crate::RecoverCause;
 use iol_disk::{MemoryDisk, SECTOR_OCTETS, SectorDisk};
 use std::alloc::Global;
 use std::test::Fail;
-
-fn write(disk: &mut MemoryDisk, sector: usize, octets: &[u8; SECTOR_OCTETS]) -> Result<(), Fail> {
-    if sector < disk.sectors() {
-        disk.write(sector, octets)?;
-    }
-    Ok(())
-}
 
 #[test]
 fn a_blank_disk_is_not_formatted(rt: HostRuntime) -> Result<(), Fail> {
@@ -46,12 +39,7 @@ fn a_changed_sector_is_named(rt: HostRuntime) -> Result<(), Fail> {
         (91, 7, 255, Ok(1)),
     ];
     for (sector, place, octet, wanted) in table {
-        let mut disk = journal_of(rt.alloc(), 1)?.disk();
-        let mut octets = octets_at(&mut disk, sector)?;
-        if let Some(changed) = octets.get_mut(place) {
-            *changed = octet;
-        }
-        write(&mut disk, sector, &octets)?;
+        let disk = journal_with(rt.alloc(), sector, place, octet)?;
         assert_eq!(rt;
             answer(rt.alloc(), disk).0,
             wanted,
@@ -65,12 +53,12 @@ fn a_changed_sector_is_named(rt: HostRuntime) -> Result<(), Fail> {
 fn an_open_area_with_an_older_header_is_not_read(rt: HostRuntime) -> Result<(), Fail> {
     let mut disk = journal_of(rt.alloc(), 1)?.disk();
     let gate = octets_at(&mut disk, 2)?;
-    write(&mut disk, 90, &gate)?;
+    put(&mut disk, 90, &gate)?;
     let (number, mut disk) = answer(rt.alloc(), disk);
     assert_eq!(rt; number, Ok(1));
     // Under the same epoch no area is the one in use.
     let header = octets_at(&mut disk, 3)?;
-    write(&mut disk, 91, &header)?;
+    put(&mut disk, 91, &header)?;
     assert_eq!(rt;
         answer(rt.alloc(), disk).0,
         Err(RecoverCause::Damaged { sector: 91 })
@@ -102,13 +90,13 @@ fn agrees(
     };
     let was = *place;
     *place = octets;
-    write(&mut disk, sector, &octets)?;
+    put(&mut disk, sector, &octets)?;
     let (recovered, mut disk) = answer(alloc, disk);
     let plain = plain_meaning(alloc, image)?.map(|found| found.0);
     if let Some(place) = image.get_mut(sector) {
         *place = was;
     }
-    write(&mut disk, sector, &was)?;
+    put(&mut disk, sector, &was)?;
     Ok((recovered == plain, disk))
 }
 

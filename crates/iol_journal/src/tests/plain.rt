@@ -47,7 +47,7 @@ fn read_all(
     let layout = read_layout(image)?;
     let used = read_in_use(image, layout)?;
     let mut state = read_ports(alloc, image, layout, used.area)?;
-    let end = read_slots(alloc, image, layout, used, &mut state)?;
+    let end = read_slots(image, layout, used, &mut state)?;
     Ok((end.number, state))
 }
 
@@ -99,8 +99,8 @@ fn read_ports(
     let mut state = MasterState::new(alloc, layout.ports())?;
     for place in 0..layout.ports() {
         let sector = layout.port(area, usize::from(place));
-        let octets = octets_from(alloc, image, sector, layout.port_sectors())?;
-        let Ok((port, _)) = decode_port(&octets) else {
+        let octets = octets_from(image, sector, layout.port_sectors());
+        let Ok((port, _)) = decode_port(octets) else {
             return Err(RecoverCause::Damaged { sector });
         };
         state.set_port(PortId::new(place + 1).unwrap(), port);
@@ -110,7 +110,6 @@ fn read_ports(
 
 // Applies the commands of the slots, up to the first whose gate is closed.
 fn read_slots(
-    alloc: Global,
     image: &[[u8; SECTOR_OCTETS]],
     layout: Layout,
     used: InUse,
@@ -130,8 +129,8 @@ fn read_slots(
                 number,
             });
         }
-        let body = octets_from(alloc, image, slot.body, BODY_SECTORS)?;
-        number = match replay_body(&body, used.header.epoch, number, state) {
+        let body = octets_from(image, slot.body, BODY_SECTORS);
+        number = match replay_body(body, used.header.epoch, number, state) {
             Some(number) => number,
             None => return Err(RecoverCause::Damaged { sector: slot.body }),
         };
@@ -143,21 +142,12 @@ fn read_slots(
 }
 
 // The octets of so many sectors, one behind the other.
-fn octets_from(
-    alloc: Global,
-    image: &[[u8; SECTOR_OCTETS]],
-    first: usize,
-    count: usize,
-) -> Result<Vec<u8>, AllocError>
+fn octets_from(image: &[[u8; SECTOR_OCTETS]], first: usize, count: usize) -> &[u8]
     requires { first + count ≤ length image.now }
-    ensures octets { IfOk result (λ octets. octets.items ≡ octets_in (image_of image.now) first count) }
-    ensures size { IfOk result (λ octets. length octets.items ≡ 512 * count) }
+    ensures octets { result.now ≡ octets_in (image_of image.now) first count }
+    ensures size { length result.now ≡ 512 * count }
 {
-    let mut octets = Vec::new(alloc);
-    for j in 0..count {
-        octets.extend_from_slice(sector_at(image, first + j))?;
-    }
-    Ok(octets)
+    image[first..first + count].as_flattened()
 }
 
 fn gate_is_open(image: &[[u8; SECTOR_OCTETS]], gate: usize) -> bool

@@ -6,6 +6,7 @@ use crate::{Progress, RecoverCause, format};
 use iol_disk::{MemoryDisk, Pick};
 use iol_types::PortId;
 use std::alloc::Global;
+use std::process::Abort;
 use std::test::Fail;
 
 // The number of commands that a disk is recovered with; none where it is not formatted.
@@ -25,9 +26,15 @@ fn formatted_after(alloc: Global, calls: usize) -> Result<(MemoryDisk, bool), Fa
     Ok((disk.disk(), done))
 }
 
-// The disk after one batch and so many calls of the second of three.
-fn written_after(alloc: Global, calls: usize) -> Result<MemoryDisk, Fail> {
-    let mut writing = begun(journal_of(alloc, 1)?, batch(alloc, 2, 1)?)?;
+// The disk after so many batches of one command, and so many calls of a batch of so many commands behind them.
+fn written_after(
+    alloc: Global,
+    batches: u8,
+    count: usize,
+    calls: usize,
+) -> Result<MemoryDisk, Fail> {
+    let first = u64::from(batches) + 1;
+    let mut writing = begun(journal_of(alloc, batches)?, batch(alloc, first, count)?)?;
     for _ in 0..calls {
         match writing.step() {
             Progress::More(next) => writing = next,
@@ -61,23 +68,49 @@ fn a_stop_in_a_format_leaves_nothing_or_an_empty_journal(rt: HostRuntime) -> Res
     Ok(())
 }
 
-#[test]
-fn a_stop_in_a_batch_leaves_the_state_before_or_after_it(rt: HostRuntime) -> Result<(), Fail> {
-    // The body, a sync, the gate, a sync.
-    for calls in 0..5 {
+// Stops the power after each of the calls of a batch, under each pick: the sectors of its body, a sync, the gate, a sync.
+fn stop_in_batch(
+    rt: &impl Abort,
+    alloc: Global,
+    batches: u8,
+    count: u8,
+    body: u8,
+) -> Result<(), Fail> {
+    let number = u64::from(batches);
+    let body = usize::from(body);
+    for calls in 0..body + 4 {
         for pick in PICKS {
-            let disk = written_after(rt.alloc(), calls)?.stop(pick);
-            let gate_is_torn_open = calls == 3 && matches!(pick, Pick::New | Pick::Pattern);
-            let wanted = if calls == 4 || gate_is_torn_open {
-                2
+            let disk = written_after(alloc, batches, usize::from(count), calls)?.stop(pick);
+            let gate_is_torn_open = calls == body + 2 && matches!(pick, Pick::New | Pick::Pattern);
+            let wanted = if calls == body + 3 || gate_is_torn_open {
+                number + u64::from(count)
             } else {
-                1
+                number
             };
-            let number = recovered_number(rt.alloc(), disk)?;
-            assert_eq!(rt; number, Some(wanted), "after {calls} calls under {pick:?}");
+            let found = recovered_number(alloc, disk)?;
+            assert_eq!(rt; found, Some(wanted), "after {calls} calls under {pick:?}");
         }
     }
     Ok(())
+}
+
+#[test]
+fn a_stop_in_a_batch_leaves_the_state_before_or_after_it(rt: HostRuntime) -> Result<(), Fail> {
+    stop_in_batch(&rt, rt.alloc(), 1, 1, 1)
+}
+
+#[test]
+fn a_stop_in_a_batch_of_two_sectors_leaves_the_state_before_or_after_it(
+    rt: HostRuntime,
+) -> Result<(), Fail> {
+    stop_in_batch(&rt, rt.alloc(), 0, 64, 2)
+}
+
+#[test]
+fn a_stop_in_a_batch_for_the_last_slot_leaves_the_state_before_or_after_it(
+    rt: HostRuntime,
+) -> Result<(), Fail> {
+    stop_in_batch(&rt, rt.alloc(), 3, 1, 1)
 }
 
 #[test]

@@ -1,16 +1,22 @@
-use Rattle.std.proofs.Common.{◌≡◌, ◌*◌, ◌∙◌, arith}
+use Rattle.std.proofs.Common.{◌≡◌, ◌≤◌, ℕ, zero, suc, ◌+◌, ◌-◌, ◌*◌, List, [], ◌++◌, length, take, drop, refl, sym, ◌∙◌, ap, arith}
+use Rattle.std.specs.List.{flat_map}
+use Rattle.std.proofs.Math.ListN.{get_or}
+use Rattle.std.proofs.lemmas.List.{drop_more}
+use Rattle.std.proofs.lemmas.Option.{unwrap_or-slice_get}
 use Rattle.iol_journal.specs.Octets.{octets_at}
 use Rattle.iol_journal.specs.Plain.{image_of}
-use Rattle.iol_journal.proofs.Plainly.{one_sector_more}
 use Rattle.iol_journal.proofs.tests.plain.octets_from.Goals as goal
 
-pub loop-j-init : goal.loop-j-init
+-- sectors one behind the other, as the image has them
+joined : (sectors : List (List ℕ)) (first n : ℕ) → first + n ≤ length sectors → flat_map (λ x. x) (take n (drop first sectors)) ≡ octets_at (image_of sectors) first n
 unfolding octets_at
-loop-j-init c = record { read = c.new-octets.ensures.items; size = omega (arith, c.new-octets.ensures.len) }
+joined sectors first zero within = refl
+joined sectors first (suc n) within =
+    rw (drop_more sectors first [] (omega arith), unwrap_or-slice_get sectors first [])
+    (ap (λ (rest : List ℕ). get_or sectors first [] ++ rest) (joined sectors (first + 1) n (omega arith)))
 
-pub loop-j-preserved : goal.loop-j-preserved
-loop-j-preserved c = record {
-  read = c.in_ok-extend_from_slice.ensures.items
-      ∙ one_sector_more (image_of c.args.image.now) c.args.first c.loop-j.j c.loop-j.octets.items c.sector_at.result.now c.loop-j.invariant.read c.sector_at.ensures;
-  size = omega (arith, c.in_ok-extend_from_slice.ensures.len, c.loop-j.invariant.size);
-}
+pub returns-clause-octets : goal.returns-clause-octets
+returns-clause-octets c =
+    c.as_flattened.ensures.value
+    ∙ ap (λ (n : ℕ). flat_map (λ x. x) (take n (drop c.args.first c.args.image.now))) (omega arith)
+    ∙ joined c.args.image.now c.args.first c.args.count c.requires

@@ -1,4 +1,4 @@
-use Rattle.std.proofs.Common.{◌≡◌, ◌+◌, ◌-◌, ◌++◌, ◌∷◌, [], ℕ, length, take, ap, ◌∙◌, sym, arith}
+use Rattle.std.proofs.Common.{◌≡◌, ◌+◌, ◌-◌, ◌++◌, ◌∷◌, [], ℕ, length, take, refl, ap, ◌∙◌, sym, arith}
 use Rattle.std.proofs.lemmas.Grind.{common_steps}
 use Rattle.iol_journal.specs.Layout.{port_at}
 use Rattle.iol_journal.specs.Meaning.{◌>>=◌, ports_from}
@@ -12,7 +12,7 @@ loop-place-preserved c =
     let p = c.loop-place.place in
     let number : c.unwrap.result ≡ p + 1 = rw c.unwrap.ensures at c.new-in-loop-place.ensures.number in
     let grown = front_grows c.loop-place.state c.set_port.new.self p c.unwrap.result c.in-Ok.port c.set_port.ensures number (omega (arith, c.loop-place.invariant.size)) in
-    let octets = port_octets (image_of c.args.image.now) g c.args.area p _ _ _ _ c.deref.ensures.value c.in_ok-octets.ensures.octets c.port-sector.ensures.at c.from.ensures in
+    let octets = port_octets (image_of c.args.image.now) g c.args.area p _ _ _ _ refl (rw c.port_sectors.ensures.value at c.octets_from-octets.ensures.octets) c.port-sector.ensures.at c.from.ensures in
     record {
       size = grind (arith, common_steps);
       read = λ left is.
@@ -26,7 +26,7 @@ returns-in_default c =
     let g = c.args.layout in
     let p = c.loop-place.place in
     let left = g.ports - (p + 1) in
-    let octets = port_octets (image_of c.args.image.now) g c.args.area p _ _ _ _ c.deref.ensures.value c.in_ok-octets.ensures.octets c.port-sector.ensures.at c.from.ensures in
+    let octets = port_octets (image_of c.args.image.now) g c.args.area p _ _ _ _ refl (rw c.port_sectors.ensures.value at c.octets_from-octets.ensures.octets) c.port-sector.ensures.at c.from.ensures in
     sym (c.loop-place.invariant.read (left + 1) (omega arith))
     ∙ ports-damaged g c.args.area (image_of c.args.image.now) p left (take p c.loop-place.state) c.port-sector.result _ _
     (c.port-sector.ensures.at ∙ ap (port_at g c.args.area) c.from.ensures) octets c.in_default.ensures.exact

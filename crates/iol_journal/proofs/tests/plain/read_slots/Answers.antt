@@ -24,9 +24,9 @@ loop-place-preserved c =
     let image = image_of c.args.image.now in
     let opened = gate_at_place image (slot_at g a c.loop-place.place) c.slot-slot.result.gate c.gate_is_open.result true
     c.slot-slot.ensures.gate c.gate_is_open.ensures c.if-not-gate_is_open.false in
-    let body = body_at_place image (body_at g a c.loop-place.place 0) c.slot-slot.result.body c.in_ok-body.body.items
-    c.slot-slot.ensures.body c.in_ok-body.ensures.octets in
-    let leads = (rw c.deref.ensures.value at c.in-Some.ensures.reached) (whole_body c.in_ok-body.body.items c.in_ok-body.ensures.size) in
+    let body = body_at_place image (body_at g a c.loop-place.place 0) c.slot-slot.result.body c.octets_from-body.result.now
+    c.slot-slot.ensures.body c.octets_from-body.ensures.octets in
+    let leads = c.in-Some.ensures.reached (whole_body c.octets_from-body.result.now c.octets_from-body.ensures.size) in
     record {
       bound = omega (arith, c.in-Some.ensures.later);
       read = λ left is.
@@ -55,9 +55,9 @@ returns-in-None c =
     let left = g.slots - (c.loop-place.place + 1) in
     let opened = gate_at_place image (slot_at g a c.loop-place.place) c.slot-slot.result.gate c.gate_is_open.result true
     c.slot-slot.ensures.gate c.gate_is_open.ensures c.if-not-gate_is_open.false in
-    let body = body_at_place image (body_at g a c.loop-place.place 0) c.slot-slot.result.body c.in_ok-body.body.items
-    c.slot-slot.ensures.body c.in_ok-body.ensures.octets in
-    let leads = (rw c.deref.ensures.value at c.in-None.ensures.reached) (whole_body c.in_ok-body.body.items c.in_ok-body.ensures.size) in
+    let body = body_at_place image (body_at g a c.loop-place.place 0) c.slot-slot.result.body c.octets_from-body.result.now
+    c.slot-slot.ensures.body c.octets_from-body.ensures.octets in
+    let leads = c.in-None.ensures.reached (whole_body c.octets_from-body.result.now c.octets_from-body.ensures.size) in
     rw c.slot-slot.ensures.body
     (sym (c.loop-place.invariant.read (left + 1) (omega arith))
     ∙ log-damaged g a epoch image c.loop-place.place left c.loop-place.number c.loop-place.state opened

@@ -1,0 +1,151 @@
+//! The disk calls of a format, a recovery and a batch, as docs/FORMATS.md has them: two ports, four slots.
+
+use super::recorded::Call::{self, Read, Sync, Write};
+use super::recorded::Recorded;
+use super::{
+    batch, begun, finished, formatted, journal_of, octets_at, put, recovered, two_ports_four_slots,
+};
+use crate::format;
+use iol_disk::{MemoryDisk, SECTOR_OCTETS};
+use std::alloc::Global;
+use std::test::Fail;
+
+// What a recovery reads before the slots, where area A is in use and area B is closed.
+const BEFORE_SLOTS: [Call; 9] = [
+    Sync,
+    Read(1),
+    Read(0),
+    Read(2),
+    Read(90),
+    Read(3),
+    Read(91),
+    Read(4),
+    Read(13),
+];
+
+// The calls of a recovery.
+fn of_recovery(alloc: Global, disk: MemoryDisk) -> Result<Vec<Call>, Fail> {
+    let (journal, _) = recovered(alloc, Recorded::new(alloc, disk))?;
+    Ok(journal.disk().calls())
+}
+
+// The calls of a batch of so many commands behind so many batches of one, and of the recovery before it.
+fn of_batch(alloc: Global, batches: u8, count: usize) -> Result<Vec<Call>, Fail> {
+    let disk = Recorded::new(alloc, journal_of(alloc, batches)?.disk());
+    let (journal, _) = recovered(alloc, disk)?;
+    let first = journal.number() + 1;
+    let (journal, _) = finished(begun(journal, batch(alloc, first, count)?)?)?;
+    Ok(journal.disk().calls())
+}
+
+#[test]
+fn a_format_makes_its_calls_in_order(rt: HostRuntime) -> Result<(), Fail> {
+    let geometry = two_ports_four_slots()?;
+    let mut disk = Recorded::new(rt.alloc(), MemoryDisk::new(rt.alloc(), 178)?);
+    format(rt.alloc(), &mut disk, geometry)?;
+    let wanted = [
+        Sync,
+        Read(1),
+        Write(0),
+        Write(2),
+        Write(90),
+        Write(22),
+        Write(39),
+        Write(56),
+        Write(73),
+        Write(3),
+        Write(91),
+        Write(4),
+        Write(13),
+        Sync,
+        Write(1),
+        Sync,
+    ];
+    assert_eq!(rt; disk.calls().as_slice(), wanted.as_slice());
+    Ok(())
+}
+
+#[test]
+fn a_recovery_reads_in_order_up_to_the_first_closed_gate(rt: HostRuntime) -> Result<(), Fail> {
+    // How many batches there are, and what is read of the slots.
+    let table: [(u8, &[Call]); 3] = [
+        (0, &[Read(22)]),
+        (1, &[Read(22), Read(23), Read(39)]),
+        (
+            4,
+            &[
+                Read(22),
+                Read(23),
+                Read(39),
+                Read(40),
+                Read(56),
+                Read(57),
+                Read(73),
+                Read(74),
+            ],
+        ),
+    ];
+    for (batches, slots) in table {
+        let calls = of_recovery(rt.alloc(), journal_of(rt.alloc(), batches)?.disk())?;
+        let mut wanted = Vec::from_slice(rt.alloc(), &BEFORE_SLOTS)?;
+        wanted.extend_from_slice(slots)?;
+        assert_eq!(rt; calls, wanted, "after {batches} batches");
+    }
+    Ok(())
+}
+
+#[test]
+fn a_recovery_reads_each_sector_that_records_reach(rt: HostRuntime) -> Result<(), Fail> {
+    let (journal, _) = recovered(rt.alloc(), formatted(rt.alloc())?)?;
+    let (journal, _) = finished(begun(journal, batch(rt.alloc(), 1, 64)?)?)?;
+    let calls = of_recovery(rt.alloc(), journal.disk())?;
+    let mut wanted = Vec::from_slice(rt.alloc(), &BEFORE_SLOTS)?;
+    wanted.extend_from_slice(&[Read(22), Read(23), Read(24), Read(39)])?;
+    assert_eq!(rt; calls, wanted);
+    Ok(())
+}
+
+#[test]
+fn a_recovery_reads_the_header_of_an_open_area_first(rt: HostRuntime) -> Result<(), Fail> {
+    // All that area A has of an empty journal is moved to area B.
+    let mut disk = formatted(rt.alloc())?;
+    for (from, to) in [(2, 90), (3, 91), (4, 92), (13, 101), (22, 110)] {
+        let octets = octets_at(&mut disk, from)?;
+        put(&mut disk, to, &octets)?;
+    }
+    put(&mut disk, 2, &[0; SECTOR_OCTETS])?;
+    let calls = of_recovery(rt.alloc(), disk)?;
+    let wanted = [
+        Sync,
+        Read(1),
+        Read(0),
+        Read(2),
+        Read(90),
+        Read(91),
+        Read(3),
+        Read(92),
+        Read(101),
+        Read(110),
+    ];
+    assert_eq!(rt; calls.as_slice(), wanted.as_slice());
+    Ok(())
+}
+
+#[test]
+fn a_batch_makes_its_calls_in_order(rt: HostRuntime) -> Result<(), Fail> {
+    // How many batches stand before it, how many commands it has, the calls of the recovery, and its own.
+    let table: [(u8, usize, usize, &[Call]); 3] = [
+        (0, 1, 10, &[Write(23), Sync, Write(22), Sync]),
+        (0, 64, 10, &[Write(23), Write(24), Sync, Write(22), Sync]),
+        (3, 1, 16, &[Write(74), Sync, Write(73), Sync]),
+    ];
+    for (batches, count, recovery, wanted) in table {
+        let calls = of_batch(rt.alloc(), batches, count)?;
+        assert_eq!(rt;
+            calls.get(recovery..),
+            Some(wanted),
+            "{count} commands after {batches} batches"
+        );
+    }
+    Ok(())
+}
