@@ -19,12 +19,6 @@ use Rattle.iol_journal.specs.declared.geometry.TheConstants.{BODY_SECTORS}
 use Rattle.iol_journal.specs.declared.opening.InUse.{InUse}
 use Rattle.iol_journal.proofs.ReachedBodies.{octets_at-append, octets_at-one}
 
-pub one_sector_more : (image : Image) (first j : ℕ) (octets sector : List ℕ) → octets ≡ octets_at image first j → sector ≡ image (first + j)
-    → octets ++ sector ≡ octets_at image first (j + 1)
-one_sector_more image first j octets sector so_far is =
-    rw (so_far, is)
-    (ap (λ (last : List ℕ). octets_at image first j ++ last) (sym (octets_at-one image (first + j))) ∙ sym (octets_at-append image first j 1))
-
 -- reading ends at a cause
 pub cause_before : {A B : Type 0} (first : Result A Cause) (next : A → Result B Cause) (told : RecoverCause) → IsPlainCause first told → IsPlainCause (first >>= next) told
 cause_before first next (cause.Disk fault) is = absurd is

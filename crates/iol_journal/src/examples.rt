@@ -112,7 +112,7 @@ pub fn a_format()
 
 /// Why an image means nothing: there is no gate of the disk, the disk is smaller than its geometry, no area is open, both are
 /// open under one epoch, or the header in use is out of its bounds.
-#[tactic(auto, unfolding(crate::specs::Geometry::geometry_of))]
+#[tactic(auto, unfolding(crate::specs::Geometry::geometry_of, iol_slots::specs::Gate::is_open, iol_slots::specs::Gate::open_gate, iol_slots::specs::Gate::closed_gate))]
 pub fn first_causes()
     ensures one_sector { layout_in 1 (λ i. open_gate) ≡ Err unformatted }
     ensures closed_disk { layout_in 178 (λ i. closed_gate) ≡ Err unformatted }

@@ -108,7 +108,12 @@ fn any_octet_changed_is_answered_as_the_plain_program_does(rt: HostRuntime) -> R
     for sector in [0, 1, 2, 3, 4, 5, 22, 23] {
         let was = octets_at(&mut disk, sector)?;
         for place in 0..SECTOR_OCTETS {
-            for octet in [0x00, 0xFF, !was[place]] {
+            let complement = !was[place];
+            for (turn, octet) in [complement, 0x00, 0xFF].into_iter().enumerate() {
+                // What is there changes nothing, and the complement was tried first.
+                if turn > 0 && (octet == was[place] || octet == complement) {
+                    continue;
+                }
                 let mut octets = was;
                 if let Some(changed) = octets.get_mut(place) {
                     *changed = octet;
