@@ -4,6 +4,7 @@ mod faults;
 mod growths;
 mod hostile_images;
 mod interrupted;
+mod largest;
 mod layout;
 mod orders;
 mod plain;
