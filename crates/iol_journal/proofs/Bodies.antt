@@ -1,5 +1,5 @@
 -- The body of a slot, written and read.
-use Rattle.std.proofs.Common.{◌≡◌, ◌≤◌, ◌<◌, ℕ, zero, suc, ◌+◌, ◌*◌, ◌-◌, ◌^◌, ◌==◌, nat_le, Bool, true, ◌&&◌, if◌then◌else◌, List, [], ◌∷◌, ◌++◌, length, take, drop, get_or, slice_range, replicate, Option, Some, None, Ok, refl, sym, ◌∙◌, ap, subst, arith, append_assoc, append-nil, add-zero, zero-add, length-append}
+use Rattle.std.proofs.Common.{◌≡◌, ◌≤◌, ◌<◌, ℕ, zero, suc, ◌+◌, ◌*◌, ◌-◌, ◌^◌, true, List, [], ◌∷◌, ◌++◌, length, take, drop, get_or, replicate, Some, refl, sym, ◌∙◌, ap, arith, append_assoc, append-nil, add-zero, zero-add, length-append}
 use Rattle.std.proofs.lemmas.Bool.Decides.{nat_tests}
 use Rattle.std.proofs.lemmas.List.{take-append-drop, drop-drop, take_more, map-append, flat_map_more, length-replicate}
 use Rattle.std.proofs.Math.ListN.{drop_of_length-le}
@@ -9,14 +9,12 @@ use Rattle.std.proofs.lemmas.Nat.{from_be_bytes-to_be_bytes_2, from_be_bytes-to_
 use Rattle.iol_types.specs.Command.{CommandValue, value_of}
 use Rattle.iol_types.specs.declared.command.Command.{Command}
 use Rattle.iol_record.specs.Record.{IsCommandRecord, command_octets}
-use Rattle.iol_record.specs.Reading.{command_at}
 use Rattle.iol_record.proofs.RecordLaws.{command_at-record}
 use Rattle.iol_disk.specs.Content.{Image}
 use Rattle.iol_journal.specs.Octets.{number_at, octets_at, padded, sectors_reached}
 use Rattle.iol_journal.specs.Journals.{values}
-use Rattle.iol_journal.specs.Body.{first_then, commands_of, fits, head_of, batch_of, records_of, head_octets, body_octets}
+use Rattle.iol_journal.specs.Body.{commands_of, fits, head_of, batch_of, records_of, head_octets, body_octets}
 use Rattle.iol_journal.specs.Batches.{sector_of}
-use Rattle.iol_journal.specs.declared.body.Head.{Head}
 use Rattle.iol_journal.specs.declared.header.TheConstants.{LAST_NUMBER}
 use Rattle.iol_journal.specs.declared.batch.TheConstants.{MOST_COMMANDS, MOST_RECORD_OCTETS, BODY_HEAD_OCTETS}
 use Rattle.iol_journal.proofs.Sectors.{octets_at-add}

@@ -1,8 +1,8 @@
 -- Readings that go on behind one another, and a whole standing taken apart and put together.
-use Rattle.std.proofs.Common.{◌≡◌, ℕ, Bool, true, false, Option, Some, None, Result, Ok, Err, refl, sym, ◌∙◌, ap, subst}
+use Rattle.std.proofs.Common.{◌≡◌, ℕ, Bool, true, false, Option, Some, None, Result, Ok, Err, refl, ap, subst}
 use Rattle.iol_types.specs.State.{State}
 use Rattle.iol_disk.specs.Content.{Image}
-use Rattle.iol_journal.specs.Meaning.{Cause, damaged, ◌>>=◌, sound, found, Standing, Log, layout_in, in_use_in, ports_from, log_from, standing_in, meaning}
+use Rattle.iol_journal.specs.Meaning.{Cause, ◌>>=◌, sound, found, Standing, Log, layout_in, in_use_in, ports_from, log_from, standing_in}
 use Rattle.iol_journal.specs.Layout.{Layout}
 use Rattle.iol_journal.specs.declared.opening.InUse.{InUse}
 

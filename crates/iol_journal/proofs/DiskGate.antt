@@ -1,5 +1,5 @@
 -- While the gate of the disk is shut nothing counts that is written behind it; what is there counts once the gate is durable and open.
-use Rattle.std.proofs.Common.{◌≡◌, ◌≢◌, ◌≤◌, ℕ, zero, suc, ◌+◌, true, false, List, [], ◌∷◌, ◌++◌, map, inl, inr, refl, sym, ◌∙◌, ap, subst, take, arith}
+use Rattle.std.proofs.Common.{◌≡◌, ◌≢◌, ◌≤◌, ℕ, zero, suc, ◌+◌, false, List, [], ◌∷◌, ◌++◌, map, inl, sym, ◌∙◌, ap, subst, take}
 use Rattle.std.specs.List.{range_with_len}
 use Rattle.iol_types.specs.State.{empty_state}
 use Rattle.iol_disk.specs.Content.{Image, Content, IsImage, reads, wrote, synced}

@@ -1,5 +1,5 @@
 -- An empty journal and its parts, as a format writes them.
-use Rattle.std.specs.Prelude.{◌≡◌, ◌≢◌, ◌<◌, ◌≤◌, ℕ, true, false, List, ◌++◌, Some}
+use Rattle.std.specs.Prelude.{◌≡◌, ◌≢◌, ◌<◌, ℕ, true, false, List, ◌++◌, Some}
 use Rattle.iol_types.specs.State.{blank}
 use Rattle.iol_record.specs.Reading.{port_record_at}
 use Rattle.iol_disk.specs.Content.{Image}

@@ -1,14 +1,14 @@
 -- What a stop leaves of a disk while it is formatted.
-use Rattle.std.proofs.Common.{◌≡◌, ◌≢◌, ◌≤◌, ◌⊎◌, ℕ, ◌+◌, Bool, true, false, IsTrue, ◌∷◌, [], ◌++◌, Result, Ok, Err, OnOk, OnErr, IfErr, inl, inr, ◌∙◌, ap, sym, subst, arith, length-append}
+use Rattle.std.proofs.Common.{◌≡◌, ◌≤◌, ◌⊎◌, ℕ, ◌+◌, Bool, true, false, IsTrue, ◌∷◌, [], ◌++◌, Result, Ok, Err, IfErr, inl, inr, ◌∙◌, ap, sym, subst, arith, length-append}
 use Rattle.iol_types.specs.State.{empty_state}
-use Rattle.iol_disk.specs.Content.{Image, Content, IsImage, IsImageSince, clock, now, reads, wrote, synced}
-use Rattle.iol_disk.specs.Disk.{Disk, After, Same, WroteSome}
+use Rattle.iol_disk.specs.Content.{Image, Content, IsImage, IsImageSince, clock, now, reads, synced}
+use Rattle.iol_disk.specs.Disk.{Disk, After, Same}
 use Rattle.iol_disk.specs.Moments.{LeavesOnly}
 use Rattle.iol_disk.specs.declared.fault.DiskFault.{DiskFault}
 use Rattle.iol_disk.specs.declared.fault.DiskFault.TheVariants.{Read, Write, Sync}
-use Rattle.iol_disk.proofs.DiskLaws.{image-synced, reads-wrote_other, HasOnTheWay, content_after_append, made_leaves, failed_leaves, started, leaves_same, leaves_sync, leaves_write, and_then, then_same, weaker, each_now, quiet_sync}
+use Rattle.iol_disk.proofs.DiskLaws.{image-synced, HasOnTheWay, content_after_append, made_leaves, failed_leaves, started, leaves_same, and_then, then_same, weaker, quiet_sync}
 use Rattle.iol_disk.specs.Calls.{Call, write, sync, content_after_all, Made, fault_of, FailedIn}
-use Rattle.iol_slots.specs.Gate.{is_open, open_gate, IsShut}
+use Rattle.iol_slots.specs.Gate.{is_open, IsShut}
 use Rattle.iol_journal.specs.Geometry.{Geometry, IsGeometry}
 use Rattle.iol_journal.specs.Layout.{layout_of, total}
 use Rattle.iol_journal.specs.Kept.{KeptMeans, EachMeans}

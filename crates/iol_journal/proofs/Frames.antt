@@ -1,16 +1,16 @@
 -- What a write in the first free slot makes of a kept image.
-use Rattle.std.proofs.Common.{◌≡◌, ◌≤◌, ◌<◌, ◌⊎◌, inl, inr, ℕ, ◌+◌, ◌*◌, Bool, true, false, if◌then◌else◌, List, length, Option, Some, None, Result, Ok, refl, sym, ◌∙◌, ap, subst, arith}
+use Rattle.std.proofs.Common.{◌≡◌, ◌≤◌, ◌<◌, ◌⊎◌, inl, inr, ℕ, ◌+◌, true, false, if◌then◌else◌, List, Option, Some, None, Ok, refl, ◌∙◌, ap, arith}
 use Rattle.std.proofs.lemmas.Bool.{cases_lt}
 use Rattle.iol_types.specs.Command.{CommandValue}
-use Rattle.iol_types.specs.State.{State, after, legal}
+use Rattle.iol_types.specs.State.{State, legal}
 use Rattle.iol_disk.specs.Content.{Image}
 use Rattle.iol_slots.specs.Gate.{is_open}
 use Rattle.iol_journal.specs.Layout.{Layout}
-use Rattle.iol_journal.specs.Layout.{other, total, area_sectors, gate_at, header_at, port_at, slot_at, body_at}
+use Rattle.iol_journal.specs.Layout.{other, gate_at, header_at, slot_at, body_at}
 use Rattle.iol_journal.specs.Header.{header_of}
 use Rattle.iol_journal.specs.Octets.{octets_at}
 use Rattle.iol_journal.specs.Body.{batch_of}
-use Rattle.iol_journal.specs.Meaning.{Cause, ◌>>=◌, found, sound, layout_in, header_in, greatest, in_use_in, ports_from, log_from, Log, Standing, Meaning, standing_in, meaning}
+use Rattle.iol_journal.specs.Meaning.{layout_in, header_in, greatest, log_from, Log, Standing}
 use Rattle.iol_journal.specs.Kept.{IsIdle, IsKeptAs, IsKept, KeptMeans}
 use Rattle.iol_journal.specs.Journals.{with_batch}
 use Rattle.iol_journal.specs.declared.area.Area.{Area}
@@ -21,7 +21,7 @@ use Rattle.iol_journal.specs.declared.header.Header.{Header}
 use Rattle.iol_journal.specs.declared.geometry.TheConstants.{BODY_SECTORS, GEOMETRY, DISK_GATE}
 use Rattle.iol_journal.proofs.Chains.{IsRead, read_stands, stands_read}
 use Rattle.iol_journal.proofs.Sectors.{ports_from-same}
-use Rattle.iol_journal.proofs.Logs.{used_from, log-same, log-more}
+use Rattle.iol_journal.proofs.Logs.{log-same, log-more}
 
 -- outside of the first free slot the images are the same
 abbrev pub SameButSlot : Standing → Image → Image → Type 0

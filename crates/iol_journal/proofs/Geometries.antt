@@ -1,5 +1,5 @@
 -- The numbers of a geometry, as tests and as octets.
-use Rattle.std.proofs.Common.{◌≡◌, ◌≤◌, ℕ, ◌+◌, ◌*◌, ◌/◌, ◌%◌, nat_le, ◌&&◌, true, Some, refl, arith}
+use Rattle.std.proofs.Common.{◌≡◌, ◌≤◌, ℕ, ◌+◌, ◌*◌, ◌/◌, ◌%◌, true, Some, refl, arith}
 use Rattle.std.proofs.lemmas.Bool.Decides.{nat_tests}
 use Rattle.iol_journal.specs.Geometry.{Geometry, IsGeometry, is_geometry, geometry_of, geometry_octets}
 use Rattle.iol_journal.specs.Octets.{padded}

@@ -1,5 +1,5 @@
 -- The laws of journals, for proofs of other crates.
-use Rattle.std.proofs.Common.{◌≡◌, ◌⊎◌, ◌≤◌, ◌<◌, ◌==◌, nat_lt, if◌then◌else◌, Bool, true, false, IsTrue, ℕ, List, length, Option, Some, None, inl, inr, refl, sym, ◌∙◌, ap, arith}
+use Rattle.std.proofs.Common.{◌≡◌, ◌⊎◌, ◌≤◌, ◌==◌, nat_lt, true, false, IsTrue, ℕ, List, length, Some, None, inl, inr, refl, arith}
 use Rattle.std.proofs.lemmas.Bool.Decides.{nat_tests}
 use Rattle.iol_types.specs.Command.{CommandValue}
 use Rattle.iol_disk.specs.Content.{Image, Content, IsImage}

@@ -1,7 +1,7 @@
 -- Calls that were made in their order, or up to one that failed, put together.
-use Rattle.std.proofs.Common.{◌≡◌, ◌<◌, ◌≤◌, ℕ, zero, suc, ◌+◌, ◌-◌, List, [], ◌∷◌, ◌++◌, map, Result, Ok, Err, OnOk, OnErr, refl, sym, ◌∙◌, ap, subst, arith}
+use Rattle.std.proofs.Common.{◌≡◌, ◌<◌, ℕ, zero, suc, ◌+◌, ◌-◌, List, [], ◌∷◌, ◌++◌, map, Result, Ok, Err, OnOk, OnErr, refl, sym, ◌∙◌, ap, subst, arith}
 use Rattle.std.specs.List.{range_with_len}
-use Rattle.std.proofs.lemmas.List.FromFn.{take-map-range_with_len, map-range_with_len_more}
+use Rattle.std.proofs.lemmas.List.FromFn.{map-range_with_len_more}
 use Rattle.iol_disk.specs.Content.{wrote, synced}
 use Rattle.iol_disk.specs.Disk.{Disk, After, Same, WroteSome, FailsOnlyAs}
 use Rattle.iol_disk.specs.Calls.{Call, write, sync, Made, FailedIn}

@@ -1,5 +1,5 @@
 -- Sectors, ports and slots that are read one after another off a list of sectors.
-use Rattle.std.proofs.Common.{◌≡◌, ◌≤◌, ◌<◌, ℕ, zero, suc, ◌+◌, ◌-◌, ◌*◌, Bool, true, false, List, [], ◌∷◌, ◌++◌, length, take, Option, Some, None, Result, Ok, Err, refl, sym, ◌∙◌, ap, subst, arith, append_assoc, add-one}
+use Rattle.std.proofs.Common.{◌≡◌, ◌<◌, ℕ, ◌+◌, ◌-◌, ◌*◌, Bool, List, [], ◌∷◌, ◌++◌, length, take, Result, Ok, Err, refl, sym, ◌∙◌, ap, arith, append_assoc, add-one}
 use Rattle.std.proofs.lemmas.List.{append-nil, take_all, take_more_set}
 use Rattle.iol_types.specs.State.{Port, State, with_port}
 use Rattle.iol_record.specs.Reading.{port_record_at}
@@ -9,7 +9,7 @@ use Rattle.iol_slots.specs.Gate.{is_open}
 use Rattle.iol_journal.specs.Layout.{Layout}
 use Rattle.iol_journal.specs.Layout.{port_at}
 use Rattle.iol_journal.specs.Octets.{octets_at}
-use Rattle.iol_journal.specs.Meaning.{Cause, damaged, ◌>>=◌, found, port_of, Log, layout_in, in_use_in, ports_from, log_from, standing_in, meaning}
+use Rattle.iol_journal.specs.Meaning.{Cause, damaged, ◌>>=◌, Log, layout_in, in_use_in, ports_from, log_from, standing_in, meaning}
 use Rattle.iol_journal.specs.Plain.{IsPlainCause, Answers}
 use Rattle.iol_journal.specs.Replays.{HoldsRecords}
 use Rattle.iol_journal.specs.declared.area.Area.{Area}
@@ -17,7 +17,6 @@ use Rattle.iol_journal.specs.declared.cause.RecoverCause.{RecoverCause}
 use Rattle.iol_journal.specs.declared.cause.RecoverCause.TheVariants as cause
 use Rattle.iol_journal.specs.declared.geometry.TheConstants.{BODY_SECTORS}
 use Rattle.iol_journal.specs.declared.opening.InUse.{InUse}
-use Rattle.iol_journal.proofs.ReachedBodies.{octets_at-append, octets_at-one}
 
 -- reading ends at a cause
 pub cause_before : {A B : Type 0} (first : Result A Cause) (next : A → Result B Cause) (told : RecoverCause) → IsPlainCause first told → IsPlainCause (first >>= next) told

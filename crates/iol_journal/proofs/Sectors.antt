@@ -1,14 +1,10 @@
 -- Images that differ in a few sectors, and what is read of the others.
-use Rattle.std.proofs.Common.{◌≡◌, ◌≤◌, ◌<◌, ℕ, zero, suc, ◌+◌, ◌*◌, ◌-◌, List, [], ◌∷◌, ◌++◌, length, take, drop, Option, Result, Ok, refl, sym, ◌∙◌, ap, subst, arith, append_assoc, add-one, add-zero, zero-add}
-use Rattle.std.proofs.lemmas.List.{take-append-drop}
-use std.Path.{fun_ext}
-use Rattle.iol_types.specs.State.{Port, State}
-use Rattle.iol_record.specs.Reading.{port_record_at}
+use Rattle.std.proofs.Common.{◌≡◌, ◌≤◌, ◌<◌, ℕ, zero, suc, ◌+◌, List, ◌++◌, refl, sym, ◌∙◌, ap, arith, append_assoc, add-zero, zero-add}
 use Rattle.iol_disk.specs.Content.{Image}
 use Rattle.iol_journal.specs.Layout.{Layout}
 use Rattle.iol_journal.specs.Layout.{port_at}
 use Rattle.iol_journal.specs.Octets.{octets_at}
-use Rattle.iol_journal.specs.Meaning.{Cause, ◌>>=◌, found, port_of, ports_from}
+use Rattle.iol_journal.specs.Meaning.{ports_from}
 use Rattle.iol_journal.specs.declared.area.Area.{Area}
 
 pub octets_at-same : (old new : Image) (first n : ℕ) → ((i : ℕ) → first ≤ i → i < first + n → new i ≡ old i) → octets_at new first n ≡ octets_at old first n

@@ -1,12 +1,12 @@
 -- What the writes of a format leave: an empty journal.
-use Rattle.std.proofs.Common.{◌≡◌, ◌≢◌, ◌≤◌, ◌<◌, ℕ, zero, suc, ◌+◌, ◌-◌, ◌*◌, length, true, false, List, [], ◌∷◌, ◌++◌, map, replicate, Some, refl, sym, ◌∙◌, ap, subst, arith}
+use Rattle.std.proofs.Common.{◌≡◌, ◌≢◌, ℕ, zero, suc, ◌+◌, ◌-◌, ◌*◌, length, List, [], ◌∷◌, ◌++◌, map, replicate, refl, sym, ◌∙◌, ap, subst, arith}
 use Rattle.std.specs.List.{range_with_len}
 use Rattle.std.proofs.lemmas.List.FromFn.{map-range_with_len_more}
 use Rattle.iol_types.specs.State.{blank, IsPort}
-use Rattle.iol_record.specs.Record.{port_octets, IsPortRecord}
+use Rattle.iol_record.specs.Record.{port_octets}
 use Rattle.iol_disk.specs.Content.{Content, reads, wrote}
 use Rattle.iol_disk.specs.Calls.{Call, write, content_after_all}
-use Rattle.iol_disk.proofs.DiskLaws.{reads-wrote_here, reads-wrote_other, HasOnTheWay, content_after_append}
+use Rattle.iol_disk.proofs.DiskLaws.{reads-wrote_here, reads-wrote_other, content_after_append}
 use Rattle.iol_slots.specs.Gate.{is_open, open_gate, closed_gate}
 use Rattle.iol_slots.proofs.SlotLaws.{is_open-open_gate, is_open-closed_gate}
 use Rattle.iol_journal.specs.Geometry.{Geometry, IsGeometry, geometry_of, geometry_octets}
@@ -21,7 +21,7 @@ use Rattle.iol_journal.proofs.BlankRecords.{record-blank}
 use Rattle.iol_journal.proofs.EmptyJournals.{journal-written}
 use Rattle.iol_journal.proofs.Filled.{filled-none, filled-wrote}
 use Rattle.iol_journal.proofs.Geometries.{geometry_of-octets}
-use Rattle.iol_journal.proofs.DiskGate.{Shut, Spares, spares-append, spares-row}
+use Rattle.iol_journal.proofs.DiskGate.{Spares, spares-append, spares-row}
 
 -- the same octets written to a row of places
 filled-row : (place : ℕ → ℕ) (octets : List ℕ) (n : ℕ) (c : Content)

@@ -1,5 +1,5 @@
 -- What a format answers, and what it leaves.
-use Rattle.std.specs.Prelude.{◌≡◌, ◌<◌, ◌⊎◌, ◌+◌, ℕ, IsTrue, Ok, Err}
+use Rattle.std.specs.Prelude.{◌≡◌, ◌<◌, ◌⊎◌, ◌+◌, ℕ, IsTrue, Err}
 use Rattle.iol_types.specs.State.{empty_state}
 use Rattle.iol_disk.specs.Content.{Image, IsImageSince, clock}
 use Rattle.iol_disk.specs.Disk.{Disk}
@@ -7,7 +7,7 @@ use Rattle.iol_journal.specs.Geometry.{Geometry}
 use Rattle.iol_journal.specs.Meaning.{unformatted, meaning}
 use Rattle.iol_journal.specs.Kept.{KeptMeans}
 use Rattle.iol_journal.specs.declared.formatting.FormatFault.{FormatFault}
-use Rattle.iol_journal.specs.declared.formatting.FormatFault.TheVariants.{TooSmall, AlreadyFormatted, Memory, Disk as DiskFailed}
+use Rattle.iol_journal.specs.declared.formatting.FormatFault.TheVariants.{Disk as DiskFailed}
 
 -- a fact of a format that refuses before anything is written (own)
 abbrev pub IfUntouched : FormatFault → Type 0 → Type 0

@@ -1,5 +1,5 @@
 -- The header of an area.
-use Rattle.std.specs.Prelude.{ℕ, ◌+◌, ◌^◌, nat_le, Bool, ◌&&◌, List, ◌++◌}
+use Rattle.std.specs.Prelude.{ℕ, ◌+◌, nat_le, Bool, ◌&&◌, List, ◌++◌}
 use Rattle.std.specs.Int.{w64, to_be_bytes}
 use Rattle.iol_journal.specs.Octets.{number_at, padded}
 use Rattle.iol_journal.specs.declared.header.Header.{Header}

@@ -7,7 +7,7 @@ use Rattle.iol_disk.specs.Disk.{Disk}
 use Rattle.iol_slots.specs.Gate.{is_open}
 use Rattle.iol_journal.specs.Layout.{other, gate_at, header_at, slot_at}
 use Rattle.iol_journal.specs.Header.{header_of}
-use Rattle.iol_journal.specs.Meaning.{Standing, Meaning, standing_in, meaning}
+use Rattle.iol_journal.specs.Meaning.{Standing, standing_in, meaning}
 use Rattle.iol_journal.specs.declared.place.Idle.{Idle}
 use Rattle.iol_journal.specs.declared.place.Idle.TheVariants.{Older, Closed}
 

@@ -1,5 +1,5 @@
 -- What an image of a disk means: the state of a master after a number of commands, or why it means none.
-use Rattle.std.specs.Prelude.{ℕ, zero, suc, ◌+◌, ◌==◌, nat_eq, nat_le, nat_lt, Bool, true, false, not, ◌&&◌, if◌then◌else◌, List, [], ◌∷◌, length, take, drop, Option, Some, None, Result, Ok, Err}
+use Rattle.std.specs.Prelude.{ℕ, zero, suc, ◌+◌, ◌==◌, nat_le, nat_lt, Bool, true, false, ◌&&◌, if◌then◌else◌, List, [], ◌∷◌, length, Option, Some, None, Result, Ok, Err}
 use Rattle.iol_types.specs.State.{Port, State, after, legal}
 use Rattle.iol_record.specs.Reading.{port_record_at}
 use Rattle.iol_record.specs.declared.fault.RecordFault.{RecordFault}

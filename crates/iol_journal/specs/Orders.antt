@@ -1,7 +1,7 @@
 -- The disk calls of a format, in their order.
-use Rattle.std.specs.Prelude.{ℕ, List, [], ◌∷◌, ◌++◌, map, Result, Ok, Err}
+use Rattle.std.specs.Prelude.{List, [], ◌∷◌, ◌++◌, map, Result, Ok, Err}
 use Rattle.std.specs.List.{range_with_len}
-use Rattle.iol_types.specs.State.{Port, blank}
+use Rattle.iol_types.specs.State.{blank}
 use Rattle.iol_record.specs.Record.{port_octets}
 use Rattle.iol_disk.specs.Disk.{Disk, After, HasFailed}
 use Rattle.iol_disk.specs.Calls.{Call, write, sync, content_after_all, Made, FailedIn}

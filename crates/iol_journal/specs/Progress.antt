@@ -1,6 +1,5 @@
 -- What a step of a batch answers.
-use Rattle.std.specs.Prelude.{◌≡◌, ℕ, List, [], ◌∷◌}
-use Rattle.iol_types.specs.Command.{CommandValue}
+use Rattle.std.specs.Prelude.{◌≡◌, List, [], ◌∷◌}
 use Rattle.iol_disk.specs.Calls.{Call, Made, FailedIn}
 use Rattle.iol_disk.specs.Disk.{Disk}
 use Rattle.iol_disk.specs.declared.fault.DiskFault.{DiskFault}

@@ -1,7 +1,7 @@
 -- What a function that reads a disk answers.
 use Rattle.std.specs.Prelude.{◌≡◌, IsTrue, Result, Ok, Err}
 use Rattle.iol_disk.specs.Content.{Image, reads}
-use Rattle.iol_disk.specs.Disk.{Disk, Same}
+use Rattle.iol_disk.specs.Disk.{Disk}
 use Rattle.iol_journal.specs.Meaning.{Cause, unformatted, damaged}
 use Rattle.iol_journal.specs.declared.cause.RecoverCause.{RecoverCause}
 use Rattle.iol_journal.specs.declared.cause.RecoverCause.TheVariants as cause

@@ -1,5 +1,5 @@
 -- What holds of an honest disk while a journal is at rest on it, and while a batch is on its way.
-use Rattle.std.specs.Prelude.{◌≡◌, ◌≤◌, ◌<◌, ℕ, true, false, IsTrue, List}
+use Rattle.std.specs.Prelude.{◌≡◌, ◌<◌, ℕ, true, false, IsTrue, List}
 use Rattle.iol_types.specs.Command.{CommandValue}
 use Rattle.iol_disk.specs.Content.{Image, Content, IsImage, IsSettled, reads}
 use Rattle.iol_disk.specs.Disk.{Disk}

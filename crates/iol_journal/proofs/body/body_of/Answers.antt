@@ -1,9 +1,9 @@
-use Rattle.std.proofs.Common.{◌≡◌, ◌+◌, ◌*◌, ◌/◌, ◌≤◌, ◌-◌, ◌++◌, List, ℕ, length, take, replicate, Some, ◌∙◌, ap, sym, subst, arith, length-append}
+use Rattle.std.proofs.Common.{◌≡◌, ◌+◌, ◌*◌, ◌-◌, ◌++◌, List, ℕ, length, take, replicate, ◌∙◌, ap, sym, arith, length-append}
 use Rattle.std.proofs.lemmas.List.{length-map}
 use Rattle.iol_types.specs.Command.{value_of}
 use Rattle.iol_journal.specs.Body.{batch_of, records_of, head_octets, body_octets}
 use Rattle.iol_journal.specs.Journals.{values}
-use Rattle.iol_journal.specs.Octets.{padded, sectors_reached}
+use Rattle.iol_journal.specs.Octets.{sectors_reached}
 use Rattle.iol_journal.proofs.Bodies.{batch_of-body_octets, length-body}
 use Rattle.iol_journal.proofs.Paddings.{padded-front}
 use Rattle.iol_journal.proofs.body.body_of.Goals as goal

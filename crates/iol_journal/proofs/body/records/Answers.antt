@@ -1,11 +1,11 @@
-use Rattle.std.proofs.Common.{◌≡◌, ◌+◌, ◌≤◌, ℕ, List, ◌++◌, length, take, ◌∙◌, refl, ap, sym, subst, arith, length-append}
+use Rattle.std.proofs.Common.{◌≡◌, ℕ, List, ◌++◌, length, take, ◌∙◌, refl, ap, arith, length-append}
 use Rattle.std.proofs.Math.Seq.{take-length}
 use Rattle.iol_record.proofs.RecordLaws.{length-command_record}
 use Rattle.std.proofs.lemmas.List.{length-map}
 use Rattle.iol_types.specs.Command.{value_of}
 use Rattle.iol_journal.specs.Body.{records_of}
 use Rattle.iol_journal.specs.Journals.{values}
-use Rattle.iol_journal.proofs.Bodies.{Encodes, encodes-none, encodes-more, encodes-all, records-more, values-more}
+use Rattle.iol_journal.proofs.Bodies.{encodes-none, encodes-more, encodes-all, records-more, values-more}
 use Rattle.iol_journal.proofs.body.records.Goals as goal
 
 pub loop-command-init : goal.loop-command-init

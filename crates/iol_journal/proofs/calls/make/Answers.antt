@@ -1,10 +1,7 @@
-use Rattle.std.proofs.Common.{◌≡◌, ◌+◌, [], ◌∷◌, refl, ap, ◌∙◌, sym, subst, rules, arith}
-use Rattle.iol_disk.specs.Calls.{Call, write, sync}
+use Rattle.std.proofs.Common.{refl, arith}
 use Rattle.iol_slots.specs.Gate.{open_gate}
-use Rattle.iol_journal.specs.Batches.{sector_of, call_of}
-use Rattle.iol_journal.specs.Journals.{standing_at}
+use Rattle.iol_journal.specs.Batches.{sector_of}
 use Rattle.iol_journal.specs.Layout.{slot_at, body_at}
-use Rattle.iol_journal.specs.Orders.{Makes}
 use Rattle.iol_journal.proofs.Making.{makes_write, makes_sync}
 use Rattle.iol_journal.proofs.calls.make.Goals as goal
 

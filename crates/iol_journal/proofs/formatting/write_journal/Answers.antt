@@ -2,7 +2,7 @@ use Rattle.std.proofs.Common.{◌++◌}
 use Rattle.std.proofs.lemmas.Result.{err_from_is_err_and}
 use Rattle.iol_disk.proofs.DiskLaws.{made_append, failed_first, failed_later}
 use Rattle.iol_journal.specs.Orders.{gate_writes, slot_writes, header_writes, port_writes, opening_calls}
-use Rattle.iol_journal.proofs.Making.{makes_then, made_of, failed_of}
+use Rattle.iol_journal.proofs.Making.{makes_then}
 use Rattle.iol_journal.proofs.formatting.write_journal.Goals as goal
 
 pub returns-in_err-write_gates : goal.returns-in_err-write_gates

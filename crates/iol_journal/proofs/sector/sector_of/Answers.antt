@@ -1,4 +1,4 @@
-use Rattle.std.proofs.Common.{◌≡◌, ◌≤◌, ◌<◌, ℕ, ◌+◌, ◌-◌, ◌*◌, ◌/◌, List, ◌++◌, length, drop, replicate, ap, ◌∙◌, arith}
+use Rattle.std.proofs.Common.{ℕ, List, ◌++◌, length, ap}
 use Rattle.iol_journal.specs.Octets.{padded}
 use Rattle.iol_journal.proofs.Paddings.{drop-zeros, one_sector}
 use Rattle.iol_journal.proofs.sector.sector_of.Goals as goal

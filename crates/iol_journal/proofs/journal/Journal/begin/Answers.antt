@@ -1,4 +1,4 @@
-use Rattle.std.proofs.Common.{◌≡◌, ◌≤◌, length, sym, ap, subst, arith}
+use Rattle.std.proofs.Common.{◌≤◌, length, sym, subst, arith}
 use Rattle.iol_journal.specs.Underway.{IsAtRest, IsUnderway}
 use Rattle.iol_journal.specs.Journals.{JournalView, WritingView, IsPlanned, standing_at, calls_left, values}
 use Rattle.iol_journal.specs.declared.phase.Phase.TheVariants.{Body}

@@ -1,4 +1,4 @@
-use Rattle.std.proofs.Common.{◌≡◌, ℕ, Err, length, rules}
+use Rattle.std.proofs.Common.{◌≡◌, Err, length, rules}
 use Rattle.iol_journal.specs.Plain.{image_of}
 use Rattle.iol_journal.proofs.Plainly.{told_so, no_layout, no_area, no_ports, no_log, all_read}
 use Rattle.iol_journal.proofs.tests.plain.read_all.Goals as goal

@@ -1,9 +1,8 @@
-use Rattle.std.proofs.Common.{◌≡◌, ◌+◌, ◌-◌, ◌++◌, ◌∷◌, [], ℕ, length, take, refl, ap, ◌∙◌, sym, arith}
+use Rattle.std.proofs.Common.{◌≡◌, ◌+◌, ◌-◌, take, refl, ap, ◌∙◌, sym, arith}
 use Rattle.std.proofs.lemmas.Grind.{common_steps}
 use Rattle.iol_journal.specs.Layout.{port_at}
-use Rattle.iol_journal.specs.Meaning.{◌>>=◌, ports_from}
 use Rattle.iol_journal.specs.Plain.{image_of}
-use Rattle.iol_journal.proofs.Plainly.{behind, ports-more, ports-damaged, ports-ended, port_octets, front_grows}
+use Rattle.iol_journal.proofs.Plainly.{ports-more, ports-damaged, ports-ended, port_octets, front_grows}
 use Rattle.iol_journal.proofs.tests.plain.read_ports.Goals as goal
 
 pub loop-place-preserved : goal.loop-place-preserved

@@ -1,7 +1,6 @@
-use Rattle.std.proofs.Common.{arith, ◌≡◌, ◌≤◌, ◌+◌, ◌∙◌, [], ◌∷◌, sym, ap, subst, IsTrue, ℕ, List, rules}
+use Rattle.std.proofs.Common.{arith, ◌≡◌, ◌∙◌, [], sym, ap, subst}
 use Rattle.std.proofs.lemmas.List.{length-map}
 use Rattle.iol_types.specs.Command.{value_of}
-use Rattle.iol_types.specs.State.{State}
 use Rattle.iol_disk.specs.Moments.{LeavesOnly}
 use Rattle.iol_journal.specs.Batches.{body_for, sectors_for, calls_from}
 use Rattle.iol_journal.specs.Kept.{KeptEither}
