@@ -25,10 +25,6 @@ cause_before {A = A} first next cause.NotFormatted is = ap (λ (r : Result A Cau
 cause_before {A = A} first next (cause.Damaged sector) is = ap (λ (r : Result A Cause). r >>= next) is
 cause_before first next cause.Memory is = tt
 
--- and goes on behind a value
-pub goes_behind : {A B : Type 0} (first : Result A Cause) (next : A → Result B Cause) (x : A) → first ≡ Ok x → (first >>= next) ≡ next x
-goes_behind {A = A} first next x is = ap (λ (r : Result A Cause). r >>= next) is
-
 abbrev pub behind : State → State → Result State Cause
 behind front rest = Ok (front ++ rest)
 
