@@ -3,7 +3,7 @@ use Rattle.std.proofs.Common.{◌≡◌, ◌⊎◌, inl, inr, ⊎_elim, ℕ, ◌
 use std.Path.{fun_ext}
 use Rattle.std.proofs.lemmas.Bool.Decides.{nat_tests}
 use Rattle.std.proofs.lemmas.List.{drop-append-le}
-use Rattle.iol_disk.specs.Content.{Image, Epoch, IsImageOf, IsImageOfSome, Content, reads, now, IsImage, clock, IsImageSince, wrote, synced, IsSettled}
+use Rattle.iol_disk.specs.Content.{Image, Interval, IsImageOf, IsImageOfSome, Content, reads, now, IsImage, clock, IsImageSince, wrote, synced, IsSettled}
 
 -- what a disk reads as is one of its images
 pub reads-is_image : (c : Content) → IsImage c (reads c)
@@ -63,7 +63,7 @@ follows-wrote n octets c = record {
   since = λ t image le left. ⊎_elim (λ had. inl (inl had)) (λ is. inr is) left;
 }
 
-some-push : (past : List Epoch) (e : Epoch) (image : Image) → IsImageOfSome (past ++ e ∷ []) image → IsImageOfSome past image ⊎ IsImageOf e image
+some-push : (past : List Interval) (e : Interval) (image : Image) → IsImageOfSome (past ++ e ∷ []) image → IsImageOfSome past image ⊎ IsImageOf e image
 some-push [] e image (inl here) = inr here
 some-push [] e image (inr none) = absurd none
 some-push (p ∷ past) e image (inl here) = inl (inl here)
@@ -74,7 +74,7 @@ follows-synced c = record {
   later = omega (arith, length-append c.past (now c ∷ []));
   since = λ t image le left.
       ⊎_elim
-      (λ had. inl (some-push (drop t c.past) (now c) image (subst (λ (es : List Epoch). IsImageOfSome es image) (drop-append-le t c.past (now c ∷ []) le) had)))
+      (λ had. inl (some-push (drop t c.past) (now c) image (subst (λ (es : List Interval). IsImageOfSome es image) (drop-append-le t c.past (now c ∷ []) le) had)))
       (λ is. inr is)
       left;
 }
@@ -83,7 +83,7 @@ follows-synced c = record {
 pub since-now : (c : Content) (image : Image) → IsImageSince (clock c) c image → IsImage c image
 since-now c image (inl had) = absurd (none c.past had)
   where
-    none : (past : List Epoch) → IsImageOfSome (drop (length past) past) image → ⊥
+    none : (past : List Interval) → IsImageOfSome (drop (length past) past) image → ⊥
     none [] had = had
     none (p ∷ past) had = none past had
 since-now c image (inr is) = is

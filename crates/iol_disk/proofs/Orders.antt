@@ -46,9 +46,6 @@ made_append first second old between new one two = record {
 }
 
 -- calls that change nothing and fail at nothing, such as reads, before, between and behind
-pub same_then_made : (calls : List Call) (old between new : Disk) → Same old between → between.failures ≡ old.failures → Made calls between new → Made calls old new
-same_then_made calls old between new same quiet made = made_append [] calls old between new (made_none old between same quiet) made
-
 pub made_then_same : (calls : List Call) (old between new : Disk) → Made calls old between → Same between new → new.failures ≡ between.failures → Made calls old new
 made_then_same calls old between new made same quiet = record {
   after = after_after _ _ old between new made.after same;
@@ -98,17 +95,6 @@ failed_later first second fault old between new made failed = record {
   at_place = slice_get-append-add first second failed.place ∙ failed.at_place;
   before = subst (λ (calls : List Call). Made calls old failed.between) (sym (take-append-add first second failed.place))
       (made_append first (take failed.place second) old between failed.between made failed.before);
-  failed = failed.failed;
-}
-
-pub same_then_failed : (calls : List Call) (fault : DiskFault) (old between new : Disk) → Same old between → between.failures ≡ old.failures
-    → FailedIn calls fault between new → FailedIn calls fault old new
-same_then_failed calls fault old between new same quiet failed = record {
-  place = failed.place;
-  call = failed.call;
-  between = failed.between;
-  at_place = failed.at_place;
-  before = same_then_made (take failed.place calls) old between failed.between same quiet failed.before;
   failed = failed.failed;
 }
 

@@ -3,7 +3,7 @@ use Rattle.std.proofs.Common.{◌≡◌, ℕ, ◌<◌, ◌==◌, ◌||◌, Bool,
 use Rattle.std.specs.Option.{option_map}
 use Rattle.std.specs.declared.alloc.Global.{Global}
 use Rattle.std.proofs.lemmas.Bool.Decides.{nat_tests}
-use Rattle.iol_disk.specs.Cells.{newest_in, written_of, settled, blank, is_listed, ListsWritten}
+use Rattle.iol_disk.specs.Cells.{newest_in, written_of, settled, blank_cell, is_listed, ListsWritten}
 use Rattle.iol_disk.proofs.Written.{same_sector}
 use Rattle.iol_disk.specs.declared.cell.Cell.{Cell}
 
@@ -56,7 +56,7 @@ pub settled_written : (o : Option Cell) → newest_in (option_map settled o) ≡
 settled_written (Some cell) = refl
 settled_written None = refl
 
-pub never_written : (sectors i : ℕ) → written_of (replicate sectors blank) i ≡ None
+pub never_written : (sectors i : ℕ) → written_of (replicate sectors blank_cell) i ≡ None
 never_written zero i = refl
 never_written (suc sectors) zero = refl
 never_written (suc sectors) (suc i) = never_written sectors i

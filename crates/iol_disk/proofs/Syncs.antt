@@ -2,9 +2,9 @@
 use Rattle.std.proofs.Common.{is_some, unwrap_or, slice_get, ◌≡◌, ℕ, ◌==◌, ◌||◌, Bool, true, false, if◌then◌else◌, List, [], ◌∷◌, ◌++◌, Option, Some, None, sym, refl, ◌∙◌, ap}
 use Rattle.std.specs.Option.{option_map}
 use std.Path.{fun_ext, fun_ext⁻}
-use Rattle.iol_disk.specs.Content.{Image, Epoch, reads, now, synced}
+use Rattle.iol_disk.specs.Content.{Image, Interval, reads, now, synced}
 use Rattle.iol_disk.specs.Cells.{durable_in, newest_in, durable_of, written_of, settled}
-use Rattle.iol_disk.specs.Undo.{replaced_at, replaces, before, before_all, epochs, content_of}
+use Rattle.iol_disk.specs.Undo.{replaced_at, replaces, undo, undo_all, intervals, content_of}
 use Rattle.iol_disk.specs.declared.cell.Cell.{Cell}
 use Rattle.iol_disk.proofs.Written.{same_sector}
 use Rattle.iol_disk.specs.declared.undo.Replaced.{Replaced}
@@ -42,20 +42,20 @@ replaced_more cells rs r i listed is so_far =
     at false true octets = ap Some (octets refl)
     at false false octets = refl
 
-before_all-push : (past : List (List Replaced)) (sync : List Replaced) (after : Image) → before_all (past ++ sync ∷ []) after ≡ before_all past (before sync after)
-before_all-push [] sync after = refl
-before_all-push (p ∷ past) sync after = ap (before p) (before_all-push past sync after)
+undo_all-push : (past : List (List Replaced)) (sync : List Replaced) (after : Image) → undo_all (past ++ sync ∷ []) after ≡ undo_all past (undo sync after)
+undo_all-push [] sync after = refl
+undo_all-push (p ∷ past) sync after = ap (undo p) (undo_all-push past sync after)
 
-epoch_of : List Replaced → Image → Epoch
-epoch_of sync durable = record { durable = durable; pending = λ i. is_some (replaced_at sync i) }
+interval_of : List Replaced → Image → Interval
+interval_of sync durable = record { durable = durable; pending = λ i. is_some (replaced_at sync i) }
 
-epochs-push : (past : List (List Replaced)) (sync : List Replaced) (after : Image)
-    → epochs (past ++ sync ∷ []) after ≡ epochs past (before sync after) ++ epoch_of sync (before sync after) ∷ []
-unfolding epoch_of
-epochs-push [] sync after = refl
-epochs-push (p ∷ past) sync after =
-    ap (λ (image : Image). epoch_of p (before p image) ∷ epochs (past ++ sync ∷ []) after) (before_all-push past sync after)
-    ∙ ap (λ (es : List Epoch). epoch_of p (before p (before_all past (before sync after))) ∷ es) (epochs-push past sync after)
+intervals-push : (past : List (List Replaced)) (sync : List Replaced) (after : Image)
+    → intervals (past ++ sync ∷ []) after ≡ intervals past (undo sync after) ++ interval_of sync (undo sync after) ∷ []
+unfolding interval_of
+intervals-push [] sync after = refl
+intervals-push (p ∷ past) sync after =
+    ap (λ (image : Image). interval_of p (undo p image) ∷ intervals (past ++ sync ∷ []) after) (undo_all-push past sync after)
+    ∙ ap (λ (es : List Interval). interval_of p (undo p (undo_all past (undo sync after))) ∷ es) (intervals-push past sync after)
 
 -- a sync that settles the cells, and keeps what it replaced, is the sync of the content
 pub content-sync : (cells cells' : List Cell) (past past' : List (List Replaced)) (sync : List Replaced)
@@ -63,7 +63,7 @@ pub content-sync : (cells cells' : List Cell) (past past' : List (List Replaced)
     → past' ≡ past ++ sync ∷ []
     → ((i : ℕ) → replaced_at sync i ≡ replaces cells i)
     → content_of cells' past' ≡ synced (content_of cells past)
-unfolding epoch_of
+unfolding interval_of
 content-sync cells cells' past past' sync settles is keeps = λ j. record { durable = durables j; written = writtens j; past = pasts j }
   where
     durable_at : (o : Option Cell) → durable_in (option_map settled o) ≡ unwrap_or (newest_in o) (durable_in o)
@@ -88,14 +88,14 @@ content-sync cells cells' past past' sync settles is keeps = λ j. record { dura
     writtens : written_of cells' ≡ (synced (content_of cells past)).written
     writtens = fun_ext (λ i. ap newest_in (settles i) ∙ written_at (slice_get cells i))
 
-    back : before sync (durable_of cells') ≡ durable_of cells
+    back : undo sync (durable_of cells') ≡ durable_of cells
     back = fun_ext (λ i. ap (λ (o : Option (List ℕ)). unwrap_or o (durable_of cells' i)) (keeps i)
         ∙ undone (written_of cells i) (durable_of cells i) (durable_of cells' i) (sym (fun_ext⁻ durables i)))
 
-    pendings : (epoch_of sync (durable_of cells)).pending ≡ (now (content_of cells past)).pending
+    pendings : (interval_of sync (durable_of cells)).pending ≡ (now (content_of cells past)).pending
     pendings = fun_ext (λ i. ap is_some (keeps i) ∙ told (written_of cells i) (durable_of cells i))
 
-    pasts : epochs past' (durable_of cells') ≡ epochs past (durable_of cells) ++ now (content_of cells past) ∷ []
-    pasts = ap (λ (p : List (List Replaced)). epochs p (durable_of cells')) is ∙ epochs-push past sync (durable_of cells')
-        ∙ ap (λ (image : Image). epochs past image ++ epoch_of sync image ∷ []) back
-        ∙ ap (λ (pending : ℕ → Bool). epochs past (durable_of cells) ++ record { durable = durable_of cells; pending = pending } ∷ []) pendings
+    pasts : intervals past' (durable_of cells') ≡ intervals past (durable_of cells) ++ now (content_of cells past) ∷ []
+    pasts = ap (λ (p : List (List Replaced)). intervals p (durable_of cells')) is ∙ intervals-push past sync (durable_of cells')
+        ∙ ap (λ (image : Image). intervals past image ++ interval_of sync image ∷ []) back
+        ∙ ap (λ (pending : ℕ → Bool). intervals past (durable_of cells) ++ record { durable = durable_of cells; pending = pending } ∷ []) pendings

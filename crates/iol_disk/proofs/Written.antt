@@ -74,23 +74,7 @@ wrote_also cells cells' n octets i writes = ap is_some writes ∙ either (i == n
     either false (Some x) = refl
     either false None = refl
 
--- after a write to a sector that is listed, and to one that is not
-pub lists_again : (cells cells' : List Cell) (listed : Vec ℕ Global) (n : ℕ) (octets : List ℕ) → ListsWritten cells listed
-    → is_some (written_of cells n) ≡ true → length cells' ≡ length cells
-    → ((i : ℕ) → written_of cells' i ≡ (if i == n then Some octets else written_of cells i)) → ListsWritten cells' listed
-lists_again cells cells' listed n octets lists had same writes = record {
-  exactly = λ i. lists.exactly i ∙ absorbed (i == n) (is_some (written_of cells i)) (λ here. ap (λ (k : ℕ). is_some (written_of cells k)) (same_sector i n here) ∙ had)
-      ∙ sym (wrote_also cells cells' n octets i (writes i));
-  once = lists.once;
-  room = omega (arith, same, lists.room);
-}
-  where
-    absorbed : (here was : Bool) → (here ≡ true → was ≡ true) → was ≡ (was || here)
-    absorbed true true implies = refl
-    absorbed true false implies = implies refl
-    absorbed false true implies = refl
-    absorbed false false implies = refl
-
+-- after a write to a sector that is not listed
 pub lists_one_more : (cells cells' : List Cell) (listed listed' : Vec ℕ Global) (n : ℕ) (octets : List ℕ) → ListsWritten cells listed
     → is_some (written_of cells n) ≡ false → length cells' ≡ length cells
     → ((i : ℕ) → written_of cells' i ≡ (if i == n then Some octets else written_of cells i))

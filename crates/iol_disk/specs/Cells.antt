@@ -5,6 +5,7 @@ use Rattle.std.specs.Vec.{vec_capacity}
 use Rattle.std.specs.declared.alloc.Global.{Global}
 use Rattle.iol_disk.specs.Content.{Image}
 use Rattle.iol_disk.specs.declared.cell.Cell.{Cell}
+use Rattle.iol_disk.specs.declared.disk.TheConstants.{SECTOR_OCTETS}
 
 -- the durable octets of a sector in memory, if it is there (own)
 abbrev pub durable_in : Option Cell → List ℕ
@@ -28,8 +29,8 @@ abbrev pub settled : Cell → Cell
 settled cell = record { durable = unwrap_or cell.newest cell.durable; newest = None }
 
 -- a sector that was never written: 512 zeros (own)
-abbrev pub blank : Cell
-blank = record { durable = replicate 512 0; newest = None }
+abbrev pub blank_cell : Cell
+blank_cell = record { durable = replicate SECTOR_OCTETS 0; newest = None }
 
 -- whether the sector stands in the list (own)
 abbrev pub is_listed : List ℕ → ℕ → Bool

@@ -6,17 +6,17 @@ abbrev pub Image : Type 0
 Image = ℕ → List ℕ
 
 -- the time between two syncs, as it ended: what was durable, and which sectors were written (own)
-pub record Epoch : Type 0 where
+pub record Interval : Type 0 where
   pub durable : Image
   pub pending : ℕ → Bool
 
 -- what a stop at the end of such a time may leave: any octets in the sectors written in it, the durable ones
 -- elsewhere (own)
-abbrev pub IsImageOf : Epoch → Image → Type 0
+abbrev pub IsImageOf : Interval → Image → Type 0
 IsImageOf e image = (i : ℕ) → e.pending i ≡ false → image i ≡ e.durable i
 
 -- what a stop at the end of one of these times may leave (own)
-abbrev pub IsImageOfSome : List Epoch → Image → Type 0
+abbrev pub IsImageOfSome : List Interval → Image → Type 0
 IsImageOfSome [] image = ⊥
 IsImageOfSome (e ∷ es) image = IsImageOf e image ⊎ IsImageOfSome es image
 
@@ -28,14 +28,14 @@ pub record Content : Type 0 where
   -- the newest octets of each sector that was written since
   pub written : ℕ → Option (List ℕ)
   -- the times that a sync has ended, the first one first
-  pub past : List Epoch
+  pub past : List Interval
 
 -- what a read gives: the newest octets of a sector (own)
 abbrev pub reads : Content → Image
 reads c i = unwrap_or (c.written i) (c.durable i)
 
 -- the time since the last sync, as it is now (own)
-abbrev pub now : Content → Epoch
+abbrev pub now : Content → Interval
 now c = record { durable = c.durable; pending = λ i. is_some (c.written i) }
 
 -- what a power stop at this moment may leave: any octets in the sectors written since the last sync, the durable ones

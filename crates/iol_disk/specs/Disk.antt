@@ -33,7 +33,7 @@ abbrev pub HasFailed : Disk → Disk → Type 0
 HasFailed old new = (old.failures < new.failures) ⊎ (2 ^ 64 - 1 ≤ new.failures)
 
 -- A call that succeeded leaves the count of failures as it was, and one that failed has this fault and was counted:
--- so a fault is told exactly where it rose, the greatest number apart (own)
+-- so a fault is reported exactly where it rose, the greatest number apart (own)
 abbrev pub FailsOnlyAs : {T : Type 0} → DiskFault → Disk → Disk → Result T DiskFault → Type 0
 FailsOnlyAs fault old new (Ok x) = new.failures ≡ old.failures
 FailsOnlyAs fault old new (Err e) = (e ≡ fault) × HasFailed old new

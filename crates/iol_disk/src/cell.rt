@@ -7,22 +7,22 @@ ghost use Rattle.iol_disk.specs.Stops.{Leaves};
 use crate::disk::SECTOR_OCTETS;
 use crate::pick::{Pick, pattern};
 
-/// A sector in memory.
+// A sector in memory.
 #[derive(Clone, Copy)]
-pub struct Cell {
+pub(crate) struct Cell {
     pub durable: [u8; SECTOR_OCTETS],
     pub newest: Option<[u8; SECTOR_OCTETS]>,
 }
 
 impl Cell {
-    pub const BLANK: Cell = Cell {
+    pub(crate) const BLANK: Cell = Cell {
         durable: [0; SECTOR_OCTETS],
         newest: None,
     };
 }
 
 // Makes the newest octets durable.
-pub fn settle(cell: &mut Cell)
+pub(crate) fn settle(cell: &mut Cell)
     ensures { cell.new ≡ settled cell.old }
 {
     if let Some(newest) = cell.newest.take() {
@@ -31,7 +31,7 @@ pub fn settle(cell: &mut Cell)
 }
 
 // Leaves of the sector what a power stop does.
-pub fn stop(cell: &mut Cell, pick: Pick)
+pub(crate) fn stop(cell: &mut Cell, pick: Pick)
     ensures left { Leaves pick cell.old.durable cell.old.newest cell.new.durable }
     ensures settled { cell.new.newest ≡ None }
 {

@@ -3,7 +3,7 @@
 ghost use Rattle.std.specs.Prelude.{◌≡◌, ◌<◌, ◌==◌, ℕ, List, Some, None, IsTrue, if◌then◌else◌, length, slice_get, is_some, unwrap_or, replicate, IfOk};
 ghost use Rattle.std.specs.Option.{option_map};
 ghost use Rattle.iol_disk.specs.declared.cell.Cell.{Cell};
-ghost use Rattle.iol_disk.specs.Cells.{settled, durable_of, written_of, blank, is_listed};
+ghost use Rattle.iol_disk.specs.Cells.{settled, durable_of, written_of, blank_cell, is_listed};
 ghost use Rattle.iol_disk.specs.Stops.{Leaves};
 ghost use Rattle.iol_disk.specs.Undo.{replaced_at, replaces};
 
@@ -14,12 +14,12 @@ use crate::undo::{Replaced, durable_octets};
 use std::alloc::{AllocError, Global};
 use std::marker::Model;
 
-/// The sectors of a disk in memory.
-///
-/// It lists those that were written since the last sync, so that a sync goes over no others. The list has room for
-/// all sectors from the start, so that a write needs no memory.
+// The sectors of a disk in memory.
+//
+// It lists those that were written since the last sync, so that a sync goes over no others. The list has room for
+// all sectors from the start, so that a write needs no memory.
 #[derive(Drop)]
-pub struct Cells {
+pub(crate) struct Cells {
     cells: Vec<Cell>,
     written: Vec<usize>,
 }
@@ -37,9 +37,9 @@ impl Model for Cells {
 }
 
 impl Cells {
-    /// So many sectors of zeros.
-    pub fn new(alloc: Global, sectors: usize) -> Result<Cells, AllocError>
-        ensures { IfOk result (λ cells. cells ≡ replicate sectors blank) }
+    // So many sectors of zeros.
+    pub(crate) fn new(alloc: Global, sectors: usize) -> Result<Cells, AllocError>
+        ensures { IfOk result (λ cells. cells ≡ replicate sectors blank_cell) }
     {
         Ok(Cells {
             cells: blank_cells(alloc, sectors)?,
@@ -47,15 +47,15 @@ impl Cells {
         })
     }
 
-    /// How many there are.
-    pub fn len(&self) -> usize
+    // How many there are.
+    pub(crate) fn len(&self) -> usize
         ensures { result ≡ length self.now }
     {
         self.cells.len()
     }
 
-    /// The newest octets of a sector.
-    pub fn read(&self, n: usize) -> [u8; SECTOR_OCTETS]
+    // The newest octets of a sector.
+    pub(crate) fn read(&self, n: usize) -> [u8; SECTOR_OCTETS]
         requires { n < length self.now }
         ensures { result ≡ unwrap_or (written_of self.now n) (durable_of self.now n) }
     {
@@ -66,8 +66,8 @@ impl Cells {
         }
     }
 
-    /// Writes a sector.
-    pub fn write(&mut self, n: usize, octets: &[u8; SECTOR_OCTETS])
+    // Writes a sector.
+    pub(crate) fn write(&mut self, n: usize, octets: &[u8; SECTOR_OCTETS])
         requires { n < length self.old }
         ensures length { length self.new ≡ length self.old }
         ensures durable { (i : ℕ) → durable_of self.new i ≡ durable_of self.old i }
@@ -79,15 +79,15 @@ impl Cells {
         }
     }
 
-    /// What a sync is about to replace.
-    pub fn replaced(&self, alloc: Global) -> Result<Vec<Replaced>, AllocError>
+    // What a sync is about to replace.
+    pub(crate) fn replaced(&self, alloc: Global) -> Result<Vec<Replaced>, AllocError>
         ensures { IfOk result (λ sync. (i : ℕ) → replaced_at sync.items i ≡ replaces self.now i) }
     {
         durable_octets(alloc, &self.cells, &self.written)
     }
 
-    /// Makes the newest octets of each sector durable.
-    pub fn settle(&mut self)
+    // Makes the newest octets of each sector durable.
+    pub(crate) fn settle(&mut self)
         ensures length { length self.new ≡ length self.old }
         ensures settled { (i : ℕ) → slice_get self.new i ≡ option_map settled (slice_get self.old i) }
     {
@@ -95,8 +95,8 @@ impl Cells {
         self.written.clear();
     }
 
-    /// Leaves of each sector what a power stop does.
-    pub fn stop(&mut self, pick: Pick)
+    // Leaves of each sector what a power stop does.
+    pub(crate) fn stop(&mut self, pick: Pick)
         ensures length { length self.new ≡ length self.old }
         ensures left { (i : ℕ) → Leaves pick (durable_of self.old i) (written_of self.old i) (durable_of self.new i) }
         ensures settled { (i : ℕ) → written_of self.new i ≡ None }
@@ -108,7 +108,7 @@ impl Cells {
 
 // So many sectors of zeros.
 fn blank_cells(alloc: Global, sectors: usize) -> Result<Vec<Cell>, AllocError>
-    ensures { IfOk result (λ cells. cells.items ≡ replicate sectors blank) }
+    ensures { IfOk result (λ cells. cells.items ≡ replicate sectors blank_cell) }
 {
     let mut cells = Vec::with_capacity(alloc, sectors)?;
     for _ in 0..sectors {

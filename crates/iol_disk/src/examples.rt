@@ -1,7 +1,7 @@
 //! Facts with values from outside, which no code calls.
 
 ghost use Rattle.std.specs.Prelude.{◌≡◌, ◌∷◌, [], ℕ, List, length, take};
-ghost use Rattle.iol_disk.specs.Cells.{blank};
+ghost use Rattle.iol_disk.specs.Cells.{blank_cell};
 ghost use Rattle.iol_disk.specs.Stops.{IsPattern};
 
 use crate::disk::SECTOR_OCTETS;
@@ -9,7 +9,7 @@ use crate::disk::SECTOR_OCTETS;
 /// A sector has 512 octets.
 pub fn a_sector()
     ensures constant { SECTOR_OCTETS ≡ 512 }
-    ensures blank { length blank.durable ≡ 512 }
+    ensures blank { length blank_cell.durable ≡ 512 }
 {}
 
 /// The pattern that a stop may leave begins with the octets A5 5A A5, and has 512.

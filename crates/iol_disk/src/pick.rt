@@ -18,7 +18,7 @@ pub enum Pick {
 }
 
 // A5 5A, repeated.
-pub fn pattern() -> [u8; SECTOR_OCTETS]
+pub(crate) fn pattern() -> [u8; SECTOR_OCTETS]
     ensures { IsPattern result }
 {
     let mut octets = [0; SECTOR_OCTETS];

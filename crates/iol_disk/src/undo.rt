@@ -10,15 +10,15 @@ use crate::cells::Cells;
 use crate::disk::SECTOR_OCTETS;
 use std::alloc::{AllocError, Global};
 
-/// The durable octets of a sector that a sync replaced.
+// The durable octets of a sector that a sync replaced.
 #[derive(Drop)]
-pub struct Replaced {
+pub(crate) struct Replaced {
     pub sector: usize,
     pub octets: [u8; SECTOR_OCTETS],
 }
 
 // The durable octets of the sectors that are listed.
-pub fn durable_octets(
+pub(crate) fn durable_octets(
     alloc: Global,
     cells: &[Cell],
     listed: &[usize],
@@ -39,7 +39,11 @@ pub fn durable_octets(
 }
 
 // Keeps what a sync is about to replace.
-pub fn keep(alloc: Global, cells: &Cells, past: &mut Vec<Vec<Replaced>>) -> Result<(), AllocError>
+pub(crate) fn keep(
+    alloc: Global,
+    cells: &Cells,
+    past: &mut Vec<Vec<Replaced>>,
+) -> Result<(), AllocError>
     ensures kept { OnOk result ((sync : List Replaced) × (undos past.new.items ≡ undos past.old.items ++ sync ∷ [])
         × ((i : ℕ) → replaced_at sync i ≡ replaces cells.now i)) }
     ensures unchanged { OnErr result (past.new.items ≡ past.old.items) }

@@ -8,7 +8,7 @@ use Rattle.std.proofs.lemmas.Bool.Decides.{nat_tests}
 use Rattle.iol_isdu.specs.Isdu.{xor_of}
 use Rattle.iol_isdu.specs.Service.{service_at, is_request, carries}
 use Rattle.iol_isdu.specs.Faults.{i_service, is_reserved, is_counted, carried_count, fault_among, request_fault, answer_fault}
-use Rattle.iol_isdu.specs.Reading.{service_in, carried_in, between, request_by, answer_by, request_of, answer_of, request_with, answer_with, ◌>>=◌}
+use Rattle.iol_isdu.specs.Reading.{service_in, carried_in, enclosed, request_by, answer_by, request_of, answer_of, request_with, answer_with, ◌>>=◌}
 use Rattle.iol_isdu.proofs.IsduParts.{HasService, service_in_ok}
 use Rattle.iol_isdu.specs.declared.messages.Answer.{Answer}
 use Rattle.iol_isdu.specs.declared.messages.Answer.TheVariants.{Busy}
@@ -42,8 +42,8 @@ other_refused is_read octets s h is =
     let some : (length octets == 0) ≡ false = grind (arith, nat_tests, h.some) in
     rw (some, h.free, h.service, is) refl
 
-length-between : (octets : List ℕ) → length (between octets) ≡ carried_count (length octets)
-length-between octets = by_count (nat_le (length octets) 15)
+length-enclosed : (octets : List ℕ) → length (enclosed octets) ≡ carried_count (length octets)
+length-enclosed octets = by_count (nat_le (length octets) 15)
   where
     by_count : (b : Bool)
         → length (cond b (take (length octets - 2) (drop 1 octets))
@@ -65,9 +65,9 @@ carried_refused : (is_read : Service → Bool) (octets : List ℕ) (s : Service)
 unfolding carried_in
 carried_refused is_read octets s h is =
     let some : (length octets == 0) ≡ false = grind (arith, nat_tests, h.some) in
-    rw (some, h.free, h.service, is, length-between octets)
+    rw (some, h.free, h.service, is, length-enclosed octets)
     (error_of (is_counted octets && carries s (carried_count (length octets)))
-    (xor_of octets == 0) (between octets))
+    (xor_of octets == 0) (enclosed octets))
 
 error_kept : {A B : Type 0} (r : Result A IsduFault) (f : A → B)
     → result_err (r >>= λ x. Ok (f x)) ≡ result_err r

@@ -8,7 +8,7 @@ use Rattle.std.proofs.Math.Seq.{take-append_seam}
 use Rattle.iol_isdu.specs.Isdu.{IsIsduOf, Begins, xor_of}
 use Rattle.iol_isdu.specs.Service.{code_of, service_at, carries}
 use Rattle.iol_isdu.specs.Faults.{i_service, length_field, has_ext_length, ext_length, is_reserved, has_reserved_ext_length, is_counted}
-use Rattle.iol_isdu.specs.Reading.{service_in, carried_in, between}
+use Rattle.iol_isdu.specs.Reading.{service_in, carried_in, enclosed}
 use Rattle.iol_isdu.proofs.Services.{service_at-code_of, code_of-service_at, code_of-fits}
 use Rattle.iol_isdu.proofs.Lists.{parted}
 use Rattle.iol_isdu.proofs.Steps.{passed, ok_is, not_false, or_false, and_true, and_rest}
@@ -92,14 +92,14 @@ counted_some octets s h c =
 
 short_found : (first : ℕ) (more : List ℕ) (s : Service) → HasService (first ∷ more) s
     → CountedShort (first ∷ more) → xor_of (first ∷ more) ≡ 0
-    → IsIsduOf (first ∷ more) s (between (first ∷ more))
+    → IsIsduOf (first ∷ more) s (enclosed (first ∷ more))
 short_found first more s h c xor =
     let code : code_of s ≡ first / 16 = code_of-service_at _ s h.service in
     let l = stated (first ∷ more) s h in
     let few : nat_le (length (first ∷ more)) 15 ≡ true = grind (arith, nat_tests, c.count) in
     let p = parted more (omega (arith, l.nonzero, c.plain, c.count)) in
     let less : length (first ∷ more) - 2 ≡ length more - 1 = omega arith in
-    let middle : between (first ∷ more) ≡ take (length more - 1) more =
+    let middle : enclosed (first ∷ more) ≡ take (length more - 1) more =
     rw few (ap (λ n. take n more) less) in
     record {
       header = first ∷ [];
@@ -116,7 +116,7 @@ short_found first more s h c xor =
 long_found : (first extended : ℕ) (more : List ℕ) (s : Service) → HasService (first ∷ extended ∷ more) s
     → CountedLong (first ∷ extended ∷ more)
     → xor_of (first ∷ extended ∷ more) ≡ 0
-    → IsIsduOf (first ∷ extended ∷ more) s (between (first ∷ extended ∷ more))
+    → IsIsduOf (first ∷ extended ∷ more) s (enclosed (first ∷ extended ∷ more))
 long_found first extended more s h c xor =
     let code : code_of s ≡ first / 16 = code_of-service_at _ s h.service in
     let l = stated (first ∷ extended ∷ more) s h in
@@ -131,7 +131,7 @@ long_found first extended more s h c xor =
     grind (arith, nat_tests, low, count) in
     let p = parted more (omega (arith, low, count)) in
     let less : length (first ∷ extended ∷ more) - 3 ≡ length more - 1 = omega arith in
-    let middle : between (first ∷ extended ∷ more) ≡ take (length more - 1) more =
+    let middle : enclosed (first ∷ extended ∷ more) ≡ take (length more - 1) more =
     rw many (ap (λ n. take n more) less) in
     record {
       header = first ∷ extended ∷ [];
@@ -148,7 +148,7 @@ long_found first extended more s h c xor =
 
 -- octets that are counted and checked are an ISDU of what stands between
 isdu_found : (octets : List ℕ) (s : Service) → HasService octets s → is_counted octets ≡ true
-    → xor_of octets ≡ 0 → IsIsduOf octets s (between octets)
+    → xor_of octets ≡ 0 → IsIsduOf octets s (enclosed octets)
 isdu_found [] s h c xor = absurd (omega (arith, h.some))
 isdu_found (first ∷ []) s h c xor = absurd (omega (arith, counted_some (first ∷ []) s h c))
 isdu_found (first ∷ extended ∷ more) s h c xor =
@@ -165,13 +165,13 @@ pub carried_found : (octets carried : List ℕ) (s : Service) → HasService oct
 unfolding carried_in
 carried_found octets carried s h ok =
     let one = passed (not
-    (is_counted octets && carries s (length (between octets)))) fault.Length _ carried ok in
+    (is_counted octets && carries s (length (enclosed octets)))) fault.Length _ carried ok in
     let two = passed (not (xor_of octets == 0)) fault.Check _ carried one.1 in
-    let both = and_true (is_counted octets) (carries s (length (between octets)))
+    let both = and_true (is_counted octets) (carries s (length (enclosed octets)))
     (not_false _ one.0) in
     let unit = not_false (xor_of octets == 0) two.0 in
     let xor : xor_of octets ≡ 0 = grind (arith, nat_tests, unit) in
-    let same : between octets ≡ carried = ok_is _ _ two.1 in
+    let same : enclosed octets ≡ carried = ok_is _ _ two.1 in
     subst (λ b. IsIsduOf octets s b × (carries s (length b) ≡ true)) same
     (isdu_found octets s h both.0 xor, both.1)
 
@@ -201,7 +201,7 @@ service_in_found octets s h = let some : (length octets == 0) ≡ false = grind 
     rw (some, h.free, h.service) refl
 
 carries_in : (octets carried : List ℕ) (s : Service) → is_counted octets ≡ true
-    → between octets ≡ carried → carries s (length carried) ≡ true → xor_of octets ≡ 0
+    → enclosed octets ≡ carried → carries s (length carried) ≡ true → xor_of octets ≡ 0
     → carried_in s octets ≡ Ok carried
 unfolding carried_in
 carries_in octets carried s count middle fits xor =
@@ -216,7 +216,7 @@ record Announces (octets : List ℕ) (s : Service) : Type 0 where
   count : is_counted octets ≡ true
 
 announced_reads : (octets carried : List ℕ) (s : Service) → Announces octets s
-    → between octets ≡ carried → carries s (length carried) ≡ true → xor_of octets ≡ 0
+    → enclosed octets ≡ carried → carries s (length carried) ≡ true → xor_of octets ≡ 0
     → Reads octets s carried
 announced_reads octets carried s h middle fits xor =
     let at : service_at (i_service octets) ≡ Some s = ap service_at h.code ∙ service_at-code_of s in

@@ -33,17 +33,17 @@ service_in octets =
     else ok_or (service_at (i_service octets)) fault.WrongService
 
 -- what stands between the count and CHKPDU (standard, ISDU)
-abbrev pub between : List ℕ → List ℕ
-between octets =
+abbrev pub enclosed : List ℕ → List ℕ
+enclosed octets =
     if nat_le (length octets) 15 then take (length octets - 2) (drop 1 octets)
     else take (length octets - 3) (drop 2 octets)
 
 -- what an ISDU of the service carries, where count and check are right (own)
 unfoldable pub carried_in : Service → List ℕ → Result (List ℕ) IsduFault
 carried_in service octets =
-    if not (is_counted octets && carries service (length (between octets))) then Err fault.Length
+    if not (is_counted octets && carries service (length (enclosed octets))) then Err fault.Length
     else if not (xor_of octets == 0) then Err fault.Check
-    else Ok (between octets)
+    else Ok (enclosed octets)
 
 -- the index and the subindex that an address begins with (own)
 abbrev pub index_in : IndexForm → List ℕ → ℕ

@@ -9,7 +9,7 @@ ghost use Rattle.std.specs.Prelude.{◌≡◌, ◌+◌, ◌++◌, ◌≤◌, ◌
 ghost use Rattle.iol_isdu.specs.Service.{carries};
 ghost use Rattle.iol_isdu.specs.Isdu.{xor_of, Begins, IsIsduOf};
 ghost use Rattle.iol_isdu.specs.Faults.{is_reserved, has_reserved_ext_length, is_counted};
-ghost use Rattle.iol_isdu.specs.Reading.{service_in, carried_in, between};
+ghost use Rattle.iol_isdu.specs.Reading.{service_in, carried_in, enclosed};
 
 use crate::faults::IsduFault;
 use crate::service::Service;
@@ -18,29 +18,29 @@ use arrayvec::ArrayVec;
 /// The most octets that an ISDU has, which is the most that ExtLength counts.
 pub const ISDU_OCTETS: usize = 238;
 
-/// The most octets that are carried: an address of three and 232 of data.
+// The most octets that are carried: an address of three and 232 of data.
 const CARRIED_OCTETS: usize = 235;
 
-/// The most octets that Length counts.
+// The most octets that Length counts.
 const LARGEST_LENGTH: usize = 15;
 
-/// The fewest octets that ExtLength counts.
+// The fewest octets that ExtLength counts.
 const SMALLEST_EXT_LENGTH: u8 = 17;
 
-/// The one octet of Device busy: I-Service 0 with Length 1.
-pub const DEVICE_BUSY: u8 = 0x01;
+// The one octet of Device busy: I-Service 0 with Length 1.
+pub(crate) const DEVICE_BUSY: u8 = 0x01;
 
-/// All octets, by exclusive or.
+// All octets, by exclusive or.
 fn xor(octets: &[u8]) -> u8
     ensures { result ≡ xor_of octets.now }
 {
     octets.iter().fold(0, |all, octet| all ^ *octet)
 }
 
-/// The service that octets begin with, or the first fault of their header: `Empty`, `Reserved`, and
-/// `WrongService` for I-Service 0.
+// The service that octets begin with, or the first fault of their header: `Empty`, `Reserved`, and
+// `WrongService` for I-Service 0.
 #[tactic(auto, unfolding(crate::specs::Reading::service_in))]
-pub fn service_in(octets: &[u8]) -> Result<Service, IsduFault>
+pub(crate) fn service_in(octets: &[u8]) -> Result<Service, IsduFault>
     ensures { result ≡ service_in octets.now }
 {
     if octets.is_empty() {
@@ -52,7 +52,7 @@ pub fn service_in(octets: &[u8]) -> Result<Service, IsduFault>
     Service::of_code(octets[0] / 16).ok_or(IsduFault::WrongService)
 }
 
-/// Whether the first two octets are reserved ones.
+// Whether the first two octets are reserved ones.
 fn is_reserved(octets: &[u8]) -> bool
     requires { 0 < length octets.now }
     ensures { result ≡ is_reserved octets.now }
@@ -73,10 +73,10 @@ fn has_reserved_ext_length(octets: &[u8]) -> bool
     octets.len() > 1 && (octets[1] < SMALLEST_EXT_LENGTH || usize::from(octets[1]) > ISDU_OCTETS)
 }
 
-/// What octets of this service carry, or the fault that they have behind their header: `Length` or
-/// `Check`.
+// What octets of this service carry, or the fault that they have behind their header: `Length` or
+// `Check`.
 #[tactic(auto, unfolding(crate::specs::Reading::carried_in))]
-pub fn carried_in(service: Service, octets: &[u8]) -> Result<&[u8], IsduFault>
+pub(crate) fn carried_in(service: Service, octets: &[u8]) -> Result<&[u8], IsduFault>
     requires { service_in octets.now ≡ Ok service }
     ensures ok { IfOk result (λ carried. carried_in service octets.now ≡ Ok carried.now) }
     ensures carries { IfOk result (λ carried. IsTrue (carries service (length carried.now))) }
@@ -85,7 +85,7 @@ pub fn carried_in(service: Service, octets: &[u8]) -> Result<&[u8], IsduFault>
     if !is_counted(octets) {
         return Err(IsduFault::Length);
     }
-    let carried = between(octets);
+    let carried = enclosed(octets);
     if !service.carries(carried.len()) {
         return Err(IsduFault::Length);
     }
@@ -95,10 +95,10 @@ pub fn carried_in(service: Service, octets: &[u8]) -> Result<&[u8], IsduFault>
     Ok(carried)
 }
 
-/// The octets between the count and CHKPDU.
-fn between(octets: &[u8]) -> &[u8]
+// The octets between the count and CHKPDU.
+fn enclosed(octets: &[u8]) -> &[u8]
     requires { 1 < length octets.now }
-    ensures { result.now ≡ between octets.now }
+    ensures { result.now ≡ enclosed octets.now }
 {
     if octets.len() <= LARGEST_LENGTH {
         &octets[1..octets.len() - 1]
@@ -107,7 +107,7 @@ fn between(octets: &[u8]) -> &[u8]
     }
 }
 
-/// Whether the octets are as many as they state.
+// Whether the octets are as many as they state.
 fn is_counted(octets: &[u8]) -> bool
     requires { 0 < length octets.now }
     ensures { result ≡ is_counted octets.now }
@@ -119,8 +119,8 @@ fn is_counted(octets: &[u8]) -> bool
     }
 }
 
-/// The ISDU of a service that carries an address and values.
-pub fn isdu(service: Service, address: &[u8], values: &[u8]) -> ArrayVec<u8, ISDU_OCTETS>
+// The ISDU of a service that carries an address and values.
+pub(crate) fn isdu(service: Service, address: &[u8], values: &[u8]) -> ArrayVec<u8, ISDU_OCTETS>
     requires { length address.now + length values.now ≤ CARRIED_OCTETS }
     ensures { IsIsduOf result.items service (address.now ++ values.now) }
 {
@@ -131,7 +131,7 @@ pub fn isdu(service: Service, address: &[u8], values: &[u8]) -> ArrayVec<u8, ISD
     octets
 }
 
-/// How an ISDU begins that carries so many octets.
+// How an ISDU begins that carries so many octets.
 fn header(service: Service, carried: usize) -> ArrayVec<u8, ISDU_OCTETS>
     requires { carried ≤ CARRIED_OCTETS }
     ensures { Begins service (length result.items + carried + 1) result.items }

@@ -6,39 +6,39 @@ ghost use Rattle.iol_isdu.specs.Reading.{index_in, subindex_in};
 
 use crate::messages::DATA_OCTETS;
 
-/// What a request wants of an object.
+// What a request wants of an object.
 #[derive(Clone, Copy)]
-pub enum Access {
+pub(crate) enum Access {
     Read,
     Write,
 }
 
-/// How a request states an Index and a Subindex. A form without Subindex means Subindex 0.
+// How a request states an Index and a Subindex. A form without Subindex means Subindex 0.
 #[derive(Clone, Copy)]
-pub enum IndexForm {
+pub(crate) enum IndexForm {
     Index8,
     Index8Subindex,
     Index16Subindex,
 }
 
-/// The sign of a response: it was done (+) or refused (-).
+// The sign of a response: it was done (+) or refused (-).
 #[derive(Clone, Copy)]
-pub enum Sign {
+pub(crate) enum Sign {
     Plus,
     Minus,
 }
 
-/// The services whose ISDU ends in CHKPDU.
+// The services whose ISDU ends in CHKPDU.
 #[derive(Clone, Copy)]
-pub enum Service {
+pub(crate) enum Service {
     Request(Access, IndexForm),
     Response(Access, Sign),
 }
 
 impl Service {
-    /// The service of an I-Service, 0 to 15, or none where it is reserved or No Service.
+    // The service of an I-Service, 0 to 15, or none where it is reserved or No Service.
     #[tactic(auto, unfolding(crate::specs::Service::service_at))]
-    pub fn of_code(code: u8) -> Option<Service>
+    pub(crate) fn of_code(code: u8) -> Option<Service>
         ensures { result ≡ service_at code }
     {
         match code {
@@ -56,8 +56,8 @@ impl Service {
         }
     }
 
-    /// The I-Service of a service.
-    pub fn code(self) -> u8
+    // The I-Service of a service.
+    pub(crate) fn code(self) -> u8
         ensures code { result ≡ code_of self }
         ensures within { result < 16 }
     {
@@ -75,8 +75,8 @@ impl Service {
         }
     }
 
-    /// Whether an ISDU of this service carries so many octets between its count and CHKPDU.
-    pub fn carries(self, count: usize) -> bool
+    // Whether an ISDU of this service carries so many octets between its count and CHKPDU.
+    pub(crate) fn carries(self, count: usize) -> bool
         ensures { result ≡ carries self count }
     {
         match self {
@@ -92,8 +92,8 @@ impl Service {
 }
 
 impl IndexForm {
-    /// How many octets an address takes in this form.
-    pub fn address_count(self) -> usize
+    // How many octets an address takes in this form.
+    pub(crate) fn address_count(self) -> usize
         ensures address { result ≡ address_count self }
         ensures within { result ≤ 3 }
     {
@@ -104,8 +104,8 @@ impl IndexForm {
         }
     }
 
-    /// The Index of an address in this form.
-    pub fn index(self, address: &[u8]) -> u16
+    // The Index of an address in this form.
+    pub(crate) fn index(self, address: &[u8]) -> u16
         requires { address_count self ≤ length address.now }
         ensures { result ≡ index_in self address.now }
     {
@@ -115,8 +115,8 @@ impl IndexForm {
         }
     }
 
-    /// The Subindex of an address in this form.
-    pub fn subindex(self, address: &[u8]) -> u8
+    // The Subindex of an address in this form.
+    pub(crate) fn subindex(self, address: &[u8]) -> u8
         requires { address_count self ≤ length address.now }
         ensures { result ≡ subindex_in self address.now }
     {

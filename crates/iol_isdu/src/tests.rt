@@ -1,3 +1,5 @@
+//! ISDUs read and written beside a plain reader, over whole ranges of octets.
+
 use crate::messages::{Answer, DATA_OCTETS, Request};
 use crate::{IsduFault, read_answer, read_request, write_answer, write_request};
 use arrayvec::ArrayVec;

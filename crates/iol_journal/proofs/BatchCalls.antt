@@ -11,6 +11,9 @@ use Rattle.iol_journal.specs.declared.geometry.TheConstants.{BODY_SECTORS}
 use Rattle.iol_journal.specs.declared.phase.Phase.{Phase}
 use Rattle.iol_journal.specs.declared.phase.Phase.TheVariants.{Body, SyncBody, Gate, SyncGate}
 
+pub phase_of : (p q : Phase) → Some p ≡ Some q → p ≡ q
+phase_of p q is = cc
+
 module _ (s : Standing) (body : List ℕ) (sectors : ℕ) where
   abbrev last_calls : List Call
   last_calls = sync ∷ gate_write s ∷ sync ∷ []
@@ -24,9 +27,6 @@ module _ (s : Standing) (body : List ℕ) (sectors : ℕ) where
   -- behind the last sector of the body
   body_ended : (j : ℕ) → sectors ≡ j + 1 → calls_from s body sectors (Body (j + 1)) ≡ last_calls
   body_ended j is = let none : sectors - (j + 1) ≡ 0 = omega arith in ap (λ (n : ℕ). map (λ i. body_write s body i) (range_with_len (j + 1) n) ++ last_calls) none
-
-  phase_of : (p q : Phase) → Some p ≡ Some q → p ≡ q
-  phase_of p q is = cc
 
   -- the call of a phase, and those from the phase behind it on
   pub first_call : (p q : Phase) → IsPhase sectors p → next_phase sectors p ≡ Some q → calls_from s body sectors p ≡ call_of s body p ∷ calls_from s body sectors q

@@ -2,6 +2,7 @@
 use Rattle.std.proofs.Common.{◌≡◌, ◌≤◌, ◌<◌, ℕ, zero, suc, ◌+◌, ◌*◌, ◌-◌, ◌^◌, true, List, [], ◌∷◌, ◌++◌, length, take, drop, get_or, replicate, Some, refl, sym, ◌∙◌, ap, arith, append_assoc, append-nil, add-zero, zero-add, length-append}
 use Rattle.std.proofs.lemmas.Bool.Decides.{nat_tests}
 use Rattle.std.proofs.lemmas.List.{take-append-drop, drop-drop, take_more, map-append, flat_map_more, length-replicate}
+use Rattle.std.proofs.lemmas.Grind.{flat_map-append}
 use Rattle.std.proofs.Math.ListN.{drop_of_length-le}
 use Rattle.std.proofs.Math.Seq.{take-append_seam}
 use Rattle.std.specs.Int.{w16, w32, w64}
@@ -149,3 +150,10 @@ pub values-more : (commands : List Command) (i : ℕ) (command : Command) → i 
     → values (take (i + 1) commands) ≡ values (take i commands) ++ value_of command ∷ []
 values-more commands i command below is =
     ap values (take_more commands i command below ∙ ap (λ (c : Command). take i commands ++ c ∷ []) (sym is)) ∙ map-append value_of (take i commands) (command ∷ [])
+
+-- the records of one command more
+pub length-records-more : (commands : List CommandValue) (command : CommandValue)
+    → length (records_of (commands ++ command ∷ [])) ≡ length (records_of commands) + length (command_octets command)
+length-records-more commands command =
+    ap length (flat_map-append command_octets commands (command ∷ []) ∙ ap (λ (more : List ℕ). records_of commands ++ more) (append-nil (command_octets command)))
+    ∙ length-append (records_of commands) (command_octets command)

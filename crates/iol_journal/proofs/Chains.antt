@@ -2,8 +2,12 @@
 use Rattle.std.proofs.Common.{◌≡◌, ℕ, Bool, true, false, Option, Some, None, Result, Ok, Err, refl, ap, subst}
 use Rattle.iol_types.specs.State.{State}
 use Rattle.iol_disk.specs.Content.{Image}
-use Rattle.iol_journal.specs.Meaning.{Cause, ◌>>=◌, sound, found, Standing, Log, layout_in, in_use_in, ports_from, log_from, standing_in}
+use Rattle.iol_record.specs.Reading.{◌>>=◌}
+use Rattle.iol_journal.specs.Meaning.{Cause, if_sound, or_damaged, Standing, Log, layout_in, in_use_in, ports_from, log_from, standing_in}
 use Rattle.iol_journal.specs.Layout.{Layout}
+use Rattle.iol_journal.specs.Reading.{SaysWhy}
+use Rattle.iol_journal.specs.declared.cause.RecoverCause.{RecoverCause}
+use Rattle.iol_journal.specs.declared.cause.RecoverCause.TheVariants as cause
 use Rattle.iol_journal.specs.declared.opening.InUse.{InUse}
 
 -- a reading that ends well has gone on from a value
@@ -11,16 +15,13 @@ pub bind_ok : {A B : Type 0} (first : Result A Cause) (next : A → Result B Cau
 bind_ok (Ok x) next y is = (x, refl, is)
 bind_ok (Err cause) next y is = cc
 
-pub bind_at : {A B : Type 0} (first : Result A Cause) (next : A → Result B Cause) (x : A) → first ≡ Ok x → (first >>= next) ≡ next x
-bind_at {A = A} first next x is = ap (λ (r : Result A Cause). r >>= next) is
+pub if_sound-ok : {A : Type 0} (test : Bool) (sector : ℕ) (x y : A) → if_sound test sector x ≡ Ok y → (test ≡ true) × (x ≡ y)
+if_sound-ok true sector x y is = (refl, cc)
+if_sound-ok false sector x y is = cc
 
-pub sound_ok : {A : Type 0} (test : Bool) (sector : ℕ) (x y : A) → sound test sector x ≡ Ok y → (test ≡ true) × (x ≡ y)
-sound_ok true sector x y is = (refl, cc)
-sound_ok false sector x y is = cc
-
-pub found_ok : {A : Type 0} (option : Option A) (sector : ℕ) (y : A) → found option sector ≡ Ok y → option ≡ Some y
-found_ok (Some x) sector y is = cc
-found_ok None sector y is = cc
+pub or_damaged-ok : {A : Type 0} (option : Option A) (sector : ℕ) (y : A) → or_damaged option sector ≡ Ok y → option ≡ Some y
+or_damaged-ok (Some x) sector y is = cc
+or_damaged-ok None sector y is = cc
 
 abbrev pub ok : {A : Type 0} → A → Result A Cause
 ok x = Ok x
@@ -61,3 +62,38 @@ stands_read sectors image s is =
     put_together layout u p l s same laid_out in_use ports log =
         subst (λ (t : Standing). (base : ℕ) × (ports : State) × IsRead sectors image t base ports) same
         (u.header.base, p, record { layout = laid_out; in_use = in_use; ports_are = ports; log = log })
+
+-- ---- the parts of a journal on an image, as far as each was read: reading ends at a cause
+pub cause_before : {A B : Type 0} (first : Result A Cause) (next : A → Result B Cause) (told : RecoverCause) → SaysWhy first told → SaysWhy (first >>= next) told
+cause_before first next (cause.Disk fault) is = tt
+cause_before {A = A} first next cause.NotFormatted is = ap (λ (r : Result A Cause). r >>= next) is
+cause_before {A = A} first next (cause.Damaged sector) is = ap (λ (r : Result A Cause). r >>= next) is
+cause_before first next cause.Memory is = tt
+
+module _ (sectors : ℕ) (image : Image) where
+  pub no_layout : (told : RecoverCause) → SaysWhy (layout_in sectors image) told → SaysWhy (standing_in sectors image) told
+  unfolding standing_in
+  no_layout told is = cause_before (layout_in sectors image) _ told is
+
+  pub no_area : (layout : Layout) (told : RecoverCause) → layout_in sectors image ≡ Ok layout → SaysWhy (in_use_in layout image) told
+      → SaysWhy (standing_in sectors image) told
+  unfolding standing_in
+  no_area layout told laid_out is = rw laid_out (cause_before (in_use_in layout image) _ told is)
+
+  pub no_ports : (layout : Layout) (used : InUse) (told : RecoverCause) → layout_in sectors image ≡ Ok layout → in_use_in layout image ≡ Ok used
+      → SaysWhy (ports_from layout used.area image 0 layout.ports) told → SaysWhy (standing_in sectors image) told
+  unfolding standing_in
+  no_ports layout used told laid_out in_use is = rw (laid_out, in_use) (cause_before (ports_from layout used.area image 0 layout.ports) _ told is)
+
+  pub no_log : (layout : Layout) (used : InUse) (ports : State) (told : RecoverCause) → layout_in sectors image ≡ Ok layout → in_use_in layout image ≡ Ok used
+      → ports_from layout used.area image 0 layout.ports ≡ Ok ports
+      → SaysWhy (log_from layout used.area used.header.epoch image 0 layout.slots used.header.base ports) told → SaysWhy (standing_in sectors image) told
+  unfolding standing_in
+  no_log layout used ports told laid_out in_use state is =
+      rw (laid_out, in_use, state) (cause_before (log_from layout used.area used.header.epoch image 0 layout.slots used.header.base ports) _ told is)
+
+  pub stands : (layout : Layout) (used : InUse) (ports : State) (log : Log) → layout_in sectors image ≡ Ok layout → in_use_in layout image ≡ Ok used
+      → ports_from layout used.area image 0 layout.ports ≡ Ok ports → log_from layout used.area used.header.epoch image 0 layout.slots used.header.base ports ≡ Ok log
+      → standing_in sectors image ≡ Ok (record { layout = layout; area = used.area; epoch = used.header.epoch; used = log.used; number = log.number; state = log.state })
+  unfolding standing_in
+  stands layout used ports log laid_out in_use state is = rw (laid_out, in_use, state, is) refl

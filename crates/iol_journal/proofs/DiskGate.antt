@@ -10,7 +10,7 @@ use Rattle.iol_slots.proofs.SlotLaws.{is_open-open_gate}
 use Rattle.iol_journal.specs.Geometry.{Geometry}
 use Rattle.iol_journal.specs.Layout.{layout_of, total}
 use Rattle.iol_journal.specs.Kept.{KeptMeans}
-use Rattle.iol_journal.specs.Formats.{IsEmptyOrUnformatted}
+use Rattle.iol_journal.specs.Formatting.{IsEmptyOrUnformatted}
 use Rattle.iol_journal.proofs.EmptyParts.{IsEmptyJournal}
 use Rattle.iol_journal.specs.Orders.{opening_calls}
 use Rattle.iol_journal.specs.declared.geometry.TheConstants.{DISK_GATE}

@@ -11,7 +11,7 @@ use Rattle.iol_journal.specs.Layout.{layout_of, total, gate_at, header_at, port_
 use Rattle.iol_journal.specs.Octets.{octets_at}
 use Rattle.iol_journal.specs.Meaning.{unformatted, Standing, ports_from, log_from, standing_in, meaning}
 use Rattle.iol_journal.specs.Kept.{IsKept, KeptMeans}
-use Rattle.iol_journal.specs.Formats.{IsEmptyOrUnformatted}
+use Rattle.iol_journal.specs.Formatting.{IsEmptyOrUnformatted}
 use Rattle.iol_journal.proofs.EmptyParts.{IsBlankRecord, HasAreas, HasFilled, HasHeaders, IsEmptyJournal}
 use Rattle.iol_journal.specs.declared.area.Area.TheVariants.{A, B}
 use Rattle.iol_journal.specs.declared.place.Idle.TheVariants.{Closed}

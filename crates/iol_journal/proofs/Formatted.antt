@@ -6,30 +6,28 @@ use Rattle.iol_disk.specs.Disk.{Disk, After, Same}
 use Rattle.iol_disk.specs.Moments.{LeavesOnly}
 use Rattle.iol_disk.specs.declared.fault.DiskFault.{DiskFault}
 use Rattle.iol_disk.specs.declared.fault.DiskFault.TheVariants.{Read, Write, Sync}
-use Rattle.iol_disk.proofs.DiskLaws.{image-synced, HasOnTheWay, content_after_append, made_leaves, failed_leaves, started, leaves_same, and_then, then_same, weaker, quiet_sync}
-use Rattle.iol_disk.specs.Calls.{Call, write, sync, content_after_all, Made, fault_of, FailedIn}
+use Rattle.iol_disk.proofs.DiskLaws.{HasOnTheWay, content_after_append, made_leaves, failed_leaves, started, leaves_same, and_then, then_same, weaker, quiet_sync}
+use Rattle.iol_disk.specs.Calls.{content_after_all, Made, FailedIn}
 use Rattle.iol_slots.specs.Gate.{is_open, IsShut}
 use Rattle.iol_journal.specs.Geometry.{Geometry, IsGeometry}
 use Rattle.iol_journal.specs.Layout.{layout_of, total}
 use Rattle.iol_journal.specs.Kept.{KeptMeans, EachMeans}
-use Rattle.iol_journal.specs.Formats.{IfUntouched, IsEmptyOrUnformatted, LeavesFormat}
+use Rattle.iol_journal.specs.Formatting.{IfUntouched, IsEmptyOrUnformatted, LeavesFormat}
+use Rattle.iol_journal.specs.Reading.{Shows}
 use Rattle.iol_journal.specs.Orders.{Makes, MakesFormat, journal_writes, opening_calls, format_calls}
 use Rattle.iol_journal.specs.declared.geometry.TheConstants.{DISK_GATE}
 use Rattle.iol_journal.specs.declared.formatting.FormatFault.{FormatFault}
 use Rattle.iol_journal.specs.declared.formatting.FormatFault.TheVariants.{TooSmall, AlreadyFormatted, Memory, Disk as DiskFailed}
 use Rattle.iol_journal.proofs.EmptyJournals.{shut-unformatted}
 use Rattle.iol_journal.proofs.DiskGate.{Shut, way_append, spared, spared-end, opened, durable}
+use Rattle.iol_journal.proofs.Recovered.{synced-only, no_read}
 use Rattle.iol_journal.proofs.WrittenJournals.{journal-writes, spares-journal}
 
--- the one image after a sync is what was read before it
-synced-image : (old mid : Disk) (image : Image) → After synced old mid → IsTrue old.honest → IsImage mid.content image → image ≡ reads old.content
-synced-image old mid image after h is = image-synced old.content image (subst (λ (c : Content). IsImage c image) (after.content h) is)
-
 -- a gate that was read closed is shut after a sync
-pub read_shut : (old mid : Disk) → After synced old mid → (IsTrue old.honest → is_open (reads old.content DISK_GATE) ≡ false) → IsShut DISK_GATE mid
+pub read_shut : (old mid : Disk) → After synced old mid → Shows old (λ image. is_open (image DISK_GATE) ≡ false) → IsShut DISK_GATE mid
 read_shut old mid after closed h image is =
     let h_old = subst IsTrue after.honest h in
-    subst (λ (was : Image). is_open (was DISK_GATE) ≡ false) (sym (synced-image old mid image after h_old is)) (closed h_old)
+    subst (λ (was : Image). is_open (was DISK_GATE) ≡ false) (sym (synced-only old mid after h_old image is)) (closed h_old)
 
 -- ---- a format from its first sync on, which reads the gate of the disk next
 
@@ -43,7 +41,7 @@ quiet-any_moment g old mid new after same = weaker old new _ _ (quiet-moments ol
 
 -- the gate was read closed
 pub closed-before : (old mid : Disk) (sector : ℕ) (answer : Bool) → After synced old mid → sector ≡ DISK_GATE → answer ≡ false
-    → (IsTrue mid.honest → answer ≡ is_open (reads mid.content sector)) → IsTrue old.honest → is_open (reads old.content DISK_GATE) ≡ false
+    → Shows mid (λ image. answer ≡ is_open (image sector)) → Shows old (λ image. is_open (image DISK_GATE) ≡ false)
 closed-before old mid sector answer after at closed read h =
     sym (ap (λ (c : Content). is_open (reads c DISK_GATE)) (after.content h)) ∙ sym (ap (λ (i : ℕ). is_open (reads mid.content i)) at)
     ∙ sym (read (subst IsTrue (sym after.honest) h)) ∙ closed
@@ -85,7 +83,7 @@ made-means g old new is fits made shut h image is_image =
     (subst (λ (c : Content). IsImage c image) all is_image))
 
 behind-synced : (g : Geometry) (old mid read new : Disk) → After synced old mid → Same mid read
-    → (IsTrue old.honest → is_open (reads old.content DISK_GATE) ≡ false) → WritesBehind g read new
+    → Shows old (λ image. is_open (image DISK_GATE) ≡ false) → WritesBehind g read new
     → LeavesOnly mid new (IsEmptyOrUnformatted g old.sectors)
 behind-synced g old mid read new after same closed writes =
     let shut = read_shut old mid after closed in
@@ -94,7 +92,7 @@ behind-synced g old mid read new after same closed writes =
     (subst (λ (n : ℕ). LeavesOnly read new (IsEmptyOrUnformatted g n)) sizes (writes (shut-same mid read same shut)))
 
 pub written-any_moment : (g : Geometry) (old mid read new : Disk) → After synced old mid → Same mid read
-    → (IsTrue old.honest → is_open (reads old.content DISK_GATE) ≡ false) → WritesBehind g read new
+    → Shows old (λ image. is_open (image DISK_GATE) ≡ false) → WritesBehind g read new
     → LeavesOnly old new (λ image. IsImage old.content image ⊎ IsEmptyOrUnformatted g old.sectors image)
 written-any_moment g old mid read new after same closed writes =
     and_then old mid new _ (weaker old mid _ _ (quiet_sync old mid after) (λ h image is. inl is))
@@ -102,7 +100,7 @@ written-any_moment g old mid read new after same closed writes =
 
 -- of a disk whose gate was open it says nothing more
 pub closed-or_kept : (old new : Disk) (P : Image → Type 0) → LeavesOnly old new P
-    → (IsTrue old.honest → is_open (reads old.content DISK_GATE) ≡ false) → (IsTrue old.honest → is_open (reads old.content DISK_GATE) ≡ true)
+    → Shows old (λ image. is_open (image DISK_GATE) ≡ false) → Shows old (λ image. is_open (image DISK_GATE) ≡ true)
     → LeavesOnly old new (IsImage old.content)
 closed-or_kept old new P leaves closed opened = weaker old new _ _ leaves (λ h image is. absurd (clash (closed h) (opened h)))
   where
@@ -110,7 +108,7 @@ closed-or_kept old new P leaves closed opened = weaker old new _ _ leaves (λ h 
     clash was_closed was_open = cc
 
 pub written-since : (g : Geometry) (old mid read new : Disk) → After synced old mid → Same mid read
-    → (IsTrue old.honest → is_open (reads old.content DISK_GATE) ≡ false) → WritesBehind g read new → LeavesFormat g old new
+    → Shows old (λ image. is_open (image DISK_GATE) ≡ false) → WritesBehind g read new → LeavesFormat g old new
 written-since g old mid read new after same closed writes h later image left =
     let next : clock old.content + 1 ≡ clock mid.content =
     omega (arith, ap clock (after.content h), length-append old.content.past (now old.content ∷ [])) in
@@ -128,9 +126,5 @@ untouched (Err (DiskFailed fault)) P p = tt
 -- no call of a format but a write or a sync fails so
 pub format_failed : (g : Geometry) (told : DiskFault) (old new : Disk) → FailedIn (format_calls g) told old new → MakesFormat g old new (Err (DiskFailed told))
 format_failed g Read old new failed = absurd (no_read failed.call failed.failed.kind)
-  where
-    no_read : (call : Call) → Read ≡ fault_of call → ⊥
-    no_read (write sector octets) is = cc
-    no_read sync is = cc
 format_failed g Write old new failed = failed
 format_failed g Sync old new failed = failed

@@ -1,18 +1,17 @@
 -- The laws of journals, for proofs of other crates.
-use Rattle.std.proofs.Common.{◌≡◌, ◌⊎◌, ◌≤◌, ◌==◌, nat_lt, true, false, IsTrue, ℕ, List, length, Some, None, inl, inr, refl, arith}
+use Rattle.std.proofs.Common.{◌≡◌, ◌⊎◌, ◌==◌, true, false, IsTrue, ℕ, List, Some, None, inl, inr, refl, arith}
 use Rattle.std.proofs.lemmas.Bool.Decides.{nat_tests}
 use Rattle.iol_types.specs.Command.{CommandValue}
 use Rattle.iol_disk.specs.Content.{Image, Content, IsImage}
 use Rattle.iol_disk.specs.Disk.{Disk}
 use Rattle.iol_slots.specs.Gate.{is_open}
 use Rattle.iol_journal.specs.Batches.{body_for, sectors_for}
-use Rattle.iol_journal.specs.Begin.{follows, refusal}
+use Rattle.iol_journal.specs.Begin.{follows, is_too_large, batch_refusal}
 use Rattle.iol_journal.specs.Journals.{WritingView, with_batch}
 use Rattle.iol_journal.specs.Kept.{KeptEither, EachMeans}
 use Rattle.iol_journal.specs.Layout.{slot_at}
 use Rattle.iol_journal.specs.Meaning.{Standing}
 use Rattle.iol_journal.specs.Underway.{IsAtRest, IsUnderway, IsBetween, Holds}
-use Rattle.iol_journal.specs.declared.batch.TheConstants.{MOST_COMMANDS}
 use Rattle.iol_journal.specs.declared.journal.BeginCause.TheVariants.{NeedsCheckpoint}
 use Rattle.iol_journal.specs.declared.place.Idle.{Idle}
 use Rattle.iol_journal.specs.declared.phase.Phase.{Phase}
@@ -45,11 +44,10 @@ underway_means_either disk w under h =
 pub rest_means_its_state : (d : Disk) (s : Standing) (idle : Idle) → IsAtRest d s idle → EachMeans d s.number s.state
 rest_means_its_state d s idle rests h image is = kept_means d.sectors s idle image (rests h image is)
 
--- a batch that goes on where the journal stands wants a slot, or nothing
-pub following_batch_wants_a_slot : (s : Standing) (first : ℕ) (commands : List CommandValue) → length commands ≤ MOST_COMMANDS → follows s first commands ≡ true
-    → (refusal s first commands ≡ None) ⊎ ((refusal s first commands ≡ Some NeedsCheckpoint) × (s.used ≡ s.layout.slots))
-following_batch_wants_a_slot s first commands most goes_on =
-    let small : nat_lt MOST_COMMANDS (length commands) ≡ false = grind (arith, nat_tests) in
+-- a batch that goes on where the journal stands, and fits a slot, wants one, or nothing
+pub following_batch_wants_a_slot : (s : Standing) (first : ℕ) (commands : List CommandValue) → is_too_large commands ≡ false → follows s first commands ≡ true
+    → (batch_refusal s first commands ≡ None) ⊎ ((batch_refusal s first commands ≡ Some NeedsCheckpoint) × (s.used ≡ s.layout.slots))
+following_batch_wants_a_slot s first commands fits goes_on =
     by_test (s.used == s.layout.slots) _
-    (λ full. inr (rw (small, full) refl, grind (arith, nat_tests)))
-    (λ free. inl (rw (small, free, goes_on) refl))
+    (λ full. inr (rw (fits, full) refl, grind (arith, nat_tests)))
+    (λ free. inl (rw (fits, free, goes_on) refl))

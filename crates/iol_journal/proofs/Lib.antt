@@ -12,11 +12,13 @@ pub mod Replays
 pub mod Readings
 pub mod ReachedBodies
 pub mod SlotLogs
+pub mod PortReadings
 pub mod Snapshots
 pub mod Recovered
 pub mod Resting
 pub mod Paddings
 pub mod Making
+pub mod Refusals
 pub mod EmptyParts
 pub mod Filled
 pub mod EmptyJournals

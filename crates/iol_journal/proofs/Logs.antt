@@ -8,10 +8,10 @@ use Rattle.iol_journal.specs.Layout.{Layout}
 use Rattle.iol_journal.specs.Layout.{slot_at, body_at}
 use Rattle.iol_journal.specs.Octets.{octets_at}
 use Rattle.iol_journal.specs.Body.{batch_of}
-use Rattle.iol_journal.specs.Meaning.{sound, found, Log, log_from}
+use Rattle.iol_journal.specs.Meaning.{if_sound, or_damaged, Log, log_from}
 use Rattle.iol_journal.specs.declared.area.Area.{Area}
 use Rattle.iol_journal.specs.declared.geometry.TheConstants.{BODY_SECTORS}
-use Rattle.iol_journal.proofs.Chains.{ok, by_test, bind_ok, sound_ok, found_ok}
+use Rattle.iol_journal.proofs.Chains.{ok, by_test, bind_ok, if_sound-ok, or_damaged-ok}
 use Rattle.iol_journal.proofs.Sectors.{octets_at-same}
 
 -- the first slot is open: its commands, which pass, and what is read behind it
@@ -25,12 +25,12 @@ pub opened : (layout : Layout) (a : Area) (epoch : ℕ) (image : Image) (k left 
     → is_open (image (slot_at layout a k)) ≡ true → log_from layout a epoch image k (suc left) number state ≡ Ok log → IsOpened layout a epoch image k left number state log
 opened layout a epoch image k left number state log open_gate is =
     let is' = rw open_gate at is in
-    let f = bind_ok (found (batch_of epoch (number + 1) (octets_at image (body_at layout a k 0) BODY_SECTORS)) (body_at layout a k 0)) _ log is' in
-    let l = bind_ok (sound (legal state f.0) (body_at layout a k 0) f.0) _ log f.2 in
-    let p = sound_ok (legal state f.0) (body_at layout a k 0) f.0 l.0 l.1 in
+    let f = bind_ok (or_damaged (batch_of epoch (number + 1) (octets_at image (body_at layout a k 0) BODY_SECTORS)) (body_at layout a k 0)) _ log is' in
+    let l = bind_ok (if_sound (legal state f.0) (body_at layout a k 0) f.0) _ log f.2 in
+    let p = if_sound-ok (legal state f.0) (body_at layout a k 0) f.0 l.0 l.1 in
     record {
       commands = f.0;
-      batch = found_ok _ _ f.0 f.1;
+      batch = or_damaged-ok _ _ f.0 f.1;
       passes = p.0;
       behind = subst (λ (commands : List CommandValue). log_from layout a epoch image (k + 1) left (number + length commands) (after state commands) ≡ Ok log) (sym p.1) l.2;
     }
@@ -56,6 +56,21 @@ used_from layout a epoch image k (suc left) number state log is = by_test (is_op
     let is' : ok (record { used = k; number = number; state = state }) ≡ Ok log = rw at at is in
     let e : k ≡ log.used = ap (λ (l : Log). l.used) (same_log _ log is') in (omega arith, omega arith))
 
+-- Where two images are the same in the used slots, an open slot leads as far in both.
+open-same : (layout : Layout) (a : Area) (epoch : ℕ) (old new : Image) (k left number : ℕ) (state : State) (log end : Log)
+    → is_open (old (slot_at layout a k)) ≡ true → (o : IsOpened layout a epoch old k left number state log)
+    → ((i : ℕ) → slot_at layout a k ≤ i → i < slot_at layout a log.used → new i ≡ old i)
+    → log_from layout a epoch new (k + 1) left (number + length o.commands) (after state o.commands) ≡ Ok end
+    → log_from layout a epoch new k (suc left) number state ≡ Ok end
+open-same layout a epoch old new k left number state log end at o same leads =
+    let r = used_from layout a epoch old (k + 1) left (number + length o.commands) (after state o.commands) log o.behind in
+    let more : k + 1 ≤ log.used = r.0 in
+    let gate : is_open (new (slot_at layout a k)) ≡ true = ap is_open (same (slot_at layout a k) (omega arith) (omega (arith, more))) ∙ at in
+    let body : octets_at new (body_at layout a k 0) BODY_SECTORS ≡ octets_at old (body_at layout a k 0) BODY_SECTORS =
+    octets_at-same old new (body_at layout a k 0) BODY_SECTORS (λ i above below. same i (omega arith) (omega (arith, more))) in
+    goes_on layout a epoch new k left number state end gate
+    (record { commands = o.commands; batch = ap (batch_of epoch (number + 1)) body ∙ o.batch; passes = o.passes; behind = leads })
+
 -- Images that are the same in the used slots, with a closed gate behind them, have the same log.
 pub log-same : (layout : Layout) (a : Area) (epoch : ℕ) (old new : Image) (k left number : ℕ) (state : State) (log : Log)
     → log_from layout a epoch old k left number state ≡ Ok log
@@ -66,18 +81,9 @@ log-same layout a epoch old new k zero number state log is same shut = is
 log-same layout a epoch old new k (suc left) number state log is same shut = by_test (is_open (old (slot_at layout a k))) _
     (λ at.
     let o = opened layout a epoch old k left number state log at is in
-    let r = used_from layout a epoch old (k + 1) left (number + length o.commands) (after state o.commands) log o.behind in
-    let more : k + 1 ≤ log.used = r.0 in
-    let gate : is_open (new (slot_at layout a k)) ≡ true = ap is_open (same (slot_at layout a k) (omega arith) (omega (arith, more))) ∙ at in
-    let body : octets_at new (body_at layout a k 0) BODY_SECTORS ≡ octets_at old (body_at layout a k 0) BODY_SECTORS =
-    octets_at-same old new (body_at layout a k 0) BODY_SECTORS (λ i above below. same i (omega arith) (omega (arith, more))) in
-    goes_on layout a epoch new k left number state log gate (record {
-      commands = o.commands;
-      batch = ap (batch_of epoch (number + 1)) body ∙ o.batch;
-      passes = o.passes;
-      behind = log-same layout a epoch old new (k + 1) left (number + length o.commands) (after state o.commands) log o.behind
-          (λ i above below. same i (omega arith) below) (λ less. shut (omega arith));
-    }))
+    open-same layout a epoch old new k left number state log log at o same
+    (log-same layout a epoch old new (k + 1) left (number + length o.commands) (after state o.commands) log o.behind
+    (λ i above below. same i (omega arith) below) (λ less. shut (omega arith))))
     (λ at.
     let is' : ok (record { used = k; number = number; state = state }) ≡ Ok log = rw at at is in
     let e : k ≡ log.used = ap (λ (l : Log). l.used) (same_log _ log is') in
@@ -117,18 +123,9 @@ log-more layout a epoch old new k zero number state log commands is same room op
 log-more layout a epoch old new k (suc left) number state log commands is same room open_gate batch passes shut = by_test (is_open (old (slot_at layout a k))) _
     (λ at.
     let o = opened layout a epoch old k left number state log at is in
-    let r = used_from layout a epoch old (k + 1) left (number + length o.commands) (after state o.commands) log o.behind in
-    let more : k + 1 ≤ log.used = r.0 in
-    let gate : is_open (new (slot_at layout a k)) ≡ true = ap is_open (same (slot_at layout a k) (omega arith) (omega (arith, more))) ∙ at in
-    let body : octets_at new (body_at layout a k 0) BODY_SECTORS ≡ octets_at old (body_at layout a k 0) BODY_SECTORS =
-    octets_at-same old new (body_at layout a k 0) BODY_SECTORS (λ i above below. same i (omega arith) (omega (arith, more))) in
-    goes_on layout a epoch new k left number state _ gate (record {
-      commands = o.commands;
-      batch = ap (batch_of epoch (number + 1)) body ∙ o.batch;
-      passes = o.passes;
-      behind = log-more layout a epoch old new (k + 1) left (number + length o.commands) (after state o.commands) log commands o.behind
-          (λ i above below. same i (omega arith) below) (omega arith) open_gate batch passes (λ less. shut (omega arith));
-    }))
+    open-same layout a epoch old new k left number state log _ at o same
+    (log-more layout a epoch old new (k + 1) left (number + length o.commands) (after state o.commands) log commands o.behind
+    (λ i above below. same i (omega arith) below) (omega arith) open_gate batch passes (λ less. shut (omega arith))))
     (λ at.
     let is' : ok (record { used = k; number = number; state = state }) ≡ Ok log = rw at at is in
     let ends = same_log _ log is' in

@@ -23,7 +23,8 @@ use Rattle.iol_journal.specs.declared.place.Place.{Place}
 use Rattle.iol_journal.specs.declared.phase.Phase.{Phase}
 use Rattle.iol_journal.specs.declared.phase.Phase.TheVariants.{Body, SyncBody, Gate, SyncGate}
 use Rattle.iol_journal.specs.declared.geometry.TheConstants.{BODY_SECTORS}
-use Rattle.iol_journal.proofs.Chains.{by_test}
+use Rattle.iol_journal.proofs.BatchCalls.{phase_of}
+use Rattle.iol_journal.proofs.JournalLaws.{between_means_either}
 use Rattle.iol_journal.proofs.Bodies.{octets_at-in_slot}
 use Rattle.iol_journal.proofs.Frames.{SameButSlot, kept_closed, kept_open, kept_means}
 
@@ -37,7 +38,7 @@ pub record IsFit (s : Standing) (commands : List CommandValue) (body : List ℕ)
   pub room : s.used < s.layout.slots
   pub whole : length body ≡ 512 * sectors
   pub short : sectors ≤ BODY_SECTORS
-  pub sound : (rest : List ℕ) → batch_of s.epoch (s.number + 1) (body ++ rest) ≡ Some commands
+  pub read_back : (rest : List ℕ) → batch_of s.epoch (s.number + 1) (body ++ rest) ≡ Some commands
   pub passes : legal s.state commands ≡ true
 
 module _ (s : Standing) (idle : Idle) (commands : List CommandValue) (body : List ℕ) (sectors : ℕ) (fit : IsFit s commands body sectors) where
@@ -67,7 +68,7 @@ module _ (s : Standing) (idle : Idle) (commands : List CommandValue) (body : Lis
 
       read_at : (rest : List ℕ) × (octets_at image (body_at s.layout s.area s.used 0) BODY_SECTORS ≡ body ++ rest)
           → batch_of s.epoch (s.number + 1) (octets_at image (body_at s.layout s.area s.used 0) BODY_SECTORS) ≡ Some commands
-      read_at (rest, at) = ap (batch_of s.epoch (s.number + 1)) at ∙ fit.sound rest
+      read_at (rest, at) = ap (batch_of s.epoch (s.number + 1)) at ∙ fit.read_back rest
 
   -- the write of the gate
   gate_between : (size : ℕ) (c : Content) (was image : Image) → IsKeptAs size s idle was → IsImage c was → HasWritten s body sectors c → IsSettled c
@@ -77,11 +78,6 @@ module _ (s : Standing) (idle : Idle) (commands : List CommandValue) (body : Lis
         λ closed. kept_closed size s idle was image fit.room apart kept closed,
         λ opened. kept_open size s idle was image commands fit.room apart kept opened (body_read c was image is written settled same) fit.passes,
       )
-
-  either : (size : ℕ) (image : Image) → IsBetween size s idle commands image → KeptEither size s.number s.state commands image
-  either size image between = by_test (is_open (image (slot_at s.layout s.area s.used))) _
-      (λ opened. inr (kept_means size (with_batch s commands) idle image (between.1 opened)))
-      (λ closed. inl (kept_means size s idle image (between.0 closed)))
 
   body_after : (size j : ℕ) (c : Content) → j < sectors → EachKept size s idle c × HasWritten s body j c
       → EachKept size s idle (wrote (body_at s.layout s.area s.used j) (sector_of body j) c)
@@ -107,9 +103,6 @@ module _ (s : Standing) (idle : Idle) (commands : List CommandValue) (body : Lis
   next_body size j q c false test below is holds =
       let last : j + 1 ≡ sectors = grind (arith, nat_tests) in
       subst (λ (p : Phase). Holds size s idle commands body sectors p c) is (holds.0, subst (λ (n : ℕ). HasWritten s body n c) last holds.1)
-
-  phase_of : (p q : Phase) → Some p ≡ Some q → p ≡ q
-  phase_of p q is = cc
 
   holds_next : (size : ℕ) (p q : Phase) (c : Content) → IsPhase sectors p → next_phase sectors p ≡ Some q → Holds size s idle commands body sectors p c
       → Holds size s idle commands body sectors q (content_after (call_of s body p) c)
@@ -166,8 +159,8 @@ module _ (s : Standing) (idle : Idle) (commands : List CommandValue) (body : Lis
   on_the_way size SyncBody c in_phase holds (suc place) image is =
       inl (kept_means size s idle image ((holds_next size SyncBody Gate c tt refl holds).0 image (left_behind _ image place is)))
   on_the_way size Gate c in_phase holds zero image is = inl (kept_means size s idle image (holds.0 image is))
-  on_the_way size Gate c in_phase holds (suc place) image is = either size image ((holds_next size Gate SyncGate c tt refl holds).0 image (left_behind _ image place is))
-  on_the_way size SyncGate c in_phase holds zero image is = either size image (holds.0 image is)
+  on_the_way size Gate c in_phase holds (suc place) image is = between_means_either size s idle commands image ((holds_next size Gate SyncGate c tt refl holds).0 image (left_behind _ image place is))
+  on_the_way size SyncGate c in_phase holds zero image is = between_means_either size s idle commands image (holds.0 image is)
   on_the_way size SyncGate c in_phase holds (suc place) image is =
       inr (kept_means size (with_batch s commands) idle image (at_end size SyncGate c refl holds image (left_behind _ image place is)))
 
@@ -176,7 +169,7 @@ fit_of d s commands p planned = record {
   room = planned.room;
   whole = planned.whole;
   short = planned.short;
-  sound = planned.sound;
+  read_back = planned.read_back;
   passes = planned.passes;
 }
 

@@ -1,5 +1,5 @@
 -- The batch of a slot's body lies in the sectors that its records reach.
-use Rattle.std.proofs.Common.{◌≡◌, ◌≤◌, inl, inr, ℕ, zero, suc, ◌+◌, ◌-◌, ◌*◌, true, false, if◌then◌else◌, List, [], ◌++◌, length, take, drop, None, IsTrue, refl, sym, ◌∙◌, ap, subst, arith, append_assoc, zero-add, add-zero}
+use Rattle.std.proofs.Common.{◌≡◌, ◌≤◌, inl, inr, ℕ, ◌+◌, ◌-◌, ◌*◌, true, false, if◌then◌else◌, List, [], ◌++◌, length, take, drop, None, refl, sym, ◌∙◌, ap, subst, arith, add-zero}
 use Rattle.std.specs.Int.{w16, w32, w64, from_be_bytes}
 use Rattle.std.proofs.lemmas.Bool.{cases_lt}
 use Rattle.std.proofs.lemmas.Bool.Decides.{nat_tests}
@@ -8,21 +8,13 @@ use Rattle.iol_disk.specs.Content.{Image, reads}
 use Rattle.iol_disk.specs.Disk.{Disk, Same}
 use Rattle.iol_journal.specs.Octets.{number_at, octets_at}
 use Rattle.iol_journal.specs.Body.{head_of, fits, commands_of, batch_of}
-use Rattle.iol_journal.specs.Replays.{HoldsRecords}
+use Rattle.iol_journal.specs.Reading.{Shows}
+use Rattle.iol_journal.specs.Replay.{HoldsRecords}
 use Rattle.iol_journal.specs.declared.body.Head.{Head}
 use Rattle.iol_journal.specs.declared.batch.TheConstants.{MOST_RECORD_OCTETS, BODY_HEAD_OCTETS}
 use Rattle.iol_journal.specs.declared.geometry.TheConstants.{BODY_SECTORS}
+use Rattle.iol_journal.proofs.Sectors.{octets_at-add}
 use Rattle.iol_journal.proofs.Readings.{same-honest, same-reads}
-
-pub octets_at-append : (image : Image) (first n m : ℕ) → octets_at image first (n + m) ≡ octets_at image first n ++ octets_at image (first + n) m
-unfolding octets_at
-octets_at-append image first zero m = rw (zero-add, add-zero) refl
-octets_at-append image first (suc n) m =
-    let count : suc n + m ≡ suc (n + m) = omega arith in
-    let behind : first + suc n ≡ first + 1 + n = omega arith in
-    rw (count, behind)
-    (ap (λ octets. image first ++ octets) (octets_at-append image (first + 1) n m)
-    ∙ sym (append_assoc (image first) (octets_at image (first + 1) n) (octets_at image (first + 1 + n) m)))
 
 pub octets_at-one : (image : Image) (first : ℕ) → octets_at image first 1 ≡ image first
 unfolding octets_at
@@ -30,23 +22,23 @@ octets_at-one image first = simp append-nil
 
 -- the first sector is read
 pub first_read : (now : Disk) (first : ℕ) (body longer : List ℕ) → body ≡ []
-    → (IsTrue now.honest → longer ≡ body ++ reads now.content (first + 0))
-    → IsTrue now.honest → longer ≡ octets_at (reads now.content) first 1
+    → Shows now (λ image. longer ≡ body ++ image (first + 0))
+    → Shows now (λ image. longer ≡ octets_at image first 1)
 first_read now first body longer none more h =
     more h ∙ ap (λ (octets : List ℕ). octets ++ reads now.content (first + 0)) none
     ∙ ap (reads now.content) (add-zero first) ∙ sym (octets_at-one (reads now.content) first)
 
 -- one sector more is read
 pub one_more : (old now : Disk) (first j : ℕ) (body longer : List ℕ) → Same old now
-    → (IsTrue old.honest → body ≡ octets_at (reads old.content) first j)
-    → (IsTrue now.honest → longer ≡ body ++ reads now.content (first + j))
-    → IsTrue old.honest → longer ≡ octets_at (reads old.content) first (j + 1)
+    → Shows old (λ image. body ≡ octets_at image first j)
+    → Shows now (λ image. longer ≡ body ++ image (first + j))
+    → Shows old (λ image. longer ≡ octets_at image first (j + 1))
 one_more old now first j body longer same so_far more h =
     more (same-honest old now same h)
     ∙ ap (λ (image : Image). body ++ image (first + j)) (same-reads old now same h)
     ∙ ap (λ (octets : List ℕ). octets ++ reads old.content (first + j)) (so_far h)
     ∙ ap (λ octets. octets_at (reads old.content) first j ++ octets) (sym (octets_at-one (reads old.content) (first + j)))
-    ∙ sym (octets_at-append (reads old.content) first j 1)
+    ∙ sym (octets_at-add (reads old.content) first j 1)
 
 pub front-kept : (n place : ℕ) (body more : List ℕ) → place + n ≤ length body → take n (drop place (body ++ more)) ≡ take n (drop place body)
 front-kept n place body more within =
@@ -85,7 +77,7 @@ first_sector : (image : Image) (sector n : ℕ) (front body : List ℕ) → 1 �
     → body ≡ front ++ octets_at image (sector + 1) (n - 1)
 first_sector image sector n front body some first is =
     let count : n ≡ 1 + (n - 1) = omega arith in
-    is ∙ ap (octets_at image sector) count ∙ octets_at-append image sector 1 (n - 1)
+    is ∙ ap (octets_at image sector) count ∙ octets_at-add image sector 1 (n - 1)
     ∙ ap (λ (octets : List ℕ). octets ++ octets_at image (sector + 1) (n - 1)) (sym first)
 
 -- what was read: the first sector, and the sectors that it tells of
@@ -113,7 +105,7 @@ batch_of-front image sector n front body read epoch first =
     let count : n + (BODY_SECTORS - n) ≡ BODY_SECTORS = omega (arith, read.within) in
     sym (batch_of-append epoch first body (octets_at image (sector + n) (BODY_SECTORS - n)) (omega (arith, read.size, read.some)) (holds_records image sector n front body read))
     ∙ ap (λ (octets : List ℕ). batch_of epoch first (octets ++ octets_at image (sector + n) (BODY_SECTORS - n))) read.all
-    ∙ ap (batch_of epoch first) (sym (octets_at-append image sector n (BODY_SECTORS - n)) ∙ ap (octets_at image sector) count)
+    ∙ ap (batch_of epoch first) (sym (octets_at-add image sector n (BODY_SECTORS - n)) ∙ ap (octets_at image sector) count)
 
 pub batch_of-misfit : (epoch first : ℕ) (body : List ℕ) (head : Head) → head ≡ head_of body → fits head epoch first ≡ false → batch_of epoch first body ≡ None
 unfolding batch_of

@@ -1,6 +1,5 @@
 -- What is read after a sync, and what the parts that were read say of the journal.
-use Rattle.std.proofs.Common.{◌≡◌, ℕ, IsTrue, [], ◌∷◌, Result, Ok, Err, refl, sym, ◌∙◌, ap, subst, arith}
-use Rattle.iol_types.specs.State.{State}
+use Rattle.std.proofs.Common.{◌≡◌, ℕ, IsTrue, [], ◌∷◌, Result, Ok, Err, sym, ◌∙◌, ap, subst, arith}
 use Rattle.iol_disk.specs.Content.{Image, Content, IsImage, reads, synced}
 use Rattle.iol_disk.specs.Calls.{Call, write, sync, fault_of, FailedIn}
 use Rattle.iol_disk.specs.Disk.{Disk, After, Same}
@@ -8,9 +7,9 @@ use Rattle.iol_disk.specs.declared.fault.DiskFault.{DiskFault}
 use Rattle.iol_disk.specs.declared.fault.DiskFault.TheVariants.{Read, Write, Sync}
 use Rattle.iol_disk.proofs.DiskLaws.{image-synced}
 use Rattle.iol_journal.specs.Layout.{Layout}
-use Rattle.iol_journal.specs.Meaning.{Cause, unformatted, damaged, layout_in, in_use_in, ports_from, Log, log_from, standing_in}
-use Rattle.iol_journal.specs.Reading.{IsCause}
-use Rattle.iol_journal.specs.Recoveries.{HasChosen, MakesRecovery}
+use Rattle.iol_journal.specs.Meaning.{Cause, layout_in, in_use_in}
+use Rattle.iol_journal.specs.Reading.{Shows, SaysWhy}
+use Rattle.iol_journal.specs.Recovery.{HasChosen, MakesRecovery}
 use Rattle.iol_journal.specs.declared.opening.InUse.{InUse}
 use Rattle.iol_journal.specs.declared.cause.RecoverCause.{RecoverCause}
 use Rattle.iol_journal.specs.declared.cause.RecoverCause.TheVariants as cause
@@ -35,60 +34,37 @@ synced-only old new after h image is = image-synced old.content image (subst (λ
 
 -- what is found after a sync is what the disk read as before it
 pub found_after : {Y : Type 0} (old new : Disk) (read : Image → Result Y Cause) (y : Y) → After synced old new
-    → (IsTrue new.honest → read (reads new.content) ≡ Ok y) → IsTrue old.honest → read (reads old.content) ≡ Ok y
+    → Shows new (λ image. read image ≡ Ok y) → Shows old (λ image. read image ≡ Ok y)
 found_after old new read y after is h = ap read (sym (synced-reads old new after h)) ∙ is (synced-honest old new after h)
 
 pub layout_after : (old new : Disk) (layout : Layout) → After synced old new
-    → (IsTrue new.honest → layout_in new.sectors (reads new.content) ≡ Ok layout) → IsTrue old.honest → layout_in old.sectors (reads old.content) ≡ Ok layout
+    → Shows new (λ image. layout_in new.sectors image ≡ Ok layout) → Shows old (λ image. layout_in old.sectors image ≡ Ok layout)
 layout_after old new layout after is h =
     ap (λ (n : ℕ). layout_in n (reads old.content)) (sym after.sectors) ∙ found_after old new (layout_in new.sectors) layout after is h
 
 -- a cause that is met in a part after a sync is met in the whole
-pub cause_after : {Y Z : Type 0} (old mid new : Disk) (part : Image → Result Y Cause) (whole : Image → Result Z Cause) (told : RecoverCause)
+pub cause_after : {Y Z : Type 0} (old mid : Disk) (part : Image → Result Y Cause) (whole : Image → Result Z Cause) (told : RecoverCause)
     → After synced old mid
-    → (IsTrue old.honest → (met : Cause) → part (reads old.content) ≡ Err met → whole (reads old.content) ≡ Err met)
-    → IsCause mid new part told → IsCause old new whole told
-cause_after old mid new part whole (cause.Disk fault) after carries is = tt
-cause_after old mid new part whole cause.NotFormatted after carries is =
-    λ h. carries h unformatted (ap part (sym (synced-reads old mid after h)) ∙ is (synced-honest old mid after h))
-cause_after old mid new part whole (cause.Damaged sector) after carries is =
-    λ h. carries h (damaged sector) (ap part (sym (synced-reads old mid after h)) ∙ is (synced-honest old mid after h))
-cause_after old mid new part whole cause.Memory after carries is = tt
+    → (IsTrue old.honest → SaysWhy (part (reads old.content)) told → SaysWhy (whole (reads old.content)) told)
+    → Shows mid (λ image. SaysWhy (part image) told) → Shows old (λ image. SaysWhy (whole image) told)
+cause_after old mid part whole told after carries is = λ h.
+    carries h (subst (λ (image : Image). SaysWhy (part image) told) (synced-reads old mid after h) (is (synced-honest old mid after h)))
 
 -- the geometry is sound and an area is in use, where both were found after a sync
-pub chosen_after : (old mid new : Disk) (layout : Layout) (used : InUse) → After synced old mid → After synced old new
-    → (IsTrue mid.honest → layout_in mid.sectors (reads mid.content) ≡ Ok layout) → (IsTrue new.honest → in_use_in layout (reads new.content) ≡ Ok used)
-    → IsTrue old.honest → HasChosen old.sectors (reads old.content)
-chosen_after old mid new layout used first all laid_out in_use h =
-    (layout, used, layout_after old mid layout first laid_out h, found_after old new (in_use_in layout) used all in_use h)
+pub areas_found : (old first second : Disk) (layout : Layout) (used : InUse) → After synced old first → Same first second
+    → Shows first (λ image. layout_in first.sectors image ≡ Ok layout) → Shows second (λ image. in_use_in layout image ≡ Ok used)
+    → Shows old (λ image. (layout_in old.sectors image ≡ Ok layout) × (in_use_in layout image ≡ Ok used))
+areas_found old first second layout used after same laid_out in_use h =
+    (layout_after old first layout after laid_out h, found_after old second (in_use_in layout) used (synced-then old first second after same) in_use h)
 
--- the parts of a journal on an image, as far as each was read
-pub no_layout : (sectors : ℕ) (image : Image) (met : Cause) → layout_in sectors image ≡ Err met → standing_in sectors image ≡ Err met
-unfolding standing_in
-no_layout sectors image met is = rw is refl
+pub chosen_after : (old first second : Disk) (layout : Layout) (used : InUse) → After synced old first → Same first second
+    → Shows first (λ image. layout_in first.sectors image ≡ Ok layout) → Shows second (λ image. in_use_in layout image ≡ Ok used)
+    → Shows old (HasChosen old.sectors)
+chosen_after old first second layout used after same laid_out in_use h =
+    let areas = areas_found old first second layout used after same laid_out in_use h in (layout, used, areas.0, areas.1)
 
-pub no_area : (sectors : ℕ) (image : Image) (layout : Layout) (met : Cause) → layout_in sectors image ≡ Ok layout → in_use_in layout image ≡ Err met → standing_in sectors image ≡ Err met
-unfolding standing_in
-no_area sectors image layout met laid_out is = rw (laid_out, is) refl
-
-pub no_ports : (sectors : ℕ) (image : Image) (layout : Layout) (used : InUse) (met : Cause) → layout_in sectors image ≡ Ok layout → in_use_in layout image ≡ Ok used
-    → ports_from layout used.area image 0 layout.ports ≡ Err met → standing_in sectors image ≡ Err met
-unfolding standing_in
-no_ports sectors image layout used met laid_out area is = rw (laid_out, area, is) refl
-
-pub no_log : (sectors : ℕ) (image : Image) (layout : Layout) (used : InUse) (ports : State) (met : Cause) → layout_in sectors image ≡ Ok layout → in_use_in layout image ≡ Ok used
-    → ports_from layout used.area image 0 layout.ports ≡ Ok ports → log_from layout used.area used.header.epoch image 0 layout.slots used.header.base ports ≡ Err met
-    → standing_in sectors image ≡ Err met
-unfolding standing_in
-no_log sectors image layout used ports met laid_out area state is = rw (laid_out, area, state, is) refl
-
-pub stands : (sectors : ℕ) (image : Image) (layout : Layout) (used : InUse) (ports : State) (log : Log) → layout_in sectors image ≡ Ok layout → in_use_in layout image ≡ Ok used
-    → ports_from layout used.area image 0 layout.ports ≡ Ok ports → log_from layout used.area used.header.epoch image 0 layout.slots used.header.base ports ≡ Ok log
-    → standing_in sectors image ≡ Ok (record { layout = layout; area = used.area; epoch = used.header.epoch; used = log.used; number = log.number; state = log.state })
-unfolding standing_in
-stands sectors image layout used ports log laid_out area state is = rw (laid_out, area, state, is) refl
-
-no_read : (call : Call) → Read ≡ fault_of call → ⊥
+-- no call but a read fails as one
+pub no_read : (call : Call) → Read ≡ fault_of call → ⊥
 no_read (write sector octets) is = cc
 no_read sync is = cc
 

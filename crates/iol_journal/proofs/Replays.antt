@@ -5,17 +5,17 @@ use Rattle.iol_types.specs.Command.{CommandValue}
 use Rattle.iol_types.specs.State.{State, check, apply}
 use Rattle.iol_record.specs.Reading.{command_at}
 use Rattle.iol_record.specs.declared.fault.RecordFault.{RecordFault}
-use Rattle.iol_journal.specs.Body.{before, commands_of}
+use Rattle.iol_journal.specs.Body.{prepended, commands_of}
 use Rattle.iol_journal.specs.Meaning.{Meaning}
-use Rattle.iol_journal.specs.Replays.{reached}
+use Rattle.iol_journal.specs.Replay.{reached}
 
 reached-refused : (number : ℕ) (s : State) (command : CommandValue) (others : Option (List CommandValue))
-    → is_none (check s command) ≡ false → reached number s (before command others) ≡ None
+    → is_none (check s command) ≡ false → reached number s (prepended command others) ≡ None
 reached-refused number s command None is = refl
 reached-refused number s command (Some commands) is = rw is refl
 
 reached-passed : (number : ℕ) (s : State) (command : CommandValue) (others : Option (List CommandValue))
-    → check s command ≡ None → reached number s (before command others) ≡ reached (number + 1) (apply s command) others
+    → check s command ≡ None → reached number s (prepended command others) ≡ reached (number + 1) (apply s command) others
 reached-passed number s command None is = refl
 reached-passed number s command (Some commands) is =
     let same : number + suc (length commands) ≡ number + 1 + length commands = omega arith in
@@ -39,7 +39,7 @@ pub replay-passed : (number counter left : ℕ) (s : State) (octets rest : List 
     → reached (number + (counter + 1)) (apply s command) (commands_of left rest) ≡ whole
 replay-passed number counter left s octets rest command whole is passed so_far =
     let same : number + (counter + 1) ≡ number + counter + 1 = omega arith in
-    let unfolded : commands_of (left + 1) octets ≡ before command (commands_of left rest) = rw (add-one, is) refl in
+    let unfolded : commands_of (left + 1) octets ≡ prepended command (commands_of left rest) = rw (add-one, is) refl in
     ap (λ n. reached n (apply s command) (commands_of left rest)) same
     ∙ sym (reached-passed (number + counter) s command (commands_of left rest) passed)
     ∙ ap (reached (number + counter) s) (sym unfolded) ∙ so_far

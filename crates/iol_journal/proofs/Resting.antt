@@ -7,9 +7,11 @@ use Rattle.iol_disk.specs.Disk.{Disk}
 use Rattle.iol_disk.proofs.DiskLaws.{reads-is_image}
 use Rattle.iol_journal.specs.Layout.{other, header_at}
 use Rattle.iol_journal.specs.Header.{header_of}
-use Rattle.iol_journal.specs.Meaning.{Cause, ◌>>=◌, Standing, Meaning, standing_in}
+use Rattle.iol_record.specs.Reading.{◌>>=◌}
+use Rattle.iol_journal.specs.Meaning.{Cause, Standing, Meaning, standing_in}
 use Rattle.iol_journal.specs.Kept.{IsIdle, IsKept, IsKeptAs, KeptMeans, EachMeans}
-use Rattle.iol_journal.specs.Recoveries.{idle_in}
+use Rattle.iol_journal.specs.Reading.{Shows}
+use Rattle.iol_journal.specs.Recovery.{idle_in}
 use Rattle.iol_journal.specs.Underway.{IsAtRest}
 use Rattle.iol_journal.specs.declared.place.Idle.{Idle}
 use Rattle.iol_journal.specs.declared.place.Idle.TheVariants.{Older, Closed}
@@ -36,10 +38,10 @@ kept_as_found sectors s image kept stands =
     record { stands = stands; rest = kept_so.rest; other_area = idle_by_header s kept.1 image kept_so.other_area }
 
 pub at_rest_after : (old new : Disk) (s : Standing) (idle : Idle) → new.sectors ≡ old.sectors → new.honest ≡ old.honest
-    → (IsTrue old.honest → standing_in old.sectors (reads old.content) ≡ Ok s)
-    → (IsTrue old.honest → idle ≡ idle_in s (reads old.content))
-    → (IsTrue old.honest → (image : Image) → IsImage new.content image → image ≡ reads old.content)
-    → (IsTrue old.honest → IsKept old.sectors (reads old.content)) → IsAtRest new s idle
+    → Shows old (λ image. standing_in old.sectors image ≡ Ok s)
+    → Shows old (λ image. idle ≡ idle_in s image)
+    → Shows old (λ read. (image : Image) → IsImage new.content image → image ≡ read)
+    → Shows old (IsKept old.sectors) → IsAtRest new s idle
 at_rest_after old new s idle sectors honest stands harmless only kept = λ h image is.
     let h' = subst IsTrue honest h in
     let found = kept_as_found old.sectors s (reads old.content) (kept h') (stands h') in
@@ -56,9 +58,9 @@ same_meaning m n is = cc
 
 -- on a disk all of whose images mean the same, what is found is that, and each image means it still
 pub means-after : (old new : Disk) (s : Standing) (idle : Idle) (number : ℕ) (state : State) → new.sectors ≡ old.sectors → new.honest ≡ old.honest
-    → (IsTrue old.honest → standing_in old.sectors (reads old.content) ≡ Ok s)
-    → (IsTrue old.honest → idle ≡ idle_in s (reads old.content))
-    → (IsTrue old.honest → (image : Image) → IsImage new.content image → image ≡ reads old.content)
+    → Shows old (λ image. standing_in old.sectors image ≡ Ok s)
+    → Shows old (λ image. idle ≡ idle_in s image)
+    → Shows old (λ read. (image : Image) → IsImage new.content image → image ≡ read)
     → IsTrue old.honest → EachMeans old number state
     → (s.number ≡ number) × (s.state ≡ state) × IsAtRest new s idle × EachMeans new number state
 means-after old new s idle number state sectors honest stands harmless only h each =

@@ -1,16 +1,17 @@
 -- The ports of a snapshot, read record by record.
-use Rattle.std.proofs.Common.{◌≡◌, ◌≤◌, ℕ, zero, suc, ◌+◌, List, [], ◌∷◌, ◌++◌, length, IsTrue, Result, Ok, Err, refl, sym, ◌∙◌, ap, arith, add-one, append_assoc}
+use Rattle.std.proofs.Common.{◌≡◌, ℕ, ◌+◌, [], ◌∷◌, ◌++◌, Result, Ok, Err, refl, sym, ap, subst, add-one, append_assoc}
 use Rattle.std.proofs.lemmas.List.{append-nil}
 use Rattle.iol_types.specs.State.{Port, State}
-use Rattle.iol_record.specs.Reading.{port_record_at}
-use Rattle.iol_record.specs.declared.fault.RecordFault.{RecordFault}
-use Rattle.iol_record.proofs.RecordLaws.{extended, port_record_at-short, port_record_at-append}
+use Rattle.iol_record.specs.Reading.{◌>>=◌}
 use Rattle.iol_disk.specs.Content.{Image, reads}
 use Rattle.iol_disk.specs.Disk.{Disk, Same}
 use Rattle.iol_journal.specs.Layout.{Layout}
 use Rattle.iol_journal.specs.Layout.{port_at}
-use Rattle.iol_journal.specs.Octets.{octets_at}
-use Rattle.iol_journal.specs.Meaning.{Cause, damaged, ◌>>=◌, port_of, ports_from}
+use Rattle.iol_journal.specs.Meaning.{Cause, port_in, ports_from}
+use Rattle.iol_journal.specs.Reading.{Shows, Says, SaysWhy}
+use Rattle.iol_journal.specs.declared.cause.RecoverCause.{RecoverCause}
+use Rattle.iol_journal.specs.declared.cause.RecoverCause.TheVariants as cause
+use Rattle.iol_journal.proofs.Chains.{cause_before}
 use Rattle.iol_journal.specs.declared.area.Area.{Area}
 use Rattle.iol_journal.proofs.Readings.{same-honest, same-reads}
 
@@ -28,44 +29,46 @@ with_front-one : (front : State) (port : Port) (others : Result State Cause)
 with_front-one front port (Ok ports) = ap (λ (all : State). Ok all) (sym (append_assoc front (port ∷ []) ports))
 with_front-one front port (Err cause) = refl
 
-port_of-extended : (more : List ℕ) (read : Result (Port × List ℕ) RecordFault) → port_of (extended more read) ≡ port_of read
-port_of-extended more (Ok read) = refl
-port_of-extended more (Err fault) = refl
-
--- a record lies in the first of its sectors
-record_at : (image : Image) (first count : ℕ) (octets : List ℕ) → 1 ≤ count → octets ≡ image first → length octets ≡ 512
-    → port_of (port_record_at (octets_at image first count)) ≡ port_of (port_record_at octets)
-unfolding octets_at
-record_at image first zero octets some is whole = absurd (omega arith)
-record_at image first (suc count) octets some is whole =
-    let more = octets_at image (first + 1) count in
-    ap (λ (front : List ℕ). port_of (port_record_at (front ++ more))) (sym is)
-    ∙ ap port_of (port_record_at-append octets more (λ short. absurd (omega (arith, port_record_at-short octets short, whole))))
-    ∙ port_of-extended more (port_record_at octets)
-
--- one port is read
-pub ports-next : (layout : Layout) (a : Area) (image : Image) (p left : ℕ) (front : State) (octets rest : List ℕ) (port : Port)
-    → 1 ≤ layout.port_sectors → octets ≡ image (port_at layout a p) → length octets ≡ 512 → port_record_at octets ≡ Ok (port, rest)
+-- a port that its record says
+pub ports-more : (layout : Layout) (a : Area) (image : Image) (p left : ℕ) (front : State) (port : Port)
+    → port_in image (port_at layout a p) layout.port_sectors ≡ Ok port
     → with_front front (ports_from layout a image p (left + 1)) ≡ with_front (front ++ port ∷ []) (ports_from layout a image (p + 1) left)
 unfolding ports_from
-ports-next layout a image p left front octets rest port some is whole read =
-    rw (add-one, record_at image (port_at layout a p) layout.port_sectors octets some is whole, read) (with_front-one front port (ports_from layout a image (p + 1) left))
+ports-more layout a image p left front port is = rw (add-one, is) (with_front-one front port (ports_from layout a image (p + 1) left))
 
--- a port's record is none
-pub ports-damaged : (layout : Layout) (a : Area) (image : Image) (p left : ℕ) (front : State) (octets : List ℕ) (fault : RecordFault)
-    → 1 ≤ layout.port_sectors → octets ≡ image (port_at layout a p) → length octets ≡ 512 → port_record_at octets ≡ Err fault
-    → with_front front (ports_from layout a image p (left + 1)) ≡ Err (damaged (port_at layout a p))
+with_front-why : (front : State) (ports : Result State Cause) (told : RecoverCause) → SaysWhy ports told → SaysWhy (with_front front ports) told
+with_front-why front (Ok ports) (cause.Disk fault) is = tt
+with_front-why front (Err why) (cause.Disk fault) is = tt
+with_front-why front (Ok ports) cause.NotFormatted is = absurd cc
+with_front-why front (Err why) cause.NotFormatted is = is
+with_front-why front (Ok ports) (cause.Damaged sector) is = absurd cc
+with_front-why front (Err why) (cause.Damaged sector) is = is
+with_front-why front (Ok ports) cause.Memory is = tt
+with_front-why front (Err why) cause.Memory is = tt
+
+-- a port's record that says none
+pub ports-stopped : (layout : Layout) (a : Area) (image : Image) (p left : ℕ) (front : State) (told : RecoverCause)
+    → SaysWhy (port_in image (port_at layout a p) layout.port_sectors) told → SaysWhy (with_front front (ports_from layout a image p (left + 1))) told
 unfolding ports_from
-ports-damaged layout a image p left front octets fault some is whole read =
-    rw (add-one, record_at image (port_at layout a p) layout.port_sectors octets some is whole, read) refl
+ports-stopped layout a image p left front told is =
+    with_front-why front (ports_from layout a image p (left + 1)) told
+    (rw add-one (cause_before (port_in image (port_at layout a p) layout.port_sectors) (λ port. ports_from layout a image (p + 1) left >>= λ ports. Ok (port ∷ ports)) told is))
 
 -- no port is left
 pub ports-ended : (layout : Layout) (a : Area) (image : Image) (p : ℕ) (front : State) → with_front front (ports_from layout a image p 0) ≡ Ok front
 unfolding ports_from
 ports-ended layout a image p front = simp append-nil
 
--- a sector that was read of a disk that calls left the same
-pub sector_read : (old now : Disk) (place sector : ℕ) (octets : List ℕ) → Same old now → sector ≡ place
-    → (IsTrue now.honest → octets ≡ reads now.content sector) → IsTrue old.honest → octets ≡ reads old.content place
-sector_read old now place sector octets same here read h =
-    read (same-honest old now same h) ∙ ap (λ (image : Image). image sector) (same-reads old now same h) ∙ ap (reads old.content) here
+-- what a port's record says that stands here
+pub port_placed : (image : Image) (place sector count sectors : ℕ) (answer : Result Port RecoverCause) → sector ≡ place → count ≡ sectors
+    → Says (λ port. port) (port_in image sector count) answer → Says (λ port. port) (port_in image place sectors) answer
+port_placed image place sector count sectors answer here whole says =
+    subst (λ (n : ℕ). Says (λ port. port) (port_in image place n) answer) whole
+    (subst (λ (s : ℕ). Says (λ port. port) (port_in image s count) answer) here says)
+
+-- and on a disk that calls left the same
+pub port_shown : (old now : Disk) (place sector count sectors : ℕ) (answer : Result Port RecoverCause) → Same old now → sector ≡ place → count ≡ sectors
+    → Shows now (λ image. Says (λ port. port) (port_in image sector count) answer) → Shows old (λ image. Says (λ port. port) (port_in image place sectors) answer)
+port_shown old now place sector count sectors answer same here whole says h =
+    port_placed (reads old.content) place sector count sectors answer here whole
+    (subst (λ (image : Image). Says (λ port. port) (port_in image sector count) answer) (same-reads old now same h) (says (same-honest old now same h)))

@@ -8,21 +8,19 @@ use Rattle.iol_disk.specs.Moments.{LeavesOnly}
 use Rattle.iol_disk.specs.declared.fault.DiskFault.{DiskFault}
 use Rattle.iol_disk.proofs.DiskLaws.{HasOnTheWay, made_leaves, failed_leaves}
 use Rattle.iol_journal.specs.Batches.{body_for, sectors_for, call_of, calls_from, next_phase, IsPhase}
-use Rattle.iol_journal.specs.Journals.{IsPlanned, with_batch}
+use Rattle.iol_journal.specs.Journals.{WritingView, IsPlanned, IsPlan, with_batch}
 use Rattle.iol_journal.specs.Kept.{KeptEither}
 use Rattle.iol_journal.specs.Meaning.{Standing}
 use Rattle.iol_journal.specs.Orders.{Makes}
 use Rattle.iol_journal.specs.Progress.{MakesFirst, FailsFirst}
-use Rattle.iol_journal.specs.Underway.{EachKept, Holds}
+use Rattle.iol_journal.specs.Underway.{EachKept, IsUnderway, Holds}
 use Rattle.iol_journal.specs.declared.place.Idle.{Idle}
 use Rattle.iol_journal.specs.Layout.{total}
 use Rattle.iol_journal.specs.declared.phase.Phase.{Phase}
 use Rattle.iol_journal.specs.declared.phase.Phase.TheVariants.{Body, SyncBody, Gate, SyncGate}
-use Rattle.iol_journal.proofs.BatchCalls.{first_call, last_call, some_call}
+use Rattle.iol_journal.specs.declared.writing.Plan.{Plan}
+use Rattle.iol_journal.proofs.BatchCalls.{phase_of, first_call, last_call, some_call}
 use Rattle.iol_journal.proofs.Phases.{fit_of, on_the_way, next_holds, batch_durable}
-
-phase_of : (p q : Phase) → Some p ≡ Some q → p ≡ q
-phase_of p q is = cc
 
 -- the phase behind a phase is one
 in_next : (sectors : ℕ) (p q : Phase) → IsPhase sectors p → next_phase sectors p ≡ Some q → IsPhase sectors q
@@ -82,7 +80,7 @@ module _ (s : Standing) (idle : Idle) (commands : List CommandValue) (body : Lis
     whole = planned.whole;
     short = planned.short;
     in_phase = in_next (sectors_for s commands) p q planned.in_phase (sym (next_is (Some q) is));
-    sound = planned.sound;
+    read_back = planned.read_back;
     passes = planned.passes;
     bound = planned.bound;
   }
@@ -113,3 +111,12 @@ module _ (s : Standing) (idle : Idle) (commands : List CommandValue) (body : Lis
         order = some.1;
         failed = subst (λ (b : List ℕ). FailedIn (call_of s b p ∷ []) told old new) same_body failed;
       }
+
+-- the same of the batch as contracts see it
+pub moment_of : {D : Type 0} (disk : D → Disk) {w v : WritingView D} {plan : Plan} (left : D) (result : Result Unit DiskFault) → w ≡ v
+    → IsPlanned (disk w.disk) w.standing w.commands w.phase → IsPlan w.standing w.commands plan
+    → Makes (call_of w.standing plan.body.items w.phase ∷ []) (disk w.disk) (disk left) result → IsUnderway disk v
+    → LeavesOnly (disk v.disk) (disk left) (KeptEither (disk v.disk).sectors v.standing.number v.standing.state v.commands)
+moment_of {D = D} disk {w = w} {plan = plan} left result view planned is_plan makes =
+    subst (λ (u : WritingView D). IsUnderway disk u → LeavesOnly (disk u.disk) (disk left) (KeptEither (disk u.disk).sectors u.standing.number u.standing.state u.commands)) view
+    (moment w.standing w.idle w.commands plan.body.items plan.sectors w.phase (disk w.disk) (disk left) planned is_plan.body is_plan.sectors result makes)

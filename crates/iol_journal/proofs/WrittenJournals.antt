@@ -78,7 +78,7 @@ unfolding padded
 blank-written = record-blank (port_octets blank) (replicate (512 * sectors_reached (length (port_octets blank)) - length (port_octets blank)) 0) blank refl (record { spelling = refl; in_range = in_range })
   where
     in_range : IsPort blank
-    in_range = record { config = record { vendor = omega arith; device = omega arith }; revision = omega arith }
+    in_range = record { config = record { vendor = omega arith; device = omega arith }; revision = omega arith; set = tt; stored = tt }
 
 -- the writes behind the gate of the disk leave an empty journal
 pub journal-writes : (g : Geometry) (c : Content) → IsGeometry g → IsEmptyJournal g (reads (content_after_all (journal_writes g) c))

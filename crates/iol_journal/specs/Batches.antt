@@ -10,6 +10,7 @@ use Rattle.iol_journal.specs.Meaning.{Standing}
 use Rattle.iol_journal.specs.Octets.{sectors_reached}
 use Rattle.iol_journal.specs.declared.phase.Phase.{Phase}
 use Rattle.iol_journal.specs.declared.phase.Phase.TheVariants.{Body, SyncBody, Gate, SyncGate}
+use Rattle.iol_disk.specs.declared.disk.TheConstants.{SECTOR_OCTETS}
 
 -- the body of a batch behind a journal that stands so, and how many sectors it has (format, Orders of disk calls)
 abbrev pub body_for : Standing → List CommandValue → List ℕ
@@ -20,7 +21,7 @@ sectors_for s commands = sectors_reached (length (body_for s commands))
 
 -- sector j of a body that lies in whole sectors (format, Orders of disk calls)
 abbrev pub sector_of : List ℕ → ℕ → List ℕ
-sector_of body j = slice_range body (512 * j) (512 * (j + 1))
+sector_of body j = slice_range body (SECTOR_OCTETS * j) (SECTOR_OCTETS * (j + 1))
 
 -- the write of a sector of the body to the first free slot, and that of the slot's open gate (format, Orders of disk
 -- calls)

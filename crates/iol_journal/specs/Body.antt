@@ -27,14 +27,14 @@ fits head epoch first =
     && nat_le head.octets MOST_RECORD_OCTETS && nat_le (first + head.count) (LAST_NUMBER + 1)
 
 -- a command in front of others, if they are there (own)
-abbrev pub before : CommandValue → Option (List CommandValue) → Option (List CommandValue)
-before command None = None
-before command (Some commands) = Some (command ∷ commands)
+abbrev pub prepended : CommandValue → Option (List CommandValue) → Option (List CommandValue)
+prepended command None = None
+prepended command (Some commands) = Some (command ∷ commands)
 
 -- the command that was read, and those that the octets behind it give (own)
 abbrev pub first_then : Result (CommandValue × List ℕ) RecordFault → (List ℕ → Option (List CommandValue)) → Option (List CommandValue)
 first_then (Err fault) others = None
-first_then (Ok read) others = before read.0 (others read.1)
+first_then (Ok read) others = prepended read.0 (others read.1)
 
 -- so many commands, whose records fill the octets exactly (format, Slots)
 abbrev pub commands_of : ℕ → List ℕ → Option (List CommandValue)

@@ -5,11 +5,16 @@ use Rattle.iol_disk.specs.declared.fault.DiskFault.TheVariants.{Read}
 use Rattle.iol_journal.specs.declared.cause.RecoverCause.{RecoverCause}
 use Rattle.iol_journal.specs.declared.cause.RecoverCause.TheVariants as cause
 
--- a fault that says nothing of what the disk holds: the disk failed, or memory ran out (own)
+-- a fault that says nothing of what the disk holds: the disk failed, or it was out of memory (own)
 abbrev pub IsFault : RecoverCause → Type 0
 IsFault (cause.Disk fault) = Unit {0}
 IsFault cause.Memory = Unit {0}
 IsFault other = ⊥
+
+-- a fault of the disk (own)
+abbrev pub IsDiskFault : RecoverCause → Type 0
+IsDiskFault (cause.Disk fault) = Unit {0}
+IsDiskFault other = ⊥
 
 -- a fault of the disk is that of a read, and was counted; no other answer counts a failure (own)
 abbrev pub Counted : {T : Type 0} → Disk → Disk → Result T RecoverCause → Type 0

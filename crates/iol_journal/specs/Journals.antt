@@ -15,6 +15,7 @@ use Rattle.iol_journal.specs.declared.header.TheConstants.{LAST_NUMBER}
 use Rattle.iol_disk.specs.Calls.{Call}
 use Rattle.iol_journal.specs.Batches.{IsPhase, body_for, sectors_for, calls_from}
 use Rattle.iol_journal.specs.Body.{batch_of}
+use Rattle.iol_disk.specs.declared.disk.TheConstants.{SECTOR_OCTETS}
 
 -- the values of commands (own)
 abbrev pub values : List Command → List CommandValue
@@ -66,11 +67,11 @@ with_batch s commands = record {
 pub record IsPlanned (d : Disk) (s : Standing) (commands : List CommandValue) (phase : Phase) : Type 0 where
   pub fits : total s.layout ≤ d.sectors
   pub room : s.used < s.layout.slots
-  pub whole : length (body_for s commands) ≡ 512 * sectors_for s commands
+  pub whole : length (body_for s commands) ≡ SECTOR_OCTETS * sectors_for s commands
   pub short : sectors_for s commands ≤ BODY_SECTORS
   pub in_phase : IsPhase (sectors_for s commands) phase
   -- whatever follows the body in its slot, it is read as these commands, and they pass
-  pub sound : (rest : List ℕ) → batch_of s.epoch (s.number + 1) (body_for s commands ++ rest) ≡ Some commands
+  pub read_back : (rest : List ℕ) → batch_of s.epoch (s.number + 1) (body_for s commands ++ rest) ≡ Some commands
   pub passes : legal s.state commands ≡ true
   pub bound : s.number + length commands ≤ LAST_NUMBER
 

@@ -8,14 +8,14 @@ pub mod Kept
 pub mod Batches
 pub mod Journals
 pub mod Underway
-pub mod Recoveries
+pub mod Recovery
 pub mod Begin
 pub mod Written
 pub mod Progress
 pub mod Reading
-pub mod Formats
+pub mod Formatting
 pub mod Faults
-pub mod Replays
+pub mod Replay
 pub mod Orders
 pub mod Examples
 pub mod Plain

@@ -1,7 +1,7 @@
 -- What an image of a disk means: the state of a master after a number of commands, or why it means none.
 use Rattle.std.specs.Prelude.{ℕ, zero, suc, ◌+◌, ◌==◌, nat_le, nat_lt, Bool, true, false, ◌&&◌, if◌then◌else◌, List, [], ◌∷◌, length, Option, Some, None, Result, Ok, Err}
 use Rattle.iol_types.specs.State.{Port, State, after, legal}
-use Rattle.iol_record.specs.Reading.{port_record_at}
+use Rattle.iol_record.specs.Reading.{◌>>=◌, port_record_at}
 use Rattle.iol_record.specs.declared.fault.RecordFault.{RecordFault}
 use Rattle.iol_disk.specs.Content.{Image}
 use Rattle.iol_slots.specs.Gate.{is_open}
@@ -21,27 +21,21 @@ pub data Cause : Type 0 where
   unformatted : Cause
   damaged : (sector : ℕ) → Cause
 
--- reading goes on with a value, and ends at a cause (own)
-infixl 10 ◌>>=◌
-abbrev pub ◌>>=◌ : {A B : Type 0} → Result A Cause → (A → Result B Cause) → Result B Cause
-(Ok x) >>= next = next x
-(Err cause) >>= next = Err cause
-
 -- a value where the test holds, else the sector is damaged (own)
-abbrev pub sound : {A : Type 0} → Bool → ℕ → A → Result A Cause
-sound true sector x = Ok x
-sound false sector x = Err (damaged sector)
+abbrev pub if_sound : {A : Type 0} → Bool → ℕ → A → Result A Cause
+if_sound true sector x = Ok x
+if_sound false sector x = Err (damaged sector)
 
 -- a value if it is there, else the sector is damaged (own)
-abbrev pub found : {A : Type 0} → Option A → ℕ → Result A Cause
-found (Some x) sector = Ok x
-found None sector = Err (damaged sector)
+abbrev pub or_damaged : {A : Type 0} → Option A → ℕ → Result A Cause
+or_damaged (Some x) sector = Ok x
+or_damaged None sector = Err (damaged sector)
 
 -- the layout that a disk of so many sectors is formatted with (format, Recovery)
 abbrev pub layout_in : ℕ → Image → Result Layout Cause
 layout_in sectors image =
     if nat_lt 1 sectors && is_open (image DISK_GATE)
-    then (found (geometry_of (image GEOMETRY)) GEOMETRY >>= λ g. sound (nat_le (total (layout_of g)) sectors) GEOMETRY (layout_of g))
+    then (or_damaged (geometry_of (image GEOMETRY)) GEOMETRY >>= λ g. if_sound (nat_le (total (layout_of g)) sectors) GEOMETRY (layout_of g))
     else Err unformatted
 
 -- the header of an area, where the area's gate is open (format, Recovery)
@@ -50,7 +44,7 @@ header_in layout image a = if is_open (image (gate_at layout a)) then Some (head
 
 -- an area in use, where its header is sound (format, Recovery)
 abbrev pub in_use : Layout → Area → Header → Result InUse Cause
-in_use layout a header = sound (is_sound header) (header_at layout a) (record { area = a; header = header })
+in_use layout a header = if_sound (is_sound header) (header_at layout a) (record { area = a; header = header })
 
 -- of the open areas the one with the greatest epoch (format, Recovery)
 abbrev pub greatest : Layout → Option Header → Option Header → Result InUse Cause
@@ -70,11 +64,15 @@ abbrev pub port_of : Result (Port × List ℕ) RecordFault → Option Port
 port_of (Ok read) = Some read.0
 port_of (Err fault) = None
 
+-- the port whose record lies in so many sectors from the first one on (format, Recovery)
+abbrev pub port_in : Image → ℕ → ℕ → Result Port Cause
+port_in image first sectors = or_damaged (port_of (port_record_at (octets_at image first sectors))) first
+
 -- the ports from this one on, as their records say (format, Recovery)
 unfoldable pub ports_from : Layout → Area → Image → ℕ → ℕ → Result State Cause
 ports_from layout a image p zero = Ok []
 ports_from layout a image p (suc left) =
-    found (port_of (port_record_at (octets_at image (port_at layout a p) layout.port_sectors))) (port_at layout a p)
+    port_in image (port_at layout a p) layout.port_sectors
     >>= λ port. ports_from layout a image (p + 1) left >>= λ ports. Ok (port ∷ ports)
 
 -- where a journal goes on: slots used, commands so far, the state after them (own)
@@ -89,8 +87,8 @@ abbrev pub log_from : Layout → Area → ℕ → Image → ℕ → ℕ → ℕ 
 log_from layout a epoch image k zero number state = Ok (record { used = k; number = number; state = state })
 log_from layout a epoch image k (suc left) number state =
     if is_open (image (slot_at layout a k))
-    then (found (batch_of epoch (number + 1) (octets_at image (body_at layout a k 0) BODY_SECTORS)) (body_at layout a k 0)
-    >>= λ commands. sound (legal state commands) (body_at layout a k 0) commands
+    then (or_damaged (batch_of epoch (number + 1) (octets_at image (body_at layout a k 0) BODY_SECTORS)) (body_at layout a k 0)
+    >>= λ commands. if_sound (legal state commands) (body_at layout a k 0) commands
     >>= λ legal_commands. log_from layout a epoch image (k + 1) left (number + length legal_commands) (after state legal_commands))
     else Ok (record { used = k; number = number; state = state })
 

@@ -2,6 +2,7 @@
 use Rattle.std.specs.Prelude.{ℕ, zero, suc, ◌+◌, ◌-◌, ◌*◌, ◌/◌, List, [], ◌++◌, length, replicate, take, drop}
 use Rattle.std.specs.Int.{Width, byte_len, from_be_bytes}
 use Rattle.iol_disk.specs.Content.{Image}
+use Rattle.iol_disk.specs.declared.disk.TheConstants.{SECTOR_OCTETS}
 
 -- the number of this width at a place of some octets, most significant octet first (format, Disk layout)
 abbrev pub number_at : Width → ℕ → List ℕ → ℕ
@@ -14,8 +15,8 @@ octets_at image first (suc n) = image first ++ octets_at image (first + 1) n
 
 -- how many sectors so many octets reach (format, Disk layout)
 abbrev pub sectors_reached : ℕ → ℕ
-sectors_reached octets = (octets + 511) / 512
+sectors_reached octets = (octets + (SECTOR_OCTETS - 1)) / SECTOR_OCTETS
 
 -- octets, and zeros behind them to the end of the last sector that they reach (format, Disk layout)
 unfoldable pub padded : List ℕ → List ℕ
-padded octets = octets ++ replicate (512 * sectors_reached (length octets) - length octets) 0
+padded octets = octets ++ replicate (SECTOR_OCTETS * sectors_reached (length octets) - length octets) 0

@@ -9,10 +9,10 @@ use Rattle.iol_journal.specs.declared.writing.Progress.{Progress}
 use Rattle.iol_journal.specs.declared.writing.Progress.TheVariants.{More, Done, Failed}
 
 -- the disk of what a step answers (own)
-abbrev pub disk_of : {D : Type 0} → Progress D → D
-disk_of (More writing) = writing.disk
-disk_of (Done journal written) = journal.disk
-disk_of (Failed disk fault) = disk
+abbrev pub stepped_disk : {D : Type 0} → Progress D → D
+stepped_disk (More writing) = writing.disk
+stepped_disk (Done journal written) = journal.disk
+stepped_disk (Failed disk fault) = disk
 
 -- a fact of what a step answers, where it answers that more steps are owed, or that the batch is done (own)
 abbrev pub IfMore : {D : Type 0} → Progress D → (WritingView D → Type 0) → Type 0

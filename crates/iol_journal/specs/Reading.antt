@@ -6,22 +6,23 @@ use Rattle.iol_journal.specs.Meaning.{Cause, unformatted, damaged}
 use Rattle.iol_journal.specs.declared.cause.RecoverCause.{RecoverCause}
 use Rattle.iol_journal.specs.declared.cause.RecoverCause.TheVariants as cause
 
--- a cause, of an honest disk, is the first that reading meets; of a failed call and of memory `Counted` and
+-- of an honest disk, what it reads as has this property (own)
+abbrev pub Shows : Disk → (Image → Type 0) → Type 0
+Shows d P = IsTrue d.honest → P (reads d.content)
+
+-- a cause is the one that reading meets; a fault of the disk or of memory says nothing of what is read (own)
+abbrev pub SaysWhy : {Y : Type 0} → Result Y Cause → RecoverCause → Type 0
+SaysWhy read (cause.Disk fault) = Unit {0}
+SaysWhy read cause.NotFormatted = read ≡ Err unformatted
+SaysWhy read (cause.Damaged sector) = read ≡ Err (damaged sector)
+SaysWhy read cause.Memory = Unit {0}
+
+-- an answer, in this view, is what is read, or says why it is not (own)
+abbrev pub Says : {X Y : Type 0} → (X → Y) → Result Y Cause → Result X RecoverCause → Type 0
+Says view read (Ok x) = read ≡ Ok (view x)
+Says view read (Err told) = SaysWhy read told
+
+-- an answer, in this view, says what is read off an honest disk; of a failed call and of memory `Counted` and
 -- `HasChosen` speak (own)
-abbrev pub IsCause : {Y : Type 0} → Disk → Disk → (Image → Result Y Cause) → RecoverCause → Type 0
-IsCause old new read (cause.Disk fault) = Unit {0}
-IsCause old new read cause.NotFormatted = IsTrue old.honest → read (reads old.content) ≡ Err unformatted
-IsCause old new read (cause.Damaged sector) = IsTrue old.honest → read (reads old.content) ≡ Err (damaged sector)
-IsCause old new read cause.Memory = Unit {0}
-
--- what was found, in this view, is what is read off an honest disk (own)
-abbrev pub Finds : {X Y : Type 0} → (X → Y) → Disk → Disk → (Image → Result Y Cause) → Result X RecoverCause → Type 0
-Finds view old new read (Ok x) = IsTrue old.honest → read (reads old.content) ≡ Ok (view x)
-Finds view old new read (Err fault) = IsCause old new read fault
-
--- a function of what was read already answers what reading gives (own)
-abbrev pub Gives : {Y : Type 0} → Result Y Cause → Result Y RecoverCause → Type 0
-Gives read (Ok x) = read ≡ Ok x
-Gives read (Err (cause.Damaged sector)) = read ≡ Err (damaged sector)
-Gives read (Err cause.NotFormatted) = read ≡ Err unformatted
-Gives read (Err fault) = ⊥
+abbrev pub Finds : {X Y : Type 0} → (X → Y) → Disk → (Image → Result Y Cause) → Result X RecoverCause → Type 0
+Finds view old read answer = Shows old (λ image. Says view (read image) answer)

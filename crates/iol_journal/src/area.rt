@@ -12,8 +12,8 @@ pub enum Area {
 impl Area {
     ghost use Rattle.iol_journal.specs.Layout.{other};
 
-    /// The area that this one is not.
-    pub fn other(self) -> Area
+    // The area that this one is not.
+    pub(crate) fn other(self) -> Area
         ensures { result ≡ other self }
     {
         match self {

@@ -8,7 +8,7 @@ ghost use Rattle.iol_journal.specs.Journals.{values};
 
 use crate::batch::{BODY_HEAD_OCTETS, MOST_COMMANDS, MOST_RECORD_OCTETS};
 use crate::header::LAST_NUMBER;
-use crate::numbers::{u16_at, u32_at, u64_at};
+use crate::numbers::array_at;
 use iol_disk::SECTOR_OCTETS;
 use iol_record::encode_command;
 use iol_types::Command;
@@ -31,20 +31,20 @@ impl Head {
 
     // The head at the front of a body.
     #[tactic(auto, unfolding(crate::specs::Body::head_of))]
-    pub fn read(body: &[u8]) -> Head
+    pub(crate) fn read(body: &[u8]) -> Head
         requires { BODY_HEAD_OCTETS ≤ length body.now }
         ensures { result ≡ head_of body.now }
     {
         Head {
-            epoch: u64_at(body, 0),
-            first: u64_at(body, 8),
-            count: u16_at(body, 16),
-            octets: u32_at(body, 18),
+            epoch: u64::from_be_bytes(array_at(body, 0)),
+            first: u64::from_be_bytes(array_at(body, 8)),
+            count: u16::from_be_bytes(array_at(body, 16)),
+            octets: u32::from_be_bytes(array_at(body, 18)),
         }
     }
 
     // Whether a batch under this epoch, the first command of which has this number, may have the head.
-    pub fn fits(self, epoch: u64, first: u64) -> bool
+    pub(crate) fn fits(self, epoch: u64, first: u64) -> bool
         requires { first ≤ LAST_NUMBER + 1 }
         ensures { result ≡ fits self epoch first }
     {
@@ -59,8 +59,7 @@ impl Head {
 
 // The records of commands, one behind the other.
 fn records(alloc: Global, commands: &[Command]) -> Result<Vec<u8>, AllocError>
-    requires { length commands.now ≤ MOST_COMMANDS }
-    ensures size { IfOk result (λ octets. length octets.items ≤ MOST_RECORD_OCTETS) }
+    requires { length (records_of (values commands.now)) ≤ MOST_RECORD_OCTETS }
     ensures records { IfOk result (λ octets. octets.items ≡ records_of (values commands.now)) }
     ensures read { IfOk result (λ octets. commands_of (length commands.now) octets.items ≡ Some (values commands.now)) }
 {
@@ -73,15 +72,16 @@ fn records(alloc: Global, commands: &[Command]) -> Result<Vec<u8>, AllocError>
 }
 
 // The body of a slot for these commands.
-pub fn body_of(
+pub(crate) fn body_of(
     alloc: Global,
     epoch: u64,
     first: u64,
     commands: &[Command],
 ) -> Result<Vec<u8>, AllocError>
     requires most { length commands.now ≤ MOST_COMMANDS }
+    requires small { length (records_of (values commands.now)) ≤ MOST_RECORD_OCTETS }
     ensures octets { IfOk result (λ body. body.items ≡ body_octets epoch first (values commands.now)) }
-    ensures whole { IfOk result (λ body. length body.items ≡ 512 * sectors_reached (length body.items)) }
+    ensures whole { IfOk result (λ body. length body.items ≡ SECTOR_OCTETS * sectors_reached (length body.items)) }
     ensures short { IfOk result (λ body. (1 ≤ sectors_reached (length body.items)) × (sectors_reached (length body.items) ≤ BODY_SECTORS)) }
     // Whatever follows it in its slot, it is read as these commands.
     ensures sound { IfOk result (λ body. 1 ≤ length commands.now → first + length commands.now ≤ LAST_NUMBER + 1

@@ -14,7 +14,7 @@ use crate::writing::Plan;
 use iol_disk::{DiskFault, SECTOR_OCTETS, SectorDisk};
 
 // Makes the disk call of a phase, where a body is written to the first free slot.
-pub fn make<D: SectorDisk>(
+pub(crate) fn make<D: SectorDisk>(
     disk: &mut D,
     place: &Place,
     plan: &Plan,
@@ -22,7 +22,7 @@ pub fn make<D: SectorDisk>(
 ) -> Result<(), DiskFault>
     requires fits { total place.now.layout ≤ (D.disk disk.old).sectors }
     requires room { place.now.used < place.now.layout.slots }
-    requires whole { length plan.now.body.items ≡ 512 * plan.now.sectors }
+    requires whole { length plan.now.body.items ≡ SECTOR_OCTETS * plan.now.sectors }
     requires short { plan.now.sectors ≤ BODY_SECTORS }
     requires in_phase { IsPhase plan.now.sectors phase }
     ensures makes { (number : ℕ) (state : State) → Makes (call_of (standing_at place.now number state) plan.now.body.items phase ∷ []) (D.disk disk.old) (D.disk disk.new) result }

@@ -14,7 +14,7 @@ ghost use Rattle.iol_slots.specs.Gate.{open_gate, closed_gate};
 ghost use Rattle.iol_types.specs.State.{State};
 ghost use Rattle.iol_record.specs.declared.examples.TheConstants.{BLANK_RECORD};
 ghost use Rattle.iol_journal.specs.Octets.{padded};
-ghost use Rattle.iol_journal.specs.Begin.{refusal};
+ghost use Rattle.iol_journal.specs.Begin.{batch_refusal};
 ghost use Rattle.iol_journal.specs.Meaning.{unformatted, damaged, layout_in, greatest};
 ghost use Rattle.iol_journal.specs.Orders.{format_calls};
 ghost use Rattle.iol_journal.specs.Layout.{layout_of, total, gate_at, header_at, port_at, slot_at, body_at};
@@ -127,12 +127,12 @@ pub fn first_causes()
 
 /// The order in which batches are refused, and the last number.
 pub fn refusals()
-    ensures too_large { refusal (standing_of 4 9) 10 (replicate 65 (Configure 1 example_config)) ≡ Some BeginCause.TooLarge }
-    ensures no_slot { refusal (standing_of 4 9) 10 [] ≡ Some BeginCause.NeedsCheckpoint }
-    ensures empty { refusal (standing_of 3 9) 10 [] ≡ Some BeginCause.Misfit }
-    ensures other_number { refusal (standing_of 3 9) 11 (Configure 1 example_config ∷ []) ≡ Some BeginCause.Misfit }
-    ensures no_port { refusal (standing_of 3 9) 10 (Configure 3 example_config ∷ []) ≡ Some BeginCause.Misfit }
-    ensures taken { refusal (standing_of 3 9) 10 (replicate 64 (Configure 1 example_config)) ≡ None }
-    ensures last { refusal (standing_of 0 4611686018427387903) 4611686018427387904 (Configure 1 example_config ∷ []) ≡ None }
-    ensures past_the_last { refusal (standing_of 0 4611686018427387904) 4611686018427387905 (Configure 1 example_config ∷ []) ≡ Some BeginCause.Misfit }
+    ensures too_large { batch_refusal (standing_of 4 9) 10 (replicate 65 (Configure 1 example_config)) ≡ Some BeginCause.TooLarge }
+    ensures no_slot { batch_refusal (standing_of 4 9) 10 [] ≡ Some BeginCause.NeedsCheckpoint }
+    ensures empty { batch_refusal (standing_of 3 9) 10 [] ≡ Some BeginCause.Misfit }
+    ensures other_number { batch_refusal (standing_of 3 9) 11 (Configure 1 example_config ∷ []) ≡ Some BeginCause.Misfit }
+    ensures no_port { batch_refusal (standing_of 3 9) 10 (Configure 3 example_config ∷ []) ≡ Some BeginCause.Misfit }
+    ensures taken { batch_refusal (standing_of 3 9) 10 (replicate 64 (Configure 1 example_config)) ≡ None }
+    ensures last { batch_refusal (standing_of 0 4611686018427387903) 4611686018427387904 (Configure 1 example_config ∷ []) ≡ None }
+    ensures past_the_last { batch_refusal (standing_of 0 4611686018427387904) 4611686018427387905 (Configure 1 example_config ∷ []) ≡ Some BeginCause.Misfit }
 {}

@@ -1,16 +1,17 @@
 //! An empty journal is written.
 
-ghost use Rattle.std.specs.Prelude.{◌≡◌, ◌≤◌, ◌<◌, ◌⊎◌, ◌↔◌, ◌++◌, true, false, IsTrue, Err, OnOk, IfOk, IfErr, IsErrOf};
+ghost use Rattle.std.specs.Prelude.{◌≡◌, ◌≤◌, ◌<◌, ◌⊎◌, ◌↔◌, ◌++◌, true, false, Err, OnOk, IfOk, IfErr, IsErrOf};
 ghost use Rattle.iol_types.specs.State.{blank, empty_state};
 ghost use Rattle.iol_record.specs.Record.{port_octets};
-ghost use Rattle.iol_disk.specs.Content.{IsImage, reads};
+ghost use Rattle.iol_disk.specs.Content.{IsImage};
 ghost use Rattle.iol_disk.specs.Moments.{LeavesOnly};
 ghost use Rattle.iol_slots.specs.Gate.{is_open};
-ghost use Rattle.iol_journal.specs.Formats.{IfUntouched, IsEmptyOrUnformatted, LeavesFormat};
+ghost use Rattle.iol_journal.specs.Formatting.{IfUntouched, IsEmptyOrUnformatted, LeavesFormat};
 ghost use Rattle.iol_journal.specs.Kept.{EachMeans};
 ghost use Rattle.iol_journal.specs.Layout.{layout_of, total};
 ghost use Rattle.iol_journal.specs.Octets.{padded};
 ghost use Rattle.iol_journal.specs.Orders.{Makes, MakesFormat, gate_writes, slot_writes, header_writes, port_writes, journal_writes, opening_calls};
+ghost use Rattle.iol_journal.specs.Reading.{Shows};
 ghost use Rattle.iol_journal.specs.declared.geometry.TheConstants.{DISK_GATE};
 ghost use Rattle.iol_journal.specs.declared.formatting.FormatFault.TheVariants.{TooSmall, AlreadyFormatted, Memory};
 
@@ -68,27 +69,27 @@ impl From<AllocError> for FormatFault {
 ///
 /// # Errors
 /// `TooSmall`, `AlreadyFormatted` and `Memory`, in this order, and `Disk` at the call that fails; a disk that failed
-/// may be formatted again.
+/// may be formatted again, but where its gate was already written: then it is recovered.
 pub fn format<D: SectorDisk>(
     alloc: Global,
     disk: &mut D,
     geometry: Geometry,
 ) -> Result<(), FormatFault>
     ensures too_small { IsErrOf result TooSmall ↔ ((D.disk disk.old).sectors < total (layout_of geometry)) }
-    ensures formatted_already { IsErrOf result AlreadyFormatted → IsTrue (D.disk disk.old).honest → is_open (reads (D.disk disk.old).content DISK_GATE) ≡ true }
+    ensures formatted_already { IsErrOf result AlreadyFormatted → Shows (D.disk disk.old) (λ image. is_open (image DISK_GATE) ≡ true) }
     ensures makes { MakesFormat geometry (D.disk disk.old) (D.disk disk.new) result }
     // Memory is asked for only where the gate of the disk is closed.
-    ensures memory { result ≡ Err Memory → IsTrue (D.disk disk.old).honest → is_open (reads (D.disk disk.old).content DISK_GATE) ≡ false }
+    ensures memory { result ≡ Err Memory → Shows (D.disk disk.old) (λ image. is_open (image DISK_GATE) ≡ false) }
     // Until its first sync, and where it refuses, each image was one before.
     ensures any_moment { LeavesOnly (D.disk disk.old) (D.disk disk.new)
         (λ image. IsImage (D.disk disk.old).content image ⊎ IsEmptyOrUnformatted geometry (D.disk disk.old).sectors image) }
     ensures untouched { IfErr result (λ fault. IfUntouched fault (LeavesOnly (D.disk disk.old) (D.disk disk.new) (IsImage (D.disk disk.old).content))) }
     // Where the gate of the disk is open nothing is written, and the answer is not Ok.
-    ensures kept { (IsTrue (D.disk disk.old).honest → is_open (reads (D.disk disk.old).content DISK_GATE) ≡ true)
+    ensures kept { Shows (D.disk disk.old) (λ image. is_open (image DISK_GATE) ≡ true)
         → LeavesOnly (D.disk disk.old) (D.disk disk.new) (IsImage (D.disk disk.old).content) }
-    ensures was_closed { OnOk result (IsTrue (D.disk disk.old).honest → is_open (reads (D.disk disk.old).content DISK_GATE) ≡ false) }
+    ensures was_closed { OnOk result (Shows (D.disk disk.old) (λ image. is_open (image DISK_GATE) ≡ false)) }
     // Since its first sync each image of a disk whose gate was closed is unformatted, or means the empty state.
-    ensures since { (IsTrue (D.disk disk.old).honest → is_open (reads (D.disk disk.old).content DISK_GATE) ≡ false)
+    ensures since { Shows (D.disk disk.old) (λ image. is_open (image DISK_GATE) ≡ false)
         → LeavesFormat geometry (D.disk disk.old) (D.disk disk.new) }
     // Each image is an empty journal.
     ensures done { OnOk result (EachMeans (D.disk disk.new) 0 (empty_state geometry.ports)) }

@@ -1,26 +1,26 @@
 //! The ports and slots of a journal.
 
 use crate::layout::Layout;
-use crate::numbers::u16_at;
+use crate::numbers::array_at;
 use crate::sector::sector_of;
 use iol_disk::SECTOR_OCTETS;
 use std::marker::Model;
 
-/// The most ports that a master has.
-pub const MOST_PORTS: u16 = 32;
-/// The most slots that an area has.
-pub const MOST_SLOTS: u16 = 256;
-/// The sectors of a port's record.
-pub const PORT_SECTORS: usize = 9;
-/// The sectors of a slot's body.
-pub const BODY_SECTORS: usize = 16;
+// The most ports that a master has.
+pub(crate) const MOST_PORTS: u16 = 32;
+// The most slots that an area has.
+pub(crate) const MOST_SLOTS: u16 = 256;
+// The sectors of a port's record.
+pub(crate) const PORT_SECTORS: usize = 9;
+// The sectors of a slot's body.
+pub(crate) const BODY_SECTORS: usize = 16;
 
-/// The sector that says the geometry.
-pub const GEOMETRY: usize = 0;
-/// The gate of the disk.
-pub const DISK_GATE: usize = 1;
-/// What the geometry's sector begins with: the letters IOLS, and the version of the layout.
-pub const GEOMETRY_MARK: [u8; 5] = [0x49, 0x4F, 0x4C, 0x53, 0x01];
+// The sector that says the geometry.
+pub(crate) const GEOMETRY: usize = 0;
+// The gate of the disk.
+pub(crate) const DISK_GATE: usize = 1;
+// What the geometry's sector begins with: the letters IOLS, and the version of the layout.
+pub(crate) const GEOMETRY_MARK: [u8; 5] = [0x49, 0x4F, 0x4C, 0x53, 0x01];
 
 /// The ports and slots of a journal, and with them where everything stands on its disk
 /// (docs/FORMATS.md, "Disk layout").
@@ -63,18 +63,23 @@ impl Geometry {
 
     // The geometry that its sector says, if it is one.
     #[tactic(auto, unfolding(crate::specs::Geometry::geometry_of))]
-    pub fn read(octets: &[u8; SECTOR_OCTETS]) -> Option<Geometry>
+    pub(crate) fn read(octets: &[u8; SECTOR_OCTETS]) -> Option<Geometry>
         ensures { result ≡ geometry_of octets.now }
     {
-        if octets.starts_with(&GEOMETRY_MARK) && u16_at(octets, 8) as usize == BODY_SECTORS {
-            Geometry::new(u16::from(octets[5]), u16_at(octets, 6))
+        if octets.starts_with(&GEOMETRY_MARK)
+            && u16::from_be_bytes(array_at(octets, 8)) as usize == BODY_SECTORS
+        {
+            Geometry::new(
+                u16::from(octets[5]),
+                u16::from_be_bytes(array_at(octets, 6)),
+            )
         } else {
             None
         }
     }
 
     // The octets of its sector.
-    pub fn octets(self) -> [u8; SECTOR_OCTETS]
+    pub(crate) fn octets(self) -> [u8; SECTOR_OCTETS]
         ensures { result ≡ geometry_octets self }
     {
         let mut octets = [0; 10];
@@ -110,7 +115,7 @@ impl Geometry {
         self.layout().sectors()
     }
 
-    /// Where everything stands on its disk.
+    // Where everything stands on its disk.
     pub(crate) fn layout(self) -> Layout
         ensures { result ≡ layout_of self }
     {

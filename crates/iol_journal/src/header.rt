@@ -2,7 +2,7 @@
 
 ghost use Rattle.std.specs.Prelude.{◌≡◌};
 
-use crate::numbers::u64_at;
+use crate::numbers::array_at;
 use crate::sector::sector_of;
 use iol_disk::SECTOR_OCTETS;
 
@@ -23,17 +23,17 @@ impl Header {
 
     // The header in the octets of its sector.
     #[tactic(auto, unfolding(crate::specs::Header::header_of))]
-    pub fn read(octets: &[u8; SECTOR_OCTETS]) -> Header
+    pub(crate) fn read(octets: &[u8; SECTOR_OCTETS]) -> Header
         ensures { result ≡ header_of octets.now }
     {
         Header {
-            epoch: u64_at(octets, 0),
-            base: u64_at(octets, 8),
+            epoch: u64::from_be_bytes(array_at(octets, 0)),
+            base: u64::from_be_bytes(array_at(octets, 8)),
         }
     }
 
     // The octets of its sector.
-    pub fn octets(self) -> [u8; SECTOR_OCTETS]
+    pub(crate) fn octets(self) -> [u8; SECTOR_OCTETS]
         ensures { result ≡ header_octets self.epoch self.base }
     {
         let mut octets = [0; 16];
@@ -43,7 +43,7 @@ impl Header {
     }
 
     // Whether the area may be in use with it.
-    pub fn is_sound(self) -> bool
+    pub(crate) fn is_sound(self) -> bool
         ensures { result ≡ is_sound self }
     {
         1 <= self.epoch && self.base <= LAST_NUMBER && self.epoch <= self.base + 1

@@ -1,6 +1,6 @@
 //! A journal at rest, and which batches it takes.
 
-use crate::batch::{Batch, MOST_COMMANDS, apply_all};
+use crate::batch::{Batch, apply_all, is_too_large};
 use crate::body::body_of;
 use crate::header::LAST_NUMBER;
 use crate::place::Place;
@@ -40,13 +40,13 @@ impl<D: SectorDisk> Model for Journal<D> {
 /// Why a batch was not begun. The causes are judged in this order.
 #[derive(Clone, Copy, Debug, PartialEq, Eq, Error)]
 pub enum BeginCause {
-    /// It has more than 64 commands.
+    /// It has more than 64 commands, or their records have more than 8,170 octets.
     #[error("the batch is too large")]
     TooLarge,
     /// No slot is free.
     #[error("the journal is full")]
     NeedsCheckpoint,
-    /// Memory ran out.
+    /// Out of memory.
     #[error("out of memory")]
     Memory,
     /// It has no command, its first number does not follow the journal's, a number is over 2^62, or a command
@@ -77,7 +77,7 @@ pub struct BeginFault<D: SectorDisk> {
 impl<D: SectorDisk> Journal<D> {
     ghost use Rattle.std.specs.Prelude.{◌≡◌, ◌≤◌, ◌+◌, length, None, IfOk, IfErr, OnOk};
     ghost use Rattle.iol_journal.specs.Layout.{total};
-    ghost use Rattle.iol_journal.specs.Begin.{refusal, IsRefusal};
+    ghost use Rattle.iol_journal.specs.Begin.{batch_refusal, IsBatchRefusal};
     ghost use Rattle.iol_journal.specs.Underway.{IsAtRest, IsUnderway};
     ghost use Rattle.iol_journal.specs.Batches.{batch_calls};
     ghost use Rattle.iol_journal.specs.Journals.{standing_at, values, calls_left, IsPlan, IsPlanned};
@@ -142,8 +142,8 @@ impl<D: SectorDisk> Journal<D> {
         ensures at_most { IfOk result (λ w. length (calls_left w) ≤ 19) }
         // It changes no meaning.
         ensures underway { IsAtRest (D.disk self.disk) self.standing self.idle → IfOk result (λ w. IsUnderway D.disk w) }
-        ensures follows { OnOk result (refusal self.standing batch.first (values batch.commands.items) ≡ None) }
-        ensures cause { IfErr result (λ fault. IsRefusal self.standing batch.first (values batch.commands.items) fault.cause) }
+        ensures follows { OnOk result (batch_refusal self.standing batch.first (values batch.commands.items) ≡ None) }
+        ensures cause { IfErr result (λ fault. IsBatchRefusal self.standing batch.first (values batch.commands.items) fault.cause) }
         ensures back { IfErr result (λ fault. (fault.journal ≡ self) × (fault.batch ≡ batch)) }
     {
         match self.plan(&batch) {
@@ -170,10 +170,10 @@ impl<D: SectorDisk> Journal<D> {
         ensures planned { IfOk result (λ plan. IsPlanned (D.disk self.now.disk) self.now.standing (values batch.now.commands.items) (Body 0)
             × IsPlan self.now.standing (values batch.now.commands.items) plan
             × (batch.now.first ≡ self.now.standing.number + 1)) }
-        ensures follows { OnOk result (refusal self.now.standing batch.now.first (values batch.now.commands.items) ≡ None) }
-        ensures cause { IfErr result (IsRefusal self.now.standing batch.now.first (values batch.now.commands.items)) }
+        ensures follows { OnOk result (batch_refusal self.now.standing batch.now.first (values batch.now.commands.items) ≡ None) }
+        ensures cause { IfErr result (IsBatchRefusal self.now.standing batch.now.first (values batch.now.commands.items)) }
     {
-        if MOST_COMMANDS < batch.commands.len() {
+        if is_too_large(&batch.commands) {
             return Err(BeginCause::TooLarge);
         }
         if self.place.used == self.place.layout.slots() {

@@ -1,16 +1,15 @@
 //! Laws of journals, which no code calls. Proofs of other crates cite them from `proofs/JournalLaws.antt`, under the same names.
 
-ghost use Rattle.std.specs.Prelude.{◌≡◌, ◌⊎◌, ◌≤◌, ℕ, true, IsTrue, List, length, Some, None};
+ghost use Rattle.std.specs.Prelude.{◌≡◌, ◌⊎◌, ℕ, true, false, IsTrue, List, Some, None};
 ghost use Rattle.iol_types.specs.Command.{CommandValue};
 ghost use Rattle.iol_disk.specs.Content.{Image, IsImage};
 ghost use Rattle.iol_disk.specs.Disk.{Disk};
-ghost use Rattle.iol_journal.specs.Begin.{follows, refusal};
+ghost use Rattle.iol_journal.specs.Begin.{follows, is_too_large, batch_refusal};
 ghost use Rattle.iol_journal.specs.Journals.{WritingView};
 ghost use Rattle.iol_journal.specs.Kept.{KeptEither, EachMeans};
 ghost use Rattle.iol_journal.specs.Meaning.{Standing};
 ghost use Rattle.iol_journal.specs.Underway.{IsAtRest, IsUnderway};
 ghost use Rattle.iol_journal.specs.declared.place.Idle.{Idle};
-ghost use Rattle.iol_journal.specs.declared.batch.TheConstants.{MOST_COMMANDS};
 
 use crate::journal::BeginCause;
 use iol_disk::SectorDisk;
@@ -27,8 +26,8 @@ pub fn rest_means_its_state()
     ensures { (d : Disk) (s : Standing) (idle : Idle) → IsAtRest d s idle → EachMeans d s.number s.state }
 {}
 
-/// A batch of at most 64 commands that goes on where the journal stands is refused for want of a slot alone.
+/// A batch that is not too large and goes on where the journal stands is refused for want of a slot alone.
 pub fn following_batch_wants_a_slot()
-    ensures { (s : Standing) (first : ℕ) (commands : List CommandValue) → length commands ≤ MOST_COMMANDS → follows s first commands ≡ true
-        → (refusal s first commands ≡ None) ⊎ ((refusal s first commands ≡ Some BeginCause.NeedsCheckpoint) × (s.used ≡ s.layout.slots)) }
+    ensures { (s : Standing) (first : ℕ) (commands : List CommandValue) → is_too_large commands ≡ false → follows s first commands ≡ true
+        → (batch_refusal s first commands ≡ None) ⊎ ((batch_refusal s first commands ≡ Some BeginCause.NeedsCheckpoint) × (s.used ≡ s.layout.slots)) }
 {}

@@ -5,11 +5,11 @@ use crate::geometry::{BODY_SECTORS, Geometry, PORT_SECTORS};
 use iol_slots::Slot;
 use std::marker::Model;
 
-/// Where everything stands on the disk of a geometry (docs/FORMATS.md, "Disk layout").
-///
-/// All places are asked of it, so that another layout of an area's sectors is another value of this type.
+// Where everything stands on the disk of a geometry (docs/FORMATS.md, "Disk layout").
+//
+// All places are asked of it, so that another layout of an area's sectors is another value of this type.
 #[derive(Clone, Copy, Debug, PartialEq, Eq)]
-pub struct Layout {
+pub(crate) struct Layout {
     geometry: Geometry,
 }
 
@@ -31,30 +31,30 @@ impl Layout {
     ghost use Rattle.iol_journal.specs.Layout.{total, area_sectors, gate_at, header_at, port_at, slot_at, body_at, layout_of};
 
     // The layout of a geometry.
-    pub fn of(geometry: Geometry) -> Layout
+    pub(crate) fn of(geometry: Geometry) -> Layout
         ensures { result ≡ layout_of geometry }
     {
         let _ports = geometry.ports();
         Layout { geometry }
     }
 
-    /// How many ports there are.
-    pub fn ports(self) -> u8
+    // How many ports there are.
+    pub(crate) fn ports(self) -> u8
         ensures value { result ≡ self.ports }
         ensures bound { result ≤ 32 }
     {
         self.geometry.ports()
     }
 
-    /// How many slots each area has.
-    pub fn slots(self) -> usize
+    // How many slots each area has.
+    pub(crate) fn slots(self) -> usize
         ensures { result ≡ self.slots }
     {
         self.geometry.slots()
     }
 
-    /// How many sectors a port's record has.
-    pub fn port_sectors(self) -> usize
+    // How many sectors a port's record has.
+    pub(crate) fn port_sectors(self) -> usize
         ensures value { result ≡ self.port_sectors }
         ensures some { 1 ≤ result }
         ensures bound { result ≤ 9 }
@@ -63,8 +63,8 @@ impl Layout {
         PORT_SECTORS
     }
 
-    /// How many sectors a disk needs.
-    pub fn sectors(self) -> usize
+    // How many sectors a disk needs.
+    pub(crate) fn sectors(self) -> usize
         ensures total { result ≡ total self }
         ensures bound { result < 10000 }
     {
@@ -79,8 +79,8 @@ impl Layout {
             + (1 + BODY_SECTORS) * self.geometry.slots()
     }
 
-    /// The gate of an area.
-    pub fn gate(self, area: Area) -> usize
+    // The gate of an area.
+    pub(crate) fn gate(self, area: Area) -> usize
         ensures at { result ≡ gate_at self area }
         ensures bound { result < 10000 }
     {
@@ -90,16 +90,16 @@ impl Layout {
         }
     }
 
-    /// The header of an area.
-    pub fn header(self, area: Area) -> usize
+    // The header of an area.
+    pub(crate) fn header(self, area: Area) -> usize
         ensures at { result ≡ header_at self area }
         ensures bound { result < 10000 }
     {
         self.gate(area) + 1
     }
 
-    /// The first sector of a port's record; ports are counted from 0.
-    pub fn port(self, area: Area, port: usize) -> usize
+    // The first sector of a port's record; ports are counted from 0.
+    pub(crate) fn port(self, area: Area, port: usize) -> usize
         requires { port < self.ports }
         ensures some_sector { 1 ≤ self.port_sectors }
         ensures at { result ≡ port_at self area port }
@@ -109,8 +109,8 @@ impl Layout {
         self.gate(area) + 2 + PORT_SECTORS * port
     }
 
-    /// A slot of an area.
-    pub fn slot(self, area: Area, slot: usize) -> Slot
+    // A slot of an area.
+    pub(crate) fn slot(self, area: Area, slot: usize) -> Slot
         requires { slot < self.slots }
         ensures gate { result.gate ≡ slot_at self area slot }
         ensures body { result.body ≡ body_at self area slot 0 }

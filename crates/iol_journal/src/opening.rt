@@ -1,14 +1,13 @@
 //! The first reads of a recovery: the layout, and the area in use.
 
-ghost use Rattle.std.specs.Prelude.{◌≡◌, ◌<◌, ◌≤◌, ◌+◌, Some, None, Err, IsTrue, IfOk, if◌then◌else◌};
-ghost use Rattle.iol_disk.specs.Content.{reads};
+ghost use Rattle.std.specs.Prelude.{◌≡◌, ◌<◌, ◌≤◌, ◌+◌, Some, None, Err, IfOk, IfErr, if◌then◌else◌};
 ghost use Rattle.iol_disk.specs.Disk.{Same, FailsOnlyAs};
 ghost use Rattle.iol_disk.specs.declared.fault.DiskFault.{DiskFault};
-ghost use Rattle.iol_journal.specs.Faults.{Counted};
+ghost use Rattle.iol_journal.specs.Faults.{Counted, IsFault};
 ghost use Rattle.iol_journal.specs.Layout.{other, total, header_at};
 ghost use Rattle.iol_journal.specs.Header.{header_of};
-ghost use Rattle.iol_journal.specs.Meaning.{layout_in, greatest, in_use, in_use_in};
-ghost use Rattle.iol_journal.specs.Reading.{Finds, Gives};
+ghost use Rattle.iol_journal.specs.Meaning.{layout_in, header_in, greatest, in_use, in_use_in};
+ghost use Rattle.iol_journal.specs.Reading.{Shows, Says, Finds};
 ghost use Rattle.iol_journal.specs.declared.header.TheConstants.{LAST_NUMBER};
 
 use crate::area::Area;
@@ -20,9 +19,9 @@ use crate::reading::{gate, read_sector};
 use iol_disk::{DiskFault, SectorDisk};
 
 // The layout of a formatted disk.
-pub fn find_layout<D: SectorDisk>(disk: &mut D) -> Result<Layout, RecoverCause>
+pub(crate) fn find_layout<D: SectorDisk>(disk: &mut D) -> Result<Layout, RecoverCause>
     ensures fits { IfOk result (λ layout. total layout ≤ (D.disk disk.old).sectors) }
-    ensures finds { Finds (λ layout. layout) (D.disk disk.old) (D.disk disk.new) (layout_in (D.disk disk.old).sectors) result }
+    ensures finds { Finds (λ layout. layout) (D.disk disk.old) (layout_in (D.disk disk.old).sectors) result }
     ensures counted { Counted (D.disk disk.old) (D.disk disk.new) result }
     ensures takes_no_memory { result ≡ Err RecoverCause.Memory → ⊥ }
     ensures same { Same (D.disk disk.old) (D.disk disk.new) }
@@ -45,28 +44,24 @@ pub struct InUse {
     pub header: Header,
 }
 
-/// The area in use, and the header of the other.
+// The area in use, and the header of the other.
 #[derive(Clone, Copy, Debug, PartialEq, Eq)]
-pub struct Areas {
+pub(crate) struct Areas {
     pub in_use: InUse,
     pub other: Header,
 }
 
-// Reads the gates, the headers of the open areas, and then those of the closed ones.
-pub fn find_areas<D: SectorDisk>(disk: &mut D, layout: Layout) -> Result<Areas, RecoverCause>
+// Reads the gates, the headers of the open areas, and then the other one's where that is closed.
+pub(crate) fn find_areas<D: SectorDisk>(disk: &mut D, layout: Layout) -> Result<Areas, RecoverCause>
     requires { total layout ≤ (D.disk disk.old).sectors }
-    ensures finds { Finds (λ areas. areas.in_use) (D.disk disk.old) (D.disk disk.new) (in_use_in layout) result }
-    ensures other { IfOk result (λ areas. IsTrue (D.disk disk.old).honest
-        → areas.other ≡ header_of (reads (D.disk disk.old).content (header_at layout (other areas.in_use.area)))) }
+    ensures finds { Finds (λ areas. areas.in_use) (D.disk disk.old) (in_use_in layout) result }
+    ensures other { IfOk result (λ areas. Shows (D.disk disk.old) (λ image. areas.other ≡ header_of (image (header_at layout (other areas.in_use.area))))) }
     ensures base { IfOk result (λ areas. areas.in_use.header.base ≤ LAST_NUMBER) }
     ensures counted { Counted (D.disk disk.old) (D.disk disk.new) result }
     ensures takes_no_memory { result ≡ Err RecoverCause.Memory → ⊥ }
     ensures same { Same (D.disk disk.old) (D.disk disk.new) }
 {
-    let open_a = gate(layout.gate(Area::A)).is_open(disk)?;
-    let open_b = gate(layout.gate(Area::B)).is_open(disk)?;
-    let a = read_if(disk, layout, Area::A, open_a)?;
-    let b = read_if(disk, layout, Area::B, open_b)?;
+    let (a, b) = read_open_headers(disk, layout)?;
     let in_use = greatest_of(layout, a, b)?;
     let other = in_use.area.other();
     let read = match other {
@@ -80,9 +75,26 @@ pub fn find_areas<D: SectorDisk>(disk: &mut D, layout: Layout) -> Result<Areas, 
     Ok(Areas { in_use, other })
 }
 
+// Reads both gates, and then the headers of the open areas.
+fn read_open_headers<D: SectorDisk>(
+    disk: &mut D,
+    layout: Layout,
+) -> Result<(Option<Header>, Option<Header>), DiskFault>
+    requires { total layout ≤ (D.disk disk.old).sectors }
+    ensures read { IfOk result (λ (a, b). Shows (D.disk disk.old) (λ image. (a ≡ header_in layout image Area.A) × (b ≡ header_in layout image Area.B))) }
+    ensures same { Same (D.disk disk.old) (D.disk disk.new) }
+    ensures fault { FailsOnlyAs DiskFault.Read (D.disk disk.old) (D.disk disk.new) result }
+{
+    let open_a = gate(layout.gate(Area::A)).is_open(disk)?;
+    let open_b = gate(layout.gate(Area::B)).is_open(disk)?;
+    let a = read_if(disk, layout, Area::A, open_a)?;
+    let b = read_if(disk, layout, Area::B, open_b)?;
+    Ok((a, b))
+}
+
 fn read_header<D: SectorDisk>(disk: &mut D, layout: Layout, area: Area) -> Result<Header, DiskFault>
     requires { total layout ≤ (D.disk disk.old).sectors }
-    ensures read { IfOk result (λ header. IsTrue (D.disk disk.old).honest → header ≡ header_of (reads (D.disk disk.old).content (header_at layout area))) }
+    ensures read { IfOk result (λ header. Shows (D.disk disk.old) (λ image. header ≡ header_of (image (header_at layout area)))) }
     ensures same { Same (D.disk disk.old) (D.disk disk.new) }
     ensures fault { FailsOnlyAs DiskFault.Read (D.disk disk.old) (D.disk disk.new) result }
 {
@@ -97,8 +109,7 @@ fn read_if<D: SectorDisk>(
     wanted: bool,
 ) -> Result<Option<Header>, DiskFault>
     requires { total layout ≤ (D.disk disk.old).sectors }
-    ensures read { IfOk result (λ header. IsTrue (D.disk disk.old).honest
-        → header ≡ (if wanted then Some (header_of (reads (D.disk disk.old).content (header_at layout area))) else None)) }
+    ensures read { IfOk result (λ header. Shows (D.disk disk.old) (λ image. header ≡ (if wanted then Some (header_of (image (header_at layout area))) else None))) }
     ensures same { Same (D.disk disk.old) (D.disk disk.new) }
     ensures fault { FailsOnlyAs DiskFault.Read (D.disk disk.old) (D.disk disk.new) result }
 {
@@ -110,12 +121,13 @@ fn read_if<D: SectorDisk>(
 }
 
 // Of the open areas the one with the greatest epoch.
-pub fn greatest_of(
+pub(crate) fn greatest_of(
     layout: Layout,
     a: Option<Header>,
     b: Option<Header>,
 ) -> Result<InUse, RecoverCause>
-    ensures gives { Gives (greatest layout a b) result }
+    ensures says { Says (λ used. used) (greatest layout a b) result }
+    ensures no_fault { IfErr result (λ told. IsFault told → ⊥) }
     ensures base { IfOk result (λ used. used.header.base ≤ LAST_NUMBER) }
 {
     match (a, b) {
@@ -139,7 +151,8 @@ pub fn greatest_of(
 }
 
 fn in_use_of(layout: Layout, area: Area, header: Header) -> Result<InUse, RecoverCause>
-    ensures gives { Gives (in_use layout area header) result }
+    ensures says { Says (λ used. used) (in_use layout area header) result }
+    ensures no_fault { IfErr result (λ told. IsFault told → ⊥) }
     ensures base { IfOk result (λ used. used.header.base ≤ LAST_NUMBER) }
 {
     if header.is_sound() {

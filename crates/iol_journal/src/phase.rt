@@ -20,7 +20,7 @@ impl Phase {
     ghost use Rattle.iol_journal.specs.Batches.{next_phase, IsPhase};
 
     // The phase after this one, with a body of so many sectors.
-    pub fn next(self, sectors: usize) -> Option<Phase>
+    pub(crate) fn next(self, sectors: usize) -> Option<Phase>
         requires phase { IsPhase sectors self }
         requires short { sectors ≤ BODY_SECTORS }
         ensures { result ≡ next_phase sectors self }

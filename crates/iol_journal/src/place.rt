@@ -13,9 +13,9 @@ pub enum Idle {
     Closed,
 }
 
-/// Where a journal writes next.
+// Where a journal writes next.
 #[derive(Clone, Copy, Debug, PartialEq, Eq)]
-pub struct Place {
+pub(crate) struct Place {
     pub layout: Layout,
     pub area: Area,
     pub epoch: u64,
@@ -29,7 +29,7 @@ impl Place {
     ghost use Rattle.iol_journal.specs.declared.geometry.TheConstants.{BODY_SECTORS};
 
     // The first slot that is not used.
-    pub fn slot(&self) -> Slot
+    pub(crate) fn slot(&self) -> Slot
         requires { self.now.used < self.now.layout.slots }
         ensures gate { result.gate ≡ slot_at self.now.layout self.now.area self.now.used }
         ensures body { result.body ≡ body_at self.now.layout self.now.area self.now.used 0 }

@@ -1,21 +1,21 @@
 //! Reads of a sector and of a gate.
 
-ghost use Rattle.std.specs.Prelude.{◌≡◌, ◌<◌, ◌≤◌, ◌+◌, IsTrue, IfOk};
-ghost use Rattle.iol_disk.specs.Content.{reads};
+ghost use Rattle.std.specs.Prelude.{◌≡◌, ◌<◌, ◌≤◌, ◌+◌, IfOk};
 ghost use Rattle.iol_disk.specs.Disk.{Same, FailsOnlyAs};
 ghost use Rattle.iol_disk.specs.declared.fault.DiskFault.{DiskFault};
+ghost use Rattle.iol_journal.specs.Reading.{Shows};
 ghost use Rattle.iol_slots.specs.Gate.{is_open};
 
 use iol_disk::{DiskFault, SECTOR_OCTETS, SectorDisk};
 use iol_slots::Slot;
 
 // The octets of a sector.
-pub fn read_sector<D: SectorDisk>(
+pub(crate) fn read_sector<D: SectorDisk>(
     disk: &mut D,
     sector: usize,
 ) -> Result<[u8; SECTOR_OCTETS], DiskFault>
     requires { sector < (D.disk disk.old).sectors }
-    ensures read { IfOk result (λ octets. IsTrue (D.disk disk.old).honest → octets ≡ reads (D.disk disk.old).content sector) }
+    ensures read { IfOk result (λ octets. Shows (D.disk disk.old) (λ image. octets ≡ image sector)) }
     ensures same { Same (D.disk disk.old) (D.disk disk.new) }
     ensures fault { FailsOnlyAs DiskFault.Read (D.disk disk.old) (D.disk disk.new) result }
 {
@@ -25,7 +25,7 @@ pub fn read_sector<D: SectorDisk>(
 }
 
 // A gate as a slot with no body.
-pub fn gate(sector: usize) -> Slot
+pub(crate) fn gate(sector: usize) -> Slot
     requires { sector < 1000000 }
     ensures { result.gate ≡ sector }
 {

@@ -1,13 +1,13 @@
 //! A journal is found on a disk.
 
 ghost use Rattle.std.specs.Prelude.{◌≡◌, ◌≤◌, Err, IsTrue, IfOk, OnOk};
-ghost use Rattle.iol_disk.specs.Content.{Image, IsImage, reads};
+ghost use Rattle.iol_disk.specs.Content.{Image, IsImage};
 ghost use Rattle.iol_disk.specs.Moments.{LeavesOnly};
 ghost use Rattle.iol_journal.specs.Journals.{standing_at};
 ghost use Rattle.iol_journal.specs.Layout.{total};
 ghost use Rattle.iol_journal.specs.Meaning.{standing_in};
-ghost use Rattle.iol_journal.specs.Reading.{Finds};
-ghost use Rattle.iol_journal.specs.Recoveries.{HasChosen, MakesRecovery, idle_in};
+ghost use Rattle.iol_journal.specs.Reading.{Shows, Finds};
+ghost use Rattle.iol_journal.specs.Recovery.{HasChosen, MakesRecovery, idle_in};
 ghost use Rattle.iol_journal.specs.declared.header.TheConstants.{LAST_NUMBER};
 
 use crate::cause::RecoverCause;
@@ -27,7 +27,7 @@ pub struct RecoverFault<D: SectorDisk> {
     pub disk: D,
 }
 
-/// What recovery finds on a disk.
+// What recovery finds on a disk.
 #[derive(Drop)]
 struct Found {
     place: Place,
@@ -41,8 +41,8 @@ impl<D: SectorDisk> Journal<D> {
     ghost use Rattle.iol_types.specs.State.{State};
     ghost use Rattle.iol_journal.specs.Kept.{IsKept, EachMeans};
     ghost use Rattle.iol_journal.specs.Underway.{IsAtRest};
-    ghost use Rattle.iol_journal.specs.Reading.{IsCause};
-    ghost use Rattle.iol_journal.specs.Recoveries.{disk_of, cause_of};
+    ghost use Rattle.iol_journal.specs.Reading.{SaysWhy};
+    ghost use Rattle.iol_journal.specs.Recovery.{recovered_disk, cause_of};
 
     /// Finds the journal that a disk holds, and the state after its commands. It begins with a sync, and writes nothing.
     ///
@@ -50,25 +50,23 @@ impl<D: SectorDisk> Journal<D> {
     /// The cause that is met first in the order of reading (docs/FORMATS.md, "Recovery"); the disk is handed back.
     pub fn recover(alloc: Global, disk: D) -> Result<(Journal<D>, MasterState), RecoverFault<D>>
         // It is how the journal stands on what the disk reads as.
-        ensures found { IfOk result (λ found. IsTrue (D.disk disk).honest
-            → standing_in (D.disk disk).sectors (reads (D.disk disk).content) ≡ Ok found.0.standing) }
+        ensures found { IfOk result (λ found. Shows (D.disk disk) (λ image. standing_in (D.disk disk).sectors image ≡ Ok found.0.standing)) }
         ensures state { IfOk result (λ found. found.1 ≡ found.0.standing.state) }
         // On a kept image the journal is at rest.
-        ensures at_rest { IfOk result (λ found. (IsTrue (D.disk disk).honest → IsKept (D.disk disk).sectors (reads (D.disk disk).content))
+        ensures at_rest { IfOk result (λ found. Shows (D.disk disk) (IsKept (D.disk disk).sectors)
             → IsAtRest (D.disk found.0.disk) found.0.standing found.0.idle) }
-        ensures idle { IfOk result (λ found. IsTrue (D.disk disk).honest → found.0.idle ≡ idle_in found.0.standing (reads (D.disk disk).content)) }
-        ensures cause { IfErr result (λ fault. IsCause (D.disk disk) (D.disk fault.disk) (standing_in (D.disk disk).sectors) fault.cause) }
+        ensures idle { IfOk result (λ found. Shows (D.disk disk) (λ image. found.0.idle ≡ idle_in found.0.standing image)) }
+        ensures cause { IfErr result (λ fault. Shows (D.disk disk) (λ image. SaysWhy (standing_in (D.disk disk).sectors image) fault.cause)) }
         // It makes one sync and reads, and a fault is that of the call that failed.
-        ensures makes { MakesRecovery (D.disk disk) (D.disk (disk_of result)) (cause_of result) }
+        ensures makes { MakesRecovery (D.disk disk) (D.disk (recovered_disk result)) (cause_of result) }
         // Memory is asked for only behind a sound geometry and an area in use.
-        ensures memory { IfErr result (λ fault. fault.cause ≡ RecoverCause.Memory → IsTrue (D.disk disk).honest
-            → HasChosen (D.disk disk).sectors (reads (D.disk disk).content)) }
+        ensures memory { IfErr result (λ fault. fault.cause ≡ RecoverCause.Memory → Shows (D.disk disk) (HasChosen (D.disk disk).sectors)) }
         // Where all images mean the same, that is what is found, and each image means it still.
         ensures means { IfOk result (λ found. (number : ℕ) (state : State) → IsTrue (D.disk disk).honest → EachMeans (D.disk disk) number state
             → (found.0.standing.number ≡ number) × (found.0.standing.state ≡ state)
             × IsAtRest (D.disk found.0.disk) found.0.standing found.0.idle × EachMeans (D.disk found.0.disk) number state) }
         // No image is added.
-        ensures any_moment { LeavesOnly (D.disk disk) (D.disk (disk_of result)) (IsImage (D.disk disk).content) }
+        ensures any_moment { LeavesOnly (D.disk disk) (D.disk (recovered_disk result)) (IsImage (D.disk disk).content) }
     {
         let mut disk = disk;
         match find(alloc, &mut disk) {
@@ -84,14 +82,12 @@ impl<D: SectorDisk> Journal<D> {
 // Syncs, and reads in the order of the layout.
 fn find<D: SectorDisk>(alloc: Global, disk: &mut D) -> Result<Found, RecoverCause>
     ensures makes { MakesRecovery (D.disk disk.old) (D.disk disk.new) result }
-    ensures memory { result ≡ Err RecoverCause.Memory → IsTrue (D.disk disk.old).honest
-        → HasChosen (D.disk disk.old).sectors (reads (D.disk disk.old).content) }
-    ensures finds { Finds (λ found. standing_at found.place found.number found.state) (D.disk disk.old) (D.disk disk.new)
+    ensures memory { result ≡ Err RecoverCause.Memory → Shows (D.disk disk.old) (HasChosen (D.disk disk.old).sectors) }
+    ensures finds { Finds (λ found. standing_at found.place found.number found.state) (D.disk disk.old)
         (standing_in (D.disk disk.old).sectors) result }
-    ensures idle { IfOk result (λ found. IsTrue (D.disk disk.old).honest
-        → found.place.idle ≡ idle_in (standing_at found.place found.number found.state) (reads (D.disk disk.old).content)) }
+    ensures idle { IfOk result (λ found. Shows (D.disk disk.old) (λ image. found.place.idle ≡ idle_in (standing_at found.place found.number found.state) image)) }
     // What it read is the only image.
-    ensures settled { OnOk result (IsTrue (D.disk disk.old).honest → (image : Image) → IsImage (D.disk disk.new).content image → image ≡ reads (D.disk disk.old).content) }
+    ensures settled { OnOk result (Shows (D.disk disk.old) (λ read. (image : Image) → IsImage (D.disk disk.new).content image → image ≡ read)) }
     ensures any_moment { LeavesOnly (D.disk disk.old) (D.disk disk.new) (IsImage (D.disk disk.old).content) }
     ensures fits { IfOk result (λ found. (total found.place.layout ≤ (D.disk disk.new).sectors) × (found.place.used ≤ found.place.layout.slots)
         × (found.number ≤ LAST_NUMBER) × (found.copy ≡ found.state)) }

@@ -1,16 +1,18 @@
 //! The commands of an area's slots, applied in order.
 
-ghost use Rattle.std.specs.Prelude.{◌≡◌, ◌≤◌, ◌<◌, ◌+◌, ◌++◌, ℕ, length, IsTrue, IfOk, IfErr, IfSome, OnOk, Some, None, if◌then◌else◌};
+ghost use Rattle.std.specs.Prelude.{◌≡◌, ◌≤◌, ◌<◌, ◌+◌, ◌++◌, ℕ, length, drop, IsTrue, IfOk, IfErr, IfSome, IfNone, OnOk, Ok, Err, Some, None, if◌then◌else◌};
+ghost use Rattle.iol_types.specs.Command.{value_of};
+ghost use Rattle.iol_record.specs.Reading.{command_at};
+ghost use Rattle.iol_record.specs.declared.fault.RecordFault.{RecordFault};
 ghost use Rattle.std.specs.Option.{option_map};
-ghost use Rattle.iol_disk.specs.Content.{reads};
 ghost use Rattle.iol_disk.specs.Disk.{Same};
 ghost use Rattle.iol_journal.specs.Body.{batch_of, commands_of};
 ghost use Rattle.iol_journal.specs.Faults.{Counted, IsFault};
 ghost use Rattle.iol_journal.specs.Layout.{total};
 ghost use Rattle.iol_journal.specs.Meaning.{log_from};
 ghost use Rattle.iol_journal.specs.Octets.{octets_at};
-ghost use Rattle.iol_journal.specs.Reading.{Finds};
-ghost use Rattle.iol_journal.specs.Replays.{reached, HoldsRecords};
+ghost use Rattle.iol_journal.specs.Reading.{Shows, Finds};
+ghost use Rattle.iol_journal.specs.Replay.{reached, HoldsRecords};
 
 use crate::area::Area;
 use crate::batch::{BODY_HEAD_OCTETS, MOST_RECORD_OCTETS};
@@ -19,22 +21,22 @@ use crate::cause::RecoverCause;
 use crate::geometry::BODY_SECTORS;
 use crate::header::{Header, LAST_NUMBER};
 use crate::layout::Layout;
-use crate::numbers::u32_at;
+use crate::numbers::array_at;
 use iol_disk::{DiskFault, SECTOR_OCTETS, SectorDisk};
-use iol_record::decode_command;
+use iol_record::{RecordFault, decode_command};
 use iol_slots::Slot;
-use iol_types::MasterState;
-use std::alloc::Global;
+use iol_types::{Command, MasterState};
+use std::alloc::{AllocError, Global};
 
-/// Where a journal goes on behind the slots that were replayed.
+// Where a journal goes on behind the slots that were replayed.
 #[derive(Clone, Copy, Debug, PartialEq, Eq)]
-pub struct End {
+pub(crate) struct End {
     pub used: usize,
     pub number: u64,
 }
 
 // Applies the commands of an area's slots, up to the first whose gate is closed.
-pub fn replay_slots<D: SectorDisk>(
+pub(crate) fn replay_slots<D: SectorDisk>(
     alloc: Global,
     disk: &mut D,
     layout: Layout,
@@ -44,7 +46,7 @@ pub fn replay_slots<D: SectorDisk>(
 ) -> Result<End, RecoverCause>
     requires fits { total layout ≤ (D.disk disk.old).sectors }
     requires base { header.base ≤ LAST_NUMBER }
-    ensures finds { Finds (λ end. record { used = end.used; number = end.number; state = state.new }) (D.disk disk.old) (D.disk disk.new)
+    ensures finds { Finds (λ end. record { used = end.used; number = end.number; state = state.new }) (D.disk disk.old)
         (λ image. log_from layout area header.epoch image 0 layout.slots header.base state.old) result }
     ensures counted { Counted (D.disk disk.old) (D.disk disk.new) result }
     ensures within { IfOk result (λ end. (end.used ≤ layout.slots) × (header.base + end.used ≤ end.number) × (end.number ≤ LAST_NUMBER)) }
@@ -58,7 +60,7 @@ pub fn replay_slots<D: SectorDisk>(
             return Ok(End { used, number });
         }
         read_body(disk, slot, &mut body)?;
-        number = match replay_body(&body, header.epoch, number, state) {
+        number = match replay_body(alloc, &body, header.epoch, number, state)? {
             Some(number) => number,
             None => return Err(RecoverCause::Damaged { sector: slot.body }),
         };
@@ -78,17 +80,17 @@ fn read_body<D: SectorDisk>(
     requires fits { slot.body + BODY_SECTORS ≤ (D.disk disk.old).sectors }
     requires sectors { slot.sectors ≡ BODY_SECTORS }
     // Its batch is that of the whole body of the slot.
-    ensures reads { OnOk result (IsTrue (D.disk disk.old).honest → (epoch first : ℕ)
-        → batch_of epoch first body.new.items ≡ batch_of epoch first (octets_at (reads (D.disk disk.old).content) slot.body BODY_SECTORS)) }
+    ensures reads { OnOk result (Shows (D.disk disk.old) (λ image. (epoch first : ℕ)
+        → batch_of epoch first body.new.items ≡ batch_of epoch first (octets_at image slot.body BODY_SECTORS))) }
     ensures holds { OnOk result (IsTrue (D.disk disk.old).honest → HoldsRecords body.new.items) }
-    ensures some { OnOk result (512 ≤ length body.new.items) }
+    ensures some { OnOk result (SECTOR_OCTETS ≤ length body.new.items) }
     ensures fault { IfErr result IsFault }
     ensures counted { Counted (D.disk disk.old) (D.disk disk.new) result }
     ensures same { Same (D.disk disk.old) (D.disk disk.new) }
 {
     body.clear();
     push_sector(disk, slot, 0, body)?;
-    let octets = u32_at(body, 18) as usize;
+    let octets = u32::from_be_bytes(array_at(body, 18)) as usize;
     if octets <= MOST_RECORD_OCTETS {
         let reached = (BODY_HEAD_OCTETS + octets).div_ceil(SECTOR_OCTETS);
         for j in 1..reached {
@@ -106,8 +108,8 @@ fn push_sector<D: SectorDisk>(
 ) -> Result<(), RecoverCause>
     requires inside { j < slot.sectors }
     requires fits { slot.body + slot.sectors ≤ (D.disk disk.old).sectors }
-    ensures pushed { OnOk result (IsTrue (D.disk disk.old).honest → body.new.items ≡ body.old.items ++ reads (D.disk disk.old).content (slot.body + j)) }
-    ensures longer { OnOk result (length body.new.items ≡ length body.old.items + 512) }
+    ensures pushed { OnOk result (Shows (D.disk disk.old) (λ image. body.new.items ≡ body.old.items ++ image (slot.body + j))) }
+    ensures longer { OnOk result (length body.new.items ≡ length body.old.items + SECTOR_OCTETS) }
     ensures fault { IfErr result IsFault }
     ensures counted { Counted (D.disk disk.old) (D.disk disk.new) result }
     ensures same { Same (D.disk disk.old) (D.disk disk.new) }
@@ -119,40 +121,64 @@ fn push_sector<D: SectorDisk>(
 }
 
 // Applies the commands of a body, if it has a batch that follows this number, and tells the number of its last.
-pub fn replay_body(body: &[u8], epoch: u64, number: u64, state: &mut MasterState) -> Option<u64>
+pub(crate) fn replay_body(
+    alloc: Global,
+    body: &[u8],
+    epoch: u64,
+    number: u64,
+    state: &mut MasterState,
+) -> Result<Option<u64>, AllocError>
     requires some { BODY_HEAD_OCTETS ≤ length body.now }
     requires bound { number ≤ LAST_NUMBER }
-    ensures reached { HoldsRecords body.now
-        → reached number state.old (batch_of epoch (number + 1) body.now) ≡ option_map (λ last. record { number = last; state = state.new }) result }
-    ensures later { IfSome result (λ last. (number < last) × (last ≤ LAST_NUMBER)) }
+    ensures reached { HoldsRecords body.now → IfOk result (λ last. reached number state.old (batch_of epoch (number + 1) body.now)
+        ≡ option_map (λ last. record { number = last; state = state.new }) last) }
+    ensures later { IfOk result (λ last. IfSome last (λ last. (number < last) × (last ≤ LAST_NUMBER))) }
 {
     let head = Head::read(body);
     if !head.fits(epoch, number + 1) {
-        return None;
+        return Ok(None);
     }
     let end = BODY_HEAD_OCTETS + head.octets as usize;
-    if end <= body.len() && replay(head.count, &body[BODY_HEAD_OCTETS..end], state) {
-        Some(number + u64::from(head.count))
+    if end <= body.len() && replay(alloc, head.count, &body[BODY_HEAD_OCTETS..end], state)? {
+        Ok(Some(number + u64::from(head.count)))
     } else {
-        None
+        Ok(None)
+    }
+}
+
+// The command whose record stands in front, if one does, and how many octets its record has.
+fn next_command(alloc: Global, octets: &[u8]) -> Result<Option<(Command, usize)>, AllocError>
+    ensures found { IfOk result (λ next. IfSome next (λ (command, count).
+        (count ≤ length octets.now) × (command_at octets.now ≡ Ok (value_of command, drop count octets.now)))) }
+    ensures none { IfOk result (λ next. IfNone next ((fault : RecordFault) × (command_at octets.now ≡ Err fault))) }
+{
+    match decode_command(alloc, octets) {
+        Ok(found) => Ok(Some(found)),
+        Err(RecordFault::Memory) => Err(AllocError),
+        Err(_) => Ok(None),
     }
 }
 
 // Applies so many commands, if their records fill the octets exactly, and each passes.
-fn replay(count: u16, records: &[u8], state: &mut MasterState) -> bool
-    ensures { (number : ℕ) → reached number state.old (commands_of count records.now)
-        ≡ (if result then Some (record { number = number + count; state = state.new }) else None) }
+fn replay(
+    alloc: Global,
+    count: u16,
+    records: &[u8],
+    state: &mut MasterState,
+) -> Result<bool, AllocError>
+    ensures { IfOk result (λ all. (number : ℕ) → reached number state.old (commands_of count records.now)
+        ≡ (if all then Some (record { number = number + count; state = state.new }) else None)) }
 {
     let mut rest = records;
     for _ in 0..count {
-        let Ok((command, read)) = decode_command(rest) else {
-            return false;
+        let Some((command, read)) = next_command(alloc, rest)? else {
+            return Ok(false);
         };
         if state.check(&command).is_err() {
-            return false;
+            return Ok(false);
         }
         state.apply(command);
         rest = &rest[read..];
     }
-    rest.is_empty()
+    Ok(rest.is_empty())
 }

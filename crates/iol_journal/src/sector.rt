@@ -5,7 +5,7 @@ ghost use Rattle.iol_journal.specs.Octets.{padded};
 use iol_disk::SECTOR_OCTETS;
 
 // A sector of these octets, and zeros behind them.
-pub fn sector_of(octets: &[u8]) -> [u8; SECTOR_OCTETS]
+pub(crate) fn sector_of(octets: &[u8]) -> [u8; SECTOR_OCTETS]
     requires some { 0 < length octets.now }
     requires most { length octets.now ≤ SECTOR_OCTETS }
     ensures { result ≡ padded octets.now }

@@ -3,13 +3,13 @@ mod failing;
 mod faults;
 mod growths;
 mod hostile_images;
-mod interrupted;
 mod largest;
 mod layout;
 mod orders;
 mod plain;
 mod power_stops;
 mod recorded;
+mod sets;
 
 use crate::{Batch, Geometry, Journal, Progress, RecoverCause, Writing, format};
 use iol_disk::{MemoryDisk, Pick, SECTOR_OCTETS, SectorDisk};
@@ -19,16 +19,21 @@ use std::test::Fail;
 
 const PICKS: [Pick; 4] = [Pick::Old, Pick::New, Pick::Zero, Pick::Pattern];
 
-// A Configure of this port: IOL_MANUAL with Backup and Restore, vendor 500, device 43981.
+// IOL_MANUAL with Backup and Restore, vendor 500, device 43981.
+fn config() -> Result<PortConfig, Fail> {
+    Ok(PortConfig {
+        mode: PortMode::IolManual,
+        validation: Validation::BackupAndRestore,
+        vendor: 500,
+        device: DeviceId::new(43981).ok_or("no device number")?,
+    })
+}
+
+// A Configure of this port.
 fn configure(port: u8) -> Result<Command, Fail> {
     Ok(Command::Configure {
         port: PortId::new(port).ok_or("no port number")?,
-        config: PortConfig {
-            mode: PortMode::IolManual,
-            validation: Validation::BackupAndRestore,
-            vendor: 500,
-            device: DeviceId::new(43981).ok_or("no device number")?,
-        },
+        config: config()?,
     })
 }
 
@@ -77,20 +82,29 @@ fn begun<D: SectorDisk + Drop>(journal: Journal<D>, batch: Batch) -> Result<Writ
     }
 }
 
-// Makes every step that is left, and counts them.
-fn finished<D: SectorDisk + Drop>(writing: Writing<D>) -> Result<(Journal<D>, usize), Fail> {
-    let mut writing = writing;
-    for made in 1..20 {
-        match writing.step() {
-            Progress::More(next) => writing = next,
-            Progress::Done(journal, written) => {
-                written.into_batch();
-                return Ok((journal, made));
-            }
-            Progress::Failed(_, fault) => return Err(Fail::from(fault)),
+// Makes at most so many steps, and counts them.
+fn stepped<D: SectorDisk + Drop>(writing: Writing<D>, most: usize) -> (Progress<D>, usize) {
+    let mut progress = Progress::More(writing);
+    for made in 0..most {
+        match progress {
+            Progress::More(writing) => progress = writing.step(),
+            ended => return (ended, made),
         }
     }
-    Err(Fail::new("the batch is not done"))
+    (progress, most)
+}
+
+// Makes every step that is left, and counts them.
+fn finished<D: SectorDisk + Drop>(writing: Writing<D>) -> Result<(Journal<D>, usize), Fail> {
+    let (progress, made) = stepped(writing, 19);
+    match progress {
+        Progress::Done(journal, written) => {
+            written.into_batch();
+            Ok((journal, made))
+        }
+        Progress::Failed(_, fault) => Err(Fail::from(fault)),
+        Progress::More(_) => Err(Fail::new("the batch is not done")),
+    }
 }
 
 // A journal of two ports and four slots with so many Configures of port 1, a batch each.

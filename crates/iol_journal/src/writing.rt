@@ -10,9 +10,9 @@ use iol_types::MasterState;
 use std::alloc::Global;
 use std::marker::Model;
 
-/// What a batch writes, and the state after it.
+// What a batch writes, and the state after it.
 #[derive(Debug, Drop)]
-pub struct Plan {
+pub(crate) struct Plan {
     // the body of its slot
     pub body: Vec<u8>,
     pub sectors: usize,
@@ -54,7 +54,8 @@ impl<D: SectorDisk> Model for Writing<D> {
         × (w.batch.first ≡ w.number + 1) };
 }
 
-/// A batch that every image of the disk has. It stands for that, and cannot be copied.
+/// Evidence that a batch is durable: every image of the disk has it. Only [`step`](Writing::step) makes one, and it
+/// must be consumed: it cannot be copied.
 pub struct Written {
     batch: Batch,
 }
@@ -99,7 +100,7 @@ impl<D: SectorDisk> Writing<D> {
     ghost use Rattle.iol_journal.specs.Kept.{KeptEither, EachMeans};
     ghost use Rattle.iol_journal.specs.Underway.{IsAtRest, IsUnderway};
     ghost use Rattle.iol_journal.specs.Journals.{IsPlan, IsPlanned, calls_left, standing_at, with_batch, values};
-    ghost use Rattle.iol_journal.specs.Progress.{disk_of, IfMore, IfDone, StepMakes};
+    ghost use Rattle.iol_journal.specs.Progress.{stepped_disk, IfMore, IfDone, StepMakes};
     ghost use Rattle.iol_journal.specs.declared.phase.Phase.TheVariants.{Body};
 
     // A batch before its first step.
@@ -156,7 +157,7 @@ impl<D: SectorDisk> Writing<D> {
     pub fn step(self) -> Progress<D>
         ensures call { StepMakes D.disk (calls_left self) result (D.disk self.disk) }
         // A stop at any moment of it leaves the state before the batch, or the state after it.
-        ensures any_moment { IsUnderway D.disk self → LeavesOnly (D.disk self.disk) (D.disk (disk_of result))
+        ensures any_moment { IsUnderway D.disk self → LeavesOnly (D.disk self.disk) (D.disk (stepped_disk result))
             (KeptEither (D.disk self.disk).sectors self.standing.number self.standing.state self.commands) }
         ensures underway { IsUnderway D.disk self → IfMore result (λ w. IsUnderway D.disk w) }
         // Every image has the batch.

@@ -44,14 +44,14 @@ connection_after number (Event _) = number
 connection_after number (Octets _) = number
 
 -- a call that was made, on a connection, and its answer (own)
-pub record Made : Type 0 where
+pub record Answered : Type 0 where
   pub connection : ℕ
   pub call : LinkCall
   pub answer : LinkAnswer
 
 module _ {L : Type 0} (number : L → ℕ) (steps : L → LinkCall → LinkAnswer → L → Type 0) where
   -- calls, each on the connection of its moment, lead from one link to another (own)
-  abbrev pub Run : L → List Made → L → Type 0
+  abbrev pub Run : L → List Answered → L → Type 0
   Run link [] last = link ≡ last
   Run link (made ∷ more) last =
       (next : L) × (made.connection ≡ number link)

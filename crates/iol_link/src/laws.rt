@@ -1,13 +1,13 @@
 //! Laws of links, which no code calls.
 
 ghost use Rattle.std.specs.Prelude.{List, ◌++◌};
-ghost use Rattle.iol_link.specs.Link.{Made, Run};
+ghost use Rattle.iol_link.specs.Link.{Answered, Run};
 
 use crate::link::DeviceLink;
 
 /// Where one run of a link ends another may begin, and both are one run.
 pub fn runs_join<L: DeviceLink>()
-    ensures { (first middle last : L) (early late : List Made)
+    ensures { (first middle last : L) (early late : List Answered)
         → Run L.number L.steps first early middle → Run L.number L.steps middle late last
         → Run L.number L.steps first (early ++ late) last }
 {}

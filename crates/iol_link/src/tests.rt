@@ -1,8 +1,10 @@
+//! A link of which nothing is said, called as a port calls it.
+
 use crate::{DeviceLink, Lost, PAGE_OCTETS, runs_join};
 use arrayvec::ArrayVec;
 use iol_isdu::ISDU_OCTETS;
 
-/// A link of which nothing is said: no device is there.
+// A link of which nothing is said: no device is there.
 #[derive(Drop)]
 struct Unplugged {
     connection: u64,
@@ -42,7 +44,7 @@ impl DeviceLink for Unplugged {
     }
 }
 
-/// The connections after an event was asked for, a page, and an answer.
+// The connections after an event was asked for, a page, and an answer.
 fn connections<L: DeviceLink>(link: &mut L) -> [u64; 3] {
     let _ = link.take_event();
     let silent = link.connection();

@@ -1,26 +1,33 @@
 -- What is read from the front of any octets: a value and the octets behind it, or the fault that comes first.
-use Rattle.std.specs.Prelude.{◌≡◌, ◌-◌, ℕ, nat_lt, nat_le, ◌&&◌, if◌then◌else◌, List, length, take, drop, Option, Some, None, Result, Ok, Err, MatchResult}
-use Rattle.std.specs.Option.{ok_or}
+use Rattle.std.specs.Prelude.{◌≡◌, ◌+◌, ◌-◌, ℕ, zero, suc, nat_lt, nat_le, nat_eq, ◌&&◌, if◌then◌else◌, Bool, true, false, List, [], ◌∷◌, ◌++◌, length, take, drop, min, find, Option, Some, None, is_some, Result, Ok, Err, MatchResult, IsOk}
+use Rattle.std.specs.Option.{ok_or, option_map_or}
 use Rattle.std.specs.Int.{Width, w8, w16, w32, w64, byte_len, from_be_bytes}
 use Rattle.iol_types.specs.declared.config.PortConfig.{PortConfig}
 use Rattle.iol_types.specs.declared.config.PortMode.{PortMode}
 use Rattle.iol_types.specs.declared.config.Validation.{Validation}
+use Rattle.iol_types.specs.declared.key.Key.{Key}
 use Rattle.iol_types.specs.declared.port_id.TheConstants.{PORTS}
 use Rattle.iol_types.specs.declared.device_id.TheConstants.{DEVICE_NUMBERS}
+use Rattle.iol_types.specs.declared.data_set.TheConstants.{MOST_ENTRY_OCTETS, ENTRY_HEAD_OCTETS, MOST_SET_OCTETS}
 use Rattle.iol_types.specs.Config.{mode_of, validation_of}
-use Rattle.iol_types.specs.Command.{CommandValue, Configure}
-use Rattle.iol_types.specs.State.{Port}
+use Rattle.iol_types.specs.Key.{is_reserved}
+use Rattle.iol_types.specs.DataSet.{Entry, SetValue, data_at, octets_of}
+use Rattle.iol_types.specs.Command.{CommandValue, Configure, Clear, Store}
+use Rattle.iol_types.specs.State.{Stored, Port, may_have}
 use Rattle.iol_record.specs.declared.fault.RecordFault.{RecordFault}
-use Rattle.iol_record.specs.declared.fault.RecordFault.TheVariants.{Short, BadTag, BadField}
-use Rattle.iol_record.specs.declared.reader.TheConstants.{CONFIGURE, NO_SET}
+use Rattle.iol_record.specs.declared.fault.RecordFault.TheVariants.{Short, BadTag, BadField, Memory}
+use Rattle.iol_record.specs.declared.reader.Tag.{Tag}
+use Rattle.iol_record.specs.declared.reader.Tag.TheVariants as tag
+use Rattle.iol_record.specs.declared.records.SetHead.{SetHead}
+use Rattle.iol_record.specs.declared.reader.TheConstants.{CONFIGURE, CLEAR, STORE, NO_SET, SET}
 
 -- a reading gives what stands in front of some octets with the octets behind it, or the first fault (own)
-abbrev pub Reader : Type 0 → Type 0
-Reader A = List ℕ → Result (A × List ℕ) RecordFault
+abbrev pub Reading : Type 0 → Type 0
+Reading A = List ℕ → Result (A × List ℕ) RecordFault
 
 -- reading goes on behind a value, and ends at a fault (own)
 infixl 10 ◌>>=◌
-abbrev pub ◌>>=◌ : {A B : Type 0} → Result A RecordFault → (A → Result B RecordFault) → Result B RecordFault
+abbrev pub ◌>>=◌ : {A B E : Type 0} → Result A E → (A → Result B E) → Result B E
 (Ok x) >>= next = next x
 (Err fault) >>= next = Err fault
 
@@ -31,16 +38,30 @@ pub record Field (A : Type 0) : Type 0 where
   pub value : ℕ → Option A
   pub fault : RecordFault
 
+-- a value where the test holds (own)
+abbrev pub if_so : {A : Type 0} → Bool → A → Option A
+if_so test x = if test then Some x else None
+
 -- the numbers from least to most stand for themselves, and the others for nothing (own)
-abbrev pub between : ℕ → ℕ → ℕ → Option ℕ
-between least most n = if nat_le least n && nat_le n most then Some n else None
+abbrev pub from_to : ℕ → ℕ → ℕ → Option ℕ
+from_to least most n = if_so (nat_le least n && nat_le n most) n
+
+-- the octet of a tag (format, Records)
+abbrev pub tag_octet : Tag → ℕ
+tag_octet tag.Configure = CONFIGURE
+tag_octet tag.Clear = CLEAR
+tag_octet tag.Store = STORE
+
+-- the tag that has this octet (format, Records)
+abbrev pub tag_of : ℕ → Option Tag
+tag_of octet = find (λ t. nat_eq (tag_octet t) octet) (tag.Configure ∷ tag.Clear ∷ tag.Store ∷ [])
 
 -- the fields of commands and ports, each with its width and its numbers (format, Records)
-abbrev pub tag_field : Field ℕ
-tag_field = record { width = w8; value = between CONFIGURE CONFIGURE; fault = BadTag }
+abbrev pub tag_field : Field Tag
+tag_field = record { width = w8; value = tag_of; fault = BadTag }
 
 abbrev pub port_field : Field ℕ
-port_field = record { width = w8; value = between 1 PORTS; fault = BadField }
+port_field = record { width = w8; value = from_to 1 PORTS; fault = BadField }
 
 abbrev pub mode_field : Field PortMode
 mode_field = record { width = w8; value = mode_of; fault = BadField }
@@ -52,49 +73,163 @@ abbrev pub vendor_field : Field ℕ
 vendor_field = record { width = w16; value = Some; fault = BadField }
 
 abbrev pub device_field : Field ℕ
-device_field = record { width = w32; value = between 0 (DEVICE_NUMBERS - 1); fault = BadField }
+device_field = record { width = w32; value = from_to 0 (DEVICE_NUMBERS - 1); fault = BadField }
 
 abbrev pub revision_field : Field ℕ
 revision_field = record { width = w64; value = Some; fault = BadField }
 
-abbrev pub set_field : Field ℕ
-set_field = record { width = w8; value = between NO_SET NO_SET; fault = BadField }
+abbrev pub checksum_field : Field ℕ
+checksum_field = record { width = w32; value = Some; fault = BadField }
+
+abbrev pub count_field : Field ℕ
+count_field = record { width = w16; value = Some; fault = BadField }
+
+-- the flag of a port: whether a set follows (format, Records)
+abbrev pub has_set : ℕ → Option Bool
+has_set octet = if nat_eq octet NO_SET then Some false else if_so (nat_eq octet SET) true
+
+abbrev pub flag_field : Field Bool
+flag_field = record { width = w8; value = has_set; fault = BadField }
+
+-- the fields of an entry behind others: an Index that is not reserved, a Subindex with which it is none of their keys,
+-- and a length with which it and they make no set that is too large (format, Records)
+abbrev pub index_field : Field ℕ
+index_field = record { width = w16; value = λ index. if is_reserved (record { index = index; subindex = 0 }) then None else Some index; fault = BadField }
+
+abbrev pub new_key : List Entry → ℕ → ℕ → Option Key
+new_key others index subindex =
+    if is_some (data_at others (record { index = index; subindex = subindex })) then None else Some (record { index = index; subindex = subindex })
+
+abbrev pub subindex_field : List Entry → ℕ → Field Key
+subindex_field others index = record { width = w8; value = new_key others index; fault = BadField }
+
+abbrev pub length_field : List Entry → Field ℕ
+length_field others = record {
+  width = w8;
+  value = λ count. if_so (nat_le count MOST_ENTRY_OCTETS && nat_le (octets_of others + ENTRY_HEAD_OCTETS + count) MOST_SET_OCTETS) count;
+  fault = BadField;
+}
+
+-- the reading of so many octets (format, Records)
+abbrev pub octets_at : ℕ → Reading (List ℕ)
+octets_at count octets = if nat_lt (length octets) count then Err Short else Ok (take count octets, drop count octets)
 
 -- the reading of a number of so many octets, most significant octet first (format, Records)
-abbrev pub number_at : Width → Reader ℕ
-number_at width octets =
-    if nat_lt (length octets) (byte_len width) then Err Short
-    else Ok (from_be_bytes width (take (byte_len width) octets), drop (byte_len width) octets)
+abbrev pub next_number : Width → Reading ℕ
+next_number width octets = octets_at (byte_len width) octets >>= λ read. Ok (from_be_bytes width read.0, read.1)
 
 -- the reading of a field: what its number stands for (format, Records)
-abbrev pub field_at : {A : Type 0} → Field A → Reader A
+abbrev pub field_at : {A : Type 0} → Field A → Reading A
 field_at field octets =
-    number_at field.width octets >>= λ number. ok_or (field.value number.0) field.fault >>= λ value. Ok (value, number.1)
+    next_number field.width octets >>= λ number. ok_or (field.value number.0) field.fault >>= λ value. Ok (value, number.1)
 
 -- the reading of two values, one behind the other (own)
-abbrev pub both : {A B : Type 0} → Reader A → Reader B → Reader (A × B)
+abbrev pub both : {A B : Type 0} → Reading A → Reading B → Reading (A × B)
 both first second octets = first octets >>= λ a. second a.1 >>= λ b. Ok ((a.0, b.0), b.1)
 
+-- the reading of a value, and then of one that goes by it and stands behind it (own)
+abbrev pub followed : {A B : Type 0} → Reading A → (A → Reading B) → Reading B
+followed first second octets = first octets >>= λ a. second a.0 a.1
+
 -- the reading of what values are together (own)
-abbrev pub joined : {A B : Type 0} → (A → B) → Reader A → Reader B
+abbrev pub joined : {A B : Type 0} → (A → B) → Reading A → Reading B
 joined whole parts octets = parts octets >>= λ a. Ok (whole a.0, a.1)
 
+-- the reading of a value that passes a test once all of it is read (own)
+abbrev pub tested : {A : Type 0} → (A → Bool) → Reading A → Reading A
+tested test value octets = value octets >>= λ a. ok_or (if_so (test a.0) a) BadField
+
 -- the reading of a configuration: mode, validation, vendor, device (format, Records)
-unfoldable pub config_at : Reader PortConfig
+unfoldable pub config_at : Reading PortConfig
 config_at =
     joined (λ (mode, (validation, (vendor, device))). record { mode = mode; validation = validation; vendor = vendor; device = device })
     (both (field_at mode_field) (both (field_at validation_field) (both (field_at vendor_field) (field_at device_field))))
 
--- the reading of a command: tag, port, configuration (format, Records)
-unfoldable pub command_at : Reader CommandValue
-command_at = joined (λ (_, (port, config)). Configure port config) (both (field_at tag_field) (both (field_at port_field) config_at))
+-- the reading of an entry behind others: Index, Subindex, length, data (format, Records)
+unfoldable pub entry_at : List Entry → Reading Entry
+entry_at others =
+    followed (field_at index_field) (λ index.
+    followed (field_at (subindex_field others index)) (λ key.
+    followed (field_at (length_field others)) (λ count.
+    joined (λ octets. (key, octets)) (octets_at count))))
 
--- the reading of a port: configuration, revision, flag of a set (format, Records)
-unfoldable pub port_record_at : Reader Port
-port_record_at =
-    joined (λ (config, (revision, _)). record { config = config; revision = revision })
-    (both config_at (both (field_at revision_field) (field_at set_field)))
+-- the reading of so many entries behind others (format, Records)
+abbrev pub entries_at : ℕ → List Entry → Reading (List Entry)
+entries_at zero others octets = Ok ([], octets)
+entries_at (suc n) others octets = followed (entry_at others) (λ entry. joined (λ more. entry ∷ more) (entries_at n (others ++ entry ∷ []))) octets
+
+-- the reading of the numbers in front of the entries of a set: vendor, device, checksum, count (format, Records)
+unfoldable pub set_head_at : Reading SetHead
+set_head_at =
+    joined (λ (vendor, (device, (checksum, count))). record { vendor = vendor; device = device; checksum = checksum; count = count })
+    (both (field_at vendor_field) (both (field_at device_field) (both (field_at checksum_field) (field_at count_field))))
+
+-- a set with these numbers and entries (format, Records)
+abbrev pub set_with : SetHead → List Entry → SetValue
+set_with head entries = record { entries = entries; vendor = head.vendor; device = head.device; checksum = head.checksum }
+
+-- the reading of a set: its numbers, and as many entries as they say (format, Records)
+unfoldable pub set_at : Reading SetValue
+set_at = followed set_head_at (λ head. joined (set_with head) (entries_at head.count []))
+
+-- the reading of what stands behind a tag: port and configuration; port; port, revision and set (format, Records)
+unfoldable pub arguments_at : Tag → Reading CommandValue
+arguments_at tag.Configure = joined (λ (port, config). Configure port config) (both (field_at port_field) config_at)
+arguments_at tag.Clear = joined Clear (field_at port_field)
+arguments_at tag.Store = joined (λ (port, (revision, set)). Store port revision set) (both (field_at port_field) (both (field_at revision_field) set_at))
+
+-- the reading of a command: its tag, and what stands behind that (format, Records)
+unfoldable pub command_at : Reading CommandValue
+command_at = followed (field_at tag_field) arguments_at
+
+-- the reading of what a port has stored, by its flag: nothing, or configuration and set (format, Records)
+unfoldable pub stored_at : Bool → Reading (Option Stored)
+stored_at false octets = Ok (None, octets)
+stored_at true octets = joined (λ (recorded, set). Some (record { set = set; recorded = recorded })) (both config_at set_at) octets
+
+-- a port may have what is stored for it (own)
+abbrev pub may_stand : Port → Bool
+may_stand port = option_map_or (may_have port.config) port.stored true
+
+-- the reading of a port: configuration, revision, flag, and what is stored (format, Records)
+unfoldable pub port_parts_at : Reading Port
+port_parts_at =
+    joined (λ (config, (revision, stored)). record { config = config; revision = revision; stored = stored })
+    (both config_at (both (field_at revision_field) (followed (field_at flag_field) stored_at)))
+
+-- the reading of a port that may have what is stored for it (format, Records)
+unfoldable pub port_record_at : Reading Port
+port_record_at = tested may_stand port_parts_at
+
+-- the reading of the numbers of a set and of its first entry, if it has one (format, Records)
+unfoldable pub set_begun_at : Reading (List Entry)
+set_begun_at = followed set_head_at (λ head. entries_at (min 1 head.count) [])
+
+-- the reading of a Store as far as the first entry of its set; no other command has a set (format, Records)
+unfoldable pub begun_behind : Tag → Reading (List Entry)
+begun_behind tag.Store octets = followed (field_at port_field) (λ port. followed (field_at revision_field) (λ revision. set_begun_at)) octets
+begun_behind other octets = Err BadTag
+
+unfoldable pub store_begun_at : Reading (List Entry)
+store_begun_at = followed (field_at tag_field) begun_behind
+
+-- the reading of a port as far as the first entry of its set, where it has a set (format, Records)
+unfoldable pub stored_begun_at : Bool → Reading (List Entry)
+stored_begun_at true octets = followed config_at (λ recorded. set_begun_at) octets
+stored_begun_at false octets = Err BadField
+
+unfoldable pub port_begun_at : Reading (List Entry)
+port_begun_at = followed config_at (λ config. followed (field_at revision_field) (λ revision. followed (field_at flag_field) stored_begun_at))
 
 -- what a function answers is what is read: a value and the octets behind it, or the fault (own)
 abbrev pub Reads : {X A : Type 0} → (X → A × List ℕ) → Result X RecordFault → Result (A × List ℕ) RecordFault → Type 0
 Reads view answer reading = MatchResult answer (λ x. reading ≡ Ok (view x)) (λ fault. reading ≡ Err fault)
+
+-- a fault is the first one that is read, or memory, of which there may be too little only where this much is read (own)
+abbrev pub IsReadFault : {A B : Type 0} → Result B RecordFault → RecordFault → Result A RecordFault → Type 0
+IsReadFault begun Memory reading = IsOk begun
+IsReadFault begun fault reading = reading ≡ Err fault
+
+-- what a function answers is what is read, unless it is out of memory (own)
+abbrev pub ReadsOrMemory : {X A B : Type 0} → (X → A × List ℕ) → Result B RecordFault → Result X RecordFault → Result (A × List ℕ) RecordFault → Type 0
+ReadsOrMemory view begun answer reading = MatchResult answer (λ x. reading ≡ Ok (view x)) (λ fault. IsReadFault begun fault reading)

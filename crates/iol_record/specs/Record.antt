@@ -1,24 +1,45 @@
 -- The one spelling of each command and of each port, numbers most significant octet first.
-use Rattle.std.specs.Prelude.{◌≡◌, ℕ, List, [], ◌∷◌, ◌++◌}
+use Rattle.std.specs.Prelude.{◌≡◌, ℕ, List, [], ◌∷◌, ◌++◌, length, Option, Some, None}
+use Rattle.std.specs.List.{flat_map}
 use Rattle.std.specs.Int.{w16, w32, w64, to_be_bytes}
 use Rattle.iol_types.specs.declared.config.PortConfig.{PortConfig}
 use Rattle.iol_types.specs.Config.{mode_octet, validation_octet}
-use Rattle.iol_types.specs.Command.{CommandValue, Configure, IsCommand}
-use Rattle.iol_types.specs.State.{Port, IsPort}
-use Rattle.iol_record.specs.declared.reader.TheConstants.{CONFIGURE, NO_SET}
+use Rattle.iol_types.specs.DataSet.{Entry, SetValue}
+use Rattle.iol_types.specs.Command.{CommandValue, Configure, Clear, Store, IsCommand}
+use Rattle.iol_types.specs.State.{Stored, Port, IsPort}
+use Rattle.iol_record.specs.declared.reader.TheConstants.{CONFIGURE, CLEAR, STORE, NO_SET, SET}
 
 -- the octets of a configuration: mode 1, validation 1, vendor 2, device 4 (format, Records)
 abbrev pub config_octets : PortConfig → List ℕ
 config_octets config =
     mode_octet config.mode ∷ validation_octet config.validation ∷ (to_be_bytes w16 config.vendor ++ to_be_bytes w32 config.device)
 
--- the octets of a command; Configure: tag 1, port 1, configuration (format, Records)
+-- the octets of an entry: Index 2, Subindex 1, length 1, data (format, Records)
+abbrev pub entry_octets : Entry → List ℕ
+entry_octets entry = to_be_bytes w16 entry.0.index ++ (entry.0.subindex ∷ length entry.1 ∷ entry.1)
+
+-- the octets of a set: vendor 2, device 4, checksum 4, count 2, and its entries in order (format, Records)
+abbrev pub set_octets : SetValue → List ℕ
+set_octets set =
+    to_be_bytes w16 set.vendor ++ to_be_bytes w32 set.device ++ to_be_bytes w32 set.checksum
+    ++ to_be_bytes w16 (length set.entries) ++ flat_map entry_octets set.entries
+
+-- the octets of a command; Configure: tag 1, port 1, configuration; Clear: tag 1, port 1; Store: tag 1, port 1,
+-- revision 8, set (format, Records)
 abbrev pub command_octets : CommandValue → List ℕ
 command_octets (Configure port config) = CONFIGURE ∷ port ∷ config_octets config
+command_octets (Clear port) = CLEAR ∷ port ∷ []
+command_octets (Store port revision set) = STORE ∷ port ∷ (to_be_bytes w64 revision ++ set_octets set)
 
--- the octets of a port: configuration, revision 8, flag of a set 1 (format, Records)
+-- the octets of what a port has stored: a flag 1, and where there is a set, the configuration that it was taken under
+-- and the set (format, Records)
+abbrev pub stored_octets : Option Stored → List ℕ
+stored_octets None = NO_SET ∷ []
+stored_octets (Some stored) = SET ∷ (config_octets stored.recorded ++ set_octets stored.set)
+
+-- the octets of a port: configuration, revision 8, what it has stored (format, Records)
 abbrev pub port_octets : Port → List ℕ
-port_octets port = config_octets port.config ++ to_be_bytes w64 port.revision ++ NO_SET ∷ []
+port_octets port = config_octets port.config ++ to_be_bytes w64 port.revision ++ stored_octets port.stored
 
 -- the octets are the one spelling of the command, whose numbers are in range (format, Records)
 pub record IsCommandRecord (octets : List ℕ) (command : CommandValue) : Type 0 where

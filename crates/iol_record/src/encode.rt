@@ -1,18 +1,35 @@
 //! Records written.
-ghost use Rattle.std.specs.Prelude.{◌≡◌, ◌++◌, OnOk, IfOk};
+ghost use Rattle.std.specs.Prelude.{◌≡◌, ◌<◌, ◌≤◌, ◌++◌, length, Some, OnOk, IfOk};
+ghost use Rattle.std.specs.List.{flat_map};
+ghost use Rattle.std.specs.Int.{w16, w32, to_be_bytes};
 ghost use Rattle.iol_types.specs.Config.{IsConfig};
-ghost use Rattle.iol_types.specs.Command.{Configure, value_of};
-ghost use Rattle.iol_record.specs.Record.{config_octets, IsCommandRecord, IsPortRecord};
+ghost use Rattle.iol_types.specs.DataSet.{IsSet};
+ghost use Rattle.iol_types.specs.Command.{Configure, Clear, Store, value_of};
+ghost use Rattle.iol_types.specs.Port.{stored_of};
+ghost use Rattle.iol_record.specs.declared.encode.TheConstants.{LARGEST_COMMAND_RECORD};
+ghost use Rattle.iol_record.specs.Record.{config_octets, command_octets, entry_octets, set_octets, stored_octets, IsCommandRecord, IsPortRecord};
 
-use crate::reader::{CONFIGURE, NO_SET};
-use iol_types::{Command, PortConfig, PortId, PortState};
+use crate::reader::{CLEAR, CONFIGURE, NO_SET, SET, STORE};
+use iol_types::{Command, DataSet, Key, PortConfig, PortId, PortState, StoredSet};
 use std::alloc::{AllocError, Global};
 
-/// The most octets that the record of a command has.
-pub const LARGEST_COMMAND_RECORD: usize = 10;
+// The octets of a Configure record.
+const CONFIGURE_OCTETS: usize = 10;
 
-/// The most octets that the record of a port has.
-pub const LARGEST_PORT_RECORD: usize = 17;
+// The octets of a Clear record.
+const CLEAR_OCTETS: usize = 2;
+
+// The octets of a Store record in front of its entries.
+const STORE_OCTETS: usize = 22;
+
+// The octets of the record of a port without a set.
+const PORT_OCTETS: usize = 17;
+
+/// The most octets that the record of a command has: a Store of a set that counts 4,096.
+pub const LARGEST_COMMAND_RECORD: usize = 4118;
+
+/// The most octets that the record of a port has: with a set that counts 4,096.
+pub const LARGEST_PORT_RECORD: usize = 4133;
 
 fn push_config(octets: &mut Vec<u8>, config: &PortConfig) -> Result<(), AllocError>
     ensures octets { OnOk result (octets.new.items ≡ octets.old.items ++ config_octets config.now) }
@@ -25,38 +42,148 @@ fn push_config(octets: &mut Vec<u8>, config: &PortConfig) -> Result<(), AllocErr
     Ok(())
 }
 
+fn push_entry(octets: &mut Vec<u8>, key: Key, data: &[u8]) -> Result<(), AllocError>
+    requires short { length data.now < 256 }
+    ensures { OnOk result (octets.new.items ≡ octets.old.items ++ entry_octets (key, data.now)) }
+{
+    octets.extend_from_slice(&key.index.to_be_bytes())?;
+    octets.push(key.subindex)?;
+    octets.push(data.len() as u8)?;
+    octets.extend_from_slice(data)
+}
+
+fn push_entries(octets: &mut Vec<u8>, set: &DataSet) -> Result<(), AllocError>
+    ensures { OnOk result (octets.new.items ≡ octets.old.items ++ flat_map entry_octets set.now.entries) }
+{
+    for place in 0..set.len() {
+        if let Some((key, data)) = set.entry(place) {
+            push_entry(octets, key, data)?;
+        }
+    }
+    Ok(())
+}
+
+fn entry_count(set: &DataSet) -> u16
+    ensures { result ≡ length set.now.entries }
+{
+    set.len() as u16
+}
+
+fn push_device(octets: &mut Vec<u8>, set: &DataSet) -> Result<(), AllocError>
+    ensures { OnOk result (octets.new.items ≡ octets.old.items ++ (to_be_bytes w16 set.now.vendor ++ to_be_bytes w32 set.now.device)) }
+{
+    octets.extend_from_slice(&set.vendor().to_be_bytes())?;
+    octets.extend_from_slice(&set.device().number().to_be_bytes())?;
+    Ok(())
+}
+
+fn push_counts(octets: &mut Vec<u8>, set: &DataSet) -> Result<(), AllocError>
+    ensures { OnOk result (octets.new.items ≡ octets.old.items ++ (to_be_bytes w32 set.now.checksum ++ to_be_bytes w16 (length set.now.entries))) }
+{
+    octets.extend_from_slice(&set.checksum().to_be_bytes())?;
+    octets.extend_from_slice(&entry_count(set).to_be_bytes())?;
+    Ok(())
+}
+
+fn push_set(octets: &mut Vec<u8>, set: &DataSet) -> Result<(), AllocError>
+    ensures octets { OnOk result (octets.new.items ≡ octets.old.items ++ set_octets set.now) }
+    ensures set { IsSet set.now }
+{
+    octets.reserve(set.octets())?;
+    push_device(octets, set)?;
+    push_counts(octets, set)?;
+    push_entries(octets, set)?;
+    Ok(())
+}
+
 fn encode_configure(alloc: Global, port: PortId, config: &PortConfig) -> Result<Vec<u8>, AllocError>
     ensures { IfOk result (λ octets. IsCommandRecord octets.items (Configure port config.now)) }
 {
-    let mut octets = Vec::with_capacity(alloc, LARGEST_COMMAND_RECORD)?;
+    let mut octets = Vec::with_capacity(alloc, CONFIGURE_OCTETS)?;
     octets.push(CONFIGURE)?;
     octets.push(port.number())?;
     push_config(&mut octets, config)?;
     Ok(octets)
 }
 
+fn encode_clear(alloc: Global, port: PortId) -> Result<Vec<u8>, AllocError>
+    ensures { IfOk result (λ octets. IsCommandRecord octets.items (Clear port)) }
+{
+    let mut octets = Vec::with_capacity(alloc, CLEAR_OCTETS)?;
+    octets.push(CLEAR)?;
+    octets.push(port.number())?;
+    Ok(octets)
+}
+
+fn encode_store(
+    alloc: Global,
+    port: PortId,
+    revision: u64,
+    set: &DataSet,
+) -> Result<Vec<u8>, AllocError>
+    ensures { IfOk result (λ octets. IsCommandRecord octets.items (Store port revision set.now)) }
+{
+    let mut octets = Vec::with_capacity(alloc, STORE_OCTETS)?;
+    octets.push(STORE)?;
+    octets.push(port.number())?;
+    octets.extend_from_slice(&revision.to_be_bytes())?;
+    push_set(&mut octets, set)?;
+    Ok(octets)
+}
+
+/// How many octets the record of a command has. It takes no memory.
+pub fn command_record_octets(command: &Command) -> usize
+    ensures count { result ≡ length (command_octets (value_of command.now)) }
+    ensures most { result ≤ LARGEST_COMMAND_RECORD }
+{
+    match command {
+        Command::Configure { .. } => CONFIGURE_OCTETS,
+        Command::Clear { .. } => CLEAR_OCTETS,
+        Command::Store { set, .. } => STORE_OCTETS + set.octets(),
+    }
+}
+
 /// The record of a command, laid out as at [`decode_command`](crate::decode_command).
 ///
 /// # Errors
-/// `AllocError` where memory runs out.
+/// `AllocError` where it is out of memory.
 pub fn encode_command(alloc: Global, command: &Command) -> Result<Vec<u8>, AllocError>
     ensures { IfOk result (λ octets. IsCommandRecord octets.items (value_of command.now)) }
 {
     match command {
         Command::Configure { port, config } => encode_configure(alloc, *port, config),
+        Command::Clear { port } => encode_clear(alloc, *port),
+        Command::Store {
+            port,
+            revision,
+            set,
+        } => encode_store(alloc, *port, *revision, set),
     }
+}
+
+fn push_stored(octets: &mut Vec<u8>, stored: &StoredSet) -> Result<(), AllocError>
+    ensures octets { OnOk result (octets.new.items ≡ octets.old.items ++ stored_octets (Some (stored_of stored.now))) }
+    ensures in_range { OnOk result (IsConfig stored.now.recorded × IsSet stored.now.set.value) }
+{
+    octets.push(SET)?;
+    push_config(octets, &stored.recorded)?;
+    push_set(octets, &stored.set)?;
+    Ok(())
 }
 
 /// The record of a port, laid out as at [`decode_port`](crate::decode_port).
 ///
 /// # Errors
-/// `AllocError` where memory runs out.
+/// `AllocError` where it is out of memory.
 pub fn encode_port(alloc: Global, port: &PortState) -> Result<Vec<u8>, AllocError>
     ensures { IfOk result (λ octets. IsPortRecord octets.items port.now) }
 {
-    let mut octets = Vec::with_capacity(alloc, LARGEST_PORT_RECORD)?;
+    let mut octets = Vec::with_capacity(alloc, PORT_OCTETS)?;
     push_config(&mut octets, &port.config())?;
     octets.extend_from_slice(&port.revision().to_be_bytes())?;
-    octets.push(NO_SET)?;
+    match port.stored() {
+        None => octets.push(NO_SET)?,
+        Some(stored) => push_stored(&mut octets, stored)?,
+    }
     Ok(octets)
 }

@@ -14,4 +14,7 @@ pub enum RecordFault {
     /// A field is out of its range.
     #[error("a field is out of range")]
     BadField,
+    /// Out of memory, at an entry of a parameter set.
+    #[error("out of memory")]
+    Memory,
 }

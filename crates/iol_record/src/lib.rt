@@ -5,7 +5,8 @@
 //! how many octets it has, and leave what follows unread. What a record is stands in
 //! `specs/Record.antt`; what a decoder answers to any octets, in `specs/Reading.antt`.
 //!
-//! Modules in reading order: `fault`, `reader`, `decode`, `encode`, `examples` (records worked out).
+//! Modules in reading order: `fault`, `reader` (fields), `records` (sets, commands and ports), `decode`,
+//! `encode`, `laws`, `examples` (records worked out).
 //!
 //! Proofs of other crates cite the laws of `proofs/RecordLaws.antt`.
 #![tactic(auto)]
@@ -14,11 +15,16 @@ mod decode;
 mod encode;
 pub mod examples;
 mod fault;
+mod laws;
 mod reader;
+mod records;
 
 pub use decode::{decode_command, decode_port};
-pub use encode::{LARGEST_COMMAND_RECORD, LARGEST_PORT_RECORD, encode_command, encode_port};
+pub use encode::{
+    LARGEST_COMMAND_RECORD, LARGEST_PORT_RECORD, command_record_octets, encode_command, encode_port,
+};
 pub use fault::RecordFault;
+pub use laws::no_record_begins_another;
 
 #[cfg(test)]
 mod tests;

@@ -1,22 +1,41 @@
 //! The fields of records, each read from the front of the octets that are left.
 ghost use Rattle.std.specs.Prelude.{◌≡◌, ◌≤◌, ◌^◌, ◌<◌, List, length, take, drop, IfOk, IfErr, OnOk};
 ghost use Rattle.std.specs.Int.{w8};
-ghost use Rattle.iol_types.specs.Command.{value_of};
-ghost use Rattle.iol_record.specs.Reading.{Reads, number_at, field_at, tag_field, port_field, mode_field, validation_field, vendor_field, device_field, revision_field, set_field, config_at, command_at, port_record_at};
+ghost use Rattle.iol_record.specs.Reading.{Reads, next_number, octets_at, field_at, tag_field, port_field, mode_field, validation_field, vendor_field, device_field, revision_field, checksum_field, count_field, flag_field, index_field, subindex_field, length_field, config_at};
 
 use crate::fault::RecordFault;
-use iol_types::{Command, DeviceId, PortConfig, PortId, PortMode, PortState, Validation};
+use iol_types::{
+    DeviceId, ENTRY_HEAD_OCTETS, Key, MOST_ENTRY_OCTETS, MOST_SET_OCTETS, PortConfig, PortId,
+    PortMode, SetBuilder, Validation,
+};
 use std::marker::Model;
 
-/// The tag of a Configure record, its first octet.
-pub const CONFIGURE: u8 = 1;
+// The tag of a Configure record, its first octet.
+pub(crate) const CONFIGURE: u8 = 1;
 
-/// The flag of a port that has no parameter set, the last octet of its record.
-pub const NO_SET: u8 = 0;
+// The tag of a Clear record.
+pub(crate) const CLEAR: u8 = 2;
 
-/// The octets that are still to be read. A contract sees them as a list.
+// The tag of a Store record.
+pub(crate) const STORE: u8 = 3;
+
+// The flag of a port that has no parameter set, the last octet of its record.
+pub(crate) const NO_SET: u8 = 0;
+
+// The flag of a port that has a parameter set, which follows.
+pub(crate) const SET: u8 = 1;
+
+// The kind of a command, as its tag says.
+#[derive(Clone, Copy)]
+pub(crate) enum Tag {
+    Configure,
+    Clear,
+    Store,
+}
+
+// The octets that are still to be read. A contract sees them as a list.
 #[derive(Drop)]
-pub struct Reader<'a> {
+pub(crate) struct Reader<'a> {
     rest: &'a [u8],
 }
 
@@ -29,21 +48,21 @@ impl<'a> Model for Reader<'a> {
 }
 
 impl<'a> Reader<'a> {
-    /// Reads these octets from their front.
-    pub fn new(octets: &'a [u8]) -> Self
+    // Reads these octets from their front.
+    pub(crate) fn new(octets: &'a [u8]) -> Self
         ensures { result ≡ octets.now }
     {
         Reader { rest: octets }
     }
 
-    /// How many octets are left.
-    pub fn len(&self) -> usize
+    // How many octets are left.
+    pub(crate) fn len(&self) -> usize
         ensures { result ≡ length self.now }
     {
         self.rest.len()
     }
 
-    /// The next `N` octets.
+    // The next `N` octets.
     fn front<const N: usize>(&mut self) -> Result<[u8; N], RecordFault>
         ensures front { IfOk result (λ front. (N ≤ length self.old) × (front ≡ take N self.old)) }
         ensures rest { OnOk result (self.new ≡ drop N self.old) }
@@ -58,81 +77,145 @@ impl<'a> Reader<'a> {
     }
 
     fn octet(&mut self) -> Result<u8, RecordFault>
-        ensures { Reads (λ octet. (octet, self.new)) result (number_at w8 self.old) }
+        ensures { Reads (λ octet. (octet, self.new)) result (next_number w8 self.old) }
     {
         Ok(u8::from_be_bytes(self.front()?))
     }
 
-    /// The tag of a Configure record.
-    fn tag(&mut self) -> Result<u8, RecordFault>
+    // The tag of a command.
+    pub(crate) fn tag(&mut self) -> Result<Tag, RecordFault>
         ensures { Reads (λ tag. (tag, self.new)) result (field_at tag_field self.old) }
     {
-        let tag = self.octet()?;
-        if tag == CONFIGURE {
-            Ok(tag)
-        } else {
-            Err(RecordFault::BadTag)
+        match self.octet()? {
+            CONFIGURE => Ok(Tag::Configure),
+            CLEAR => Ok(Tag::Clear),
+            STORE => Ok(Tag::Store),
+            _ => Err(RecordFault::BadTag),
         }
     }
 
-    /// A port, 1 to 32.
-    fn port(&mut self) -> Result<PortId, RecordFault>
+    // A port, 1 to 32.
+    pub(crate) fn port(&mut self) -> Result<PortId, RecordFault>
         ensures { Reads (λ port. (port, self.new)) result (field_at port_field self.old) }
     {
         PortId::new(self.octet()?).ok_or(RecordFault::BadField)
     }
 
-    /// A mode, 0 to 4.
+    // A mode, 0 to 4.
     fn mode(&mut self) -> Result<PortMode, RecordFault>
         ensures { Reads (λ mode. (mode, self.new)) result (field_at mode_field self.old) }
     {
         PortMode::from_octet(self.octet()?).ok_or(RecordFault::BadField)
     }
 
-    /// A validation, 0 to 4.
+    // A validation, 0 to 4.
     fn validation(&mut self) -> Result<Validation, RecordFault>
         ensures { Reads (λ validation. (validation, self.new)) result (field_at validation_field self.old) }
     {
         Validation::from_octet(self.octet()?).ok_or(RecordFault::BadField)
     }
 
-    /// A VendorID, two octets.
-    fn vendor(&mut self) -> Result<u16, RecordFault>
+    // A VendorID, two octets.
+    pub(crate) fn vendor(&mut self) -> Result<u16, RecordFault>
         ensures { Reads (λ vendor. (vendor, self.new)) result (field_at vendor_field self.old) }
     {
         Ok(u16::from_be_bytes(self.front()?))
     }
 
-    /// A DeviceID, four octets of which the first is 0.
-    fn device(&mut self) -> Result<DeviceId, RecordFault>
+    // A DeviceID, four octets of which the first is 0.
+    pub(crate) fn device(&mut self) -> Result<DeviceId, RecordFault>
         ensures { Reads (λ device. (device, self.new)) result (field_at device_field self.old) }
     {
         DeviceId::new(u32::from_be_bytes(self.front()?)).ok_or(RecordFault::BadField)
     }
 
-    /// A revision, eight octets.
-    fn revision(&mut self) -> Result<u64, RecordFault>
+    // A revision, eight octets.
+    pub(crate) fn revision(&mut self) -> Result<u64, RecordFault>
         ensures { Reads (λ revision. (revision, self.new)) result (field_at revision_field self.old) }
     {
         Ok(u64::from_be_bytes(self.front()?))
     }
 
-    /// The flag that no parameter set follows.
-    fn no_set(&mut self) -> Result<u8, RecordFault>
-        ensures { Reads (λ flag. (flag, self.new)) result (field_at set_field self.old) }
+    // A checksum, four octets.
+    pub(crate) fn checksum(&mut self) -> Result<u32, RecordFault>
+        ensures { Reads (λ checksum. (checksum, self.new)) result (field_at checksum_field self.old) }
     {
-        let flag = self.octet()?;
-        if flag == NO_SET {
-            Ok(flag)
+        Ok(u32::from_be_bytes(self.front()?))
+    }
+
+    // A count of entries, two octets.
+    pub(crate) fn count(&mut self) -> Result<u16, RecordFault>
+        ensures { Reads (λ count. (count, self.new)) result (field_at count_field self.old) }
+    {
+        Ok(u16::from_be_bytes(self.front()?))
+    }
+
+    // The flag of a port: whether a set follows.
+    pub(crate) fn has_set(&mut self) -> Result<bool, RecordFault>
+        ensures { Reads (λ flag. (flag, self.new)) result (field_at flag_field self.old) }
+    {
+        match self.octet()? {
+            NO_SET => Ok(false),
+            SET => Ok(true),
+            _ => Err(RecordFault::BadField),
+        }
+    }
+
+    // The Index of an entry, which is not reserved.
+    pub(crate) fn index(&mut self) -> Result<u16, RecordFault>
+        ensures { Reads (λ index. (index, self.new)) result (field_at index_field self.old) }
+    {
+        let index = u16::from_be_bytes(self.front()?);
+        if (Key { index, subindex: 0 }).is_reserved() {
+            Err(RecordFault::BadField)
+        } else {
+            Ok(index)
+        }
+    }
+
+    // The Subindex of an entry, with which its key is none of those before it.
+    pub(crate) fn key(&mut self, index: u16, others: &SetBuilder) -> Result<Key, RecordFault>
+        ensures { Reads (λ key. (key, self.new)) result (field_at (subindex_field others.now index) self.old) }
+    {
+        let key = Key {
+            index,
+            subindex: self.octet()?,
+        };
+        if others.has(key) {
+            Err(RecordFault::BadField)
+        } else {
+            Ok(key)
+        }
+    }
+
+    // The length of an entry, with which it and those before it make no set that is too large.
+    pub(crate) fn length(&mut self, others: &SetBuilder) -> Result<usize, RecordFault>
+        ensures { Reads (λ count. (count, self.new)) result (field_at (length_field others.now) self.old) }
+    {
+        let count = usize::from(self.octet()?);
+        if count <= MOST_ENTRY_OCTETS
+            && others.octets() + ENTRY_HEAD_OCTETS + count <= MOST_SET_OCTETS
+        {
+            Ok(count)
         } else {
             Err(RecordFault::BadField)
         }
     }
 
-    /// A configuration: mode, validation, vendor, device.
+    // So many octets.
+    pub(crate) fn octets(&mut self, count: usize) -> Result<&'a [u8], RecordFault>
+        ensures { Reads (λ octets. (octets.now, self.new)) result (octets_at count self.old) }
+    {
+        let (octets, rest) = self.rest.split_at_checked(count).ok_or(RecordFault::Short)?;
+        self.rest = rest;
+        Ok(octets)
+    }
+
+    // A configuration: mode, validation, vendor, device.
     #[tactic(auto, unfolding(crate::specs::Reading::config_at))]
-    fn config(&mut self) -> Result<PortConfig, RecordFault>
-        ensures { Reads (λ config. (config, self.new)) result (config_at self.old) }
+    pub(crate) fn config(&mut self) -> Result<PortConfig, RecordFault>
+        ensures read { Reads (λ config. (config, self.new)) result (config_at self.old) }
+        ensures no_memory { IfErr result (λ fault. fault ≡ RecordFault.Memory → ⊥) }
     {
         Ok(PortConfig {
             mode: self.mode()?,
@@ -140,28 +223,5 @@ impl<'a> Reader<'a> {
             vendor: self.vendor()?,
             device: self.device()?,
         })
-    }
-
-    /// The record of a command.
-    #[tactic(auto, unfolding(crate::specs::Reading::command_at))]
-    pub fn command(&mut self) -> Result<Command, RecordFault>
-        ensures { Reads (λ command. (value_of command, self.new)) result (command_at self.old) }
-    {
-        let _ = self.tag()?;
-        Ok(Command::Configure {
-            port: self.port()?,
-            config: self.config()?,
-        })
-    }
-
-    /// The record of a port.
-    #[tactic(auto, unfolding(crate::specs::Reading::port_record_at))]
-    pub fn port_state(&mut self) -> Result<PortState, RecordFault>
-        ensures { Reads (λ port. (port, self.new)) result (port_record_at self.old) }
-    {
-        let config = self.config()?;
-        let revision = self.revision()?;
-        let _ = self.no_set()?;
-        Ok(PortState::new(config, revision))
     }
 }

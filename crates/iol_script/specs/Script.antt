@@ -2,7 +2,7 @@
 use Rattle.std.specs.Prelude.{ℕ, ℤ, ◌≤◌, if◌then◌else◌, List, [], ◌∷◌, length, codes, IsUtf8, Option, None, option_and_then, option_map}
 use Rattle.toml.specs.Data.{Items, Members}
 use Rattle.toml.specs.Parse.{parse_document}
-use Rattle.iol_script.specs.Table.{number_at, has_only_keys}
+use Rattle.iol_script.specs.Table.{integer_at, has_only_keys}
 use Rattle.iol_script.specs.Steps.{values_in, before_stop, steps_of}
 use Rattle.iol_script.specs.declared.script.Script.{Script}
 use Rattle.iol_script.specs.declared.script.TheConstants.{SCRIPT_OCTETS}
@@ -31,7 +31,7 @@ abbrev pub said_by : Members → Option Said
 said_by table =
     if has_only_keys script_keys table then
     option_and_then (λ ports. option_and_then (λ slots. option_and_then (λ values. said_with ports slots values)
-    (values_in table)) (number_at (codes "slots") table)) (number_at (codes "ports") table)
+    (values_in table)) (integer_at (codes "slots") table)) (integer_at (codes "ports") table)
     else None
 
 -- what a text says, if it is TOML and that of a script (format, Scripts)

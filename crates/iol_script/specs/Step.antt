@@ -8,9 +8,9 @@ use Rattle.iol_types.specs.declared.device_id.TheConstants.{DEVICE_NUMBERS}
 use Rattle.iol_types.specs.declared.config.PortConfig.{PortConfig}
 use Rattle.iol_types.specs.declared.config.PortMode.{PortMode}
 use Rattle.iol_types.specs.declared.config.Validation.{Validation}
-use Rattle.iol_script.specs.Table.{number_at, text_at, has_only_keys}
+use Rattle.iol_script.specs.Table.{integer_at, text_at, has_only_keys}
 use Rattle.iol_script.specs.declared.step.Step.{Step}
-use Rattle.iol_script.specs.declared.step.Step.TheVariants.{Configure, Drain}
+use Rattle.iol_script.specs.declared.step.Step.TheVariants.{Configure, Clear, Drain}
 
 -- a whole number of 0 to below a bound (format, Scripts)
 abbrev pub below : ℕ → ℤ → Option ℕ
@@ -19,7 +19,7 @@ below bound (negsuc n) = None
 
 -- the whole number at a key, of 0 to below a bound (format, Scripts)
 abbrev pub number_below : ℕ → List ℕ → Members → Option ℕ
-number_below bound key table = option_and_then (below bound) (number_at key table)
+number_below bound key table = option_and_then (below bound) (integer_at key table)
 
 -- the number of the port that a table says (format, Scripts)
 abbrev pub port_in : Members → Option ℕ
@@ -51,6 +51,9 @@ config_in table =
 abbrev pub configure_keys : List (List ℕ)
 configure_keys = codes "do" ∷ codes "port" ∷ codes "mode" ∷ codes "validation" ∷ codes "vendor" ∷ codes "device" ∷ []
 
+abbrev pub clear_keys : List (List ℕ)
+clear_keys = codes "do" ∷ codes "port" ∷ []
+
 abbrev pub drain_keys : List (List ℕ)
 drain_keys = codes "do" ∷ []
 
@@ -61,6 +64,9 @@ configure_in table =
     option_and_then (λ port. option_map (λ config. Configure port config) (config_in table)) (port_in table)
     else None
 
+abbrev pub clear_in : Members → Option Step
+clear_in table = if has_only_keys clear_keys table then option_map Clear (port_in table) else None
+
 abbrev pub drain_in : Members → Option Step
 drain_in table = if has_only_keys drain_keys table then Some Drain else None
 
@@ -68,6 +74,7 @@ drain_in table = if has_only_keys drain_keys table then Some Drain else None
 abbrev pub step_of_kind : List ℕ → Members → Option Step
 step_of_kind kind table =
     if bytes_eq kind (codes "configure") then configure_in table
+    else if bytes_eq kind (codes "clear") then clear_in table
     else if bytes_eq kind (codes "drain") then drain_in table
     else None
 

@@ -18,8 +18,8 @@ abbrev pub has_only_keys : List (List ℕ) → Members → Bool
 has_only_keys keys table = list_all (is_among keys) (keys_of table)
 
 -- the whole number at a key of a table, if there is one (TOML)
-abbrev pub number_at : List ℕ → Members → Option ℤ
-number_at key table = option_and_then as_integer (get_member key table)
+abbrev pub integer_at : List ℕ → Members → Option ℤ
+integer_at key table = option_and_then as_integer (get_member key table)
 
 -- the text at a key of a table, if there is one (TOML)
 abbrev pub text_at : List ℕ → Members → Option (List ℕ)

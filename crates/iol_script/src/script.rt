@@ -1,9 +1,11 @@
 //! The text of a script (docs/FORMATS.md, "Scripts").
+ghost use Rattle.std.specs.Prelude.{◌≡◌};
+ghost use Rattle.iol_script.specs.declared.script.ScriptFault.TheVariants.{Memory};
 
 use crate::step::Step;
 use crate::steps::{before_stop, read_steps, values_in};
 use crate::stop::Keep;
-use crate::table::{has_only_keys, number_at};
+use crate::table::{has_only_keys, integer_at};
 use std::alloc::{AllocError, AllocFailed, Global};
 use std::str;
 use thiserror::Error;
@@ -37,9 +39,6 @@ pub enum ScriptFault {
 }
 
 impl<T: Drop> From<AllocFailed<T>> for ScriptFault {
-    ghost use Rattle.std.specs.Prelude.{◌≡◌};
-    ghost use Rattle.iol_script.specs.declared.script.ScriptFault.TheVariants.{Memory};
-
     ghost from_gives = { λ _ fault. fault ≡ Memory };
 
     fn from(_error: AllocFailed<T>) -> ScriptFault {
@@ -48,9 +47,6 @@ impl<T: Drop> From<AllocFailed<T>> for ScriptFault {
 }
 
 impl From<AllocError> for ScriptFault {
-    ghost use Rattle.std.specs.Prelude.{◌≡◌};
-    ghost use Rattle.iol_script.specs.declared.script.ScriptFault.TheVariants.{Memory};
-
     ghost from_gives = { λ _ fault. fault ≡ Memory };
 
     fn from(_error: AllocError) -> ScriptFault {
@@ -59,7 +55,7 @@ impl From<AllocError> for ScriptFault {
 }
 
 impl Script {
-    ghost use Rattle.std.specs.Prelude.{◌≡◌, None, Some, IfOk, OnOk};
+    ghost use Rattle.std.specs.Prelude.{None, Some, IfOk, OnOk};
     ghost use Rattle.toml.specs.View.{table_view};
     ghost use Rattle.iol_script.specs.Script.{IsText, said_by, said_in, said_of};
 
@@ -68,7 +64,7 @@ impl Script {
     /// is added.
     ///
     /// # Errors
-    /// `NotValid` where the text is no script; `Memory` where memory runs out over a text.
+    /// `NotValid` where the text is no script; `Memory` where reading a text is out of memory.
     pub fn read(alloc: Global, text: &[u8]) -> Result<Script, ScriptFault>
         ensures text { OnOk result (IsText text.now) }
         ensures script { IfOk result (λ script. said_in text.now ≡ Some (said_of script)) }
@@ -95,8 +91,8 @@ impl Script {
         if !has_only_keys(table, &["ports", "slots", "step"]) {
             return Err(ScriptFault::NotValid);
         }
-        let ports = number_at(table, "ports").ok_or(ScriptFault::NotValid)?;
-        let slots = number_at(table, "slots").ok_or(ScriptFault::NotValid)?;
+        let ports = integer_at(table, "ports").ok_or(ScriptFault::NotValid)?;
+        let slots = integer_at(table, "slots").ok_or(ScriptFault::NotValid)?;
         let values = values_in(table).ok_or(ScriptFault::NotValid)?;
         let (values, keep) = before_stop(values);
         let steps = read_steps(alloc, values)?;

@@ -1,9 +1,9 @@
 //! One step of a script.
 ghost use Rattle.std.specs.Prelude.{◌≡◌, ◌^◌};
 ghost use Rattle.toml.specs.View.{table_view};
-ghost use Rattle.iol_script.specs.Step.{configure_in, drain_in, config_in, number_below, port_in, mode_in, validation_in, vendor_in, device_in};
+ghost use Rattle.iol_script.specs.Step.{configure_in, clear_in, drain_in, config_in, number_below, port_in, mode_in, validation_in, vendor_in, device_in};
 
-use crate::table::{has_only_keys, number_at, text_at};
+use crate::table::{has_only_keys, integer_at, text_at};
 use iol_types::{DeviceId, PortConfig, PortId, PortMode, Validation};
 use toml::{Table, Value};
 
@@ -12,6 +12,8 @@ use toml::{Table, Value};
 pub enum Step {
     /// A client gives a port a configuration.
     Configure { port: PortId, config: PortConfig },
+    /// A client deletes the parameter set of a port.
+    Clear { port: PortId },
     /// All that is queued is written to the disk.
     Drain,
 }
@@ -21,13 +23,15 @@ impl Step {
     ghost use Rattle.toml.specs.View.{view};
     ghost use Rattle.iol_script.specs.Step.{step_of};
 
-    /// The step that a value says: `{ do = "drain" }`, or `{ do = "configure", .. }` with its five whole numbers.
-    pub fn read(value: &Value) -> Option<Step>
+    // The step that a value says: `{ do = "drain" }`, `{ do = "clear", .. }` with its port, or `{ do = "configure", .. }`
+    // with its five whole numbers.
+    pub(crate) fn read(value: &Value) -> Option<Step>
         ensures { result ≡ step_of (view value.now) }
     {
         let table = value.as_table()?;
         match text_at(table, "do")? {
             "configure" => configure_in(table),
+            "clear" => clear_in(table),
             "drain" => drain_in(table),
             _ => None,
         }
@@ -44,6 +48,17 @@ fn configure_in(table: &Table) -> Option<Step>
     Some(Step::Configure {
         port: port_in(table)?,
         config: config_in(table)?,
+    })
+}
+
+fn clear_in(table: &Table) -> Option<Step>
+    ensures { result ≡ clear_in (table_view table.now) }
+{
+    if !has_only_keys(table, &["do", "port"]) {
+        return None;
+    }
+    Some(Step::Clear {
+        port: port_in(table)?,
     })
 }
 
@@ -89,18 +104,18 @@ fn validation_in(table: &Table) -> Option<Validation>
 fn vendor_in(table: &Table) -> Option<u16>
     ensures { result ≡ vendor_in (table_view table.now) }
 {
-    u16::try_from(number_at(table, "vendor")?).ok()
+    u16::try_from(integer_at(table, "vendor")?).ok()
 }
 
 fn device_in(table: &Table) -> Option<DeviceId>
     ensures { result ≡ device_in (table_view table.now) }
 {
-    DeviceId::new(u32::try_from(number_at(table, "device")?).ok()?)
+    DeviceId::new(u32::try_from(integer_at(table, "device")?).ok()?)
 }
 
 // The whole number of 0 to 255 at a key.
 fn octet_at(table: &Table, key: &str) -> Option<u8>
     ensures { result ≡ number_below (2 ^ 8) key.now (table_view table.now) }
 {
-    u8::try_from(number_at(table, key)?).ok()
+    u8::try_from(integer_at(table, key)?).ok()
 }

@@ -6,23 +6,23 @@ ghost use Rattle.iol_script.specs.Steps.{values_in, before_stop, steps_of};
 use crate::script::ScriptFault;
 use crate::step::Step;
 use crate::stop::{Keep, read_stop};
+use crate::table::value_at;
 use std::alloc::Global;
 use toml::{Table, Value};
 
-/// The values of the key `step`, which is an array where it is there.
-pub fn values_in(table: &Table) -> Option<&[Value]>
+// The values of the key `step`, which is an array where it is there.
+pub(crate) fn values_in(table: &Table) -> Option<&[Value]>
     ensures { option_map (λ values. items_view values.now) result ≡ values_in (table_view table.now) }
 {
-    match table.get("step") {
+    match value_at(table, "step") {
         Some(value) => Some(value.as_array()?.as_slice()),
         None => Some(&[]),
     }
 }
 
-/// The values before the stop, and what the stop keeps: what is new where the last value is no stop.
-pub fn before_stop(values: &[Value]) -> (&[Value], Keep)
-    ensures values { items_view result.0.now ≡ (before_stop (items_view values.now)).0 }
-    ensures keep { result.1 ≡ (before_stop (items_view values.now)).1 }
+// The values before the stop, and what the stop keeps: what is new where the last value is no stop.
+pub(crate) fn before_stop(values: &[Value]) -> (&[Value], Keep)
+    ensures { (items_view result.0.now, result.1) ≡ before_stop (items_view values.now) }
 {
     if let Some((last, before)) = values.split_last() {
         if let Some(keep) = read_stop(last) {
@@ -32,11 +32,11 @@ pub fn before_stop(values: &[Value]) -> (&[Value], Keep)
     (values, Keep::New)
 }
 
-/// The steps that the values say, none of which is a stop.
-///
-/// # Errors
-/// `NotValid` where a value says no step; `Memory` where memory runs out.
-pub fn read_steps(alloc: Global, values: &[Value]) -> Result<Vec<Step>, ScriptFault>
+// The steps that the values say, none of which is a stop.
+//
+// # Errors
+// `NotValid` where a value says no step; `Memory` where it is out of memory.
+pub(crate) fn read_steps(alloc: Global, values: &[Value]) -> Result<Vec<Step>, ScriptFault>
     ensures steps { IfOk result (λ steps. steps_of (items_view values.now) ≡ Some steps.items) }
     ensures not_valid { result ≡ Err ScriptFault.NotValid → steps_of (items_view values.now) ≡ None }
 {

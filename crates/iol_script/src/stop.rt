@@ -19,8 +19,8 @@ pub enum Keep {
     Pattern,
 }
 
-/// What the stop keeps that a value says: `{ do = "stop", keep = ".." }`.
-pub fn read_stop(value: &Value) -> Option<Keep>
+// What the stop keeps that a value says: `{ do = "stop", keep = ".." }`.
+pub(crate) fn read_stop(value: &Value) -> Option<Keep>
     ensures { result ≡ stop_of (view value.now) }
 {
     let table = value.as_table()?;

@@ -1,12 +1,13 @@
 //! What a TOML table holds at its keys.
 ghost use Rattle.std.specs.Prelude.{◌≡◌, map, option_map};
-ghost use Rattle.toml.specs.View.{table_view};
-ghost use Rattle.iol_script.specs.Table.{has_only_keys, is_among, number_at, text_at};
+ghost use Rattle.toml.specs.Data.{get_member};
+ghost use Rattle.toml.specs.View.{view, table_view};
+ghost use Rattle.iol_script.specs.Table.{has_only_keys, is_among, integer_at, text_at};
 
-use toml::Table;
+use toml::{Table, Value};
 
-/// Whether the table has no key but these.
-pub fn has_only_keys(table: &Table, keys: &[&str]) -> bool
+// Whether the table has no key but these.
+pub(crate) fn has_only_keys(table: &Table, keys: &[&str]) -> bool
     ensures { result ≡ has_only_keys (map (λ key. key.now) keys.now) (table_view table.now) }
 {
     for key in table.keys() {
@@ -23,22 +24,23 @@ fn is_among(key: &str, keys: &[&str]) -> bool
     keys.contains(&key)
 }
 
-/// The text at a key, if there is one.
-pub fn text_at<'a>(table: &'a Table, key: &str) -> Option<&'a str>
-    ensures { option_map (λ text. text.now) result ≡ text_at key.now (table_view table.now) }
+// The value at a key, if there is one.
+pub(crate) fn value_at<'a>(table: &'a Table, key: &str) -> Option<&'a Value>
+    ensures { option_map (λ value. view value.now) result ≡ get_member key.now (table_view table.now) }
 {
-    match table.get(key) {
-        Some(value) => value.as_str(),
-        None => None,
-    }
+    table.get(key)
 }
 
-/// The whole number at a key, if there is one; no float and no boolean is a whole number.
-pub fn number_at(table: &Table, key: &str) -> Option<i64>
-    ensures { result ≡ number_at key.now (table_view table.now) }
+// The text at a key, if there is one.
+pub(crate) fn text_at<'a>(table: &'a Table, key: &str) -> Option<&'a str>
+    ensures { option_map (λ text. text.now) result ≡ text_at key.now (table_view table.now) }
 {
-    match table.get(key) {
-        Some(value) => value.as_integer(),
-        None => None,
-    }
+    value_at(table, key)?.as_str()
+}
+
+// The whole number at a key, if there is one; no float and no boolean is a whole number.
+pub(crate) fn integer_at(table: &Table, key: &str) -> Option<i64>
+    ensures { result ≡ integer_at key.now (table_view table.now) }
+{
+    value_at(table, key)?.as_integer()
 }

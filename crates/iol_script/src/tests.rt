@@ -56,13 +56,19 @@ const TOPS: [(&str, &str); 20] = [
 ];
 
 // What a step says, and why it is not valid.
-const STEPS: [(&str, &str); 36] = [
+const STEPS: [(&str, &str); 39] = [
     ("do is missing", "port = 1"),
     ("a step is empty", ""),
     ("do is a number", "do = 1"),
     ("do is unknown", "do = \"jump\""),
     ("do is spelled otherwise", "do = \"Drain\""),
-    ("clear is not done", "do = \"clear\", port = 1"),
+    ("a clear has no port", "do = \"clear\""),
+    ("a clear has port 0", "do = \"clear\", port = 0"),
+    ("a clear has port 33", "do = \"clear\", port = 33"),
+    (
+        "a clear has a key of configure",
+        "do = \"clear\", port = 1, mode = 1",
+    ),
     (
         "ports are not stepped",
         "do = \"port\", port = 1, times = 1",
@@ -171,7 +177,7 @@ const STEPS: [(&str, &str); 36] = [
 const NUMBERS: [(i64, i64); 4] = [(0, 4), (33, 257), (-2, 4), (2, i64::MAX)];
 
 // Texts that are scripts.
-const VALID: [(&str, &str); 8] = [
+const VALID: [(&str, &str); 9] = [
     ("there is no step", "ports = 2\nslots = 4"),
     ("there are no steps", "ports = 2\nslots = 4\nstep = []"),
     (
@@ -193,6 +199,10 @@ const VALID: [(&str, &str); 8] = [
     (
         "numbers are hexadecimal",
         "ports = 0x2\nslots = 0x4\nstep = [{ do = \"configure\", port = 1, mode = 1, validation = 3, vendor = 0x01F4, device = 0x00_ABCD }]",
+    ),
+    (
+        "a port is cleared",
+        "ports = 1\nslots = 1\nstep = [{ do = \"clear\", port = 32 }]",
     ),
     (
         "lines end as on other systems",

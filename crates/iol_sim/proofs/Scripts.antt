@@ -6,21 +6,21 @@ use Rattle.std.proofs.lemmas.List.{append-nil}
 use Rattle.std.proofs.Math.Seq.{take-nil}
 use Rattle.std.proofs.lemmas.List.Elements.{All-head, All-tail}
 use Rattle.iol_isdu.specs.declared.parts.TheConstants.{ISDU_OCTETS}
-use Rattle.iol_link.specs.Link.{Exchange, LinkAnswer, Octets, Gone, Made, Run, last_connection}
+use Rattle.iol_link.specs.Link.{Exchange, LinkAnswer, Octets, Gone, Answered, Run, last_connection}
 use Rattle.iol_sim.specs.Script.{Script, ScriptStep, NextStep, AnswersInOrder, has_no_answer}
 
 -- runs of a script, and the calls that they make
-abbrev pub Runs : Script → List Made → Script → Type 0
+abbrev pub Runs : Script → List Answered → Script → Type 0
 Runs = Run (λ s. s.connection) ScriptStep
 
 abbrev script_of : List (List ℕ) → List (List ℕ) → ℕ → Script
 script_of left requests connection =
     record { left = left; requests = requests; connection = connection }
 
-abbrev answers_of : List Made → List LinkAnswer
+abbrev answers_of : List Answered → List LinkAnswer
 answers_of made = map (λ m. m.answer) made
 
-abbrev Asks : List Made → List (List ℕ) → Type 0
+abbrev Asks : List Answered → List (List ℕ) → Type 0
 Asks made requests = map (λ m. m.call) made ≡ map Exchange requests
 
 -- with no answer left every request is lost
@@ -30,7 +30,7 @@ unanswered true old new request answer h = h
 unanswered false old new request answer h = h
 
 -- with no answer left, each exchange is lost
-emptied : (kept : List (List ℕ)) (connection : ℕ) (last : Script) (made : List Made)
+emptied : (kept : List (List ℕ)) (connection : ℕ) (last : Script) (made : List Answered)
     (requests : List (List ℕ)) → connection ≤ last_connection
     → Runs (script_of [] kept connection) made last → Asks made requests
     → AnswersInOrder (script_of [] kept connection) requests (answers_of made) last
@@ -66,7 +66,7 @@ answered true old new left request answer is h = cc
 answered false old new left request answer is h = h
 
 -- while answers are left, each exchange has the next
-pub answers_in_order : (left kept : List (List ℕ)) (connection : ℕ) (last : Script) (made : List Made)
+pub answers_in_order : (left kept : List (List ℕ)) (connection : ℕ) (last : Script) (made : List Answered)
     (requests : List (List ℕ)) → connection < last_connection
     → Runs (script_of left kept connection) made last → Asks made requests
     → All (λ r. length r ≤ ISDU_OCTETS) requests

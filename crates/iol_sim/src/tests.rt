@@ -1,3 +1,5 @@
+//! A script link asked in order, past its end, and with requests that it does not answer.
+
 use crate::{DeviceLink, Lost, ScriptLink, a_script_answers_in_order};
 use arrayvec::ArrayVec;
 use iol_isdu::{Answer, ISDU_OCTETS, Request, write_answer, write_request};

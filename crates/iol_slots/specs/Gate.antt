@@ -4,6 +4,7 @@ use Rattle.std.specs.List.{starts_with}
 use Rattle.iol_disk.specs.Content.{Image, IsImage}
 use Rattle.iol_disk.specs.Disk.{Disk}
 use Rattle.iol_slots.specs.declared.slot.TheConstants.{GATE_MARK}
+use Rattle.iol_disk.specs.declared.disk.TheConstants.{SECTOR_OCTETS}
 
 -- a gate is open exactly where its sector begins with the mark; the rest of it is not read (format, Gates)
 unfoldable pub is_open : List ℕ → Bool
@@ -14,7 +15,7 @@ unfoldable pub open_gate : List ℕ
 open_gate = GATE_MARK ++ replicate 504 0
 
 unfoldable pub closed_gate : List ℕ
-closed_gate = replicate 512 0
+closed_gate = replicate SECTOR_OCTETS 0
 
 -- whatever a stop leaves now, this gate is closed (own)
 abbrev pub IsShut : ℕ → Disk → Type 0

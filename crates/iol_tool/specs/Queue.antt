@@ -3,13 +3,12 @@ use Rattle.std.specs.Prelude.{ℕ, ◌+◌, nat_le, if◌then◌else◌, List, [
 use Rattle.iol_types.specs.Command.{CommandValue, value_of}
 use Rattle.iol_types.specs.State.{State, check, apply}
 use Rattle.iol_types.specs.declared.command.CommandFault.{CommandFault}
-use Rattle.iol_types.specs.declared.command.CommandFault.TheVariants as fault
 use Rattle.iol_journal.specs.declared.batch.Batch.{Batch}
 use Rattle.iol_journal.specs.declared.header.TheConstants.{LAST_NUMBER}
 use Rattle.iol_tool.specs.declared.event.Event.{Event}
 use Rattle.iol_tool.specs.declared.event.Event.TheVariants.{Accepted, Refused}
 use Rattle.iol_tool.specs.declared.event.Refusal.{Refusal}
-use Rattle.iol_tool.specs.declared.event.Refusal.TheVariants.{UnknownPort, RevisionSpent, QueueFull, Exhausted}
+use Rattle.iol_tool.specs.declared.event.Refusal.TheVariants.{Command, QueueFull, Exhausted}
 use Rattle.iol_tool.specs.declared.queue.TheConstants.{QUEUE_COMMANDS}
 
 -- commands that are written together, and the number of the first (own)
@@ -27,21 +26,16 @@ pub record Waiting : Type 0 where
   pub last : ℕ
   pub live : State
 
--- the refusal of a command that does not pass (own)
-abbrev pub refusal_for : CommandFault → Refusal
-refusal_for fault.UnknownPort = UnknownPort
-refusal_for fault.RevisionSpent = RevisionSpent
-
 -- why a command may not wait, first by the state that it meets, then by the room, then by its number (own)
 abbrev pub refusal_after : Option CommandFault → Waiting → Option Refusal
-refusal_after (Some cause) waiting = Some (refusal_for cause)
+refusal_after (Some cause) waiting = Some (Command cause)
 refusal_after None waiting =
     if nat_le QUEUE_COMMANDS (length waiting.batches) then Some QueueFull
     else if nat_le LAST_NUMBER waiting.last then Some Exhausted else None
 
 -- why a command may not wait in this queue (own)
-abbrev pub refusal : Waiting → CommandValue → Option Refusal
-refusal waiting command = refusal_after (check waiting.live command) waiting
+abbrev pub command_refusal : Waiting → CommandValue → Option Refusal
+command_refusal waiting command = refusal_after (check waiting.live command) waiting
 
 -- a command waits as a batch of its own, under the next number (own)
 abbrev pub with_command : Waiting → CommandValue → Waiting
@@ -51,7 +45,7 @@ with_command waiting command = record {
   live = apply waiting.live command;
 }
 
--- what is told of a command, and what then waits (own)
+-- what is reported of a command, and what then waits (own)
 abbrev pub answer : Option Refusal → Waiting → Event
 answer None waiting = Accepted (waiting.last + 1)
 answer (Some cause) waiting = Refused cause

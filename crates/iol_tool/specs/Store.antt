@@ -24,7 +24,7 @@ IfWorks (Journal journal) P = P journal
 IfWorks (Failed disk) P = Unit {0}
 
 -- the journal has these commands behind those before, and its number is acknowledged; or a disk call has failed, and
--- this is told (own)
+-- this is reported (own)
 abbrev pub IsWritten : {D : Type 0} → Standing → List CommandValue → Store D → Event → Type 0
 IsWritten before commands (Journal behind) (Acknowledged number) = (behind.standing ≡ with_batch before commands) × (number ≡ behind.standing.number)
 IsWritten before commands (Failed disk) DiskFailed = Unit {0}

@@ -3,10 +3,10 @@
 use iol_journal::Written;
 use std::marker::Model;
 
-/// That each command up to a number is durable. A batch that was written gives one, and nothing else does. A contract
-/// sees the number.
+// That each command up to a number is durable. A batch that was written gives one, and nothing else does. A contract
+// sees the number.
 #[derive(Debug, PartialEq, Eq, Drop)]
-pub struct Acknowledgement {
+pub(crate) struct Acknowledgement {
     number: u64,
 }
 
@@ -23,8 +23,8 @@ impl Model for Acknowledgement {
 impl Acknowledgement {
     ghost use Rattle.std.specs.Prelude.{◌≡◌, ◌≤◌, ◌+◌, ◌-◌, ◌^◌, length};
 
-    /// That of a batch, up to its last command.
-    pub fn of(written: Written) -> Acknowledgement
+    // That of a batch, up to its last command.
+    pub(crate) fn of(written: Written) -> Acknowledgement
         requires from_one { 1 ≤ written.first }
         requires bound { written.first + length written.commands ≤ 2 ^ 64 }
         ensures { result ≡ written.first + length written.commands - 1 }
@@ -35,8 +35,8 @@ impl Acknowledgement {
         }
     }
 
-    /// The number of the last command.
-    pub fn number(&self) -> u64
+    // The number of the last command.
+    pub(crate) fn number(&self) -> u64
         ensures { result ≡ self.now }
     {
         self.number

@@ -10,9 +10,9 @@ use std::fs::File;
 use std::io::{self, Read, Write};
 use std::rt::{Env, Files};
 
-/// Carries out the command that the program's words name, and answers the exit status: 2 where the words are wrong, 0
-/// for help, and else that of the command.
-pub fn run_program<R: Env + Files + AllocGlobal, W: Write, E: Write>(
+// Carries out the command that the program's words name, and answers the exit status: 2 where the words are wrong, 0
+// for help, and else that of the command.
+pub(crate) fn run_program<R: Env + Files + AllocGlobal, W: Write, E: Write>(
     rt: &R,
     out: &mut W,
     err: &mut E,
@@ -31,8 +31,8 @@ fn words<R: Env + AllocGlobal>(rt: &R) -> Result<Vec<String>, Fault<'static>> {
     }
 }
 
-/// Carries out the command that these words name, the first of which is the name of the program.
-pub fn run_words<R: Files + AllocGlobal, W: Write, E: Write>(
+// Carries out the command that these words name, the first of which is the name of the program.
+pub(crate) fn run_words<R: Files + AllocGlobal, W: Write, E: Write>(
     rt: &R,
     words: &[String],
     out: &mut W,

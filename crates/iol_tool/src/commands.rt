@@ -41,8 +41,8 @@ fn text_of_run(alloc: Global, text: &[u8]) -> Result<String, Fault<'static>>
     Ok(trace.to_string(alloc)?)
 }
 
-/// Writes a command's output, and answers the exit status: 0, or 1 where the writing fails.
-pub fn print<W: Write>(out: &mut W, text: &[u8]) -> u8
+// Writes a command's output, and answers the exit status: 0, or 1 where the writing fails.
+pub(crate) fn print<W: Write>(out: &mut W, text: &[u8]) -> u8
     ensures status { (result ≡ 0) ⊎ (result ≡ 1) }
     ensures written { result ≡ 0 → Appends (W.contents out.old) (W.contents out.new) text.now }
 {
@@ -59,8 +59,8 @@ fn write_through<W: Write>(out: &mut W, text: &[u8]) -> io::Result<()>
     out.flush()
 }
 
-/// Writes why a command failed, and answers its exit status, also where the writing fails.
-pub fn report<E: Write>(err: &mut E, fault: &Fault<'_>) -> u8
+// Writes why a command failed, and answers its exit status, also where the writing fails.
+pub(crate) fn report<E: Write>(err: &mut E, fault: &Fault<'_>) -> u8
     ensures { result ≡ status_of fault.now }
 {
     let _ = writeln!(err, "error: {fault}");

@@ -5,13 +5,13 @@ ghost use Rattle.iol_tool.specs.Stop.{pick_of};
 use iol_disk::{MemoryDisk, Pick, SectorDisk};
 use iol_script::Keep;
 
-/// A disk that a power stop can be tried on.
-pub trait Stoppable: SectorDisk {
-    ghost use Rattle.iol_disk.specs.Stops.{IsStopped};
+// A disk that a power stop can be tried on.
+pub(crate) trait Stoppable: SectorDisk {
+    ghost use Rattle.iol_disk.specs.Stops.{IsAfterStop};
 
-    /// The disk after a power stop, which leaves of each sector written since the last sync what `pick` says.
+    // The disk after a power stop, which leaves of each sector written since the last sync what `pick` says.
     fn stop(self, pick: Pick) -> Self
-        ensures { IsStopped pick (Self.disk self) (Self.disk result) };
+        ensures { IsAfterStop pick (Self.disk self) (Self.disk result) };
 }
 
 impl Stoppable for MemoryDisk {
@@ -20,8 +20,8 @@ impl Stoppable for MemoryDisk {
     }
 }
 
-/// What a stop leaves that keeps this.
-pub fn pick_of(keep: Keep) -> Pick
+// What a stop leaves that keeps this.
+pub(crate) fn pick_of(keep: Keep) -> Pick
     ensures { result ≡ pick_of keep }
 {
     match keep {

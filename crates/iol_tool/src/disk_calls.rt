@@ -12,11 +12,11 @@ use iol_journal::{BeginCause, Journal, Progress, RecoverFault, Writing};
 use iol_types::MasterState;
 use std::alloc::Global;
 
-/// The journal on a disk, and the state that it means.
-///
-/// # Errors
-/// Why the disk is not recovered.
-pub fn recover<D: SectorDisk + Drop>(
+// The journal on a disk, and the state that it means.
+//
+// # Errors
+// Why the disk is not recovered.
+pub(crate) fn recover<D: SectorDisk + Drop>(
     alloc: Global,
     disk: D,
 ) -> Result<(Journal<D>, MasterState), Fault<'static>>
@@ -29,8 +29,8 @@ pub fn recover<D: SectorDisk + Drop>(
     }
 }
 
-/// Makes the disk calls of a batch, up to one that fails, and says what is told of it.
-pub fn finish<D: SectorDisk>(mut writing: Writing<D>) -> (Store<D>, Event)
+// Makes the disk calls of a batch, up to one that fails, and says what is reported of it.
+pub(crate) fn finish<D: SectorDisk>(mut writing: Writing<D>) -> (Store<D>, Event)
     ensures { IsWritten writing.standing writing.commands result.0 result.1 }
 {
     loop {
@@ -45,9 +45,9 @@ pub fn finish<D: SectorDisk>(mut writing: Writing<D>) -> (Store<D>, Event)
     }
 }
 
-/// Why a batch of the queue is not begun. It is of one command, follows the journal and passes, so where memory is not
-/// missing a slot is.
-pub fn fault_of(cause: BeginCause) -> Fault<'static>
+// Why a batch of the queue is not begun. It is of one command, follows the journal and passes, so where memory is not
+// missing a slot is.
+pub(crate) fn fault_of(cause: BeginCause) -> Fault<'static>
     ensures { status_of result ≡ 1 }
 {
     match cause {

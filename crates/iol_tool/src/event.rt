@@ -1,12 +1,14 @@
 //! The events of a run, each of which is a line of its trace (docs/FORMATS.md, "Texts").
+ghost use Rattle.std.specs.Prelude.{◌≡◌};
+ghost use Rattle.iol_tool.specs.declared.event.Refusal.TheVariants.{Command};
 
 use crate::acknowledgement::Acknowledgement;
 use iol_types::CommandFault;
 use std::fmt;
 
-/// What happens in a run.
+// What happens in a run.
 #[derive(Debug, PartialEq, Eq, Drop)]
-pub enum Event {
+pub(crate) enum Event {
     /// The command with this number is in the queue.
     Accepted(u64),
     /// A command is refused.
@@ -19,15 +21,13 @@ pub enum Event {
     Stopped,
 }
 
-/// Why a command is refused. The causes are judged in this order.
+// Why a command is refused. The causes are judged in this order.
 #[derive(Clone, Copy, Debug, PartialEq, Eq)]
-pub enum Refusal {
+pub(crate) enum Refusal {
     /// The disk has failed.
     Stopped,
-    /// The master has no port with this number.
-    UnknownPort,
-    /// The port has no further revision.
-    RevisionSpent,
+    /// The command does not pass the state that it meets.
+    Command(CommandFault),
     /// The queue has no room.
     QueueFull,
     /// No number is left for a command.
@@ -35,16 +35,10 @@ pub enum Refusal {
 }
 
 impl From<CommandFault> for Refusal {
-    ghost use Rattle.std.specs.Prelude.{◌≡◌};
-    ghost use Rattle.iol_tool.specs.Queue.{refusal_for};
-
-    ghost from_gives = { λ fault refusal. refusal ≡ refusal_for fault };
+    ghost from_gives = { λ fault refusal. refusal ≡ Command fault };
 
     fn from(fault: CommandFault) -> Refusal {
-        match fault {
-            CommandFault::UnknownPort => Refusal::UnknownPort,
-            CommandFault::RevisionSpent => Refusal::RevisionSpent,
-        }
+        Refusal::Command(fault)
     }
 }
 
@@ -67,8 +61,11 @@ impl fmt::Display for Refusal {
     fn fmt<W: fmt::Write>(&self, f: &mut fmt::Formatter<W>) -> fmt::Result {
         f.write_str(match self {
             Refusal::Stopped => "Stopped",
-            Refusal::UnknownPort => "UnknownPort",
-            Refusal::RevisionSpent => "RevisionSpent",
+            Refusal::Command(CommandFault::UnknownPort) => "UnknownPort",
+            Refusal::Command(CommandFault::RevisionSpent) => "RevisionSpent",
+            Refusal::Command(CommandFault::NotAllowed) => "NotAllowed",
+            Refusal::Command(CommandFault::StaleRevision) => "StaleRevision",
+            Refusal::Command(CommandFault::WrongDevice) => "WrongDevice",
             Refusal::QueueFull => "QueueFull",
             Refusal::Exhausted => "Exhausted",
         })

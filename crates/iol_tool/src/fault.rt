@@ -1,15 +1,16 @@
 //! Why a command of the program fails.
 ghost use Rattle.std.specs.Prelude.{◌≡◌};
-ghost use Rattle.iol_tool.specs.Fault.{status_of};
+ghost use Rattle.iol_tool.specs.Fault.{status_of, fault_for};
+ghost use Rattle.iol_tool.specs.declared.fault.Fault.TheVariants.{Memory};
 
 use iol_journal::{FormatFault, RecoverCause};
 use iol_script::ScriptFault;
 use std::alloc::{AllocError, AllocFailed};
 use thiserror::Error;
 
-/// Why a command fails. The text of each stands on standard error after `error: `.
+// Why a command fails. The text of each stands on standard error after `error: `.
 #[derive(Clone, Copy, Debug, PartialEq, Eq, Error)]
-pub enum Fault<'a> {
+pub(crate) enum Fault<'a> {
     /// The disk has no journal.
     #[error("the disk is not formatted")]
     NotFormatted,
@@ -46,8 +47,8 @@ pub enum Fault<'a> {
 }
 
 impl Fault<'_> {
-    /// The exit status: 2 where the words, the script or its geometry are not valid, and else 1.
-    pub fn status(&self) -> u8
+    // The exit status: 2 where the words, the script or its geometry are not valid, and else 1.
+    pub(crate) fn status(&self) -> u8
         ensures { result ≡ status_of self.now }
     {
         match self {
@@ -58,9 +59,6 @@ impl Fault<'_> {
 }
 
 impl From<AllocError> for Fault<'_> {
-    ghost use Rattle.std.specs.Prelude.{◌≡◌};
-    ghost use Rattle.iol_tool.specs.declared.fault.Fault.TheVariants.{Memory};
-
     ghost from_gives = { λ _ fault. fault ≡ Memory };
 
     fn from(_error: AllocError) -> Self {
@@ -69,9 +67,6 @@ impl From<AllocError> for Fault<'_> {
 }
 
 impl<T: Drop> From<AllocFailed<T>> for Fault<'_> {
-    ghost use Rattle.std.specs.Prelude.{◌≡◌};
-    ghost use Rattle.iol_tool.specs.declared.fault.Fault.TheVariants.{Memory};
-
     ghost from_gives = { λ _ fault. fault ≡ Memory };
 
     fn from(_error: AllocFailed<T>) -> Self {
@@ -80,9 +75,6 @@ impl<T: Drop> From<AllocFailed<T>> for Fault<'_> {
 }
 
 impl From<ScriptFault> for Fault<'_> {
-    ghost use Rattle.std.specs.Prelude.{◌≡◌};
-    ghost use Rattle.iol_tool.specs.Fault.{fault_for};
-
     ghost from_gives = { λ cause fault. fault ≡ fault_for cause };
 
     fn from(fault: ScriptFault) -> Self {
@@ -94,9 +86,6 @@ impl From<ScriptFault> for Fault<'_> {
 }
 
 impl From<FormatFault> for Fault<'_> {
-    ghost use Rattle.std.specs.Prelude.{◌≡◌};
-    ghost use Rattle.iol_tool.specs.Fault.{status_of};
-
     ghost from_gives = { λ _ fault. status_of fault ≡ 1 };
 
     fn from(fault: FormatFault) -> Self {
@@ -110,9 +99,6 @@ impl From<FormatFault> for Fault<'_> {
 }
 
 impl From<RecoverCause> for Fault<'_> {
-    ghost use Rattle.std.specs.Prelude.{◌≡◌};
-    ghost use Rattle.iol_tool.specs.Fault.{status_of};
-
     ghost from_gives = { λ _ fault. status_of fault ≡ 1 };
 
     fn from(cause: RecoverCause) -> Self {

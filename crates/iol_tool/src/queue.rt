@@ -7,13 +7,13 @@ use std::alloc::{AllocError, Global};
 use std::collections::VecDeque;
 use std::marker::Model;
 
-/// The most commands that wait, a batch in flight included.
-pub const QUEUE_COMMANDS: usize = 64;
+// The most commands that wait, a batch in flight included.
+pub(crate) const QUEUE_COMMANDS: usize = 64;
 
-/// The commands that wait for the disk, and the state after them. A contract sees the record `Waiting` of
-/// `specs/Queue.antt`.
+// The commands that wait for the disk, and the state after them. A contract sees the record `Waiting` of
+// `specs/Queue.antt`.
 #[derive(Drop)]
-pub struct Queue {
+pub(crate) struct Queue {
     alloc: Global,
     // each of one command
     batches: VecDeque<Batch>,
@@ -34,13 +34,13 @@ impl Model for Queue {
 impl Queue {
     ghost use Rattle.std.specs.Prelude.{◌≡◌, ◌+◌, [], ◌∷◌, Some, None, IfOk, IfErr, OnOk, OnErr, MatchOption};
     ghost use Rattle.iol_types.specs.Command.{value_of};
-    ghost use Rattle.iol_tool.specs.Queue.{numbered, refusal, answer, waiting_after};
+    ghost use Rattle.iol_tool.specs.Queue.{numbered, command_refusal, answer, waiting_after};
 
-    /// An empty queue over a state that has had no command.
-    ///
-    /// # Errors
-    /// `AllocError` where memory runs out.
-    pub fn new(alloc: Global, live: MasterState) -> Result<Queue, AllocError>
+    // An empty queue over a state that has had no command.
+    //
+    // # Errors
+    // `AllocError` where it is out of memory.
+    pub(crate) fn new(alloc: Global, live: MasterState) -> Result<Queue, AllocError>
         ensures { IfOk result (λ queue. queue ≡ record { batches = []; last = 0; live = live }) }
     {
         Ok(Queue {
@@ -51,14 +51,14 @@ impl Queue {
         })
     }
 
-    /// Queues a command under the next number, or tells why not: `UnknownPort`, `RevisionSpent`, `QueueFull` or
-    /// `Exhausted`, in this order.
-    ///
-    /// # Errors
-    /// `AllocError` where memory runs out; the queue is as it was.
-    pub fn submit(&mut self, command: Command) -> Result<Event, AllocError>
-        ensures event { IfOk result (λ event. event ≡ answer (refusal self.old (value_of command)) self.old) }
-        ensures queue { OnOk result (self.new ≡ waiting_after (refusal self.old (value_of command)) self.old (value_of command)) }
+    // Queues a command under the next number, or reports why not: `UnknownPort`, `RevisionSpent`, `QueueFull` or
+    // `Exhausted`, in this order.
+    //
+    // # Errors
+    // `AllocError` where it is out of memory; the queue is as it was.
+    pub(crate) fn submit(&mut self, command: Command) -> Result<Event, AllocError>
+        ensures event { IfOk result (λ event. event ≡ answer (command_refusal self.old (value_of command)) self.old) }
+        ensures queue { OnOk result (self.new ≡ waiting_after (command_refusal self.old (value_of command)) self.old (value_of command)) }
         ensures unchanged { OnErr result (self.new ≡ self.old) }
     {
         let number = match self.judge(&command) {
@@ -77,9 +77,9 @@ impl Queue {
 
     // The number that the command gets, or why it is refused.
     fn judge(&self, command: &Command) -> Result<u64, Refusal>
-        ensures passes { OnOk result (refusal self.now (value_of command.now) ≡ None) }
+        ensures passes { OnOk result (command_refusal self.now (value_of command.now) ≡ None) }
         ensures number { IfOk result (λ number. number ≡ self.now.last + 1) }
-        ensures refused { IfErr result (λ cause. refusal self.now (value_of command.now) ≡ Some cause) }
+        ensures refused { IfErr result (λ cause. command_refusal self.now (value_of command.now) ≡ Some cause) }
     {
         self.live.check(command)?;
         if QUEUE_COMMANDS <= self.batches.len() {
@@ -91,8 +91,8 @@ impl Queue {
         Ok(self.last + 1)
     }
 
-    /// Takes the first batch out; `None` where the queue is empty.
-    pub fn take(&mut self) -> Option<Batch>
+    // Takes the first batch out; `None` where the queue is empty.
+    pub(crate) fn take(&mut self) -> Option<Batch>
         ensures first { MatchOption result (self.old.batches ≡ []) (λ batch. self.old.batches ≡ numbered batch ∷ self.new.batches) }
         ensures others { self.new ≡ record self.old { batches = self.new.batches } }
     {

@@ -2,7 +2,7 @@
 ghost use Rattle.std.specs.Prelude.{◌≡◌, true, false, Ok, IfOk, IfErr, OnOk};
 ghost use Rattle.iol_types.specs.Command.{value_of};
 ghost use Rattle.iol_tool.specs.Fault.{status_of};
-ghost use Rattle.iol_tool.specs.Queue.{answer, refusal, waiting_after};
+ghost use Rattle.iol_tool.specs.Queue.{answer, command_refusal, waiting_after};
 ghost use Rattle.iol_tool.specs.Store.{has_failed};
 ghost use Rattle.iol_tool.specs.declared.event.Event.TheVariants.{Refused};
 ghost use Rattle.iol_tool.specs.declared.event.Refusal.TheVariants.{Stopped};
@@ -18,21 +18,21 @@ use iol_script::{Script, Step};
 use iol_types::{Command, MasterState};
 use std::alloc::Global;
 
-/// What a run did, and what the disk held after the stop at its end.
+// What a run did, and what the disk held after the stop at its end.
 #[derive(Drop)]
-pub struct Trace {
-    pub events: Vec<Event>,
+pub(crate) struct Trace {
+    pub(crate) events: Vec<Event>,
     /// How many commands were recovered.
-    pub number: u64,
+    pub(crate) number: u64,
     /// The state that was recovered.
-    pub state: MasterState,
+    pub(crate) state: MasterState,
 }
 
-/// Runs a script on a disk, which it formats for this geometry.
-///
-/// # Errors
-/// `Memory`, `Disk`, `TooSmall`, `AlreadyFormatted` or `JournalFull`, where it is first met.
-pub fn run<D: Stoppable + Drop>(
+// Runs a script on a disk, which it formats for this geometry.
+//
+// # Errors
+// `Memory`, `Disk`, `TooSmall`, `AlreadyFormatted` or `JournalFull`, where it is first met.
+pub(crate) fn run<D: Stoppable + Drop>(
     alloc: Global,
     disk: D,
     geometry: Geometry,
@@ -47,6 +47,10 @@ pub fn run<D: Stoppable + Drop>(
         match *step {
             Step::Configure { port, config } => {
                 let command = Command::Configure { port, config };
+                events.push(submit(&store, &mut queue, command)?)?;
+            }
+            Step::Clear { port } => {
+                let command = Command::Clear { port };
                 events.push(submit(&store, &mut queue, command)?)?;
             }
             Step::Drain => store = drain(store, &mut queue, &mut events)?,
@@ -68,8 +72,8 @@ fn submit<D: SectorDisk>(
     command: Command,
 ) -> Result<Event, Fault<'static>>
     ensures stopped { has_failed store.now ≡ true → (result ≡ Ok (Refused Stopped)) × (queue.new ≡ queue.old) }
-    ensures event { has_failed store.now ≡ false → IfOk result (λ event. event ≡ answer (refusal queue.old (value_of command)) queue.old) }
-    ensures queue { has_failed store.now ≡ false → OnOk result (queue.new ≡ waiting_after (refusal queue.old (value_of command)) queue.old (value_of command)) }
+    ensures event { has_failed store.now ≡ false → IfOk result (λ event. event ≡ answer (command_refusal queue.old (value_of command)) queue.old) }
+    ensures queue { has_failed store.now ≡ false → OnOk result (queue.new ≡ waiting_after (command_refusal queue.old (value_of command)) queue.old (value_of command)) }
     ensures status { IfErr result (λ fault. status_of fault ≡ 1) }
 {
     if store.has_failed() {

@@ -9,9 +9,9 @@ use iol_journal::{Batch, BeginFault, Geometry, Journal};
 use iol_types::MasterState;
 use std::alloc::Global;
 
-/// A disk, with its journal until a disk call fails.
+// A disk, with its journal until a disk call fails.
 #[derive(Drop)]
-pub enum Store<D: SectorDisk> {
+pub(crate) enum Store<D: SectorDisk> {
     Journal(Journal<D>),
     Failed(D),
 }
@@ -20,8 +20,8 @@ impl<D: SectorDisk> Store<D> {
     ghost use Rattle.std.specs.Prelude.{◌≡◌};
     ghost use Rattle.iol_tool.specs.Store.{disk_of, has_failed};
 
-    /// Whether a disk call has failed.
-    pub fn has_failed(&self) -> bool
+    // Whether a disk call has failed.
+    pub(crate) fn has_failed(&self) -> bool
         ensures { result ≡ has_failed self.now }
     {
         matches!(self, Store::Failed(_))
@@ -44,11 +44,11 @@ impl<D: SectorDisk + Drop> Store<D> {
     ghost use Rattle.iol_tool.specs.Fault.{status_of};
     ghost use Rattle.iol_tool.specs.Store.{has_failed, IfWorks, Writes};
 
-    /// A disk that is formatted, and the state that it then means.
-    ///
-    /// # Errors
-    /// `TooSmall`, `AlreadyFormatted` or `Memory`, or `Disk` where a disk call fails.
-    pub fn format(
+    // A disk that is formatted, and the state that it then means.
+    //
+    // # Errors
+    // `TooSmall`, `AlreadyFormatted` or `Memory`, or `Disk` where a disk call fails.
+    pub(crate) fn format(
         alloc: Global,
         mut disk: D,
         geometry: Geometry,
@@ -62,11 +62,11 @@ impl<D: SectorDisk + Drop> Store<D> {
         Ok((Store::Journal(journal), state))
     }
 
-    /// Writes a batch, unless a disk call fails or has failed, and says what is told of it.
-    ///
-    /// # Errors
-    /// `Memory`, or `JournalFull` where no slot is free.
-    pub fn write(self, batch: Batch) -> Result<(Store<D>, Event), Fault<'static>>
+    // Writes a batch, unless a disk call fails or has failed, and says what is reported of it.
+    //
+    // # Errors
+    // `Memory`, or `JournalFull` where no slot is free.
+    pub(crate) fn write(self, batch: Batch) -> Result<(Store<D>, Event), Fault<'static>>
         ensures writes { IfOk result (λ made. Writes self (values batch.commands.items) made.0 made.1) }
         ensures status { IfErr result (λ fault. status_of fault ≡ 1) }
     {
@@ -79,11 +79,15 @@ impl<D: SectorDisk + Drop> Store<D> {
         }
     }
 
-    /// The number and the state that a power stop leaves.
-    ///
-    /// # Errors
-    /// Why the disk is not recovered.
-    pub fn stop(self, alloc: Global, pick: Pick) -> Result<(u64, MasterState), Fault<'static>>
+    // The number and the state that a power stop leaves.
+    //
+    // # Errors
+    // Why the disk is not recovered.
+    pub(crate) fn stop(
+        self,
+        alloc: Global,
+        pick: Pick,
+    ) -> Result<(u64, MasterState), Fault<'static>>
     where
         D: Stoppable,
         ensures { IfErr result (λ fault. status_of fault ≡ 1) }

@@ -9,9 +9,37 @@ mod words;
 mod writers;
 
 use crate::commands::run_text;
-use std::alloc::Global;
+use std::alloc::{AllocError, Global};
+use std::process::Abort;
+use std::str;
+use std::test::Fail;
 
-/// What a command wrote, and its status.
+// A step that configures port 1.
+const CONFIGURE: &str = r#"
+[[step]]
+do = "configure"
+port = 1
+mode = 1
+validation = 3
+vendor = 500
+device = 43981
+"#;
+
+// A step that configures port 2, with the greatest numbers.
+const CONFIGURE_GREATEST: &str = r#"
+[[step]]
+do = "configure"
+port = 2
+mode = 4
+validation = 4
+vendor = 65535
+device = 16777215
+"#;
+
+// A step that writes what is queued.
+const DRAIN: &str = "[[step]]\ndo = \"drain\"\n";
+
+// What a command wrote, and its status.
 #[derive(Drop)]
 struct Answer {
     status: u8,
@@ -24,4 +52,31 @@ fn answer_to(alloc: Global, script: &[u8]) -> Answer {
     let mut err = Vec::new(alloc);
     let status = run_text(alloc, script, &mut out, &mut err);
     Answer { status, out, err }
+}
+
+// Sees that a command ended with this status, and wrote this as its output and this as its fault.
+fn expect_answer(
+    rt: &impl Abort,
+    answer: &Answer,
+    (status, out, err): (u8, &str, &str),
+    why: &str,
+) -> Result<(), Fail> {
+    assert_eq!(rt; str::from_utf8(&answer.err)?, err, "{why}");
+    assert_eq!(rt; str::from_utf8(&answer.out)?, out, "{why}");
+    assert_eq!(rt; answer.status, status, "{why}");
+    Ok(())
+}
+
+// A script of two ports and four slots with these steps.
+fn script_of(alloc: Global, steps: &[&str]) -> Result<String, AllocError> {
+    let mut script = String::from_str(alloc, "ports = 2\nslots = 4\n")?;
+    for step in steps {
+        script.push_str(step)?;
+    }
+    Ok(script)
+}
+
+// A stop that keeps this.
+fn stop_that_keeps(alloc: Global, keep: &str) -> Result<String, AllocError> {
+    format!(in alloc; "[[step]]\ndo = \"stop\"\nkeep = \"{keep}\"\n")
 }

@@ -2,12 +2,8 @@
 use Rattle.std.proofs.Common.{◌≡◌, ℕ, ◌&&◌, List, [], ◌∷◌, ◌++◌, length, Option, Some, None, is_none, refl, sym, ap, ◌∙◌}
 use Rattle.std.proofs.Math.Bool.{and_assoc}
 use Rattle.std.proofs.lemmas.List.{length-set}
-use Rattle.std.proofs.lemmas.List.Sums.{fold-append}
-use Rattle.iol_types.specs.Command.{CommandValue, Configure}
-use Rattle.iol_types.specs.State.{Port, State, port_at, changed_at, configured, check, apply, after, legal}
-
-pub after-append : (state : State) (first rest : List CommandValue) → after state (first ++ rest) ≡ after (after state first) rest
-after-append state first rest = fold-append apply state first rest
+use Rattle.iol_types.specs.Command.{CommandValue, Configure, Clear, Store}
+use Rattle.iol_types.specs.State.{Port, State, port_numbered, changed_at, configured, cleared, with_set, check, apply, after, legal}
 
 -- commands are legal in a row where the rest is legal in the state after the first
 pub legal-append : (state : State) (first rest : List CommandValue) → legal state (first ++ rest) ≡ (legal state first && legal (after state first) rest)
@@ -22,7 +18,9 @@ length-changed_at state number change None = refl
 length-changed_at state number change (Some port) = length-set state _ (change port)
 
 pub length-apply : (state : State) (command : CommandValue) → length (apply state command) ≡ length state
-length-apply state (Configure number config) = length-changed_at state number (λ port. configured port config) (port_at state number)
+length-apply state (Configure number config) = length-changed_at state number (λ port. configured port config) (port_numbered state number)
+length-apply state (Clear number) = length-changed_at state number cleared (port_numbered state number)
+length-apply state (Store number revision set) = length-changed_at state number (λ port. with_set port set) (port_numbered state number)
 
 pub length-after : (state : State) (commands : List CommandValue) → length (after state commands) ≡ length state
 length-after state [] = refl

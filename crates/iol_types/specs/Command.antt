@@ -1,20 +1,35 @@
--- Commands to a master.
-use Rattle.std.specs.Prelude.{ℕ}
+-- Commands to a master, and the changes that a client may ask for.
+use Rattle.std.specs.Prelude.{ℕ, ◌≤◌}
 use Rattle.iol_types.specs.Numbers.{IsPortNumber}
 use Rattle.iol_types.specs.Config.{IsConfig}
+use Rattle.iol_types.specs.DataSet.{SetValue, IsSet}
 use Rattle.iol_types.specs.declared.config.PortConfig.{PortConfig}
+use Rattle.iol_types.specs.declared.port_state.TheConstants.{LAST_REVISION}
 use Rattle.iol_types.specs.declared.command.Command.{Command}
 use Rattle.iol_types.specs.declared.command.Command.TheVariants as command
+use Rattle.iol_types.specs.declared.command.Change.{Change}
+use Rattle.iol_types.specs.declared.command.Change.TheVariants as change
 
--- what a command says, apart from where its parts lie in memory: Configure gives a port its
--- configuration (own)
+-- what a command says, apart from where its parts lie in memory: Configure gives a port its configuration, Clear
+-- deletes a port's parameter set, and Store gives a port at this revision a set (own)
 pub data CommandValue : Type 0 where
   Configure : (port : ℕ) (config : PortConfig) → CommandValue
+  Clear : (port : ℕ) → CommandValue
+  Store : (port revision : ℕ) (set : SetValue) → CommandValue
 
 -- what a command in memory says (own)
 abbrev pub value_of : Command → CommandValue
 value_of (command.Configure port config) = Configure port config
+value_of (command.Clear port) = Clear port
+value_of (command.Store port revision set) = Store port revision set.value
 
--- the numbers of a command are in their ranges (own)
+-- the command that a change is (own)
+abbrev pub command_of : Change → CommandValue
+command_of (change.Configure port config) = Configure port config
+command_of (change.Clear port) = Clear port
+
+-- the numbers of a command are in their ranges, and its set is one (own)
 abbrev pub IsCommand : CommandValue → Type 0
 IsCommand (Configure port config) = IsPortNumber port × IsConfig config
+IsCommand (Clear port) = IsPortNumber port
+IsCommand (Store port revision set) = IsPortNumber port × (revision ≤ LAST_REVISION) × IsSet set

@@ -50,6 +50,15 @@ restores BackupAndRestore = true
 restores Restore = true
 restores _ = false
 
+-- a device's parameters are backed up under Backup and Restore alone (standard, port configuration)
+abbrev pub backs_up : Validation → Bool
+backs_up BackupAndRestore = true
+backs_up _ = false
+
+-- a port with this configuration may store a parameter set: it is IOL_MANUAL with Backup and Restore (own)
+abbrev pub may_store_set : PortConfig → Bool
+may_store_set config = is_manual config.mode && backs_up config.validation
+
 -- a port with this configuration may have a parameter set: its mode and its validation are such
 -- (own)
 abbrev pub may_keep_set : PortConfig → Bool

@@ -1,6 +1,7 @@
--- The configuration and the state that examples speak of.
-use Rattle.std.specs.Prelude.{ℕ, [], ◌∷◌}
-use Rattle.iol_types.specs.State.{State}
+-- The configuration, the set and the states that examples speak of.
+use Rattle.std.specs.Prelude.{ℕ, [], ◌∷◌, Some, None}
+use Rattle.iol_types.specs.DataSet.{SetValue}
+use Rattle.iol_types.specs.State.{State, Port}
 use Rattle.iol_types.specs.declared.config.PortConfig.{PortConfig}
 use Rattle.iol_types.specs.declared.config.PortMode.TheVariants.{IolManual}
 use Rattle.iol_types.specs.declared.config.Validation.TheVariants.{BackupAndRestore}
@@ -14,6 +15,24 @@ example_config = record {
   device = 43981;
 }
 
--- for worked examples: a master's one port, with this configuration and revision (own)
+-- for worked examples: the parameters 0040.00 with the octets 0A 64 and 0041.01 with 7F, of the device of that
+-- configuration, with checksum 591 (own)
+abbrev pub example_set : SetValue
+example_set = record {
+  entries = (record { index = 64; subindex = 0 }, 10 ∷ 100 ∷ []) ∷ (record { index = 65; subindex = 1 }, 127 ∷ []) ∷ [];
+  vendor = 500;
+  device = 43981;
+  checksum = 591;
+}
+
+-- for worked examples: a port with this configuration and revision, and no set (own)
+abbrev pub port_of : PortConfig → ℕ → Port
+port_of config revision = record { config = config; revision = revision; stored = None }
+
+-- for worked examples: a master's one port, with this configuration and revision, and no set (own)
 abbrev pub one_port : PortConfig → ℕ → State
-one_port config revision = record { config = config; revision = revision } ∷ []
+one_port config revision = port_of config revision ∷ []
+
+-- for worked examples: a port with this configuration, revision 1, and the set, taken under the same configuration (own)
+abbrev pub example_port : Port
+example_port = record { config = example_config; revision = 1; stored = Some (record { set = example_set; recorded = example_config }) }

@@ -1,5 +1,9 @@
 pub mod Numbers
 pub mod Config
+pub mod Key
+pub mod DataSet
+pub mod SetInMemory
 pub mod Command
 pub mod State
+pub mod Port
 pub mod Examples

@@ -1,23 +1,40 @@
 -- The state of a master's ports, and what commands do to it.
-use Rattle.std.specs.Prelude.{ℕ, ◌+◌, ◌-◌, ◌≤◌, nat_lt, nat_le, ◌&&◌, if◌then◌else◌, Bool, true, List, [], ◌∷◌, Option, Some, None, is_none, fold, replicate, slice_get, slice_set}
-use Rattle.iol_types.specs.Config.{IsConfig}
-use Rattle.iol_types.specs.Command.{CommandValue, Configure}
+use Rattle.std.specs.Prelude.{◌≡◌, ℕ, ◌+◌, ◌-◌, ◌≤◌, ◌==◌, nat_lt, nat_le, ◌&&◌, not, if◌then◌else◌, Bool, true, List, [], ◌∷◌, Option, Some, None, IfSome, is_none, fold, replicate, slice_get, slice_set}
+use Rattle.iol_types.specs.Config.{IsConfig, keeps_set, may_store_set}
+use Rattle.iol_types.specs.DataSet.{SetValue, IsSet}
+use Rattle.iol_types.specs.Command.{CommandValue, Configure, Clear, Store}
 use Rattle.iol_types.specs.declared.config.PortConfig.{PortConfig}
 use Rattle.iol_types.specs.declared.config.PortMode.TheVariants.{Deactivated}
 use Rattle.iol_types.specs.declared.config.Validation.TheVariants.{NoCheck}
 use Rattle.iol_types.specs.declared.command.CommandFault.{CommandFault}
-use Rattle.iol_types.specs.declared.command.CommandFault.TheVariants.{UnknownPort, RevisionSpent}
+use Rattle.iol_types.specs.declared.command.CommandFault.TheVariants.{UnknownPort, RevisionSpent, NotAllowed, StaleRevision, WrongDevice}
 use Rattle.iol_types.specs.declared.port_state.TheConstants.{LAST_REVISION}
 
--- what a master keeps for a port: its configuration, and how often it was configured (own)
+-- a stored set: a parameter set, and the configuration that it was taken under (own)
+pub record Stored : Type 0 where
+  pub set : SetValue
+  pub recorded : PortConfig
+
+-- a port under this configuration may have this stored set: the configuration that the set was taken under may store
+-- one, names the set's device, and the set outlives the change from it to the present one (own)
+abbrev pub may_have : PortConfig → Stored → Bool
+may_have config stored =
+    may_store_set stored.recorded && (stored.set.vendor == stored.recorded.vendor) && (stored.set.device == stored.recorded.device)
+    && keeps_set stored.recorded config
+
+-- what a master keeps for a port: its configuration, how often it was configured, and the set that is stored for it,
+-- if any (own)
 pub record Port : Type 0 where
   pub config : PortConfig
   pub revision : ℕ
+  pub stored : Option Stored
 
--- the numbers of a port are in their ranges (own)
+-- the numbers of a port are in their ranges, and it may have what is stored for it (own)
 pub record IsPort (port : Port) : Type 0 where
   pub config : IsConfig port.config
   pub revision : port.revision ≤ LAST_REVISION
+  pub set : IfSome port.stored (λ stored. IsSet stored.set)
+  pub stored : IfSome port.stored (λ stored. may_have port.config stored ≡ true)
 
 -- the ports of a master in order, port 1 first (own)
 abbrev pub State : Type 0
@@ -28,6 +45,7 @@ abbrev pub blank : Port
 blank = record {
   config = record { mode = Deactivated; validation = NoCheck; vendor = 0; device = 0 };
   revision = 0;
+  stored = None;
 }
 
 -- so many ports that were never configured (own)
@@ -35,26 +53,53 @@ abbrev pub empty_state : ℕ → State
 empty_state ports = replicate ports blank
 
 -- the port with this number, if it is there (own)
-abbrev pub port_at : State → ℕ → Option Port
-port_at state number = if nat_le 1 number then slice_get state (number - 1) else None
+abbrev pub port_numbered : State → ℕ → Option Port
+port_numbered state number = if nat_le 1 number then slice_get state (number - 1) else None
 
 -- the state in which the port with this number is the given one, and the others are as they were
 -- (own)
 abbrev pub with_port : State → ℕ → Port → State
 with_port state number port = slice_set state (number - 1) port
 
--- why a port is not configured anew: it is not there, or it has had its last revision (own)
-abbrev pub configure_fault : Option Port → Option CommandFault
-configure_fault None = Some UnknownPort
-configure_fault (Some port) = if nat_lt port.revision LAST_REVISION then None else Some RevisionSpent
+-- why a port is not configured anew: it has had its last revision (own)
+abbrev pub configure_fault : Port → Option CommandFault
+configure_fault port = if nat_lt port.revision LAST_REVISION then None else Some RevisionSpent
+
+-- why a set is not stored for a port, by the first cause: its configuration may not store one, it has another revision,
+-- it names another device (own)
+abbrev pub store_fault : Port → ℕ → SetValue → Option CommandFault
+store_fault port revision set =
+    if not (may_store_set port.config) then Some NotAllowed
+    else if not (revision == port.revision) then Some StaleRevision
+    else if not ((set.vendor == port.config.vendor) && (set.device == port.config.device)) then Some WrongDevice
+    else None
+
+-- why a command is refused at a port: the port is not there, or what the port says (own)
+abbrev pub fault_at : Option Port → (Port → Option CommandFault) → Option CommandFault
+fault_at None fault = Some UnknownPort
+fault_at (Some port) fault = fault port
 
 -- why a command is refused in a state; none where it passes (own)
 abbrev pub check : State → CommandValue → Option CommandFault
-check state (Configure number config) = configure_fault (port_at state number)
+check state (Configure number config) = fault_at (port_numbered state number) configure_fault
+check state (Clear number) = fault_at (port_numbered state number) (λ port. None)
+check state (Store number revision set) = fault_at (port_numbered state number) (λ port. store_fault port revision set)
 
--- a port under its next configuration (own)
+-- a port under its next configuration: what is stored for it stays where a set does (own)
 abbrev pub configured : Port → PortConfig → Port
-configured port config = record { config = config; revision = port.revision + 1 }
+configured port config = record {
+  config = config;
+  revision = port.revision + 1;
+  stored = if keeps_set port.config config then port.stored else None;
+}
+
+-- a port without a set (own)
+abbrev pub cleared : Port → Port
+cleared port = record port { stored = None }
+
+-- a port that has this set, taken under its present configuration (own)
+abbrev pub with_set : Port → SetValue → Port
+with_set port set = record port { stored = Some (record { set = set; recorded = port.config }) }
 
 -- the state in which one port, if it is there, has changed (own)
 abbrev pub changed_at : State → ℕ → (Port → Port) → Option Port → State
@@ -63,7 +108,9 @@ changed_at state number change (Some port) = with_port state number (change port
 
 -- the state after a command (own)
 abbrev pub apply : State → CommandValue → State
-apply state (Configure number config) = changed_at state number (λ port. configured port config) (port_at state number)
+apply state (Configure number config) = changed_at state number (λ port. configured port config) (port_numbered state number)
+apply state (Clear number) = changed_at state number cleared (port_numbered state number)
+apply state (Store number revision set) = changed_at state number (λ port. with_set port set) (port_numbered state number)
 
 -- the state after commands in order (own)
 abbrev pub after : State → List CommandValue → State

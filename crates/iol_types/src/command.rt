@@ -1,8 +1,10 @@
 //! What changes a master's ports.
 
 use crate::config::PortConfig;
+use crate::data_set::DataSet;
 use crate::port_id::PortId;
 use std::alloc::AllocError;
+use std::sync::Arc;
 use thiserror::Error;
 
 /// A change of a master's state. A contract speaks of its value, `value_of` in
@@ -10,17 +12,30 @@ use thiserror::Error;
 #[derive(Debug, Drop)]
 pub enum Command {
     /// Gives a port a configuration, and its next revision.
-    Configure { port: PortId, config: PortConfig },
+    Configure {
+        port: PortId,
+        config: PortConfig,
+    },
+    /// Deletes the parameter set of a port.
+    Clear {
+        port: PortId,
+    },
+    /// Gives a port that is at this revision a parameter set, in place of any that it has.
+    Store {
+        port: PortId,
+        revision: u64,
+        set: Arc<DataSet>,
+    },
 }
 
 impl Command {
     ghost use Rattle.std.specs.Prelude.{◌≡◌, IfOk};
     ghost use Rattle.iol_types.specs.Command.{value_of};
 
-    /// An equal command.
+    /// An equal command; a set is shared with it.
     ///
     /// # Errors
-    /// `AllocError` where memory runs out.
+    /// `AllocError` where it is out of memory.
     pub fn copy(&self) -> Result<Command, AllocError>
         ensures { IfOk result (λ command. value_of command ≡ value_of self.now) }
     {
@@ -29,11 +44,47 @@ impl Command {
                 port: *port,
                 config: *config,
             }),
+            Command::Clear { port } => Ok(Command::Clear { port: *port }),
+            Command::Store {
+                port,
+                revision,
+                set,
+            } => Ok(Command::Store {
+                port: *port,
+                revision: *revision,
+                set: Arc::try_clone(set)?,
+            }),
         }
     }
 }
 
-/// Why a command is refused. The causes are judged in this order.
+/// A change that a client may ask for. A contract speaks of its value, `command_of` in
+/// `specs/Command.antt`.
+#[derive(Clone, Copy, Debug, PartialEq, Eq)]
+pub enum Change {
+    /// Gives a port a configuration, and its next revision.
+    Configure { port: PortId, config: PortConfig },
+    /// Deletes the parameter set of a port.
+    Clear { port: PortId },
+}
+
+impl Change {
+    ghost use Rattle.std.specs.Prelude.{◌≡◌};
+    ghost use Rattle.iol_types.specs.Command.{value_of, command_of};
+
+    /// The change as a command.
+    pub fn command(self) -> Command
+        ensures { value_of result ≡ command_of self }
+    {
+        match self {
+            Change::Configure { port, config } => Command::Configure { port, config },
+            Change::Clear { port } => Command::Clear { port },
+        }
+    }
+}
+
+/// Why a command is refused. The causes of a command are judged in this order: for Configure
+/// `UnknownPort` and `RevisionSpent`, for Clear `UnknownPort`, for Store all but `RevisionSpent`.
 #[derive(Clone, Copy, Debug, PartialEq, Eq, Error)]
 pub enum CommandFault {
     /// The master has no port with this number.
@@ -42,4 +93,13 @@ pub enum CommandFault {
     /// The port is at [`LAST_REVISION`](crate::LAST_REVISION).
     #[error("the port has no further revision")]
     RevisionSpent,
+    /// The port is not IOL_MANUAL with Backup and Restore.
+    #[error("the port stores no parameter set")]
+    NotAllowed,
+    /// The port is at another revision.
+    #[error("the port was configured since")]
+    StaleRevision,
+    /// The set is of another device than the port's configuration names.
+    #[error("the parameter set of another device")]
+    WrongDevice,
 }

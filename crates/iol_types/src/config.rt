@@ -1,6 +1,6 @@
 //! The configuration of a port.
 ghost use Rattle.std.specs.Prelude.{◌≡◌};
-ghost use Rattle.iol_types.specs.Config.{mode_octet, mode_of, validation_octet, validation_of, keeps_set, may_keep_set};
+ghost use Rattle.iol_types.specs.Config.{mode_octet, mode_of, validation_octet, validation_of, keeps_set, may_keep_set, may_store_set};
 
 use crate::device_id::DeviceId;
 
@@ -103,7 +103,15 @@ pub struct PortConfig {
 }
 
 impl PortConfig {
-    /// Whether a port has a parameter set: IOL_MANUAL with Backup and Restore, or with Restore.
+    /// Whether a port may store a parameter set of its device: IOL_MANUAL with Backup and Restore.
+    pub fn may_store_set(&self) -> bool
+        ensures { result ≡ may_store_set self.now }
+    {
+        matches!(self.mode, PortMode::IolManual)
+            && matches!(self.validation, Validation::BackupAndRestore)
+    }
+
+    // Whether a port has a parameter set: IOL_MANUAL with Backup and Restore, or with Restore.
     fn may_keep_set(&self) -> bool
         ensures { result ≡ may_keep_set self.now }
     {

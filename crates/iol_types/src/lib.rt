@@ -1,29 +1,38 @@
 //! What an IO-Link master keeps for its ports, and the commands that change it.
 //!
 //! Numbers come in through types that hold their ranges: [`PortId`], [`DeviceId`], [`PortMode`],
-//! [`Validation`]. They make up a port's [`PortConfig`], which a [`Command`] carries. A
-//! [`MasterState`] holds a [`PortState`] for each port; it checks a command and applies it. All
-//! lists of commands, on a disk or in a queue, act through these two calls alone.
+//! [`Validation`]. They make up a port's [`PortConfig`]. A [`SetBuilder`] takes a device's parameters,
+//! each under its [`Key`], and makes a [`DataSet`] of them. A [`Command`] carries a configuration or a
+//! set, and a [`Change`] is a command that a client may ask for. A [`MasterState`] holds a
+//! [`PortState`] for each port; it checks a command and applies it. All lists of commands, on a disk
+//! or in a queue, act through these two calls alone.
 //!
-//! Modules in reading order: `port_id`, `device_id`, `config`, `command`, `port_state`,
-//! `master_state`, `examples` (values worked out). What a configuration, a command and a state are
-//! to a contract stands in `specs/Config.antt`, `specs/Command.antt` and `specs/State.antt`.
+//! Modules in reading order: `port_id`, `device_id`, `config`, `key`, `data_set`, `set_builder`,
+//! `command`, `port_state`, `master_state`, `examples` (values worked out). What a configuration, a set,
+//! a command and a state are to a contract stands in `specs/Config.antt`, `specs/DataSet.antt`,
+//! `specs/Command.antt` and `specs/State.antt`.
 #![tactic(auto)]
 
 mod command;
 mod config;
+mod data_set;
 mod device_id;
 pub mod examples;
+mod key;
 mod master_state;
 mod port_id;
 mod port_state;
+mod set_builder;
 
-pub use command::{Command, CommandFault};
-pub use config::{PortConfig, PortMode, Validation};
+pub use command::{Change, Command, CommandFault};
+pub use config::{PortConfig, PortMode, Validation, keeps_set};
+pub use data_set::{DataSet, ENTRY_HEAD_OCTETS, MOST_ENTRY_OCTETS, MOST_SET_OCTETS};
 pub use device_id::{DEVICE_NUMBERS, DeviceId};
+pub use key::{DATA_STORAGE, DIRECT_PARAMETER_PAGE, Key, SYSTEM_COMMAND};
 pub use master_state::MasterState;
 pub use port_id::{PORTS, PortId};
-pub use port_state::{LAST_REVISION, PortState};
+pub use port_state::{LAST_REVISION, PortState, StoredSet};
+pub use set_builder::{AddFault, SetBuilder};
 
 #[cfg(test)]
 mod tests;

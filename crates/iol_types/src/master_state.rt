@@ -30,13 +30,13 @@ impl Model for MasterState {
 
 impl MasterState {
     ghost use Rattle.iol_types.specs.Command.{value_of};
-    ghost use Rattle.iol_types.specs.State.{empty_state, port_at, with_port, check, apply};
+    ghost use Rattle.iol_types.specs.State.{empty_state, port_numbered, with_port, check, apply};
 
     /// The state of a master with `ports` ports, each DEACTIVATED with validation, vendor, device
     /// and revision 0.
     ///
     /// # Errors
-    /// `AllocError` where memory runs out.
+    /// `AllocError` where it is out of memory.
     pub fn new(alloc: Global, ports: u8) -> Result<MasterState, AllocError>
         requires { ports ≤ PORTS }
         ensures { IfOk result (λ state. state ≡ empty_state ports) }
@@ -51,13 +51,13 @@ impl MasterState {
     /// An equal state, under the same allocator.
     ///
     /// # Errors
-    /// `AllocError` where memory runs out.
+    /// `AllocError` where it is out of memory.
     pub fn copy(&self) -> Result<MasterState, AllocError>
         ensures { IfOk result (λ state. state ≡ self.now) }
     {
         let mut ports = Vec::with_capacity(*self.ports.allocator(), self.ports.len())?;
         for port in &self.ports {
-            ports.push(port.copy())?;
+            ports.push(port.copy()?)?;
         }
         Ok(MasterState { ports })
     }
@@ -72,7 +72,7 @@ impl MasterState {
 
     /// The port with this number, or `None` where the master has no such port.
     pub fn port(&self, port: PortId) -> Option<&PortState>
-        ensures { option_copied result ≡ port_at self.now port }
+        ensures { option_copied result ≡ port_numbered self.now port }
     {
         self.ports.get(port.place())
     }
@@ -88,23 +88,43 @@ impl MasterState {
     /// Whether a command may be applied.
     ///
     /// # Errors
-    /// `UnknownPort` where the master has no such port, then `RevisionSpent` where the port is at
-    /// [`LAST_REVISION`].
+    /// The first cause, in the order of [`CommandFault`]: `UnknownPort` where the master has no such
+    /// port; for Configure `RevisionSpent` where the port is at [`LAST_REVISION`]; for Store
+    /// `NotAllowed` where the port is not IOL_MANUAL with Backup and Restore, `StaleRevision` where it
+    /// is at another revision, `WrongDevice` where its configuration names another device.
     pub fn check(&self, command: &Command) -> Result<(), CommandFault>
         ensures passes { OnOk result (check self.now (value_of command.now) ≡ None) }
         ensures refused { IfErr result (λ fault. check self.now (value_of command.now) ≡ Some fault) }
     {
-        match command {
+        let fault = match command {
             Command::Configure { port, config: _ } => match self.port(*port) {
-                None => Err(CommandFault::UnknownPort),
-                Some(state) if state.revision() < LAST_REVISION => Ok(()),
-                Some(_) => Err(CommandFault::RevisionSpent),
+                None => Some(CommandFault::UnknownPort),
+                Some(state) if state.revision() < LAST_REVISION => None,
+                Some(_) => Some(CommandFault::RevisionSpent),
             },
+            Command::Clear { port } => match self.port(*port) {
+                None => Some(CommandFault::UnknownPort),
+                Some(_) => None,
+            },
+            Command::Store {
+                port,
+                revision,
+                set,
+            } => match self.port(*port) {
+                None => Some(CommandFault::UnknownPort),
+                Some(state) => state.store_fault(*revision, set),
+            },
+        };
+        match fault {
+            None => Ok(()),
+            Some(fault) => Err(fault),
         }
     }
 
     /// Applies a command that passes [`check`](MasterState::check). Configure gives the port its
-    /// configuration, and the next revision.
+    /// configuration and the next revision, and deletes its set unless
+    /// [`keeps_set`](crate::keeps_set) holds; Clear deletes its set; Store puts a set in place of any,
+    /// taken under the present configuration.
     pub fn apply(&mut self, command: Command)
         requires { check self.old (value_of command) ≡ None }
         ensures { self.new ≡ apply self.old (value_of command) }
@@ -113,6 +133,20 @@ impl MasterState {
             Command::Configure { port, config } => {
                 if let Some(state) = self.ports.get_mut(port.place()) {
                     state.configure(config);
+                }
+            }
+            Command::Clear { port } => {
+                if let Some(state) = self.ports.get_mut(port.place()) {
+                    state.clear();
+                }
+            }
+            Command::Store {
+                port,
+                revision: _,
+                set,
+            } => {
+                if let Some(state) = self.ports.get_mut(port.place()) {
+                    state.store(set);
                 }
             }
         }

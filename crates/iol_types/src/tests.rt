@@ -1,7 +1,11 @@
+//! Masters, ports and commands: what a caller sees of them, and their calls for memory.
+
 use super::*;
+use std::alloc::Global;
+use std::sync::Arc;
 use std::test::Fail;
 
-/// The port with this number.
+// The port with this number.
 fn port_number(number: u8) -> Result<PortId, Fail> {
     Ok(PortId::new(number).ok_or("a port is 1 to 32")?)
 }
@@ -41,5 +45,203 @@ fn a_copy_has_what_was_configured(rt: HostRuntime) -> Result<(), Fail> {
         assert_eq!(rt; state.config() == config, number == 2, "port {number}");
     }
     assert!(rt; copied.port(port_number(3)?).is_none());
+    Ok(())
+}
+
+// A device of vendor 500 with DeviceID 43981, under IOL_MANUAL.
+fn config_with(validation: Validation) -> Result<PortConfig, Fail> {
+    Ok(PortConfig {
+        mode: PortMode::IolManual,
+        validation,
+        vendor: 500,
+        device: DeviceId::new(43981).ok_or("a DeviceID is below 2^24")?,
+    })
+}
+
+// The set of that device: 0040.00 with the octets 0A 64, and 0041.01 with 7F.
+fn set_of_the_device(alloc: Global) -> Result<DataSet, Fail> {
+    let mut set = SetBuilder::new(alloc);
+    set.add(
+        Key {
+            index: 0x40,
+            subindex: 0,
+        },
+        &[0x0A, 0x64],
+    )?;
+    set.add(
+        Key {
+            index: 0x41,
+            subindex: 1,
+        },
+        &[0x7F],
+    )?;
+    let device = DeviceId::new(43981).ok_or("a DeviceID is below 2^24")?;
+    Ok(set.finish(500, device, 591))
+}
+
+// A master of two ports, the first with Backup and Restore at revision 1, and the set stored for it.
+fn master_with_a_set(alloc: Global) -> Result<MasterState, Fail> {
+    let port = port_number(1)?;
+    let mut master = MasterState::new(alloc, 2)?;
+    let config = config_with(Validation::BackupAndRestore)?;
+    let configure = Command::Configure { port, config };
+    master.check(&configure)?;
+    master.apply(configure);
+    let set = Arc::new(alloc, set_of_the_device(alloc)?)?;
+    let store = Command::Store {
+        port,
+        revision: 1,
+        set,
+    };
+    master.check(&store)?;
+    master.apply(store);
+    Ok(master)
+}
+
+#[test]
+fn a_set_stays_under_restore_and_goes_with_it(rt: HostRuntime) -> Result<(), Fail> {
+    let port = port_number(1)?;
+    let mut master = master_with_a_set(rt.alloc())?;
+    // The validation, the revision behind it, and the octets of the set that is then stored.
+    let cases = [
+        (Validation::BackupAndRestore, 2, Some(11)),
+        (Validation::Restore, 3, Some(11)),
+        (Validation::Restore, 4, Some(11)),
+        (Validation::TypeCompatibleV11, 5, None),
+        (Validation::Restore, 6, None),
+    ];
+    for (validation, revision, octets) in cases {
+        let config = config_with(validation)?;
+        let configure = Command::Configure { port, config };
+        master.check(&configure)?;
+        master.apply(configure);
+        let state = master.port(port).ok_or("port 1 is there")?;
+        assert_eq!(rt; state.revision(), revision);
+        assert_eq!(rt; state.stored().map(|stored| stored.set.octets()), octets);
+        if let Some(stored) = state.stored() {
+            assert_eq!(rt; stored.recorded.validation, Validation::BackupAndRestore);
+        }
+    }
+    Ok(())
+}
+
+#[test]
+fn clear_deletes_the_set_and_nothing_else(rt: HostRuntime) -> Result<(), Fail> {
+    let port = port_number(1)?;
+    let mut master = master_with_a_set(rt.alloc())?;
+    let copy = master.copy()?;
+    let clear = Change::Clear { port }.command();
+    master.check(&clear)?;
+    master.apply(clear);
+    let state = master.port(port).ok_or("port 1 is there")?;
+    assert!(rt; state.stored().is_none());
+    assert_eq!(rt; state.revision(), 1);
+    assert_eq!(rt; state.config(), config_with(Validation::BackupAndRestore)?);
+    let kept = copy.port(port).ok_or("port 1 is there")?;
+    assert!(rt; kept.stored().is_some());
+    Ok(())
+}
+
+#[test]
+fn a_set_counts_at_most_4096_octets(rt: HostRuntime) -> Result<(), Fail> {
+    let mut set = SetBuilder::new(rt.alloc());
+    for index in 0x100..0x111 {
+        set.add(Key { index, subindex: 0 }, &[0; 232])?;
+    }
+    let last = Key {
+        index: 0x111,
+        subindex: 0,
+    };
+    assert_eq!(rt; set.add(last, &[0; 81]), Err(AddFault::SetTooLarge));
+    set.add(last, &[0; 80])?;
+    assert_eq!(rt; set.octets(), 4096);
+    let device = DeviceId::new(1).ok_or("a DeviceID is below 2^24")?;
+    let whole = set.finish(1, device, 0);
+    assert_eq!(rt; whole.len(), 18);
+    assert_eq!(rt; whole.octets(), 4096);
+    assert_eq!(rt; whole.get(last).map(|data| data.len()), Some(80));
+    let (key, data) = whole.entry(17).ok_or("entry 17 is there")?;
+    assert_eq!(rt; key, last);
+    assert_eq!(rt; data.len(), 80);
+    assert!(rt; whole.entry(18).is_none());
+    Ok(())
+}
+
+// With `rt try --test --fail-alloc N` the Nth growth is refused: then, and only then, an entry is out of memory, and
+// the set is as it was.
+#[test]
+fn an_entry_that_finds_no_memory_leaves_the_set(rt: HostRuntime) -> Result<(), Fail> {
+    let mut set = SetBuilder::new(rt.alloc());
+    for index in 0x40..0x60 {
+        let octets = set.octets();
+        let key = Key { index, subindex: 0 };
+        match set.add(key, &[0x0A, 0x64]) {
+            Ok(()) => assert_eq!(rt; set.octets(), octets + 6),
+            Err(fault) => {
+                assert_eq!(rt; fault, AddFault::Memory);
+                assert_eq!(rt; set.octets(), octets);
+                assert!(rt; !set.has(key));
+                set.add(key, &[0x0A, 0x64])?;
+            }
+        }
+    }
+    let device = DeviceId::new(1).ok_or("a DeviceID is below 2^24")?;
+    assert_eq!(rt; set.finish(1, device, 0).len(), 32);
+    Ok(())
+}
+
+#[test]
+fn a_parameter_may_have_no_octets(rt: HostRuntime) -> Result<(), Fail> {
+    let mut set = SetBuilder::new(rt.alloc());
+    let key = Key {
+        index: 0x40,
+        subindex: 0,
+    };
+    set.add(key, &[])?;
+    let device = DeviceId::new(1).ok_or("a DeviceID is below 2^24")?;
+    let whole = set.finish(1, device, 0);
+    assert_eq!(rt; whole.octets(), 4);
+    assert_eq!(rt; whole.get(key).map(|data| data.len()), Some(0));
+    Ok(())
+}
+
+#[test]
+fn a_copy_has_all_of_32_ports(rt: HostRuntime) -> Result<(), Fail> {
+    let master = MasterState::new(rt.alloc(), 32)?;
+    assert_eq!(rt; master.copy()?.ports(), 32);
+    Ok(())
+}
+
+#[test]
+fn faults_have_these_texts(rt: HostRuntime) -> Result<(), Fail> {
+    let entries = [
+        (AddFault::ReservedKey, "a reserved Index"),
+        (
+            AddFault::EntryTooLong,
+            "a parameter of more than 232 octets",
+        ),
+        (AddFault::Duplicate, "a parameter that is there already"),
+        (AddFault::SetTooLarge, "a set of more than 4096 octets"),
+        (AddFault::Memory, "out of memory"),
+    ];
+    for (fault, text) in entries {
+        assert_eq!(rt; format!(in rt.alloc(); "{fault}")?.as_str(), text);
+    }
+    let commands = [
+        (CommandFault::UnknownPort, "no such port"),
+        (
+            CommandFault::RevisionSpent,
+            "the port has no further revision",
+        ),
+        (CommandFault::NotAllowed, "the port stores no parameter set"),
+        (CommandFault::StaleRevision, "the port was configured since"),
+        (
+            CommandFault::WrongDevice,
+            "the parameter set of another device",
+        ),
+    ];
+    for (fault, text) in commands {
+        assert_eq!(rt; format!(in rt.alloc(); "{fault}")?.as_str(), text);
+    }
     Ok(())
 }

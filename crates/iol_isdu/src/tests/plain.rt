@@ -4,7 +4,7 @@ use crate::IsduFault;
 use crate::messages::{Answer, DATA_OCTETS, Request};
 use arrayvec::ArrayVec;
 
-/// The least and the most octets that stand between the length and CHKPDU, by I-Service.
+// The least and the most octets that stand between the length and CHKPDU, by I-Service.
 const CARRIED: [Option<(usize, usize)>; 16] = [
     None,
     Some((1, 233)),

@@ -1,7 +1,9 @@
 //! A disk that fails at one call, taken off and recovered: the state before or after what was under way.
 
-use super::failing::Failing;
-use super::{answer, batch, begun, journal_of, journal_with, recovered, two_ports_four_slots};
+use super::failing::{Failing, Fails};
+use super::{
+    answer, batch, begun, journal_of, journal_with, recovered, stepped, two_ports_four_slots,
+};
 use crate::{FormatFault, Progress, RecoverCause, Writing, format};
 use iol_disk::{DiskFault, MemoryDisk, Pick};
 use std::alloc::Global;
@@ -38,25 +40,24 @@ fn failed_format(
     before: usize,
 ) -> Result<(Result<(), FormatFault>, MemoryDisk), Fail> {
     let geometry = two_ports_four_slots()?;
-    let mut disk = Failing::new(MemoryDisk::new(alloc, geometry.sectors())?, kind, before);
+    let mut disk = Failing::new(
+        MemoryDisk::new(alloc, geometry.sectors())?,
+        Fails::Once { kind, before },
+    );
     let answer = format(alloc, &mut disk, geometry);
     Ok((answer, disk.disk()))
 }
 
 // Makes the steps of a batch, up to one that fails.
 fn steps(writing: Writing<Failing>) -> Result<(Option<DiskFault>, MemoryDisk), Fail> {
-    let mut writing = writing;
-    for _ in 0..20 {
-        match writing.step() {
-            Progress::More(next) => writing = next,
-            Progress::Done(journal, written) => {
-                written.into_batch();
-                return Ok((None, journal.disk().disk()));
-            }
-            Progress::Failed(disk, fault) => return Ok((Some(fault), disk.disk())),
+    match stepped(writing, 19).0 {
+        Progress::Done(journal, written) => {
+            written.into_batch();
+            Ok((None, journal.disk().disk()))
         }
+        Progress::Failed(disk, fault) => Ok((Some(fault), disk.disk())),
+        Progress::More(_) => Err(Fail::new("the batch is not done")),
     }
-    Err(Fail::new("the batch is not done"))
 }
 
 // Writes a second batch to a disk on which this call of its steps fails; those of the recovery before it come first.
@@ -65,7 +66,7 @@ fn failed_batch(
     kind: DiskFault,
     before: usize,
 ) -> Result<(Option<DiskFault>, MemoryDisk), Fail> {
-    let disk = Failing::new(journal_of(alloc, 1)?.disk(), kind, before);
+    let disk = Failing::new(journal_of(alloc, 1)?.disk(), Fails::Once { kind, before });
     let (journal, _) = recovered(alloc, disk)?;
     steps(begun(journal, batch(alloc, 2, 1)?)?)
 }
@@ -99,7 +100,10 @@ fn a_recovery_that_failed_leaves_the_state(rt: HostRuntime) -> Result<(), Fail> 
     for (kind, _, calls, _) in CALLS {
         for before in 0..calls + 1 {
             for stop in STOPS {
-                let disk = Failing::new(journal_of(rt.alloc(), 1)?.disk(), kind, before);
+                let disk = Failing::new(
+                    journal_of(rt.alloc(), 1)?.disk(),
+                    Fails::Once { kind, before },
+                );
                 let (found, disk) = answer(rt.alloc(), disk);
                 let wanted = if before < calls {
                     Err(RecoverCause::Disk(kind))
@@ -136,7 +140,7 @@ fn a_batch_that_failed_leaves_the_state_before_or_after_it(rt: HostRuntime) -> R
 }
 
 #[test]
-fn a_read_that_fails_is_told_up_to_what_tells_of_damage(rt: HostRuntime) -> Result<(), Fail> {
+fn a_read_that_fails_is_reported_up_to_what_shows_damage(rt: HostRuntime) -> Result<(), Fail> {
     // Sector, octet, the octet in its place, and how many reads tell of it: of the sectors 1, 0, 2, 90, 3, 91, 4,
     // 13, 22 and 23, in this order, those up to the changed one, and for the gate of A that of B too.
     let table = [
@@ -150,9 +154,10 @@ fn a_read_that_fails_is_told_up_to_what_tells_of_damage(rt: HostRuntime) -> Resu
     for (sector, place, octet, reads) in table {
         for before in 0..reads + 1 {
             let disk = journal_with(rt.alloc(), sector, place, octet)?;
-            let disk = Failing::new(disk, DiskFault::Read, before);
+            let kind = DiskFault::Read;
+            let disk = Failing::new(disk, Fails::Once { kind, before });
             let wanted = if before < reads {
-                RecoverCause::Disk(DiskFault::Read)
+                RecoverCause::Disk(kind)
             } else {
                 RecoverCause::Damaged { sector }
             };

@@ -2,7 +2,7 @@
 //!
 //! By itself the run meets no refusal. With `rt try --test --fail-alloc N` it meets one, at the Nth growth.
 
-use super::{begun, configure, recovered, two_ports_four_slots};
+use super::{begun, configure, recovered, stepped, two_ports_four_slots};
 use crate::{Batch, BeginCause, FormatFault, Journal, Progress, RecoverCause, Writing, format};
 use iol_disk::{DiskFault, MemoryDisk};
 use std::alloc::Global;
@@ -67,19 +67,15 @@ fn begun_twice(journal: Journal<MemoryDisk>, batch: Batch) -> Result<Writing<Mem
 
 // The journal behind the batch, or the one that is recovered where a sync found no memory.
 fn written(alloc: Global, writing: Writing<MemoryDisk>) -> Result<Journal<MemoryDisk>, Fail> {
-    let mut writing = writing;
-    for _ in 0..20 {
-        match writing.step() {
-            Progress::More(next) => writing = next,
-            Progress::Done(journal, written) => {
-                written.into_batch();
-                return Ok(journal);
-            }
-            Progress::Failed(disk, DiskFault::Sync) => return recovered_twice(alloc, disk),
-            Progress::Failed(_, fault) => return Err(Fail::from(fault)),
+    match stepped(writing, 19).0 {
+        Progress::Done(journal, written) => {
+            written.into_batch();
+            Ok(journal)
         }
+        Progress::Failed(disk, DiskFault::Sync) => recovered_twice(alloc, disk),
+        Progress::Failed(_, fault) => Err(Fail::from(fault)),
+        Progress::More(_) => Err(Fail::new("the batch is not done")),
     }
-    Err(Fail::new("the batch is not done"))
 }
 
 #[test]

@@ -1,10 +1,12 @@
 //! A plain and slow program for what an image of a disk means. It takes all sectors, and knows no disk.
-ghost use Rattle.std.specs.Prelude.{◌≡◌, ◌<◌, ◌≤◌, ◌+◌, ◌*◌, length, IfOk};
+ghost use Rattle.std.specs.Prelude.{◌≡◌, ◌<◌, ◌≤◌, ◌+◌, ◌*◌, length, IfOk, IfErr};
 ghost use Rattle.iol_slots.specs.Gate.{is_open};
+ghost use Rattle.iol_journal.specs.Faults.{IsFault, IsDiskFault};
 ghost use Rattle.iol_journal.specs.Layout.{total};
-ghost use Rattle.iol_journal.specs.Meaning.{layout_in, header_in, in_use_in, ports_from, log_from, meaning};
+ghost use Rattle.iol_journal.specs.Meaning.{layout_in, header_in, in_use_in, port_in, ports_from, log_from, meaning};
 ghost use Rattle.iol_journal.specs.Octets.{octets_at as octets_in};
-ghost use Rattle.iol_journal.specs.Plain.{image_of, Answers, IsPlain};
+ghost use Rattle.iol_journal.specs.Plain.{image_of};
+ghost use Rattle.iol_journal.specs.Reading.{Says};
 ghost use Rattle.iol_journal.specs.declared.header.TheConstants.{LAST_NUMBER};
 
 use crate::area::Area;
@@ -15,20 +17,21 @@ use crate::layout::Layout;
 use crate::opening::{InUse, greatest_of};
 use crate::replay::{End, replay_body};
 use iol_disk::SECTOR_OCTETS;
-use iol_record::decode_port;
+use iol_record::{RecordFault, decode_port};
 use iol_slots::GATE_MARK;
-use iol_types::{MasterState, PortId};
+use iol_types::{MasterState, PortId, PortState};
 use std::alloc::{AllocError, Global};
 
 /// What an image means: the number of its commands and the state after them, or the first cause why it means nothing.
 ///
 /// # Errors
-/// `AllocError` where memory runs out.
+/// `AllocError` where it is out of memory.
 pub fn plain_meaning(
     alloc: Global,
     image: &[[u8; SECTOR_OCTETS]],
 ) -> Result<Result<(u64, MasterState), RecoverCause>, AllocError>
-    ensures { IfOk result (λ answer. IsPlain answer (meaning (length image.now) (image_of image.now))) }
+    ensures says { IfOk result (Says (λ (number, state). record { number = number; state = state }) (meaning (length image.now) (image_of image.now))) }
+    ensures no_fault { IfOk result (λ answer. IfErr answer (λ told. IsFault told → ⊥)) }
 {
     match read_all(alloc, image) {
         Ok(found) => Ok(Ok(found)),
@@ -42,17 +45,19 @@ fn read_all(
     alloc: Global,
     image: &[[u8; SECTOR_OCTETS]],
 ) -> Result<(u64, MasterState), RecoverCause>
-    ensures { Answers (λ (number, state). record { number = number; state = state }) (meaning (length image.now) (image_of image.now)) result }
+    ensures says { Says (λ (number, state). record { number = number; state = state }) (meaning (length image.now) (image_of image.now)) result }
+    ensures no_disk { IfErr result (λ told. IsDiskFault told → ⊥) }
 {
     let layout = read_layout(image)?;
     let used = read_in_use(image, layout)?;
     let mut state = read_ports(alloc, image, layout, used.area)?;
-    let end = read_slots(image, layout, used, &mut state)?;
+    let end = read_slots(alloc, image, layout, used, &mut state)?;
     Ok((end.number, state))
 }
 
 fn read_layout(image: &[[u8; SECTOR_OCTETS]]) -> Result<Layout, RecoverCause>
-    ensures answers { Answers (λ layout. layout) (layout_in (length image.now) (image_of image.now)) result }
+    ensures says { Says (λ layout. layout) (layout_in (length image.now) (image_of image.now)) result }
+    ensures no_disk { IfErr result (λ told. IsDiskFault told → ⊥) }
     ensures fits { IfOk result (λ layout. total layout ≤ length image.now) }
 {
     if image.len() < 2 || !gate_is_open(image, DISK_GATE) {
@@ -66,7 +71,8 @@ fn read_layout(image: &[[u8; SECTOR_OCTETS]]) -> Result<Layout, RecoverCause>
 
 fn read_in_use(image: &[[u8; SECTOR_OCTETS]], layout: Layout) -> Result<InUse, RecoverCause>
     requires { total layout ≤ length image.now }
-    ensures answers { Answers (λ used. used) (in_use_in layout (image_of image.now)) result }
+    ensures says { Says (λ used. used) (in_use_in layout (image_of image.now)) result }
+    ensures no_disk { IfErr result (λ told. IsDiskFault told → ⊥) }
     ensures base { IfOk result (λ used. used.header.base ≤ LAST_NUMBER) }
 {
     let a = read_header(image, layout, Area::A);
@@ -86,7 +92,25 @@ fn read_header(image: &[[u8; SECTOR_OCTETS]], layout: Layout, area: Area) -> Opt
     }
 }
 
-// The ports as all sectors of their records say.
+// The port that all sectors of its record say.
+fn read_port(
+    alloc: Global,
+    image: &[[u8; SECTOR_OCTETS]],
+    sector: usize,
+    sectors: usize,
+) -> Result<PortState, RecoverCause>
+    requires { sector + sectors ≤ length image.now }
+    ensures says { Says (λ port. port) (port_in (image_of image.now) sector sectors) result }
+    ensures no_disk { IfErr result (λ told. IsDiskFault told → ⊥) }
+{
+    match decode_port(alloc, octets_from(image, sector, sectors)) {
+        Ok((port, _)) => Ok(port),
+        Err(RecordFault::Memory) => Err(RecoverCause::Memory),
+        Err(_) => Err(RecoverCause::Damaged { sector }),
+    }
+}
+
+// The ports as their records say.
 fn read_ports(
     alloc: Global,
     image: &[[u8; SECTOR_OCTETS]],
@@ -94,15 +118,13 @@ fn read_ports(
     area: Area,
 ) -> Result<MasterState, RecoverCause>
     requires { total layout ≤ length image.now }
-    ensures { Answers (λ state. state) (ports_from layout area (image_of image.now) 0 layout.ports) result }
+    ensures says { Says (λ state. state) (ports_from layout area (image_of image.now) 0 layout.ports) result }
+    ensures no_disk { IfErr result (λ told. IsDiskFault told → ⊥) }
 {
     let mut state = MasterState::new(alloc, layout.ports())?;
     for place in 0..layout.ports() {
         let sector = layout.port(area, usize::from(place));
-        let octets = octets_from(image, sector, layout.port_sectors());
-        let Ok((port, _)) = decode_port(octets) else {
-            return Err(RecoverCause::Damaged { sector });
-        };
+        let port = read_port(alloc, image, sector, layout.port_sectors())?;
         state.set_port(PortId::new(place + 1).unwrap(), port);
     }
     Ok(state)
@@ -110,6 +132,7 @@ fn read_ports(
 
 // Applies the commands of the slots, up to the first whose gate is closed.
 fn read_slots(
+    alloc: Global,
     image: &[[u8; SECTOR_OCTETS]],
     layout: Layout,
     used: InUse,
@@ -117,8 +140,9 @@ fn read_slots(
 ) -> Result<End, RecoverCause>
     requires fits { total layout ≤ length image.now }
     requires base { used.header.base ≤ LAST_NUMBER }
-    ensures { Answers (λ end. record { used = end.used; number = end.number; state = state.new })
+    ensures says { Says (λ end. record { used = end.used; number = end.number; state = state.new })
         (log_from layout used.area used.header.epoch (image_of image.now) 0 layout.slots used.header.base state.old) result }
+    ensures no_disk { IfErr result (λ told. IsDiskFault told → ⊥) }
 {
     let mut number = used.header.base;
     for place in 0..layout.slots() {
@@ -130,7 +154,7 @@ fn read_slots(
             });
         }
         let body = octets_from(image, slot.body, BODY_SECTORS);
-        number = match replay_body(body, used.header.epoch, number, state) {
+        number = match replay_body(alloc, body, used.header.epoch, number, state)? {
             Some(number) => number,
             None => return Err(RecoverCause::Damaged { sector: slot.body }),
         };

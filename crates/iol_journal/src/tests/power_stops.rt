@@ -1,8 +1,8 @@
 //! A power stop after each disk call, under each pick.
 
-use super::interrupted::Interrupted;
-use super::{PICKS, answer, batch, begun, journal_of, recovered, two_ports_four_slots};
-use crate::{Progress, RecoverCause, format};
+use super::failing::{Failing, Fails};
+use super::{PICKS, answer, batch, begun, journal_of, recovered, stepped, two_ports_four_slots};
+use crate::{Progress, RecoverCause, Writing, format};
 use iol_disk::{MemoryDisk, Pick};
 use iol_types::PortId;
 use std::alloc::Global;
@@ -21,31 +21,31 @@ fn recovered_number(alloc: Global, disk: MemoryDisk) -> Result<Option<u64>, Fail
 // The disk after so many calls of a format of two ports and four slots, and whether the format was done.
 fn formatted_after(alloc: Global, calls: usize) -> Result<(MemoryDisk, bool), Fail> {
     let geometry = two_ports_four_slots()?;
-    let mut disk = Interrupted::new(MemoryDisk::new(alloc, geometry.sectors())?, calls);
+    let mut disk = Failing::new(
+        MemoryDisk::new(alloc, geometry.sectors())?,
+        Fails::Behind(calls),
+    );
     let done = format(alloc, &mut disk, geometry).is_ok();
     Ok((disk.disk(), done))
 }
 
-// The disk after so many batches of one command, and so many calls of a batch of so many commands behind them.
-fn written_after(
-    alloc: Global,
-    batches: u8,
-    count: usize,
-    calls: usize,
-) -> Result<MemoryDisk, Fail> {
-    let first = u64::from(batches) + 1;
-    let mut writing = begun(journal_of(alloc, batches)?, batch(alloc, first, count)?)?;
-    for _ in 0..calls {
-        match writing.step() {
-            Progress::More(next) => writing = next,
-            Progress::Done(journal, written) => {
-                written.into_batch();
-                return Ok(journal.disk());
-            }
-            Progress::Failed(_, fault) => return Err(Fail::from(fault)),
+/// The disk after so many calls of a batch.
+pub fn disk_after(writing: Writing<MemoryDisk>, calls: usize) -> Result<MemoryDisk, Fail> {
+    match stepped(writing, calls).0 {
+        Progress::More(writing) => Ok(writing.disk()),
+        Progress::Done(journal, written) => {
+            written.into_batch();
+            Ok(journal.disk())
         }
+        Progress::Failed(_, fault) => Err(Fail::from(fault)),
     }
-    Ok(writing.disk())
+}
+
+/// Whether a stop after so many calls of a batch leaves it: the sectors of its body, a sync, the gate, a sync.
+pub fn is_left(calls: usize, body: u8, pick: Pick) -> bool {
+    let before_gate = usize::from(body) + 1;
+    let gate_is_torn_open = calls == before_gate + 1 && matches!(pick, Pick::New | Pick::Pattern);
+    calls == before_gate + 2 || gate_is_torn_open
 }
 
 #[test]
@@ -68,7 +68,7 @@ fn a_stop_in_a_format_leaves_nothing_or_an_empty_journal(rt: HostRuntime) -> Res
     Ok(())
 }
 
-// Stops the power after each of the calls of a batch, under each pick: the sectors of its body, a sync, the gate, a sync.
+// Stops the power after each of the calls of a batch of so many commands behind so many batches, under each pick.
 fn stop_in_batch(
     rt: &impl Abort,
     alloc: Global,
@@ -76,18 +76,17 @@ fn stop_in_batch(
     count: u8,
     body: u8,
 ) -> Result<(), Fail> {
-    let number = u64::from(batches);
-    let body = usize::from(body);
-    for calls in 0..body + 4 {
+    let before = u64::from(batches);
+    for calls in 0..usize::from(body) + 4 {
         for pick in PICKS {
-            let disk = written_after(alloc, batches, usize::from(count), calls)?.stop(pick);
-            let gate_is_torn_open = calls == body + 2 && matches!(pick, Pick::New | Pick::Pattern);
-            let wanted = if calls == body + 3 || gate_is_torn_open {
-                number + u64::from(count)
+            let batch = batch(alloc, before + 1, usize::from(count))?;
+            let disk = disk_after(begun(journal_of(alloc, batches)?, batch)?, calls)?;
+            let wanted = if is_left(calls, body, pick) {
+                before + u64::from(count)
             } else {
-                number
+                before
             };
-            let found = recovered_number(alloc, disk)?;
+            let found = recovered_number(alloc, disk.stop(pick))?;
             assert_eq!(rt; found, Some(wanted), "after {calls} calls under {pick:?}");
         }
     }

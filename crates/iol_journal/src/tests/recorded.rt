@@ -25,16 +25,16 @@ impl Recorded {
         }
     }
 
-    // The calls in the order in which they were made. One that finds no memory is missing.
+    /// The calls in the order in which they were made. One that finds no memory is missing.
     pub fn calls(self) -> Vec<Call> {
         self.calls
     }
 }
 
 impl SectorDisk for Recorded {
-    ghost use Rattle.iol_disk.specs.Memory.{disk_of};
+    ghost use Rattle.iol_disk.specs.Memory.{as_disk};
 
-    ghost disk = { λ d. disk_of d.disk };
+    ghost disk = { λ d. as_disk d.disk };
 
     fn sectors(&self) -> usize {
         self.disk.sectors()

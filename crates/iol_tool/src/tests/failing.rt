@@ -40,14 +40,14 @@ fn is_good(good: &mut usize) -> bool {
 
 impl SectorDisk for FailingDisk {
     ghost use Rattle.std.specs.Prelude.{false};
-    ghost use Rattle.iol_disk.specs.Memory.{disk_of};
+    ghost use Rattle.iol_disk.specs.Memory.{as_disk};
 
     // Nothing is claimed of its content.
     ghost disk = { λ d. record {
-      sectors = (disk_of d.disk).sectors;
+      sectors = (as_disk d.disk).sectors;
       honest = false;
       failures = d.failures;
-      content = (disk_of d.disk).content;
+      content = (as_disk d.disk).content;
     } };
 
     fn sectors(&self) -> usize {

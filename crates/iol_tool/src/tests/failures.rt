@@ -1,6 +1,7 @@
 //! Runs on a disk of which one call fails.
 
 use super::failing::FailingDisk;
+use super::{CONFIGURE, CONFIGURE_GREATEST, DRAIN, script_of, stop_that_keeps};
 use crate::fault::Fault;
 use crate::geometry::geometry_of;
 use crate::run::run;
@@ -8,37 +9,62 @@ use iol_script::Script;
 use std::alloc::{AllocError, Global};
 use std::test::Fail;
 
-const TWO_BATCHES: &str = r#"
-ports = 1
-slots = 2
-[[step]]
-do = "configure"
-port = 1
-mode = 1
-validation = 3
-vendor = 500
-device = 43981
-[[step]]
-do = "drain"
-[[step]]
-do = "configure"
-port = 1
-mode = 4
-validation = 4
-vendor = 65535
-device = 16777215
-[[step]]
-do = "drain"
-[[step]]
-do = "stop"
-"#;
+// What two batches of one command print where the first is lost, where it is recovered and not acknowledged, and where
+// the second is lost.
+const FIRST_LOST: &str = "accepted 1
+disk failed
+refused Stopped
+stopped
+recovered 0
+port 1 revision 0 mode 0 validation 0 vendor 0000 device 000000 set none
+port 2 revision 0 mode 0 validation 0 vendor 0000 device 000000 set none
+";
 
-// The disk calls of a batch of one command: its body, a sync, its gate, a sync.
-const BATCH_CALLS: usize = 4;
+const FIRST_FOUND: &str = "accepted 1
+disk failed
+refused Stopped
+stopped
+recovered 1
+port 1 revision 1 mode 1 validation 3 vendor 01F4 device 00ABCD set none
+port 2 revision 0 mode 0 validation 0 vendor 0000 device 000000 set none
+";
+
+const SECOND_LOST: &str = "accepted 1
+acknowledged 1
+accepted 2
+disk failed
+stopped
+recovered 1
+port 1 revision 1 mode 1 validation 3 vendor 01F4 device 00ABCD set none
+port 2 revision 0 mode 0 validation 0 vendor 0000 device 000000 set none
+";
+
+// What the stop keeps, which call fails, counted from the first of the first batch, and what is printed. A batch has
+// four calls: its body, a sync, its gate, a sync.
+const RUNS: [(&str, usize, &str); 14] = [
+    ("old", 0, FIRST_LOST),
+    ("old", 1, FIRST_LOST),
+    ("old", 2, FIRST_LOST),
+    ("old", 3, FIRST_LOST),
+    ("old", 4, SECOND_LOST),
+    ("old", 5, SECOND_LOST),
+    ("old", 6, SECOND_LOST),
+    ("old", 7, SECOND_LOST),
+    ("new", 1, FIRST_LOST),
+    ("new", 3, FIRST_FOUND),
+    ("zero", 1, FIRST_LOST),
+    ("zero", 3, FIRST_LOST),
+    ("pattern", 1, FIRST_LOST),
+    ("pattern", 3, FIRST_FOUND),
+];
 
 // Two batches, and then a stop that keeps this.
 fn two_batches(alloc: Global, keep: &str) -> Result<String, AllocError> {
-    format!(in alloc; "{TWO_BATCHES}keep = \"{keep}\"\n")
+    let stop = stop_that_keeps(alloc, keep)?;
+    script_of(
+        alloc,
+        &[CONFIGURE, DRAIN, CONFIGURE_GREATEST, DRAIN, stop.as_str()],
+    )
 }
 
 // What a run prints on a disk whose call after so many fails, or why it prints nothing.
@@ -53,9 +79,10 @@ fn printed(alloc: Global, text: &str, good: usize) -> Result<Result<String, Faul
 }
 
 // How many calls come before those of the first batch.
-fn calls_before(alloc: Global, text: &str) -> Result<usize, Fail> {
+fn calls_before(alloc: Global) -> Result<usize, Fail> {
+    let text = two_batches(alloc, "new")?;
     for good in 0..100 {
-        match printed(alloc, text, good)? {
+        match printed(alloc, text.as_str(), good)? {
             Ok(_) => return Ok(good),
             Err(Fault::Disk) => {}
             Err(_) => return Err(Fail::new("it is the disk that fails")),
@@ -64,84 +91,24 @@ fn calls_before(alloc: Global, text: &str) -> Result<usize, Fail> {
     Err(Fail::new("a format and a recovery end"))
 }
 
-// What a run prints where this call fails, counted from the first call of the first batch.
-fn printed_at(
-    alloc: Global,
-    text: &str,
-    call: usize,
-) -> Result<Result<String, Fault<'static>>, Fail> {
-    let before = calls_before(alloc, text)?;
-    printed(alloc, text, before.saturating_add(call))
-}
-
 #[test]
-fn a_call_that_fails_before_a_batch_fails_the_run(rt: HostRuntime) -> Result<(), Fail> {
-    let text = two_batches(rt.alloc(), "new")?;
-    assert!(rt; 20 < calls_before(rt.alloc(), text.as_str())?);
-    assert_eq!(rt; printed(rt.alloc(), text.as_str(), 0)?, Err(Fault::Disk));
-    Ok(())
-}
-
-#[test]
-fn a_call_that_fails_in_a_batch_ends_the_writing(rt: HostRuntime) -> Result<(), Fail> {
+fn a_call_that_fails_outside_a_batch_fails_the_run(rt: HostRuntime) -> Result<(), Fail> {
     let text = two_batches(rt.alloc(), "old")?;
-    for call in 0..BATCH_CALLS {
-        let lines = "accepted 1
-disk failed
-refused Stopped
-stopped
-recovered 0
-port 1 revision 0 mode 0 validation 0 vendor 0000 device 000000 set none
-";
-        let run = printed_at(rt.alloc(), text.as_str(), call)?;
-        assert_eq!(rt; run?.as_str(), lines, "{call}");
-    }
-    for call in BATCH_CALLS..8 {
-        let lines = "accepted 1
-acknowledged 1
-accepted 2
-disk failed
-stopped
-recovered 1
-port 1 revision 1 mode 1 validation 3 vendor 01F4 device 00ABCD set none
-";
-        let run = printed_at(rt.alloc(), text.as_str(), call)?;
-        assert_eq!(rt; run?.as_str(), lines, "{call}");
-    }
-    let run = printed_at(rt.alloc(), text.as_str(), 8)?;
+    let before = calls_before(rt.alloc())?;
+    assert!(rt; 20 < before);
+    assert_eq!(rt; printed(rt.alloc(), text.as_str(), 0)?, Err(Fault::Disk));
+    let run = printed(rt.alloc(), text.as_str(), before.saturating_add(8))?;
     assert_eq!(rt; run, Err(Fault::Disk), "the recovery after the stop");
     Ok(())
 }
 
 #[test]
-fn a_stop_leaves_an_unsettled_gate_as_its_word_says(rt: HostRuntime) -> Result<(), Fail> {
-    let none = "accepted 1
-disk failed
-refused Stopped
-stopped
-recovered 0
-port 1 revision 0 mode 0 validation 0 vendor 0000 device 000000 set none
-";
-    let one = "accepted 1
-disk failed
-refused Stopped
-stopped
-recovered 1
-port 1 revision 1 mode 1 validation 3 vendor 01F4 device 00ABCD set none
-";
-    for (keep, lines) in [
-        ("old", none),
-        ("new", one),
-        ("zero", none),
-        ("pattern", one),
-    ] {
+fn a_call_that_fails_in_a_batch_ends_the_writing(rt: HostRuntime) -> Result<(), Fail> {
+    let before = calls_before(rt.alloc())?;
+    for (keep, call, lines) in RUNS {
         let text = two_batches(rt.alloc(), keep)?;
-        // the sync after the gate
-        let run = printed_at(rt.alloc(), text.as_str(), 3)?;
-        assert_eq!(rt; run?.as_str(), lines, "{keep}");
-        // the sync before it
-        let run = printed_at(rt.alloc(), text.as_str(), 1)?;
-        assert_eq!(rt; run?.as_str(), none, "{keep}");
+        let run = printed(rt.alloc(), text.as_str(), before.saturating_add(call))?;
+        assert_eq!(rt; run?.as_str(), lines, "{keep} {call}");
     }
     Ok(())
 }

@@ -1,74 +1,65 @@
 //! What a run prints.
 
-use super::answer_to;
+use super::{
+    CONFIGURE, CONFIGURE_GREATEST, DRAIN, answer_to, expect_answer, script_of, stop_that_keeps,
+};
 use crate::queue::QUEUE_COMMANDS;
-use std::alloc::{AllocError, Global};
-use std::str;
+use std::process::Abort;
 use std::test::Fail;
 
-const FIRST: &str = r#"
-ports = 2
-slots = 4
-step = [
-    { do = "configure", port = 1, mode = 1, validation = 3, vendor = 500, device = 43981 },
-    { do = "drain" },
-    { do = "stop", keep = "old" },
-]
-"#;
-
-#[test]
-fn the_first_path_prints_six_lines(rt: HostRuntime) -> Result<(), Fail> {
-    let answer = answer_to(rt.alloc(), FIRST.as_bytes());
-    let lines = "accepted 1
+// Why a run is made, its steps, and what it prints, whatever the stop keeps.
+const RUNS: [(&str, &[&str], &str); 6] = [
+    (
+        "a command that is written is acknowledged and recovered",
+        &[CONFIGURE, DRAIN],
+        "accepted 1
 acknowledged 1
 stopped
 recovered 1
 port 1 revision 1 mode 1 validation 3 vendor 01F4 device 00ABCD set none
 port 2 revision 0 mode 0 validation 0 vendor 0000 device 000000 set none
-";
-    assert_eq!(rt; str::from_utf8(&answer.out)?, lines);
-    assert_eq!(rt; str::from_utf8(&answer.err)?, "");
-    assert_eq!(rt; answer.status, 0);
-    Ok(())
-}
-
-// A script of two ports and four slots: a step so many times, then further text.
-fn repeated(alloc: Global, times: usize, step: &str, further: &str) -> Result<String, AllocError> {
-    let mut script = String::from_str(alloc, "ports = 2\nslots = 4\n")?;
-    for _ in 0..times {
-        script.push_str(step)?;
-    }
-    script.push_str(further)?;
-    Ok(script)
-}
-
-const CONFIGURE: &str = r#"
-[[step]]
-do = "configure"
-port = 2
-mode = 4
-validation = 4
-vendor = 65535
-device = 16777215
-"#;
-
-const CONFIGURE_AND_DRAIN: &str = r#"
-[[step]]
-do = "configure"
-port = 2
-mode = 4
-validation = 4
-vendor = 65535
-device = 16777215
-[[step]]
-do = "drain"
-"#;
-
-#[test]
-fn four_slots_take_four_batches(rt: HostRuntime) -> Result<(), Fail> {
-    let script = repeated(rt.alloc(), 4, CONFIGURE_AND_DRAIN, "")?;
-    let answer = answer_to(rt.alloc(), script.as_bytes());
-    let lines = "accepted 1
+",
+    ),
+    (
+        "a command that is not written is lost",
+        &[CONFIGURE, DRAIN, CONFIGURE_GREATEST],
+        "accepted 1
+acknowledged 1
+accepted 2
+stopped
+recovered 1
+port 1 revision 1 mode 1 validation 3 vendor 01F4 device 00ABCD set none
+port 2 revision 0 mode 0 validation 0 vendor 0000 device 000000 set none
+",
+    ),
+    (
+        "a drain acknowledges each command by itself",
+        &[CONFIGURE_GREATEST, CONFIGURE, CONFIGURE_GREATEST, DRAIN],
+        "accepted 1
+accepted 2
+accepted 3
+acknowledged 1
+acknowledged 2
+acknowledged 3
+stopped
+recovered 3
+port 1 revision 1 mode 1 validation 3 vendor 01F4 device 00ABCD set none
+port 2 revision 2 mode 4 validation 4 vendor FFFF device FFFFFF set none
+",
+    ),
+    (
+        "four slots take four batches",
+        &[
+            CONFIGURE_GREATEST,
+            DRAIN,
+            CONFIGURE_GREATEST,
+            DRAIN,
+            CONFIGURE_GREATEST,
+            DRAIN,
+            CONFIGURE_GREATEST,
+            DRAIN,
+        ],
+        "accepted 1
 acknowledged 1
 accepted 2
 acknowledged 2
@@ -80,49 +71,86 @@ stopped
 recovered 4
 port 1 revision 0 mode 0 validation 0 vendor 0000 device 000000 set none
 port 2 revision 4 mode 4 validation 4 vendor FFFF device FFFFFF set none
-";
-    assert_eq!(rt; str::from_utf8(&answer.out)?, lines);
-    assert_eq!(rt; answer.status, 0);
+",
+    ),
+    (
+        "a port that is not there is refused",
+        &[
+            "[[step]]
+do = \"configure\"
+port = 3
+mode = 0
+validation = 0
+vendor = 0
+device = 0
+",
+        ],
+        "refused UnknownPort
+stopped
+recovered 0
+port 1 revision 0 mode 0 validation 0 vendor 0000 device 000000 set none
+port 2 revision 0 mode 0 validation 0 vendor 0000 device 000000 set none
+",
+    ),
+    (
+        "a port is cleared, and one that is not there is refused",
+        &[
+            CONFIGURE,
+            "[[step]]
+do = \"clear\"
+port = 1
+
+[[step]]
+do = \"clear\"
+port = 3
+",
+            DRAIN,
+        ],
+        "accepted 1
+accepted 2
+refused UnknownPort
+acknowledged 1
+acknowledged 2
+stopped
+recovered 2
+port 1 revision 1 mode 1 validation 3 vendor 01F4 device 00ABCD set none
+port 2 revision 0 mode 0 validation 0 vendor 0000 device 000000 set none
+",
+    ),
+];
+
+// Sees that the runs print what they should, with this text behind their steps.
+fn expect_runs(rt: &(impl Abort + AllocGlobal), stop: &str) -> Result<(), Fail> {
+    for (why, steps, lines) in RUNS {
+        let mut script = script_of(rt.alloc(), steps)?;
+        script.push_str(stop)?;
+        let answer = answer_to(rt.alloc(), script.as_bytes());
+        expect_answer(rt, &answer, (0, lines, ""), why)?;
+    }
+    Ok(())
+}
+
+#[test]
+fn what_is_acknowledged_is_recovered_whatever_a_stop_keeps(rt: HostRuntime) -> Result<(), Fail> {
+    expect_runs(&rt, "")?;
+    for keep in ["old", "new", "zero", "pattern"] {
+        expect_runs(&rt, stop_that_keeps(rt.alloc(), keep)?.as_str())?;
+    }
     Ok(())
 }
 
 #[test]
 fn four_slots_do_not_take_a_fifth_batch(rt: HostRuntime) -> Result<(), Fail> {
-    let script = repeated(rt.alloc(), 5, CONFIGURE_AND_DRAIN, "")?;
+    let script = script_of(rt.alloc(), &[CONFIGURE, DRAIN].repeat(rt.alloc(), 5)?)?;
     let answer = answer_to(rt.alloc(), script.as_bytes());
-    assert_eq!(rt; str::from_utf8(&answer.out)?, "");
-    assert_eq!(rt;
-        str::from_utf8(&answer.err)?,
-        "error: the journal is full\n"
-    );
-    assert_eq!(rt; answer.status, 1);
-    Ok(())
-}
-
-#[test]
-fn a_drain_acknowledges_each_command_by_itself(rt: HostRuntime) -> Result<(), Fail> {
-    let script = repeated(rt.alloc(), 3, CONFIGURE, "[[step]]\ndo = \"drain\"\n")?;
-    let answer = answer_to(rt.alloc(), script.as_bytes());
-    let lines = "accepted 1
-accepted 2
-accepted 3
-acknowledged 1
-acknowledged 2
-acknowledged 3
-stopped
-recovered 3
-port 1 revision 0 mode 0 validation 0 vendor 0000 device 000000 set none
-port 2 revision 3 mode 4 validation 4 vendor FFFF device FFFFFF set none
-";
-    assert_eq!(rt; str::from_utf8(&answer.out)?, lines);
-    Ok(())
+    let wanted = (1, "", "error: the journal is full\n");
+    expect_answer(&rt, &answer, wanted, "four slots are used")
 }
 
 #[test]
 fn the_65th_command_finds_the_queue_full(rt: HostRuntime) -> Result<(), Fail> {
     assert_eq!(rt; QUEUE_COMMANDS, 64);
-    let script = repeated(rt.alloc(), 65, CONFIGURE, "")?;
-    let answer = answer_to(rt.alloc(), script.as_bytes());
+    let script = script_of(rt.alloc(), &[CONFIGURE_GREATEST].repeat(rt.alloc(), 65)?)?;
     let mut lines = String::new(rt.alloc());
     for number in 1..65 {
         writeln!(lines, "accepted {number}")?;
@@ -135,65 +163,6 @@ port 1 revision 0 mode 0 validation 0 vendor 0000 device 000000 set none
 port 2 revision 0 mode 0 validation 0 vendor 0000 device 000000 set none
 ",
     )?;
-    assert_eq!(rt; str::from_utf8(&answer.out)?, lines.as_str());
-    assert_eq!(rt; answer.status, 0);
-    Ok(())
-}
-
-#[test]
-fn a_port_that_is_not_there_is_refused(rt: HostRuntime) -> Result<(), Fail> {
-    let script = r#"
-ports = 1
-slots = 1
-step = [{ do = "configure", port = 2, mode = 0, validation = 0, vendor = 0, device = 0 }]
-"#;
     let answer = answer_to(rt.alloc(), script.as_bytes());
-    let lines = "refused UnknownPort
-stopped
-recovered 0
-port 1 revision 0 mode 0 validation 0 vendor 0000 device 000000 set none
-";
-    assert_eq!(rt; str::from_utf8(&answer.out)?, lines);
-    assert_eq!(rt; answer.status, 0);
-    Ok(())
-}
-
-#[test]
-fn what_was_acknowledged_is_recovered_whatever_a_stop_keeps(rt: HostRuntime) -> Result<(), Fail> {
-    for keep in ["old", "new", "zero", "pattern"] {
-        let stop = format!(in rt.alloc(); "[[step]]\ndo = \"stop\"\nkeep = \"{keep}\"\n")?;
-        let script = repeated(rt.alloc(), 1, CONFIGURE_AND_DRAIN, &stop)?;
-        let answer = answer_to(rt.alloc(), script.as_bytes());
-        let lines = "accepted 1
-acknowledged 1
-stopped
-recovered 1
-port 1 revision 0 mode 0 validation 0 vendor 0000 device 000000 set none
-port 2 revision 1 mode 4 validation 4 vendor FFFF device FFFFFF set none
-";
-        assert_eq!(rt; str::from_utf8(&answer.out)?, lines, "{keep}");
-        assert_eq!(rt; answer.status, 0, "{keep}");
-    }
-    Ok(())
-}
-
-#[test]
-fn what_was_not_drained_is_lost_whatever_a_stop_keeps(rt: HostRuntime) -> Result<(), Fail> {
-    for keep in ["old", "new", "zero", "pattern"] {
-        let further = format!(in rt.alloc();
-            "{CONFIGURE}[[step]]\ndo = \"stop\"\nkeep = \"{keep}\"\n"
-        )?;
-        let script = repeated(rt.alloc(), 1, CONFIGURE_AND_DRAIN, &further)?;
-        let answer = answer_to(rt.alloc(), script.as_bytes());
-        let lines = "accepted 1
-acknowledged 1
-accepted 2
-stopped
-recovered 1
-port 1 revision 0 mode 0 validation 0 vendor 0000 device 000000 set none
-port 2 revision 1 mode 4 validation 4 vendor FFFF device FFFFFF set none
-";
-        assert_eq!(rt; str::from_utf8(&answer.out)?, lines, "{keep}");
-    }
-    Ok(())
+    expect_answer(&rt, &answer, (0, lines.as_str(), ""), "the queue is full")
 }

@@ -1,8 +1,7 @@
 //! Scripts that are not run, and why.
 
-use super::answer_to;
+use super::{answer_to, expect_answer};
 use std::process::Abort;
-use std::str;
 use std::test::Fail;
 
 // Numbers of ports and slots that are no geometry.
@@ -17,11 +16,7 @@ const GEOMETRIES: [(&str, &str); 7] = [
 ];
 
 fn expect_error(rt: &(impl Abort + AllocGlobal), script: &[u8], line: &str) -> Result<(), Fail> {
-    let answer = answer_to(rt.alloc(), script);
-    assert_eq!(rt; str::from_utf8(&answer.err)?, line);
-    assert_eq!(rt; answer.status, 2);
-    assert_eq!(rt; str::from_utf8(&answer.out)?, "");
-    Ok(())
+    expect_answer(rt, &answer_to(rt.alloc(), script), (2, "", line), line)
 }
 
 #[test]

@@ -1,6 +1,6 @@
 //! The words of the command line.
 
-use super::Answer;
+use super::{Answer, expect_answer};
 use crate::arguments::run_words;
 use std::alloc::AllocError;
 use std::str;
@@ -62,9 +62,7 @@ fn a_file_that_cannot_be_read_is_status_1(rt: HostRuntime) -> Result<(), Fail> {
     for path in ["no_such_script.toml", "/"] {
         let answer = answer_to_words(&rt, &["run", path])?;
         let line = format!(in rt.alloc(); "error: cannot open {path}\n")?;
-        assert_eq!(rt; str::from_utf8(&answer.err)?, line.as_str());
-        assert_eq!(rt; str::from_utf8(&answer.out)?, "", "{path}");
-        assert_eq!(rt; answer.status, 1, "{path}");
+        expect_answer(&rt, &answer, (1, "", line.as_str()), path)?;
     }
     Ok(())
 }

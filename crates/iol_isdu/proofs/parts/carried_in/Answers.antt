@@ -5,6 +5,6 @@ use Rattle.iol_isdu.proofs.parts.carried_in.Goals as goal
 pub is_counted-requires : goal.is_counted-requires
 is_counted-requires c = (service_in_ok _ _ c.requires).some
 
-pub between-carried-requires : goal.between-carried-requires
-between-carried-requires c =
+pub enclosed-carried-requires : goal.enclosed-carried-requires
+enclosed-carried-requires c =
     counted_some _ _ (service_in_ok _ _ c.requires) (sym c.is_counted.ensures ∙ c.if-not-is_counted.false)

@@ -61,12 +61,12 @@ returns-clause-whole c =
 pub returns-clause-short : goal.returns-clause-short
 returns-clause-short c =
     let size = ap (λ (os : List ℕ). length os) (spelled c) ∙ length-body c.args.epoch c.args.first (values c.args.commands.now) in
-    (omega (arith, size), omega (arith, size, sized c, c.len-2.ensures, c.in_ok-records.records.ok, c.in_ok-records.ensures.size))
+    (omega (arith, size), omega (arith, size, sized c, c.len-2.ensures, c.in_ok-records.records.ok, c.requires.small))
 
 pub returns-clause-sound : goal.returns-clause-sound
 returns-clause-sound c some last rest =
     let commands = values c.args.commands.now in
     ap (λ (os : List ℕ). batch_of c.args.epoch c.args.first (os ++ rest)) (spelled c)
     ∙ batch_of-body_octets c.args.epoch c.args.first commands rest c.ranges.epoch.fits (omega (arith, some, counted c)) (omega (arith, c.requires.most, counted c))
-    (omega (arith, sized c, c.len-2.ensures, c.in_ok-records.records.ok, c.in_ok-records.ensures.size)) (omega (arith, last, counted c))
+    (omega (arith, sized c, c.len-2.ensures, c.in_ok-records.records.ok, c.requires.small)) (omega (arith, last, counted c))
     (rw (counted c, ← c.in_ok-records.ensures.records) c.in_ok-records.ensures.read)

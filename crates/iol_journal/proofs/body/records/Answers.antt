@@ -1,6 +1,5 @@
-use Rattle.std.proofs.Common.{◌≡◌, ℕ, List, ◌++◌, length, take, ◌∙◌, refl, ap, arith, length-append}
+use Rattle.std.proofs.Common.{◌≡◌, ℕ, List, ◌++◌, length, take, ◌∙◌, refl, ap, arith}
 use Rattle.std.proofs.Math.Seq.{take-length}
-use Rattle.iol_record.proofs.RecordLaws.{length-command_record}
 use Rattle.std.proofs.lemmas.List.{length-map}
 use Rattle.iol_types.specs.Command.{value_of}
 use Rattle.iol_journal.specs.Body.{records_of}
@@ -9,7 +8,7 @@ use Rattle.iol_journal.proofs.Bodies.{encodes-none, encodes-more, encodes-all, r
 use Rattle.iol_journal.proofs.body.records.Goals as goal
 
 pub loop-command-init : goal.loop-command-init
-loop-command-init c = rw c.new-octets.ensures.items (record { short = omega arith; spelled = refl; encodes = encodes-none })
+loop-command-init c = rw c.new-octets.ensures.items (record { spelled = refl; encodes = encodes-none })
 
 pub loop-command-preserved : goal.loop-command-preserved
 loop-command-preserved c =
@@ -17,10 +16,8 @@ loop-command-preserved c =
     let front = c.in_ok-record.record.items in
     let is = c.in_ok-record.ensures in
     let items : c.extend_from_slice.new.self.items ≡ octets ++ front = c.in_ok-extend_from_slice.ensures.items ∙ ap (λ (more : List ℕ). octets ++ more) c.as_slice.ensures.value in
-    let bound = length-command_record front _ is in
     rw (items, values-more c.args.commands.now c.loop-command.command-index c.command-item.result c.loop-command-test.true c.command-item.is)
     (record {
-      short = omega (arith, length-append octets front, bound.1, c.loop-command.invariant.short);
       spelled = records-more octets front (values (take c.loop-command.command-index c.args.commands.now)) _ c.loop-command.invariant.spelled is;
       encodes = encodes-more octets front (values (take c.loop-command.command-index c.args.commands.now)) _ c.loop-command.invariant.encodes is;
     })

@@ -1,4 +1,4 @@
-use Rattle.std.proofs.Common.{◌≡◌, ◌≤◌, ◌*◌, length, take}
+use Rattle.std.proofs.Common.{◌≡◌, take}
 use Rattle.iol_journal.specs.Body.{records_of}
 use Rattle.iol_journal.specs.Journals.{values}
 use Rattle.iol_journal.proofs.Bodies.{Encodes}
@@ -6,7 +6,6 @@ use Rattle.iol_journal.proofs.body.records.Given as goal
 
 abbrev pub invariant-loop-command : goal.invariant-loop-command
 invariant-loop-command l = record {
-  short : length l.octets.items ≤ 10 * l.command-index;
   spelled : l.octets.items ≡ records_of (values (take l.command-index l.commands));
   encodes : Encodes l.octets.items (values (take l.command-index l.commands));
 }

@@ -2,6 +2,7 @@ use Rattle.std.proofs.Common.{refl, arith}
 use Rattle.iol_slots.specs.Gate.{open_gate}
 use Rattle.iol_journal.specs.Batches.{sector_of}
 use Rattle.iol_journal.specs.Layout.{slot_at, body_at}
+use Rattle.iol_journal.proofs.Geometries.{slot-inside}
 use Rattle.iol_journal.proofs.Making.{makes_write, makes_sync}
 use Rattle.iol_journal.proofs.calls.make.Goals as goal
 
@@ -14,7 +15,7 @@ returns-in-Body g c = record {
       let j = c.in-Body.j in
       let e = c.write_sector.ensures in
       rw c.in-Body.is
-      (makes_write c.write_sector.result _ (body_at place.layout place.area place.used j) _ (sector_of body j) _ _
+      (makes_write c.write_sector.result (body_at place.layout place.area place.used j) (sector_of body j) _ _
       (omega (arith, c.slot-slot.ensures.body)) (rw (← c.deref.ensures.value) c.copy_from_slice.ensures.after) e.wrote e.wrote_some e.fault);
 }
 
@@ -31,7 +32,7 @@ returns-in-Gate g c = record {
       let place = c.args.place.now in
       let e = c.open_gate.ensures in
       rw c.in-Gate.is
-      (makes_write c.open_gate.result _ (slot_at place.layout place.area place.used) _ open_gate _ _ c.slot-slot.ensures.gate refl e.wrote e.wrote_some e.fault);
+      (makes_write c.open_gate.result (slot_at place.layout place.area place.used) open_gate _ _ c.slot-slot.ensures.gate refl e.wrote e.wrote_some e.fault);
 }
 
 pub returns-in-SyncGate : goal.returns-in-SyncGate
@@ -40,3 +41,12 @@ returns-in-SyncGate g c = record {
       let e = c.sync-in-SyncGate.ensures in
       rw c.in-SyncGate.is (makes_sync c.sync-in-SyncGate.result _ _ e.synced e.same e.fault);
 }
+
+pub copy_from_slice-requires : goal.copy_from_slice-requires
+copy_from_slice-requires g c = omega arith
+
+pub write_sector-requires-clause-fits : goal.write_sector-requires-clause-fits
+write_sector-requires-clause-fits g c = let place = c.args.place.now in omega (arith, c.requires.fits, slot-inside place.layout place.area place.used c.requires.room, c.slot-slot.ensures.body, c.slot-slot.ensures.sectors)
+
+pub open_gate-requires : goal.open_gate-requires
+open_gate-requires g c = let place = c.args.place.now in omega (arith, c.requires.fits, slot-inside place.layout place.area place.used c.requires.room, c.slot-slot.ensures.gate)

@@ -80,7 +80,7 @@ pub returns-in_err-sync-clause-makes : goal.returns-in_err-sync-clause-makes
 returns-in_err-sync-clause-makes g c =
     let e = c.sync.ensures in
     let p = err_from_is_err_and c.from_residual.result c.from_residual.ensures.1 in
-    let failed = failed_of (sync ∷ []) _ _ _ _ c.in_err-sync.was (makes_sync c.sync.result _ _ e.synced e.same e.fault) in
+    let failed = failed_of (sync ∷ []) c.in_err-sync.was (makes_sync c.sync.result _ _ e.synced e.same e.fault) in
     rw (p.1, p.2) (format_failed c.args.geometry _ _ _ (failed_first (sync ∷ []) (journal_writes c.args.geometry ++ opening_calls) _ _ _ failed))
 
 pub returns-in_err-write_journal-clause-makes : goal.returns-in_err-write_journal-clause-makes

@@ -1,5 +1,4 @@
 use Rattle.std.proofs.Common.{◌≡◌, ℕ, map, ap, ◌∙◌, refl, subst, rules, arith}
-use Rattle.std.proofs.lemmas.Result.{err_from_is_err_and}
 use Rattle.iol_types.specs.State.{blank}
 use Rattle.iol_record.specs.Record.{port_octets}
 use Rattle.std.specs.List.{range_with_len}
@@ -8,7 +7,7 @@ use Rattle.iol_disk.proofs.DiskLaws.{made_none}
 use Rattle.iol_journal.specs.Layout.{Layout, layout_of, port_at}
 use Rattle.iol_journal.specs.Octets.{padded}
 use Rattle.iol_journal.specs.declared.area.Area.TheVariants.{A}
-use Rattle.iol_journal.proofs.Making.{makes_write, made_of, failed_of, made_more, failed_in_row}
+use Rattle.iol_journal.proofs.Making.{makes_write, hands_on, made_more, failed_in_row}
 use Rattle.iol_journal.proofs.formatting.write_ports.Goals as goal
 
 pub loop-port-init : goal.loop-port-init
@@ -25,10 +24,9 @@ returns-in_err-write g c =
     let f : ℕ → Call = λ p. write (port_at (layout_of geometry) A p) (padded (port_octets blank)) in
     let at = c.port.ensures.at ∙ ap (λ (layout : Layout). port_at layout A c.loop-port.port) c.layout-layout.ensures in
     let e = c.write.ensures in
-    let wrote = makes_write c.write.result _ (port_at (layout_of geometry) A c.loop-port.port) _ (padded (port_octets blank)) _ _ at c.requires.blank e.wrote e.wrote_some e.fault in
-    let p = err_from_is_err_and c.from_residual.result c.from_residual.ensures.1 in
-    rw (p.1, p.2)
-    (failed_in_row f geometry.ports c.loop-port.port _ _ _ _ (omega (arith, c.ports.ensures.value, c.from-port-end.ensures)) c.loop-port.invariant (failed_of _ _ _ _ _ c.in_err-write.was wrote))
+    let wrote = makes_write c.write.result (port_at (layout_of geometry) A c.loop-port.port) (padded (port_octets blank)) _ _ at c.requires.blank e.wrote e.wrote_some e.fault in
+    hands_on _ c.from_residual.result c.from_residual.ensures.1
+    (failed_in_row f geometry.ports c.loop-port.port (omega (arith, c.ports.ensures.value, c.from-port-end.ensures)) c.loop-port.invariant c.in_err-write.was wrote)
 
 pub loop-port-preserved : goal.loop-port-preserved
 loop-port-preserved g c =
@@ -36,8 +34,8 @@ loop-port-preserved g c =
     let f : ℕ → Call = λ p. write (port_at (layout_of geometry) A p) (padded (port_octets blank)) in
     let at = c.port.ensures.at ∙ ap (λ (layout : Layout). port_at layout A c.loop-port.port) c.layout-layout.ensures in
     let e = c.write.ensures in
-    let wrote = makes_write c.write.result _ (port_at (layout_of geometry) A c.loop-port.port) _ (padded (port_octets blank)) _ _ at c.requires.blank e.wrote e.wrote_some e.fault in
-    made_more f c.loop-port.port _ _ _ c.loop-port.invariant (made_of _ _ _ _ _ c.in_ok-write.was wrote)
+    let wrote = makes_write c.write.result (port_at (layout_of geometry) A c.loop-port.port) (padded (port_octets blank)) _ _ at c.requires.blank e.wrote e.wrote_some e.fault in
+    made_more f c.loop-port.port c.loop-port.invariant c.in_ok-write.was wrote
 
 pub returns : goal.returns
 returns g c =

@@ -1,7 +1,8 @@
-use Rattle.std.proofs.Common.{◌≡◌, ◌*◌, length, IsTrue, ◌∙◌, arith, w32}
+use Rattle.std.proofs.Common.{◌≡◌, ◌*◌, length, IsTrue, refl, ◌∙◌, arith, w32}
+use Rattle.std.proofs.lemmas.Result.{err_from_is_err_and}
 use Rattle.iol_disk.specs.Content.{reads}
 use Rattle.iol_journal.specs.Octets.{octets_at, number_at}
-use Rattle.iol_journal.proofs.Readings.{same-then}
+use Rattle.iol_journal.proofs.Readings.{same-then, counted_behind}
 use Rattle.iol_journal.proofs.ReachedBodies.{HaveRead, first_read, one_more, batch_of-front, holds_records}
 use Rattle.iol_journal.proofs.replay.read_body.Given
 use Rattle.iol_journal.proofs.replay.read_body.Goals as goal
@@ -27,7 +28,7 @@ have_read_all : (g : Given.Over) (c : goal.After-loop-j g) → IsTrue (g.D.Secto
     → HaveRead (reads (g.D.SectorDisk.disk c.args.disk.now).content) c.args.slot.body c.loop-j.j c.push_sector.new.body.items c.loop-j.body.items
 have_read_all g c h =
     let front = c.push_sector.new.body.items in
-    let told : c.u32_at-octets.result ≡ number_at w32 18 front = rw c.deref.ensures.value at c.u32_at-octets.ensures in
+    let told : c.from_be_bytes-octets.result ≡ number_at w32 18 front = rw (c.from_be_bytes-octets.ensures, c.array_at.ensures, c.deref.ensures.value) (refl {a = number_at w32 18 front}) in
     let whole : length c.loop-j.body.items ≡ 512 * c.loop-j.j = c.loop-j.invariant.whole in
     record {
       some = omega arith;
@@ -43,7 +44,7 @@ have_read_first : (g : Given.Over) (c : goal.Else-octets-le-MOST_RECORD_OCTETS g
     → HaveRead (reads (g.D.SectorDisk.disk c.args.disk.now).content) c.args.slot.body 1 c.push_sector.new.body.items c.push_sector.new.body.items
 have_read_first g c h =
     let front = c.push_sector.new.body.items in
-    let told : c.u32_at-octets.result ≡ number_at w32 18 front = rw c.deref.ensures.value at c.u32_at-octets.ensures in
+    let told : c.from_be_bytes-octets.result ≡ number_at w32 18 front = rw (c.from_be_bytes-octets.ensures, c.array_at.ensures, c.deref.ensures.value) (refl {a = number_at w32 18 front}) in
     let size : length front ≡ 512 = omega (arith, c.in_ok-push_sector.ensures.longer, c.clear.ensures.len) in
     let read : front ≡ octets_at (reads (g.D.SectorDisk.disk c.args.disk.now).content) c.args.slot.body 1 =
     first_read (g.D.SectorDisk.disk c.args.disk.now) c.args.slot.body c.clear.new.self.items front c.clear.ensures.items c.in_ok-push_sector.ensures.pushed h in
@@ -68,3 +69,20 @@ returns-else-octets-le-MOST_RECORD_OCTETS-clause-reads g c = λ h. batch_of-fron
 
 pub returns-else-octets-le-MOST_RECORD_OCTETS-clause-holds : goal.returns-else-octets-le-MOST_RECORD_OCTETS-clause-holds
 returns-else-octets-le-MOST_RECORD_OCTETS-clause-holds g c = λ h. holds_records _ _ _ _ _ (have_read_first g c h)
+
+pub returns-in_err-push_sector-clause-fault : goal.returns-in_err-push_sector-clause-fault
+returns-in_err-push_sector-clause-fault g c = let p = err_from_is_err_and c.from_residual.result c.from_residual.ensures.1 in rw (p.1, p.2) c.in_err-push_sector.ensures.fault
+
+pub returns-in_err-push_sector-clause-counted : goal.returns-in_err-push_sector-clause-counted
+returns-in_err-push_sector-clause-counted g c = let p = err_from_is_err_and c.from_residual.result c.from_residual.ensures.1 in rw (p.1, p.2) c.in_err-push_sector.ensures.counted
+
+pub returns-in_err-push_sector-2-clause-fault : goal.returns-in_err-push_sector-2-clause-fault
+returns-in_err-push_sector-2-clause-fault g c =
+    let p = err_from_is_err_and c.from_residual-in_err-push_sector-2.result c.from_residual-in_err-push_sector-2.ensures.1 in
+    rw (p.1, p.2) c.in_err-push_sector-2.ensures.fault
+
+pub returns-in_err-push_sector-2-clause-counted : goal.returns-in_err-push_sector-2-clause-counted
+returns-in_err-push_sector-2-clause-counted g c =
+    let d = g.D.SectorDisk.disk in
+    let p = err_from_is_err_and c.from_residual-in_err-push_sector-2.result c.from_residual-in_err-push_sector-2.ensures.1 in
+    rw (p.1, p.2) (counted_behind Unit _ (d c.args.disk.now) (d c.loop-j.disk) (d c.push_sector-in-loop-j.new.disk) c.loop-j.invariant.quiet c.in_err-push_sector-2.ensures.counted)

@@ -9,18 +9,21 @@ use Rattle.iol_journal.proofs.replay.replay.Goals as goal
 pub returns-in_default : goal.returns-in_default
 returns-in_default c = λ number.
     let left = c.args.count - (c.loop.counter + 1) in
-    sym (c.loop.invariant number (left + 1) (omega arith)) ∙ replay-unread _ left _ _ _ c.in_default.ensures.exact
+    let unread = rw c.in_default.is at c.in_ok-command.ensures.none in
+    sym (c.loop.invariant number (left + 1) (omega arith)) ∙ replay-unread _ left _ _ unread.0 unread.1
 
 pub returns-then-is_err : goal.returns-then-is_err
 returns-then-is_err c = λ number.
     let left = c.args.count - (c.loop.counter + 1) in
-    let refused : is_none (check c.loop.state (value_of c.in-Ok.command)) ≡ false = grind (arith, common_steps) in
-    sym (c.loop.invariant number (left + 1) (omega arith)) ∙ replay-refused _ left _ _ _ _ c.in-Ok.ensures.exact refused
+    let found = rw c.in-Some.is at c.in_ok-command.ensures.found in
+    let refused : is_none (check c.loop.state (value_of c.in-Some.command)) ≡ false = grind (arith, common_steps) in
+    sym (c.loop.invariant number (left + 1) (omega arith)) ∙ replay-refused _ left _ _ _ _ found.1 refused
 
 pub loop-preserved : goal.loop-preserved
 loop-preserved c = λ number left is.
-    let passed : check c.loop.state (value_of c.in-Ok.command) ≡ None = search rules in
-    rw (take_rest, c.apply.ensures) (replay-passed number c.loop.counter left _ _ _ _ _ c.in-Ok.ensures.exact passed (c.loop.invariant number (left + 1) (omega arith)))
+    let found = rw c.in-Some.is at c.in_ok-command.ensures.found in
+    let passed : check c.loop.state (value_of c.in-Some.command) ≡ None = search rules in
+    rw (take_rest, c.apply.ensures) (replay-passed number c.loop.counter left _ _ _ _ _ found.1 passed (c.loop.invariant number (left + 1) (omega arith)))
 
 pub returns : goal.returns
 returns c = λ number.

@@ -1,6 +1,6 @@
 use Rattle.std.proofs.Common.{◌≡◌, ◌+◌, ℕ}
 use Rattle.iol_journal.specs.Body.{commands_of}
-use Rattle.iol_journal.specs.Replays.{reached}
+use Rattle.iol_journal.specs.Replay.{reached}
 use Rattle.iol_journal.proofs.replay.replay.Given as goal
 
 abbrev pub invariant-loop : goal.invariant-loop

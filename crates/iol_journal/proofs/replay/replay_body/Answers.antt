@@ -1,7 +1,7 @@
 use Rattle.std.proofs.Common.{◌≡◌, ◌+◌, ◌-◌, true, ap, ◌∙◌, sym, arith}
-use Rattle.iol_journal.specs.Replays.{reached}
+use Rattle.iol_journal.specs.Replay.{reached}
 use Rattle.iol_journal.proofs.ReachedBodies.{batch_of-misfit, batch_of-fits, fits-octets}
-use Rattle.iol_journal.proofs.replay.replay_body.Goals.{else-end-body-via-then-end-body+else-replay, else-end-body-via-else-end-body}
+use Rattle.iol_journal.proofs.replay.replay_body.Goals.{else-end-body-via-then-end-body+in_ok-replay+else-branch, else-end-body-via-else-end-body}
 use Rattle.iol_journal.proofs.replay.replay_body.Goals as goal
 
 pub returns-then-not-fits-clause-reached : goal.returns-then-not-fits-clause-reached
@@ -9,23 +9,25 @@ returns-then-not-fits-clause-reached c = λ holds.
     ap (reached c.args.number c.args.state.now)
     (batch_of-misfit c.args.epoch (c.args.number + 1) c.args.body.now c.read-head.result c.read-head.ensures (sym c.fits.ensures ∙ c.if-not-fits.true))
 
-pub returns-then-replay-clause-reached : goal.returns-then-replay-clause-reached
-returns-then-replay-clause-reached c = λ holds.
+pub returns-then-branch-clause-reached : goal.returns-then-branch-clause-reached
+returns-then-branch-clause-reached c = λ holds.
     let records : 22 + c.read-head.result.octets - 22 ≡ c.read-head.result.octets = omega arith in
+    let applied = rw c.if-branch.true at c.in_ok-replay.ensures c.args.number in
     rw c.from.ensures
     (ap (reached c.args.number c.args.state.now)
     (batch_of-fits c.args.epoch (c.args.number + 1) c.args.body.now c.read-head.result c.read-head.ensures (sym c.fits.ensures ∙ c.if-not-fits.false))
-    ∙ rw records at (c.if-replay.ensures c.args.number))
+    ∙ rw records at applied)
 
 pub returns-else-end-body-clause-reached : goal.returns-else-end-body-clause-reached
 returns-else-end-body-clause-reached c = λ holds.
     let fit : c.fits.result ≡ true = c.if-not-fits.false in
     let records : 22 + c.read-head.result.octets - 22 ≡ c.read-head.result.octets = omega arith in
     elim c.else-end-body.branch [
-      | else-end-body-via-then-end-body+else-replay w ↦
+      | else-end-body-via-then-end-body+in_ok-replay+else-branch w ↦
+          let refused = rw w.if-branch.false at w.in_ok-replay.ensures c.args.number in
           ap (reached c.args.number c.args.state.now)
           (batch_of-fits c.args.epoch (c.args.number + 1) c.args.body.now c.read-head.result c.read-head.ensures (sym c.fits.ensures ∙ fit))
-          ∙ rw records at (w.if-replay.ensures c.args.number)
+          ∙ rw records at refused
       | else-end-body-via-else-end-body w ↦
           let small = fits-octets c.args.epoch (c.args.number + 1) c.read-head.result (sym c.fits.ensures ∙ fit) in
           let within = rw (← c.read-head.ensures) at holds in

@@ -1,9 +1,12 @@
-use Rattle.std.proofs.Common.{◌≡◌, ◌+◌, ◌-◌, ℕ, Ok, true, false, ap, ◌∙◌, refl, sym, arith, rules}
+use Rattle.std.proofs.Common.{◌≡◌, ◌<◌, ◌+◌, ◌-◌, ℕ, Ok, true, false, ap, ◌∙◌, refl, sym, arith, rules}
+use Rattle.std.proofs.lemmas.Result.{err_from_is_err_and}
 use Rattle.iol_disk.specs.Content.{reads}
 use Rattle.iol_journal.specs.Layout.{slot_at, body_at}
 use Rattle.iol_journal.specs.Meaning.{Log, log_from}
-use Rattle.iol_journal.specs.Replays.{reached}
-use Rattle.iol_journal.proofs.Readings.{same-honest, same-then}
+use Rattle.iol_journal.specs.Replay.{reached}
+use Rattle.iol_journal.specs.declared.replay.End.{End}
+use Rattle.iol_journal.proofs.Geometries.{slot-inside}
+use Rattle.iol_journal.proofs.Readings.{same-honest, same-then, failed_behind, counted_behind, fault-says_nothing}
 use Rattle.iol_journal.proofs.SlotLogs.{log-open, log-damaged, log-closed, gate_read, batch_read}
 use Rattle.iol_journal.proofs.replay.replay_slots.Goals as goal
 
@@ -27,14 +30,16 @@ loop-used-preserved g c =
     let same = same-then old (g.D.SectorDisk.disk c.loop-used.disk) (g.D.SectorDisk.disk c.is_open.new.disk) kept.same c.is_open.ensures.same in
     let batch = batch_read old (g.D.SectorDisk.disk c.is_open.new.disk) (body_at c.args.layout c.args.area c.loop-used.used 0) c.slot-slot.result.body c.read_body.new.body.items
     same c.slot-slot.ensures.body c.in_ok-read_body.ensures.reads in
+    let after = rw c.in-Some.is at c.in_ok-number.ensures.later in
+    let replayed = rw (c.in-Some.is, c.deref.ensures.value) at c.in_ok-number.ensures.reached in
     record {
       same = same-then _ _ _ same c.read_body.ensures.same;
       quiet = c.in_ok-read_body.ensures.counted ∙ c.in_ok-is_open.ensures.fault ∙ kept.quiet;
-      later = omega (arith, kept.later, c.in-Some.ensures.later);
-      bound = omega (arith, c.in-Some.ensures.later);
+      later = omega (arith, kept.later, after);
+      bound = omega (arith, after);
       read = λ h left is.
           let holds = c.in_ok-read_body.ensures.holds (same-honest _ _ same h) in
-          let leads = (rw c.deref.ensures.value at c.in-Some.ensures.reached) holds in
+          let leads = replayed holds in
           sym (log-open c.args.layout c.args.area c.args.header.epoch (reads old.content) c.loop-used.used left c.loop-used.number c.loop-used.state _
           (opened h) (ap (reached c.loop-used.number c.loop-used.state) (batch h c.args.header.epoch (c.loop-used.number + 1)) ∙ leads))
           ∙ kept.read h (left + 1) (omega arith);
@@ -60,7 +65,7 @@ returns-in-None-clause-finds g c = λ h.
     let batch = batch_read old (g.D.SectorDisk.disk c.is_open.new.disk) (body_at c.args.layout c.args.area c.loop-used.used 0) c.slot-slot.result.body c.read_body.new.body.items
     same c.slot-slot.ensures.body c.in_ok-read_body.ensures.reads in
     let holds = c.in_ok-read_body.ensures.holds (same-honest _ _ same h) in
-    let leads = (rw c.deref.ensures.value at c.in-None.ensures.reached) holds in
+    let leads = (rw (c.in-None.is, c.deref.ensures.value) at c.in_ok-number.ensures.reached) holds in
     rw c.slot-slot.ensures.body
     (sym (kept.read h (left + 1) (omega arith))
     ∙ log-damaged c.args.layout c.args.area c.args.header.epoch (reads old.content) c.loop-used.used left c.loop-used.number c.loop-used.state
@@ -71,3 +76,46 @@ returns-clause-finds g c = λ h.
     let log : ℕ → Log = λ used. record { used = used; number = c.loop-used.number; state = c.loop-used.state } in
     let done : c.loop-used.used ≡ c.slots.result = omega (arith, c.slots.ensures) in
     sym (c.loop-used.invariant.read h 0 (omega arith)) ∙ ap (λ (used : ℕ). Ok (log used)) done
+
+-- ---- the exits at a fault
+
+pub returns-in_err-body-clause-finds : goal.returns-in_err-body-clause-finds
+returns-in_err-body-clause-finds g c = let p = err_from_is_err_and c.from_residual.result c.from_residual.ensures.1 in rw (p.1, p.2) (λ h. tt)
+
+pub returns-in_err-body-clause-counted : goal.returns-in_err-body-clause-counted
+returns-in_err-body-clause-counted g c = let p = err_from_is_err_and c.from_residual.result c.from_residual.ensures.1 in rw (p.1, p.2) refl
+
+pub returns-in_err-is_open-clause-finds : goal.returns-in_err-is_open-clause-finds
+returns-in_err-is_open-clause-finds g c =
+    let p = err_from_is_err_and c.from_residual-in_err-is_open.result c.from_residual-in_err-is_open.ensures.1 in rw (p.1, p.2) (λ h. tt)
+
+pub returns-in_err-is_open-clause-counted : goal.returns-in_err-is_open-clause-counted
+returns-in_err-is_open-clause-counted g c =
+    let d = g.D.SectorDisk.disk in
+    let e = c.in_err-is_open.ensures.fault in
+    let p = err_from_is_err_and c.from_residual-in_err-is_open.result c.from_residual-in_err-is_open.ensures.1 in
+    rw (p.1, p.2) (e.0, failed_behind (d c.args.disk.now) (d c.loop-used.disk) (d c.is_open.new.disk) c.loop-used.invariant.quiet e.1)
+
+pub returns-in_err-read_body-clause-finds : goal.returns-in_err-read_body-clause-finds
+returns-in_err-read_body-clause-finds g c =
+    let p = err_from_is_err_and c.from_residual-in_err-read_body.result c.from_residual-in_err-read_body.ensures.1 in
+    rw (p.1, p.2) (λ h. fault-says_nothing _ _ c.in_err-read_body.ensures.fault)
+
+pub returns-in_err-read_body-clause-counted : goal.returns-in_err-read_body-clause-counted
+returns-in_err-read_body-clause-counted g c =
+    let d = g.D.SectorDisk.disk in
+    let quiet = c.in_ok-is_open.ensures.fault ∙ c.loop-used.invariant.quiet in
+    let p = err_from_is_err_and c.from_residual-in_err-read_body.result c.from_residual-in_err-read_body.ensures.1 in
+    rw (p.1, p.2) (counted_behind End _ (d c.args.disk.now) (d c.is_open.new.disk) (d c.read_body.new.disk) quiet c.in_err-read_body.ensures.counted)
+
+-- ---- each slot lies on the disk
+
+pub is_open-requires : goal.is_open-requires
+is_open-requires g c =
+    let below : c.loop-used.used < c.args.layout.slots = omega (arith, c.slots-used-end.ensures) in
+    omega (arith, c.requires.fits, slot-inside c.args.layout c.args.area c.loop-used.used below, c.slot-slot.ensures.gate, c.loop-used.invariant.same.sectors)
+
+pub read_body-requires-clause-fits : goal.read_body-requires-clause-fits
+read_body-requires-clause-fits g c =
+    let below : c.loop-used.used < c.args.layout.slots = omega (arith, c.slots-used-end.ensures) in
+    omega (arith, c.requires.fits, slot-inside c.args.layout c.args.area c.loop-used.used below, c.slot-slot.ensures.body, c.loop-used.invariant.same.sectors, c.is_open.ensures.same.sectors)

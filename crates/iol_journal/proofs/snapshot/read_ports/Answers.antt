@@ -1,13 +1,15 @@
-use Rattle.std.proofs.Common.{◌≡◌, ◌+◌, ◌-◌, ◌<◌, ℕ, Ok, length, take, set, ap, ◌∙◌, refl, sym, arith, rules}
+use Rattle.std.proofs.Common.{◌≡◌, ◌+◌, ◌-◌, ◌<◌, ℕ, Ok, Err, Result, length, take, set, ap, subst, ◌∙◌, refl, sym, arith, rules}
 use Rattle.std.proofs.Math.Seq.{take-length}
 use Rattle.std.proofs.lemmas.Grind.{common_steps}
+use Rattle.std.proofs.lemmas.Result.{err_from_is_err_and}
 use Rattle.std.proofs.lemmas.List.{take_more_set, length-set}
 use Rattle.iol_types.specs.State.{State}
 use Rattle.iol_disk.specs.Content.{reads}
 use Rattle.iol_journal.specs.Layout.{port_at}
-use Rattle.iol_journal.specs.Meaning.{ports_from}
+use Rattle.iol_journal.specs.Meaning.{Cause, ports_from}
+use Rattle.iol_journal.specs.Reading.{SaysWhy}
 use Rattle.iol_journal.proofs.Readings.{same-then}
-use Rattle.iol_journal.proofs.Snapshots.{with_front, with_front-none, ports-next, ports-damaged, ports-ended, sector_read}
+use Rattle.iol_journal.proofs.Snapshots.{with_front, with_front-none, ports-more, ports-stopped, ports-ended, port_shown}
 use Rattle.iol_journal.proofs.snapshot.read_ports.Goals as goal
 
 pub loop-place-init : goal.loop-place-init
@@ -20,43 +22,42 @@ loop-place-init g c = record {
       with_front-none _ ∙ ap (λ (n : ℕ). ports_from c.args.layout c.args.area (reads (g.D.SectorDisk.disk c.args.disk.now).content) 0 n) all;
 }
 
+-- the port that was read is that of its record
 pub loop-place-preserved : goal.loop-place-preserved
 loop-place-preserved g c =
     let old = g.D.SectorDisk.disk c.args.disk.now in
     let kept = c.loop-place.invariant in
     let number = rw c.unwrap.ensures at c.new-in-loop-place.ensures.number in
     let place : c.unwrap.result - 1 ≡ c.loop-place.place = omega (arith, number) in
-    let stored : c.set_port.new.self ≡ set c.loop-place.state c.loop-place.place c.in-Ok.port =
-    c.set_port.ensures ∙ ap (λ (n : ℕ). set c.loop-place.state n c.in-Ok.port) place in
+    let stored : c.set_port.new.self ≡ set c.loop-place.state c.loop-place.place c.in_ok-port.port =
+    c.set_port.ensures ∙ ap (λ (n : ℕ). set c.loop-place.state n c.in_ok-port.port) place in
     let inside : c.loop-place.place < length c.loop-place.state = omega (arith, kept.ports, c.ports-place-end.ensures.value) in
-    let whole : length c.in_ok-octets.octets ≡ 512 = search rules in
     record {
-      same = same-then _ _ _ kept.same c.read_sector.ensures.same;
-      quiet = c.in_ok-octets.ensures.fault ∙ kept.quiet;
-      ports = ap (λ (state : State). length state) stored ∙ length-set c.loop-place.state c.loop-place.place c.in-Ok.port ∙ kept.ports;
+      same = same-then _ _ _ kept.same c.read_port.ensures.same;
+      quiet = c.in_ok-port.ensures.counted ∙ kept.quiet;
+      ports = ap (λ (state : State). length state) stored ∙ length-set c.loop-place.state c.loop-place.place c.in_ok-port.port ∙ kept.ports;
       read = λ h left is.
-          let here = sector_read old (g.D.SectorDisk.disk c.loop-place.disk) (port_at c.args.layout c.args.area c.loop-place.place) c.port-sector.result c.in_ok-octets.octets
-          kept.same (c.port-sector.ensures.at ∙ ap (port_at c.args.layout c.args.area) c.from.ensures) c.in_ok-octets.ensures.read h in
+          let here = port_shown old (g.D.SectorDisk.disk c.loop-place.disk) (port_at c.args.layout c.args.area c.loop-place.place) c.port-sector.result
+          c.port_sectors.result c.args.layout.port_sectors (Ok c.in_ok-port.port) kept.same
+          (c.port-sector.ensures.at ∙ ap (port_at c.args.layout c.args.area) c.from.ensures) c.port_sectors.ensures.value c.in_ok-port.ensures.finds h in
           ap (λ (state : State). with_front state (ports_from c.args.layout c.args.area (reads old.content) (c.loop-place.place + 1) left))
-          (ap (λ (state : State). take (c.loop-place.place + 1) state) stored ∙ take_more_set c.loop-place.state c.loop-place.place c.in-Ok.port inside)
-          ∙ sym (ports-next c.args.layout c.args.area (reads old.content) c.loop-place.place left (take c.loop-place.place c.loop-place.state)
-          c.in_ok-octets.octets _ c.in-Ok.port c.port-sector.ensures.some_sector here whole c.in-Ok.ensures.exact)
+          (ap (λ (state : State). take (c.loop-place.place + 1) state) stored ∙ take_more_set c.loop-place.state c.loop-place.place c.in_ok-port.port inside)
+          ∙ sym (ports-more c.args.layout c.args.area (reads old.content) c.loop-place.place left (take c.loop-place.place c.loop-place.state) c.in_ok-port.port here)
           ∙ kept.read h (left + 1) (omega arith);
     }
 
-pub returns-in_default-clause-finds : goal.returns-in_default-clause-finds
-returns-in_default-clause-finds g c = λ h.
+pub returns-in_err-port-clause-finds : goal.returns-in_err-port-clause-finds
+returns-in_err-port-clause-finds g c = λ h.
     let old = g.D.SectorDisk.disk c.args.disk.now in
     let kept = c.loop-place.invariant in
     let left = c.args.layout.ports - (c.loop-place.place + 1) in
-    let whole : length c.in_ok-octets.octets ≡ 512 = search rules in
-    let at : c.port-sector.result ≡ port_at c.args.layout c.args.area c.loop-place.place = c.port-sector.ensures.at ∙ ap (port_at c.args.layout c.args.area) c.from.ensures in
-    let here = sector_read old (g.D.SectorDisk.disk c.loop-place.disk) (port_at c.args.layout c.args.area c.loop-place.place) c.port-sector.result c.in_ok-octets.octets
-    kept.same at c.in_ok-octets.ensures.read h in
-    rw at
-    (sym (kept.read h (left + 1) (omega (arith, c.ports-place-end.ensures.value)))
-    ∙ ports-damaged c.args.layout c.args.area (reads old.content) c.loop-place.place left (take c.loop-place.place c.loop-place.state)
-    c.in_ok-octets.octets _ c.port-sector.ensures.some_sector here whole c.in_default.ensures.exact)
+    let p = err_from_is_err_and c.from_residual-in_err-port.result c.from_residual-in_err-port.ensures.1 in
+    let here = port_shown old (g.D.SectorDisk.disk c.loop-place.disk) (port_at c.args.layout c.args.area c.loop-place.place) c.port-sector.result
+    c.port_sectors.result c.args.layout.port_sectors (Err c.in_err-port.field-0.0) kept.same
+    (c.port-sector.ensures.at ∙ ap (port_at c.args.layout c.args.area) c.from.ensures) c.port_sectors.ensures.value c.in_err-port.ensures.finds h in
+    rw (p.1, p.2)
+    (subst (λ (ports : Result State Cause). SaysWhy ports c.in_err-port.field-0.0) (kept.read h (left + 1) (omega (arith, c.ports-place-end.ensures.value)))
+    (ports-stopped c.args.layout c.args.area (reads old.content) c.loop-place.place left (take c.loop-place.place c.loop-place.state) c.in_err-port.field-0.0 here))
 
 pub returns-clause-finds : goal.returns-clause-finds
 returns-clause-finds g c = λ h.

@@ -1,19 +1,29 @@
-use Rattle.std.proofs.Common.{sym, ap, ◌∙◌, ◌-◌, length, arith}
+use Rattle.std.proofs.Common.{sym, ap, ◌∙◌, ◌-◌, length, length-append, inl, inr, Err, arith}
+use Rattle.std.proofs.lemmas.Result.{err_from_is_err_and}
 use Rattle.iol_types.specs.Command.{value_of}
-use Rattle.iol_record.specs.Reading.{command_at}
+use Rattle.iol_record.specs.Record.{command_octets}
+use Rattle.iol_record.specs.Reading.{command_at, store_begun_at}
+use Rattle.iol_record.proofs.Memories.{memory_or_read}
 use Rattle.iol_record.proofs.Readers.{only_front, decodes, no_fault_at}
-use Rattle.iol_record.proofs.Records.{command_reads}
+use Rattle.iol_record.proofs.RecordReaders.{command_reads}
 use Rattle.iol_record.proofs.decode.decode_command.Goals as goal
 
 pub returns-in_err-command-clause-only : goal.returns-in_err-command-clause-only
 returns-in_err-command-clause-only c = λ front rest command is_record parts.
-    let fails = ap command_at (sym c.new-reader.ensures) ∙ c.in_err-command.ensures in
-    absurd (no_fault_at command_at c.args.octets.now command rest _ (only_front command_reads c.args.octets.now front command rest is_record.spelling is_record.in_range parts) fails)
+    let octets = c.args.octets.now in
+    let p = err_from_is_err_and c.from_residual.result c.from_residual.ensures.1 in
+    rw (p.1, p.2) (elim (memory_or_read (store_begun_at c.new-reader.result) _ (command_at c.new-reader.result) c.in_err-command.ensures) [
+      | inl memory ↦ inl (ap (λ fault. Err fault) memory)
+      | inr fails ↦
+          absurd (no_fault_at command_at octets command rest _ (only_front command_reads octets front command rest is_record.spelling is_record.in_range parts)
+          (ap command_at (sym c.new-reader.ensures) ∙ fails))
+    ])
 
 pub overflow_sub-result : goal.overflow_sub-result
 overflow_sub-result c =
     let reads = ap command_at (sym c.new-reader.ensures) ∙ c.in_ok-command.ensures in
-    omega (arith, (command_reads.within c.args.octets.now _ _ reads).0, c.len.ensures)
+    let taken = command_reads.takes c.args.octets.now _ _ (λ i. omega (arith, c.type_inv.octets i)) reads in
+    omega (arith, ap length taken.0.parts, length-append (command_octets (value_of c.in_ok-command.command)) c.command.new.self, c.len.ensures)
 
 pub returns : goal.returns
 returns c =
@@ -22,6 +32,6 @@ returns c =
     let d = decodes command_reads c.args.octets.now (value_of c.in_ok-command.command) c.command.new.self _ (λ i. omega (arith, c.type_inv.octets i)) reads count in
     record {
       found = (d.within, record { spelling = d.front; in_range = d.in_range });
-      only = λ front rest command is_record parts. d.only front rest command is_record.spelling is_record.in_range parts;
+      only = λ front rest command is_record parts. inr (d.only front rest command is_record.spelling is_record.in_range parts);
       exact = d.exact;
     }

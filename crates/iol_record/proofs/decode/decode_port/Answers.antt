@@ -1,18 +1,28 @@
-use Rattle.std.proofs.Common.{sym, ap, ◌∙◌, ◌-◌, length, arith}
-use Rattle.iol_record.specs.Reading.{port_record_at}
+use Rattle.std.proofs.Common.{sym, ap, ◌∙◌, ◌-◌, length, length-append, inl, inr, Err, arith}
+use Rattle.std.proofs.lemmas.Result.{err_from_is_err_and}
+use Rattle.iol_record.specs.Record.{port_octets}
+use Rattle.iol_record.specs.Reading.{port_record_at, port_begun_at}
+use Rattle.iol_record.proofs.Memories.{memory_or_read}
 use Rattle.iol_record.proofs.Readers.{only_front, decodes, no_fault_at}
-use Rattle.iol_record.proofs.Records.{port_record_reads}
+use Rattle.iol_record.proofs.RecordReaders.{port_record_reads}
 use Rattle.iol_record.proofs.decode.decode_port.Goals as goal
 
 pub returns-in_err-port-clause-only : goal.returns-in_err-port-clause-only
 returns-in_err-port-clause-only c = λ front rest port is_record parts.
-    let fails = ap port_record_at (sym c.new-reader.ensures) ∙ c.in_err-port.ensures in
-    absurd (no_fault_at port_record_at c.args.octets.now port rest _ (only_front port_record_reads c.args.octets.now front port rest is_record.spelling is_record.in_range parts) fails)
+    let octets = c.args.octets.now in
+    let p = err_from_is_err_and c.from_residual.result c.from_residual.ensures.1 in
+    rw (p.1, p.2) (elim (memory_or_read (port_begun_at c.new-reader.result) _ (port_record_at c.new-reader.result) c.in_err-port.ensures) [
+      | inl memory ↦ inl (ap (λ fault. Err fault) memory)
+      | inr fails ↦
+          absurd (no_fault_at port_record_at octets port rest _ (only_front port_record_reads octets front port rest is_record.spelling is_record.in_range parts)
+          (ap port_record_at (sym c.new-reader.ensures) ∙ fails))
+    ])
 
 pub overflow_sub-result : goal.overflow_sub-result
 overflow_sub-result c =
     let reads = ap port_record_at (sym c.new-reader.ensures) ∙ c.in_ok-port.ensures in
-    omega (arith, (port_record_reads.within c.args.octets.now _ _ reads).0, c.len.ensures)
+    let taken = port_record_reads.takes c.args.octets.now _ _ (λ i. omega (arith, c.type_inv.octets i)) reads in
+    omega (arith, ap length taken.0.parts, length-append (port_octets c.in_ok-port.port) c.port_state.new.self, c.len.ensures)
 
 pub returns : goal.returns
 returns c =
@@ -21,6 +31,6 @@ returns c =
     let d = decodes port_record_reads c.args.octets.now c.in_ok-port.port c.port_state.new.self _ (λ i. omega (arith, c.type_inv.octets i)) reads count in
     record {
       found = (d.within, record { spelling = d.front; in_range = d.in_range });
-      only = λ front rest port is_record parts. d.only front rest port is_record.spelling is_record.in_range parts;
+      only = λ front rest port is_record parts. inr (d.only front rest port is_record.spelling is_record.in_range parts);
       exact = d.exact;
     }

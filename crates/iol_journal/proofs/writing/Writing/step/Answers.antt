@@ -1,14 +1,12 @@
 use Rattle.std.proofs.Common.{arith, ◌≡◌, ◌∙◌, [], sym, ap, subst}
 use Rattle.std.proofs.lemmas.List.{length-map}
 use Rattle.iol_types.specs.Command.{value_of}
-use Rattle.iol_disk.specs.Moments.{LeavesOnly}
 use Rattle.iol_journal.specs.Batches.{body_for, sectors_for, calls_from}
-use Rattle.iol_journal.specs.Kept.{KeptEither}
 use Rattle.iol_journal.specs.Underway.{IsAtRest, IsUnderway}
 use Rattle.iol_journal.specs.Journals.{WritingView, standing_at, with_batch, values, calls_left}
 use Rattle.iol_journal.specs.Progress.{MakesFirst, FailsFirst}
 use Rattle.iol_journal.proofs.Phases.{rest_means, standing_behind}
-use Rattle.iol_journal.proofs.Steps.{moment, underway, durable, makes_first, makes_last, fails_first, planned_next}
+use Rattle.iol_journal.proofs.Steps.{moment_of, underway, durable, makes_first, makes_last, fails_first, planned_next}
 use Rattle.iol_journal.proofs.writing.Writing.step.Goals as goal
 
 pub returns-in-Err-clause-call : goal.returns-in-Err-clause-call
@@ -21,11 +19,8 @@ returns-in-Err-clause-call g c =
 
 pub returns-in-Err-clause-any_moment : goal.returns-in-Err-clause-any_moment
 returns-in-Err-clause-any_moment g c =
-    let d = g.D.SectorDisk.disk in
     let w = c.self.inside in
-    let plan = c.self.invariant.1 in
-    subst (λ (v : WritingView g.row.D.Denot). IsUnderway d v → LeavesOnly (d v.disk) (d c.make.new.disk) (KeptEither (d v.disk).sectors v.standing.number v.standing.state v.commands)) c.self.view_is
-    (moment _ w.place.idle _ _ _ _ _ _ c.self.invariant.0 plan.body plan.sectors c.make.result (c.make.ensures.makes w.number w.state))
+    moment_of g.D.SectorDisk.disk c.make.new.disk c.make.result c.self.view_is c.self.invariant.0 c.self.invariant.1 (c.make.ensures.makes w.number w.state)
 
 pub returns-in-Some-clause-call : goal.returns-in-Some-clause-call
 returns-in-Some-clause-call g c =
@@ -40,11 +35,8 @@ returns-in-Some-clause-call g c =
 
 pub returns-in-Some-clause-any_moment : goal.returns-in-Some-clause-any_moment
 returns-in-Some-clause-any_moment g c =
-    let d = g.D.SectorDisk.disk in
     let w = c.self.inside in
-    let plan = c.self.invariant.1 in
-    subst (λ (v : WritingView g.row.D.Denot). IsUnderway d v → LeavesOnly (d v.disk) (d c.make.new.disk) (KeptEither (d v.disk).sectors v.standing.number v.standing.state v.commands)) c.self.view_is
-    (moment _ w.place.idle _ _ _ _ _ _ c.self.invariant.0 plan.body plan.sectors c.make.result (c.make.ensures.makes w.number w.state))
+    moment_of g.D.SectorDisk.disk c.make.new.disk c.make.result c.self.view_is c.self.invariant.0 c.self.invariant.1 (c.make.ensures.makes w.number w.state)
 
 pub returns-in-Some-clause-underway : goal.returns-in-Some-clause-underway
 returns-in-Some-clause-underway g c u =
@@ -79,12 +71,9 @@ returns-in-None-clause-call g c =
 
 pub returns-in-None-clause-any_moment : goal.returns-in-None-clause-any_moment
 returns-in-None-clause-any_moment g c =
-    let d = g.D.SectorDisk.disk in
     let w = c.self.inside in
-    let plan = c.self.invariant.1 in
     rw c.at_rest-journal.ensures.disk
-    (subst (λ (v : WritingView g.row.D.Denot). IsUnderway d v → LeavesOnly (d v.disk) (d c.make.new.disk) (KeptEither (d v.disk).sectors v.standing.number v.standing.state v.commands)) c.self.view_is
-    (moment _ w.place.idle _ _ _ _ _ _ c.self.invariant.0 plan.body plan.sectors c.make.result (c.make.ensures.makes w.number w.state)))
+    (moment_of g.D.SectorDisk.disk c.make.new.disk c.make.result c.self.view_is c.self.invariant.0 c.self.invariant.1 (c.make.ensures.makes w.number w.state))
 
 pub returns-in-None-clause-durable : goal.returns-in-None-clause-durable
 returns-in-None-clause-durable g c u =

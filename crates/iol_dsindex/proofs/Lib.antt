@@ -1,0 +1,4 @@
+pub mod Filtered
+pub mod Readings
+pub mod RoundTrip
+pub mod ReadKeys

@@ -1,0 +1,87 @@
+use Rattle.std.proofs.Common.{◌≡◌, ◌≤◌, ◌+◌, ◌*◌, ◌/◌, true, ℕ, length, ◌++◌, None, Some, List, ap, sym, ◌∙◌, subst, arith}
+use Rattle.std.proofs.lemmas.List.{length-map}
+use Rattle.std.proofs.lemmas.Result.{err_from_is_err_and}
+use Rattle.iol_types.specs.Command.{value_of}
+use Rattle.iol_types.specs.State.{legal}
+use Rattle.iol_journal.specs.Octets.{sectors_reached}
+use Rattle.iol_journal.specs.Body.{batch_of, body_octets}
+use Rattle.iol_types.specs.declared.command.Command.{Command}
+use Rattle.iol_journal.specs.Begin.{is_too_large, batch_refusal}
+use Rattle.iol_journal.specs.Journals.{JournalView, standing_at, values, IsPlanned, IsPlan}
+use Rattle.iol_journal.specs.declared.journal.BeginCause.TheVariants.{Misfit}
+use Rattle.iol_journal.specs.declared.phase.Phase.TheVariants.{Body}
+use Rattle.iol_journal.specs.declared.writing.Plan.{Plan}
+use Rattle.iol_journal.proofs.Refusals.{taken, refused, out_of_memory}
+use Rattle.iol_journal.proofs.journal.Journal.plan.Given
+use Rattle.iol_journal.proofs.journal.Journal.plan.Goals as goal
+
+passes : (g : Given.Over) (c : goal.After-len-sectors g) → legal c.self.inside.state (values c.args.batch.now.commands.items) ≡ true
+passes g c = rw (← c.in_ok-next.ensures, ← c.deref-3.ensures.value, ← c.in_ok-apply_all.ensures.legal) c.if-branch.true
+
+pub returns-then-branch-clause-follows : goal.returns-then-branch-clause-follows
+returns-then-branch-clause-follows g c =
+    let j = c.self.inside in
+    let count = length-map c.args.batch.now.commands.items value_of in
+    let commands = values c.args.batch.now.commands.items in
+    subst (λ (v : JournalView g.row.D.Denot). batch_refusal v.standing c.args.batch.now.first commands ≡ None) c.self.view_is
+    (taken (standing_at j.place j.number j.state) c.args.batch.now.first commands (ap (λ (commands : List Command). is_too_large (values commands)) (sym c.deref.ensures.value) ∙ sym c.is_too_large.ensures ∙ c.if-is_too_large.false) (omega arith) (omega (arith, count)) (omega arith) (omega (arith, count)) (passes g c))
+
+pub returns-else-branch-clause-cause : goal.returns-else-branch-clause-cause
+returns-else-branch-clause-cause g c =
+    let j = c.self.inside in
+    let count = length-map c.args.batch.now.commands.items value_of in
+    let commands = values c.args.batch.now.commands.items in
+    subst (λ (v : JournalView g.row.D.Denot). batch_refusal v.standing c.args.batch.now.first commands ≡ Some Misfit) c.self.view_is
+    (refused (standing_at j.place j.number j.state) c.args.batch.now.first commands (ap (λ (commands : List Command). is_too_large (values commands)) (sym c.deref.ensures.value) ∙ sym c.is_too_large.ensures ∙ c.if-is_too_large.false) (omega arith)
+    (rw (← c.in_ok-next.ensures, ← c.deref-3.ensures.value, ← c.in_ok-apply_all.ensures.legal) c.if-branch.false))
+
+-- the body that was made is that of the batch
+spelled : (g : Given.Over) (c : goal.After-len-sectors g)
+    → c.in_ok-body.body.items ≡ body_octets c.self.inside.place.epoch (c.self.inside.number + 1) (values c.args.batch.now.commands.items)
+spelled g c = let next : c.args.batch.now.first ≡ c.self.inside.number + 1 = omega arith in rw (c.deref-2.ensures.value, next) at c.in_ok-body.ensures.octets
+
+pub returns-then-branch-clause-planned : goal.returns-then-branch-clause-planned
+returns-then-branch-clause-planned g c =
+    let j = c.self.inside in
+    let s = standing_at j.place j.number j.state in
+    let commands = values c.args.batch.now.commands.items in
+    let count = length-map c.args.batch.now.commands.items value_of in
+    let next : c.args.batch.now.first ≡ j.number + 1 = omega arith in
+    let body = c.in_ok-body.ensures in
+    let whole = subst (λ (b : List ℕ). length b ≡ 512 * sectors_reached (length b)) (spelled g c) body.whole in
+    let planned : IsPlanned (g.D.SectorDisk.disk j.disk) s commands (Body 0) = record {
+      fits = c.self.invariant.0;
+      room = omega arith;
+      whole = whole;
+      short = subst (λ (b : List ℕ). sectors_reached (length b) ≤ 16) (spelled g c) body.short.1;
+      in_phase = subst (λ (b : List ℕ). 1 ≤ sectors_reached (length b)) (spelled g c) body.short.0;
+      read_back = λ rest.
+          subst (λ (b : List ℕ). batch_of j.place.epoch (j.number + 1) (b ++ rest) ≡ Some commands) (spelled g c) ((rw (c.deref-2.ensures.value, next) at body.sound) (omega arith) (omega arith) rest);
+      passes = passes g c;
+      bound = omega (arith, count);
+    } in
+    let made : Plan = record { body = c.in_ok-body.body; sectors = c.len-sectors.result / 512; next = c.apply_all.new.state } in
+    let plan : IsPlan s commands made = record {
+      body = spelled g c;
+      sectors = omega (arith, c.len-sectors.ensures, c.in_ok-body.body.ok, whole, ap (λ (b : List ℕ). length b) (spelled g c));
+      next = rw (← c.in_ok-next.ensures, ← c.deref-3.ensures.value) (c.in_ok-apply_all.ensures.after c.if-branch.true);
+    } in
+    subst (λ (v : JournalView g.row.D.Denot). IsPlanned (g.D.SectorDisk.disk v.disk) v.standing commands (Body 0) × IsPlan v.standing commands made × (c.args.batch.now.first ≡ v.standing.number + 1)) c.self.view_is
+    (planned, plan, next)
+
+-- ---- the exits that are out of memory
+
+pub returns-in_err-body-clause-cause : goal.returns-in_err-body-clause-cause
+returns-in_err-body-clause-cause g c =
+    let p = err_from_is_err_and c.from_residual.result c.from_residual.ensures.1 in
+    rw (p.1, p.2) (out_of_memory c.args.batch.now.first c.args.batch.now.commands.items c.self.view_is (ap (λ (commands : List Command). is_too_large (values commands)) (sym c.deref.ensures.value) ∙ sym c.is_too_large.ensures ∙ c.if-is_too_large.false) (omega arith))
+
+pub returns-in_err-next-clause-cause : goal.returns-in_err-next-clause-cause
+returns-in_err-next-clause-cause g c =
+    let p = err_from_is_err_and c.from_residual-in_err-next.result c.from_residual-in_err-next.ensures.1 in
+    rw (p.1, p.2) (out_of_memory c.args.batch.now.first c.args.batch.now.commands.items c.self.view_is (ap (λ (commands : List Command). is_too_large (values commands)) (sym c.deref.ensures.value) ∙ sym c.is_too_large.ensures ∙ c.if-is_too_large.false) (omega arith))
+
+pub returns-in_err-apply_all-clause-cause : goal.returns-in_err-apply_all-clause-cause
+returns-in_err-apply_all-clause-cause g c =
+    let p = err_from_is_err_and c.from_residual-in_err-apply_all.result c.from_residual-in_err-apply_all.ensures.1 in
+    rw (p.1, p.2) (out_of_memory c.args.batch.now.first c.args.batch.now.commands.items c.self.view_is (ap (λ (commands : List Command). is_too_large (values commands)) (sym c.deref.ensures.value) ∙ sym c.is_too_large.ensures ∙ c.if-is_too_large.false) (omega arith))

@@ -1,0 +1,14 @@
+//! A law of records, which no code calls.
+
+ghost use Rattle.std.specs.Prelude.{◌≡◌, ◌++◌, ℕ, List, []};
+ghost use Rattle.iol_types.specs.Command.{CommandValue};
+ghost use Rattle.iol_types.specs.State.{Port};
+ghost use Rattle.iol_record.specs.Record.{IsCommandRecord, IsPortRecord};
+
+/// No record of a command is the beginning of that of another, and none of a port that of another.
+pub fn no_record_begins_another()
+    ensures command { (front rest : List ℕ) (one two : CommandValue) → IsCommandRecord front one → IsCommandRecord (front ++ rest) two
+        → (one ≡ two) × (rest ≡ []) }
+    ensures port { (front rest : List ℕ) (one two : Port) → IsPortRecord front one → IsPortRecord (front ++ rest) two
+        → (one ≡ two) × (rest ≡ []) }
+{}

@@ -1,0 +1,135 @@
+//! Sets, commands and ports, read from the front of the octets that are left.
+ghost use Rattle.std.specs.Prelude.{◌≡◌, ◌∷◌, ◌++◌, [], Ok, IfErr, OnOk, IsOk, min};
+ghost use Rattle.std.specs.Option.{option_map};
+ghost use Rattle.iol_types.specs.Command.{value_of};
+ghost use Rattle.iol_types.specs.DataSet.{Entry};
+ghost use Rattle.iol_types.specs.Port.{stored_of};
+ghost use Rattle.iol_record.specs.Reading.{Reads, ReadsOrMemory, IsReadFault, field_at, flag_field, followed, entry_at, entries_at, set_head_at, set_at, set_begun_at, arguments_at, begun_behind, command_at, store_begun_at, stored_at, stored_begun_at, port_record_at, port_begun_at};
+ghost use Rattle.iol_record.specs.declared.reader.Tag.TheVariants as tag;
+
+use crate::fault::RecordFault;
+use crate::reader::{Reader, Tag};
+use iol_types::{Command, DataSet, DeviceId, PortState, SetBuilder, StoredSet};
+use std::alloc::Global;
+use std::sync::Arc;
+
+// The numbers in front of the entries of a set.
+#[derive(Drop)]
+pub(crate) struct SetHead {
+    pub vendor: u16,
+    pub device: DeviceId,
+    pub checksum: u32,
+    pub count: u16,
+}
+
+impl<'a> Reader<'a> {
+    // An entry, which is added behind the others.
+    #[tactic(auto, unfolding(crate::specs::Reading::entry_at))]
+    fn entry(&mut self, others: &mut SetBuilder) -> Result<(), RecordFault>
+        ensures read { OnOk result ((entry : Entry) × (entry_at others.old self.old ≡ Ok (entry, self.new)) × (others.new ≡ others.old ++ entry ∷ [])) }
+        ensures fault { IfErr result (λ fault. IsReadFault (entry_at others.old self.old) fault (entry_at others.old self.old)) }
+    {
+        let index = self.index()?;
+        let key = self.key(index, others)?;
+        let count = self.length(others)?;
+        let octets = self.octets(count)?;
+        match others.add(key, octets) {
+            Ok(()) => Ok(()),
+            Err(_) => Err(RecordFault::Memory),
+        }
+    }
+
+    // So many entries.
+    fn entries(&mut self, alloc: Global, count: u16) -> Result<SetBuilder, RecordFault>
+        ensures read { ReadsOrMemory (λ entries. (entries, self.new)) (entries_at (min 1 count) [] self.old) result (entries_at count [] self.old) }
+        ensures begun { OnOk result (IsOk (entries_at (min 1 count) [] self.old)) }
+    {
+        let mut entries = SetBuilder::new(alloc);
+        for _ in 0..count {
+            self.entry(&mut entries)?;
+        }
+        Ok(entries)
+    }
+
+    // The numbers in front of the entries of a set.
+    #[tactic(auto, unfolding(crate::specs::Reading::set_head_at))]
+    fn set_head(&mut self) -> Result<SetHead, RecordFault>
+        ensures { Reads (λ head. (head, self.new)) result (set_head_at self.old) }
+    {
+        Ok(SetHead {
+            vendor: self.vendor()?,
+            device: self.device()?,
+            checksum: self.checksum()?,
+            count: self.count()?,
+        })
+    }
+
+    // A set.
+    #[tactic(auto, unfolding(crate::specs::Reading::set_at, crate::specs::Reading::set_begun_at, crate::specs::Reading::set_head_at))]
+    fn set(&mut self, alloc: Global) -> Result<Arc<DataSet>, RecordFault>
+        ensures { ReadsOrMemory (λ set. (set.value, self.new)) (set_begun_at self.old) result (set_at self.old) }
+    {
+        let head = self.set_head()?;
+        let entries = self.entries(alloc, head.count)?;
+        match Arc::new(
+            alloc,
+            entries.finish(head.vendor, head.device, head.checksum),
+        ) {
+            Ok(set) => Ok(set),
+            Err(_) => Err(RecordFault::Memory),
+        }
+    }
+
+    // What stands behind the tag of a Store.
+    #[tactic(auto, unfolding(crate::specs::Reading::arguments_at, crate::specs::Reading::begun_behind))]
+    fn store(&mut self, alloc: Global) -> Result<Command, RecordFault>
+        ensures { ReadsOrMemory (λ command. (value_of command, self.new)) (begun_behind tag.Store self.old) result (arguments_at tag.Store self.old) }
+    {
+        Ok(Command::Store {
+            port: self.port()?,
+            revision: self.revision()?,
+            set: self.set(alloc)?,
+        })
+    }
+
+    // The record of a command.
+    #[tactic(auto, unfolding(crate::specs::Reading::command_at, crate::specs::Reading::store_begun_at, crate::specs::Reading::arguments_at, crate::specs::Reading::begun_behind, crate::specs::Reading::config_at))]
+    pub(crate) fn command(&mut self, alloc: Global) -> Result<Command, RecordFault>
+        ensures { ReadsOrMemory (λ command. (value_of command, self.new)) (store_begun_at self.old) result (command_at self.old) }
+    {
+        match self.tag()? {
+            Tag::Configure => Ok(Command::Configure {
+                port: self.port()?,
+                config: self.config()?,
+            }),
+            Tag::Clear => Ok(Command::Clear { port: self.port()? }),
+            Tag::Store => self.store(alloc),
+        }
+    }
+
+    // What a port has stored, by its flag.
+    #[tactic(auto, unfolding(crate::specs::Reading::stored_at, crate::specs::Reading::stored_begun_at, crate::specs::Reading::config_at))]
+    fn stored(&mut self, alloc: Global) -> Result<Option<StoredSet>, RecordFault>
+        ensures { ReadsOrMemory (λ stored. (option_map stored_of stored, self.new)) (followed (field_at flag_field) stored_begun_at self.old) result
+            (followed (field_at flag_field) stored_at self.old) }
+    {
+        if !self.has_set()? {
+            return Ok(None);
+        }
+        Ok(Some(StoredSet {
+            recorded: self.config()?,
+            set: self.set(alloc)?,
+        }))
+    }
+
+    // The record of a port.
+    #[tactic(auto, unfolding(crate::specs::Reading::port_record_at, crate::specs::Reading::port_parts_at, crate::specs::Reading::port_begun_at, crate::specs::Reading::config_at))]
+    pub(crate) fn port_state(&mut self, alloc: Global) -> Result<PortState, RecordFault>
+        ensures { ReadsOrMemory (λ port. (port, self.new)) (port_begun_at self.old) result (port_record_at self.old) }
+    {
+        let config = self.config()?;
+        let revision = self.revision()?;
+        let stored = self.stored(alloc)?;
+        PortState::new(config, revision, stored).ok_or(RecordFault::BadField)
+    }
+}

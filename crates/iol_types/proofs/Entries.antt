@@ -1,0 +1,176 @@
+-- Entries of a set: in memory and apart from it, and behind others.
+use Rattle.std.proofs.Common.{◌≡◌, ℕ, ◌+◌, ◌*◌, ◌≤◌, ◌<◌, Bool, true, false, cond, List, [], ◌∷◌, ◌++◌, length, Option, Some, None, refl, ap, sym, ◌∙◌, subst, arith, is_some, get_or, length-append}
+use Rattle.std.specs.Option.{option_map}
+use Rattle.std.specs.Map.{lookup, keys_of}
+use Rattle.std.specs.List.{IsDistinct, AllByRecursion}
+use Rattle.std.specs.Prelude.{nat_lt, ◌==◌}
+use Rattle.std.proofs.lemmas.Bool.{and_parts}
+use Rattle.std.proofs.lemmas.Bool.Decides.{nat_tests}
+use Rattle.std.proofs.lemmas.List.{length-map, map-append}
+use Rattle.std.proofs.lemmas.List.Sums.{sum_by-append}
+use Rattle.std.proofs.lemmas.Grind.{common_steps}
+use borrow.Author.Tests.{ltb-false}
+use Rattle.arrayvec.specs.ArrayVec.{ArrayVec}
+use Rattle.iol_types.specs.Key.{IsKey, same_key, is_reserved}
+use Rattle.iol_types.specs.DataSet.{Entry, IsEntry, AreEntries, octets_of, data_at, add_fault, entries_of}
+use Rattle.iol_types.specs.declared.key.Key.{Key}
+use Rattle.iol_types.specs.declared.data_set.TheConstants.{MOST_ENTRY_OCTETS, ENTRY_HEAD_OCTETS, MOST_SET_OCTETS}
+use Rattle.iol_types.specs.declared.set_builder.AddFault.TheVariants.{ReservedKey, EntryTooLong, Duplicate, SetTooLarge}
+
+-- a look-up among entries in memory is one among the entries
+pub lookup-entries_of : (test : Key → Bool) (kept : List (Key × ArrayVec ℕ)) → lookup test (entries_of kept) ≡ option_map (λ kept. kept.items) (lookup test kept)
+lookup-entries_of test [] = refl
+lookup-entries_of test (entry ∷ kept) =
+    elim (test entry.0) as (λ here. cond here (Some entry.1.items) (lookup test (entries_of kept)) ≡ option_map (λ kept. kept.items) (cond here (Some entry.1) (lookup test kept))) [
+      | true ↦ refl
+      | false ↦ lookup-entries_of test kept
+    ]
+
+pub is_some-entries_of : (test : Key → Bool) (kept : List (Key × ArrayVec ℕ)) → is_some (lookup test (entries_of kept)) ≡ is_some (lookup test kept)
+is_some-entries_of test kept =
+    ap is_some (lookup-entries_of test kept)
+    ∙ elim (lookup test kept) as (λ found. is_some (option_map (λ kept. kept.items) found) ≡ is_some found) [ None ↦ refl | Some kept ↦ refl ]
+
+pub none-entries_of : (test : Key → Bool) (kept : List (Key × ArrayVec ℕ)) → is_some (lookup test (entries_of kept)) ≡ false → lookup test kept ≡ None
+none-entries_of test kept absent = by (lookup test kept) refl
+  where
+    by : (found : Option (ArrayVec ℕ)) → lookup test kept ≡ found → lookup test kept ≡ None
+    by None is = is
+    by (Some found) is = let both : true ≡ false = sym (ap is_some is) ∙ sym (is_some-entries_of test kept) ∙ absent in cc
+
+pub length-entries_of : (kept : List (Key × ArrayVec ℕ)) → length (entries_of kept) ≡ length kept
+length-entries_of kept = length-map kept _
+
+-- one more entry counts four octets and its own
+pub octets_of-push : (entries : List Entry) (key : Key) (octets : List ℕ)
+    → octets_of (entries ++ (key, octets) ∷ []) ≡ octets_of entries + ENTRY_HEAD_OCTETS + length octets
+octets_of-push entries key octets = omega (arith, sum_by-append (λ (entry : Entry). ENTRY_HEAD_OCTETS + length entry.1) entries ((key, octets) ∷ []))
+
+-- what holds where nothing refuses an entry
+pub record MayBeAdded (entries : List Entry) (key : Key) (octets : List ℕ) : Type 0 where
+  pub free : is_reserved key ≡ false
+  pub short : length octets ≤ MOST_ENTRY_OCTETS
+  pub absent : is_some (data_at entries key) ≡ false
+  pub fits : octets_of entries + ENTRY_HEAD_OCTETS + length octets ≤ MOST_SET_OCTETS
+
+pub may_be_added : (entries : List Entry) (key : Key) (octets : List ℕ) → add_fault entries key octets ≡ None → MayBeAdded entries key octets
+may_be_added entries key octets none =
+    by (is_reserved key) (nat_lt MOST_ENTRY_OCTETS (length octets)) (is_some (data_at entries key))
+    (nat_lt MOST_SET_OCTETS (octets_of entries + ENTRY_HEAD_OCTETS + length octets)) refl refl refl refl none
+  where
+    by : (reserved long there large : Bool) → is_reserved key ≡ reserved → nat_lt MOST_ENTRY_OCTETS (length octets) ≡ long
+        → is_some (data_at entries key) ≡ there → nat_lt MOST_SET_OCTETS (octets_of entries + ENTRY_HEAD_OCTETS + length octets) ≡ large
+        → cond reserved (Some ReservedKey) (cond long (Some EntryTooLong) (cond there (Some Duplicate) (cond large (Some SetTooLarge) None))) ≡ None
+        → MayBeAdded entries key octets
+    by true long there large r l t s none = cc
+    by false true there large r l t s none = cc
+    by false false true large r l t s none = cc
+    by false false false true r l t s none = cc
+    by false false false false r l t s none = record { free = r; short = ltb-false _ _ l; absent = t; fits = ltb-false _ _ s }
+
+pub no-entries : AreEntries []
+unfolding IsDistinct
+no-entries = record { each = λ i d below. absurd (omega (arith, below)); distinct = tt; fits = omega arith }
+
+-- ---- keys apart from others
+
+false_if_never : (b : Bool) → (b ≡ true → ⊥) → b ≡ false
+false_if_never true never = absurd (never refl)
+false_if_never false never = refl
+
+other_way : (one two : Key) → same_key one two ≡ false → same_key two one ≡ false
+other_way one two apart = false_if_never (same_key two one) (λ same.
+    let parts = and_parts (two.index == one.index) (two.subindex == one.subindex) same in
+    let index : (one.index == two.index) ≡ true = grind (arith, nat_tests, parts.0) in
+    let subindex : (one.subindex == two.subindex) ≡ true = grind (arith, nat_tests, parts.1) in
+    let both : same_key one two ≡ true = rw (index, subindex) refl in
+    cc)
+
+absent_parts : (key : Key) (entry : Entry) (entries : List Entry) → is_some (data_at (entry ∷ entries) key) ≡ false
+    → (same_key key entry.0 ≡ false) × (is_some (data_at entries key) ≡ false)
+absent_parts key entry entries absent = by (same_key key entry.0) refl absent
+  where
+    by : (same : Bool) → same_key key entry.0 ≡ same → is_some (cond same (Some entry.1) (data_at entries key)) ≡ false
+        → (same_key key entry.0 ≡ false) × (is_some (data_at entries key) ≡ false)
+    by true is absent = cc
+    by false is absent = (is, absent)
+
+apart-push : (key new : Key) (keys : List Key) → AllByRecursion (λ other. same_key key other ≡ false) keys → same_key key new ≡ false
+    → AllByRecursion (λ other. same_key key other ≡ false) (keys ++ new ∷ [])
+apart-push key new [] all apart = (apart, tt)
+apart-push key new (other ∷ keys) all apart = (all.0, apart-push key new keys all.1 apart)
+
+distinct-push : (entries : List Entry) (key : Key) → is_some (data_at entries key) ≡ false → IsDistinct same_key (keys_of entries)
+    → IsDistinct same_key (keys_of entries ++ key ∷ [])
+unfolding IsDistinct
+distinct-push [] key absent distinct = (tt, tt)
+distinct-push (entry ∷ entries) key absent distinct =
+    let parts = absent_parts key entry entries absent in
+    (apart-push entry.0 key (keys_of entries) distinct.0 (other_way key entry.0 parts.0), distinct-push entries key parts.1 distinct.1)
+
+-- ---- one entry behind others
+
+-- an entry that nothing refuses may stand behind the others
+pub one-more : (entries : List Entry) (key : Key) (octets : List ℕ) → AreEntries entries → IsKey key → MayBeAdded entries key octets
+    → AreEntries (entries ++ (key, octets) ∷ [])
+one-more entries key octets are in_range may =
+    let entry : IsEntry (key, octets) = record { key = in_range; free = may.free; short = may.short } in
+    record {
+      each = λ i d below. grind (arith, common_steps, are.each i d, entry);
+      distinct = subst (IsDistinct same_key) (sym (map-append (λ (e : Entry). e.0) entries ((key, octets) ∷ []))) (distinct-push entries key may.absent are.distinct);
+      fits = omega (arith, octets_of-push entries key octets, may.fits);
+    }
+
+among : (entries : List Entry) (entry : Entry) (more : List Entry) → get_or (entries ++ entry ∷ more) (length entries) entry ≡ entry
+among [] entry more = refl
+among (other ∷ entries) entry more = among entries entry more
+
+apart-among : (P : Key → Type 0) (entries : List Entry) (entry : Entry) (more : List Entry) → AllByRecursion P (keys_of (entries ++ entry ∷ more)) → P entry.0
+apart-among P [] entry more all = all.0
+apart-among P (other ∷ entries) entry more all = apart-among P entries entry more all.1
+
+absent-before : (entries : List Entry) (entry : Entry) (more : List Entry) → IsDistinct same_key (keys_of (entries ++ entry ∷ more)) → is_some (data_at entries entry.0) ≡ false
+unfolding IsDistinct
+absent-before [] entry more distinct = refl
+absent-before (other ∷ entries) entry more distinct =
+    let apart = other_way other.0 entry.0 (apart-among (λ key. same_key other.0 key ≡ false) entries entry more distinct.0) in
+    ap (λ same. is_some (cond same (Some other.1) (data_at entries entry.0))) apart ∙ absent-before entries entry more distinct.1
+
+-- and nothing refuses an entry that stands behind others
+pub may-stand : (entries : List Entry) (entry : Entry) (more : List Entry) → AreEntries (entries ++ entry ∷ more) → IsKey entry.0 × MayBeAdded entries entry.0 entry.1
+may-stand entries entry more are =
+    let there : length entries < length (entries ++ entry ∷ more) = omega (arith, length-append entries (entry ∷ more)) in
+    let is : IsEntry entry = subst IsEntry (among entries entry more) (are.each (length entries) entry there) in
+    let counted = sum_by-append (λ (e : Entry). ENTRY_HEAD_OCTETS + length e.1) in (
+      is.key,
+      record {
+        free = is.free;
+        short = is.short;
+        absent = absent-before entries entry more are.distinct;
+        fits = omega (arith, are.fits, counted entries (entry ∷ more), counted (entry ∷ []) more);
+      },
+    )
+
+-- what the entries in memory are once one that nothing refuses was put behind them
+pub record Grown (kept later : List (Key × ArrayVec ℕ)) (count : ℕ) (key : Key) (octets : List ℕ) : Type 0 where
+  pub entries : entries_of later ≡ entries_of kept ++ (key, octets) ∷ []
+  pub are : AreEntries (entries_of later)
+  pub counted : count + ENTRY_HEAD_OCTETS + length octets ≡ octets_of (entries_of later)
+
+pub grown : (kept later : List (Key × ArrayVec ℕ)) (count : ℕ) (key : Key) (value : ArrayVec ℕ) (octets : List ℕ) → value.items ≡ octets
+    → IsKey key → add_fault (entries_of kept) key octets ≡ None → later ≡ kept ++ (key, value) ∷ []
+    → AreEntries (entries_of kept) → count ≡ octets_of (entries_of kept) → Grown kept later count key octets
+grown kept later count key value octets is in_range none made are counted =
+    let whole : entries_of later ≡ entries_of kept ++ (key, octets) ∷ [] =
+    ap entries_of made ∙ map-append _ kept ((key, value) ∷ []) ∙ ap (λ (o : List ℕ). entries_of kept ++ (key, o) ∷ []) is in
+    record {
+      entries = whole;
+      are = subst AreEntries (sym whole) (one-more (entries_of kept) key octets are in_range (may_be_added (entries_of kept) key octets none));
+      counted = omega (arith, octets_of-push (entries_of kept) key octets, ap octets_of whole, counted);
+    }
+
+-- entries count four octets each at least
+pub length-octets_of : (entries : List Entry) → 4 * length entries ≤ octets_of entries
+length-octets_of [] = omega arith
+length-octets_of (entry ∷ entries) =
+    omega (arith, length-octets_of entries, sum_by-append (λ (e : Entry). ENTRY_HEAD_OCTETS + length e.1) (entry ∷ []) entries)

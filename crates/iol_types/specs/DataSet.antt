@@ -1,0 +1,64 @@
+-- Parameter sets: what is kept of a device.
+use Rattle.std.specs.Prelude.{◌≡◌, ℕ, ◌+◌, ◌<◌, ◌≤◌, ◌^◌, nat_lt, false, if◌then◌else◌, List, length, map, sum_by, All, Option, Some, None, is_some}
+use Rattle.std.specs.List.{IsDistinct}
+use Rattle.std.specs.Map.{keys_of, lookup}
+use Rattle.arrayvec.specs.ArrayVec.{ArrayVec}
+use Rattle.iol_types.specs.Numbers.{IsDeviceNumber}
+use Rattle.iol_types.specs.Key.{IsKey, same_key, is_reserved}
+use Rattle.iol_types.specs.declared.key.Key.{Key}
+use Rattle.iol_types.specs.declared.data_set.TheConstants.{MOST_ENTRY_OCTETS, ENTRY_HEAD_OCTETS, MOST_SET_OCTETS}
+use Rattle.iol_types.specs.declared.set_builder.AddFault.{AddFault}
+use Rattle.iol_types.specs.declared.set_builder.AddFault.TheVariants.{ReservedKey, EntryTooLong, Duplicate, SetTooLarge}
+
+-- an entry: the key of a parameter, and the octets that it has (own)
+abbrev pub Entry : Type 0
+Entry = Key × List ℕ
+
+-- an entry that a set may hold: a key in range that is not reserved, with at most 232 octets (standard, Data Storage
+-- object)
+pub record IsEntry (entry : Entry) : Type 0 where
+  pub key : IsKey entry.0
+  pub free : is_reserved entry.0 ≡ false
+  pub short : length entry.1 ≤ MOST_ENTRY_OCTETS
+
+-- what entries count: four octets each, and their own (own)
+abbrev pub octets_of : List Entry → ℕ
+octets_of entries = sum_by (λ (entry : Entry). ENTRY_HEAD_OCTETS + length entry.1) entries
+
+-- entries that a set may have: each may be held, no key stands twice, and they count at most 4,096 octets (own)
+pub record AreEntries (entries : List Entry) : Type 0 where
+  pub each : All IsEntry entries
+  pub distinct : IsDistinct same_key (keys_of entries)
+  pub fits : octets_of entries ≤ MOST_SET_OCTETS
+
+-- the octets that a key has among entries, if it is there (own)
+abbrev pub data_at : List Entry → Key → Option (List ℕ)
+data_at entries key = lookup (same_key key) entries
+
+-- what a parameter set says, apart from where its parts lie in memory: its entries in order, the VendorID and DeviceID
+-- of its device, and the device's checksum (own)
+pub record SetValue : Type 0 where
+  pub entries : List Entry
+  pub vendor : ℕ
+  pub device : ℕ
+  pub checksum : ℕ
+
+-- a parameter set: entries that it may have, and numbers in their ranges (own)
+pub record IsSet (set : SetValue) : Type 0 where
+  pub entries : AreEntries set.entries
+  pub vendor : set.vendor < 2 ^ 16
+  pub device : IsDeviceNumber set.device
+  pub checksum : set.checksum < 2 ^ 32
+
+-- why an entry does not come to others, by the first cause; none where it may (own)
+abbrev pub add_fault : List Entry → Key → List ℕ → Option AddFault
+add_fault entries key octets =
+    if is_reserved key then Some ReservedKey
+    else if nat_lt MOST_ENTRY_OCTETS (length octets) then Some EntryTooLong
+    else if is_some (data_at entries key) then Some Duplicate
+    else if nat_lt MOST_SET_OCTETS (octets_of entries + ENTRY_HEAD_OCTETS + length octets) then Some SetTooLarge
+    else None
+
+-- entries in memory, as entries (own)
+abbrev pub entries_of : List (Key × ArrayVec ℕ) → List Entry
+entries_of kept = map (λ entry. (entry.0, entry.1.items)) kept

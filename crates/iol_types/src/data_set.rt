@@ -1,0 +1,138 @@
+//! What is kept of a device: its parameters, whose they are, and the checksum that it gave.
+ghost use Rattle.std.specs.Prelude.{◌≡◌, ◌≤◌, length, nat_eq, slice_get, IfSome};
+ghost use Rattle.std.specs.Option.{option_copied, option_map};
+ghost use Rattle.iol_types.specs.declared.data_set.TheConstants.{MOST_ENTRY_OCTETS, MOST_SET_OCTETS};
+
+use crate::device_id::DeviceId;
+use crate::key::Key;
+use arrayvec::ArrayVec;
+use indexmap::IndexMap;
+use std::marker::Model;
+
+/// The most octets that a parameter of a set has.
+pub const MOST_ENTRY_OCTETS: usize = 232;
+/// What an entry counts beside its octets: Index 2, Subindex 1, length 1.
+pub const ENTRY_HEAD_OCTETS: usize = 4;
+/// The most that the entries of a set count together.
+pub const MOST_SET_OCTETS: usize = 4096;
+
+// The parameters of a set in memory, in their order.
+pub(crate) type Entries = IndexMap<Key, ArrayVec<u8, MOST_ENTRY_OCTETS>>;
+
+/// A parameter set: what the Data Storage of one device was found to hold (IO-Link V1.1, Data
+/// Storage object). A contract sees the record `SetValue` of `specs/DataSet.antt`.
+///
+/// Its keys are distinct and none is reserved, each has 0 to 232 octets, and all count 4,096 at
+/// most, 4 for each entry and its octets. [`SetBuilder`](crate::SetBuilder) makes one.
+#[derive(Debug, Drop)]
+pub struct DataSet {
+    entries: Entries,
+    octets: usize,
+    vendor: u16,
+    device: DeviceId,
+    checksum: u32,
+}
+
+impl Model for DataSet {
+    ghost use Rattle.std.specs.Prelude.{◌≡◌};
+    ghost use Rattle.iol_types.specs.DataSet.{SetValue, IsSet, octets_of};
+
+    ghost Value = { SetValue };
+
+    ghost use Rattle.iol_types.specs.SetInMemory.{set_of};
+
+    ghost view = { set_of };
+
+    ghost invariant = { λ s. IsSet (set_of s) × (s.octets ≡ octets_of (set_of s).entries) };
+}
+
+impl DataSet {
+    ghost use Rattle.iol_types.specs.DataSet.{SetValue, AreEntries, IsSet, entries_of, octets_of, data_at};
+
+    // The set of these entries, which count so many octets.
+    pub(crate) fn of(
+        entries: Entries,
+        octets: usize,
+        vendor: u16,
+        device: DeviceId,
+        checksum: u32,
+    ) -> DataSet
+        requires entries { AreEntries (entries_of entries.entries) }
+        requires octets { octets ≡ octets_of (entries_of entries.entries) }
+        ensures { result ≡ record { entries = entries_of entries.entries; vendor = vendor; device = device; checksum = checksum } }
+    {
+        DataSet {
+            entries,
+            octets,
+            vendor,
+            device,
+            checksum,
+        }
+    }
+
+    /// The octets of a parameter, if the set has it.
+    pub fn get(&self, key: Key) -> Option<&[u8]>
+        ensures { option_copied result ≡ data_at self.now.entries key }
+    {
+        match self.entries.get(&key) {
+            Some(data) => Some(data.as_slice()),
+            None => None,
+        }
+    }
+
+    /// The entry at a place, from 0, if it is there.
+    pub fn entry(&self, place: usize) -> Option<(Key, &[u8])>
+        ensures entry { option_map (λ entry. (entry.0, entry.1.now)) result ≡ slice_get self.now.entries place }
+        ensures short { IfSome result (λ entry. length entry.1.now ≤ MOST_ENTRY_OCTETS) }
+    {
+        match self.entries.get_index(place) {
+            Some((key, data)) => Some((*key, data.as_slice())),
+            None => None,
+        }
+    }
+
+    /// How many entries there are, at most 1,024.
+    pub fn len(&self) -> usize
+        ensures count { result ≡ length self.now.entries }
+        ensures bound { result ≤ 1024 }
+    {
+        self.entries.len()
+    }
+
+    /// Whether there is no entry.
+    pub fn is_empty(&self) -> bool
+        ensures { result ≡ nat_eq (length self.now.entries) 0 }
+    {
+        self.entries.is_empty()
+    }
+
+    /// What the entries count: 4 for each, and its octets; at most 4,096, since the set is one.
+    pub fn octets(&self) -> usize
+        ensures count { result ≡ octets_of self.now.entries }
+        ensures bound { result ≤ MOST_SET_OCTETS }
+        ensures set { IsSet self.now }
+    {
+        self.octets
+    }
+
+    /// The VendorID of the device.
+    pub fn vendor(&self) -> u16
+        ensures { result ≡ self.now.vendor }
+    {
+        self.vendor
+    }
+
+    /// The DeviceID of the device.
+    pub fn device(&self) -> DeviceId
+        ensures { result ≡ self.now.device }
+    {
+        self.device
+    }
+
+    /// The Parameter_Checksum that the device gave.
+    pub fn checksum(&self) -> u32
+        ensures { result ≡ self.now.checksum }
+    {
+        self.checksum
+    }
+}

@@ -1,0 +1,141 @@
+//! A parameter set that grows, entry by entry.
+ghost use Rattle.std.specs.Prelude.{◌≡◌, ◌≤◌, [], ◌∷◌, ◌++◌, IfErr, OnErr, OnOk, is_some, length, Some, None, ◌⊎◌};
+ghost use Rattle.iol_types.specs.declared.data_set.TheConstants.{MOST_ENTRY_OCTETS, MOST_SET_OCTETS};
+
+use crate::data_set::{DataSet, ENTRY_HEAD_OCTETS, Entries, MOST_ENTRY_OCTETS, MOST_SET_OCTETS};
+use crate::device_id::DeviceId;
+use crate::key::Key;
+use arrayvec::ArrayVec;
+use indexmap::IndexMap;
+use std::alloc::Global;
+use std::marker::Model;
+use thiserror::Error;
+
+/// Why an entry is not added. The causes are judged in this order.
+#[derive(Clone, Copy, Debug, PartialEq, Eq, Error)]
+pub enum AddFault {
+    /// No set holds this key: its Index is 0x0000, 0x0002 or 0x0003.
+    #[error("a reserved Index")]
+    ReservedKey,
+    /// More than 232 octets.
+    #[error("a parameter of more than 232 octets")]
+    EntryTooLong,
+    /// The key is there already.
+    #[error("a parameter that is there already")]
+    Duplicate,
+    /// The entries would count more than 4,096 octets.
+    #[error("a set of more than 4096 octets")]
+    SetTooLarge,
+    /// Out of memory.
+    #[error("out of memory")]
+    Memory,
+}
+
+/// A parameter set that grows. A contract sees its entries, in their order.
+#[derive(Drop)]
+pub struct SetBuilder {
+    entries: Entries,
+    octets: usize,
+}
+
+impl Model for SetBuilder {
+    ghost use Rattle.std.specs.Prelude.{◌≡◌, List};
+    ghost use Rattle.iol_types.specs.DataSet.{Entry, AreEntries, entries_of, octets_of};
+
+    ghost Value = { List Entry };
+
+    ghost view = { λ s. entries_of s.entries.entries };
+
+    ghost invariant = { λ s. AreEntries (entries_of s.entries.entries) × (s.octets ≡ octets_of (entries_of s.entries.entries)) };
+}
+
+impl SetBuilder {
+    ghost use Rattle.iol_types.specs.Key.{IsKey};
+    ghost use Rattle.iol_types.specs.DataSet.{Entry, SetValue, AreEntries, octets_of, add_fault, data_at};
+
+    /// A set without entries.
+    pub fn new(alloc: Global) -> SetBuilder
+        ensures { result ≡ [] }
+    {
+        SetBuilder {
+            entries: IndexMap::new(alloc),
+            octets: 0,
+        }
+    }
+
+    /// Adds an entry behind the others.
+    ///
+    /// # Errors
+    /// The first cause, in the order of [`AddFault`]; the entries are as they were. `Memory` only
+    /// where no other cause holds.
+    pub fn add(&mut self, key: Key, octets: &[u8]) -> Result<(), AddFault>
+        ensures added { OnOk result ((add_fault self.old key octets.now ≡ None) × (self.new ≡ self.old ++ (key, octets.now) ∷ [])) }
+        ensures kept { OnErr result (self.new ≡ self.old) }
+        ensures cause { IfErr result (λ fault. (add_fault self.old key octets.now ≡ Some fault)
+            ⊎ ((add_fault self.old key octets.now ≡ None) × (fault ≡ AddFault.Memory))) }
+    {
+        if let Some(fault) = self.fault(key, octets) {
+            return Err(fault);
+        }
+        let octets_then = self.octets + ENTRY_HEAD_OCTETS + octets.len();
+        match self.entries.insert(key, data_of(octets)) {
+            Ok(_) => {
+                self.octets = octets_then;
+                Ok(())
+            }
+            Err(_) => Err(AddFault::Memory),
+        }
+    }
+
+    // Why an entry is not added.
+    fn fault(&self, key: Key, octets: &[u8]) -> Option<AddFault>
+        ensures range { IsKey key }
+        ensures fault { result ≡ add_fault self.now key octets.now }
+    {
+        if key.is_reserved() {
+            Some(AddFault::ReservedKey)
+        } else if octets.len() > MOST_ENTRY_OCTETS {
+            Some(AddFault::EntryTooLong)
+        } else if self.has(key) {
+            Some(AddFault::Duplicate)
+        } else if self.octets() + ENTRY_HEAD_OCTETS + octets.len() > MOST_SET_OCTETS {
+            Some(AddFault::SetTooLarge)
+        } else {
+            None
+        }
+    }
+
+    /// Whether the key is there.
+    pub fn has(&self, key: Key) -> bool
+        ensures { result ≡ is_some (data_at self.now key) }
+    {
+        self.entries.contains_key(&key)
+    }
+
+    /// What the entries count so far: 4 for each, and its octets; at most 4,096.
+    pub fn octets(&self) -> usize
+        ensures count { result ≡ octets_of self.now }
+        ensures bound { result ≤ MOST_SET_OCTETS }
+    {
+        self.octets
+    }
+
+    /// The set of these entries, of the device with these numbers and this checksum. It takes no
+    /// memory.
+    pub fn finish(self, vendor: u16, device: DeviceId, checksum: u32) -> DataSet
+        ensures { result ≡ record { entries = self; vendor = vendor; device = device; checksum = checksum } }
+    {
+        let SetBuilder { entries, octets } = self;
+        DataSet::of(entries, octets, vendor, device, checksum)
+    }
+}
+
+// The octets of a parameter, kept beside its key.
+fn data_of(octets: &[u8]) -> ArrayVec<u8, MOST_ENTRY_OCTETS>
+    requires { length octets.now ≤ MOST_ENTRY_OCTETS }
+    ensures { result.items ≡ octets.now }
+{
+    let mut data = ArrayVec::new();
+    let _ = data.try_extend_from_slice(octets);
+    data
+}
