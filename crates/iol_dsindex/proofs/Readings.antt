@@ -30,7 +30,7 @@ behind kept (Err fault) = Err fault
 abbrev pub read_behind : List Key → List ℕ → Result Listing ListFault
 read_behind kept octets = behind kept (reading_of octets)
 
-without-none : (keys : List Key) → without [] keys ≡ keys
+pub without-none : (keys : List Key) → without [] keys ≡ keys
 without-none [] = refl
 without-none (key ∷ keys) = ap (λ (rest : List Key). key ∷ rest) (without-none keys)
 
@@ -64,7 +64,7 @@ among_more kept key other =
     by false false = refl
 
 -- a key that is among the kept ones is not kept again, and another comes behind them
-kept_more : (kept : List Key) (key : Key) (keys : List Key)
+pub kept_more : (kept : List Key) (key : Key) (keys : List Key)
     → kept ++ without kept (key ∷ filter (λ other. not (same_key key other)) keys) ≡ kept_with kept key ++ without (kept_with kept key) keys
 kept_more kept key keys = by (is_among kept key) refl
   where

@@ -23,5 +23,5 @@ pub use iol_types::DATA_STORAGE;
 pub use list::{ListFault, MOST_LISTED_KEYS, Next};
 pub use object::{DATA_STORAGE_SIZE, DS_COMMAND, INDEX_LIST, PARAMETER_CHECKSUM, STATE_PROPERTY};
 pub use property::{State, StateProperty};
-pub use reading::read_index_list;
+pub use reading::{keep_key, read_index_list};
 pub use writing::write_index_list;

@@ -31,7 +31,7 @@ pub fn read_index_list(alloc: Global, octets: &[u8]) -> Result<(Vec<Key>, Next),
         if key.is_reserved() {
             return Err(ListFault::ReservedKey);
         }
-        keep(&mut keys, key)?;
+        keep_key(&mut keys, key)?;
         rest = more;
     }
     let next = next_in(rest)?;
@@ -62,8 +62,12 @@ fn next_in(octets: &[u8]) -> Result<Next, ListFault>
     }
 }
 
-// Keeps a key behind the others, where it is not among them.
-fn keep(keys: &mut Vec<Key>, key: Key) -> Result<(), ListFault>
+/// Keeps a key behind the others, where it is not among them: a key that is named twice, in one list or in two, counts at
+/// its first place.
+///
+/// # Errors
+/// `Memory` where it is to be kept and there is none.
+pub fn keep_key(keys: &mut Vec<Key>, key: Key) -> Result<(), ListFault>
     ensures kept { OnOk result (keys.new.items ≡ kept_with keys.old.items key) }
     ensures memory { IfErr result (λ fault. fault ≡ ListFault.Memory) }
 {

@@ -68,6 +68,13 @@ may_be_added entries key octets none =
     by false false false true r l t s none = cc
     by false false false false r l t s none = record { free = r; short = ltb-false _ _ l; absent = t; fits = ltb-false _ _ s }
 
+-- and nothing refuses an entry of which that holds
+pub none-added : (entries : List Entry) (key : Key) (octets : List ℕ) → MayBeAdded entries key octets → add_fault entries key octets ≡ None
+none-added entries key octets may =
+    let short : nat_lt MOST_ENTRY_OCTETS (length octets) ≡ false = grind (arith, nat_tests, may.short) in
+    let fits : nat_lt MOST_SET_OCTETS (octets_of entries + ENTRY_HEAD_OCTETS + length octets) ≡ false = grind (arith, nat_tests, may.fits) in
+    rw (may.free, short, may.absent, fits) refl
+
 pub no-entries : AreEntries []
 unfolding IsDistinct
 no-entries = record { each = λ i d below. absurd (omega (arith, below)); distinct = tt; fits = omega arith }
@@ -125,16 +132,18 @@ among : (entries : List Entry) (entry : Entry) (more : List Entry) → get_or (e
 among [] entry more = refl
 among (other ∷ entries) entry more = among entries entry more
 
-apart-among : (P : Key → Type 0) (entries : List Entry) (entry : Entry) (more : List Entry) → AllByRecursion P (keys_of (entries ++ entry ∷ more)) → P entry.0
-apart-among P [] entry more all = all.0
-apart-among P (other ∷ entries) entry more all = apart-among P entries entry more all.1
+apart-among : (P : Key → Type 0) (entries : List Entry) (key : Key) (behind : List Key) → AllByRecursion P (keys_of entries ++ key ∷ behind) → P key
+apart-among P [] key behind all = all.0
+apart-among P (other ∷ entries) key behind all = apart-among P entries key behind all.1
 
-absent-before : (entries : List Entry) (entry : Entry) (more : List Entry) → IsDistinct same_key (keys_of (entries ++ entry ∷ more)) → is_some (data_at entries entry.0) ≡ false
+-- a key that stands apart from those of entries has none among them
+pub absent-before : (entries : List Entry) (key : Key) (behind : List Key) → IsDistinct same_key (keys_of entries ++ key ∷ behind)
+    → is_some (data_at entries key) ≡ false
 unfolding IsDistinct
-absent-before [] entry more distinct = refl
-absent-before (other ∷ entries) entry more distinct =
-    let apart = other_way other.0 entry.0 (apart-among (λ key. same_key other.0 key ≡ false) entries entry more distinct.0) in
-    ap (λ same. is_some (cond same (Some other.1) (data_at entries entry.0))) apart ∙ absent-before entries entry more distinct.1
+absent-before [] key behind distinct = refl
+absent-before (other ∷ entries) key behind distinct =
+    let apart = other_way other.0 key (apart-among (λ one. same_key other.0 one ≡ false) entries key behind distinct.0) in
+    ap (λ same. is_some (cond same (Some other.1) (data_at entries key))) apart ∙ absent-before entries key behind distinct.1
 
 -- and nothing refuses an entry that stands behind others
 pub may-stand : (entries : List Entry) (entry : Entry) (more : List Entry) → AreEntries (entries ++ entry ∷ more) → IsKey entry.0 × MayBeAdded entries entry.0 entry.1
@@ -146,7 +155,7 @@ may-stand entries entry more are =
       record {
         free = is.free;
         short = is.short;
-        absent = absent-before entries entry more are.distinct;
+        absent = absent-before entries entry.0 (keys_of more) (subst (IsDistinct same_key) (map-append (λ (e : Entry). e.0) entries (entry ∷ more)) are.distinct);
         fits = omega (arith, are.fits, counted entries (entry ∷ more), counted (entry ∷ []) more);
       },
     )

@@ -19,13 +19,13 @@ loop-rest-preserved c =
     let key = λ (index : ℕ). let key : Key = record { index = index; subindex = get_or rest 2 0 } in key in
     let free : is_reserved (key_in rest) ≡ false =
     ap (λ (index : ℕ). is_reserved (key index)) (sym c.from_be_bytes-index.ensures) ∙ sym c.is_reserved.ensures.reserved ∙ c.if-is_reserved.false in
-    let kept : c.keep.new.keys.items ≡ kept_with c.loop-rest.keys.items (key_in rest) =
-    c.in_ok-keep.ensures.kept ∙ ap (λ (index : ℕ). kept_with c.loop-rest.keys.items (key index)) c.from_be_bytes-index.ensures in
+    let kept : c.keep_key.new.keys.items ≡ kept_with c.loop-rest.keys.items (key_in rest) =
+    c.in_ok-keep_key.ensures.kept ∙ ap (λ (index : ℕ). kept_with c.loop-rest.keys.items (key index)) c.from_be_bytes-index.ensures in
     record {
       reads =
           c.loop-rest.invariant.reads ∙ read_behind-entry c.loop-rest.keys.items rest c.in-len3-up.len_at_least free
           ∙ ap (λ (keys : List Key). read_behind keys (drop 3 rest)) (sym kept)
-          ∙ ap (λ (octets : List ℕ). read_behind c.keep.new.keys.items octets) (sym (take-drop_all 3 rest));
+          ∙ ap (λ (octets : List ℕ). read_behind c.keep_key.new.keys.items octets) (sym (take-drop_all 3 rest));
       met = λ _. c.loop-rest.invariant.met (begins_with_key-entry rest c.in-len3-up.len_at_least free);
     }
 

@@ -1,0 +1,45 @@
+-- Conversations with a device: requests, each with its answer.
+use Rattle.std.specs.Prelude.{◌≡◌, ℕ, ◌<◌, ◌∷◌, [], ◌++◌, List, replicate}
+use Rattle.arrayvec.specs.ArrayVec.{ArrayVec}
+use Rattle.iol_types.specs.declared.key.TheConstants.{DATA_STORAGE}
+use Rattle.iol_isdu.specs.declared.messages.Request.{Request}
+use Rattle.iol_isdu.specs.declared.messages.Request.TheVariants.{Read, Write}
+use Rattle.iol_isdu.specs.declared.messages.Answer.{Answer}
+use Rattle.iol_isdu.specs.declared.messages.Answer.TheVariants.{ReadOk, WriteOk, Busy}
+use Rattle.iol_dsindex.specs.Command.{ds_command_octet}
+use Rattle.iol_dsindex.specs.declared.command.DsCommand.{DsCommand}
+use Rattle.iol_dsindex.specs.declared.object.TheConstants.{DS_COMMAND}
+use Rattle.iol_transfer.specs.declared.repeats.TheConstants.{MOST_REQUESTS}
+
+-- a request, and what the device answered (standard, ISDU)
+pub record Exchange : Type 0 where
+  pub request : Request
+  pub answer : Answer
+
+-- octets that a message carries (own)
+abbrev pub carried : List ℕ → ArrayVec ℕ
+carried octets = record { items = octets }
+
+-- the request to write one octet, a command, to DS_Command (standard, Data Storage object)
+abbrev pub commanded : DsCommand → Request
+commanded command = Write DATA_STORAGE DS_COMMAND (carried (ds_command_octet command ∷ []))
+
+-- a write that is answered (+) (standard, ISDU)
+abbrev pub done : Request → Exchange
+done request = record { request = request; answer = WriteOk }
+
+-- a read of an object that is answered (+), by these octets (standard, ISDU)
+abbrev pub read_of : ℕ → ℕ → List ℕ → Exchange
+read_of index subindex octets = record { request = Read index subindex; answer = ReadOk (carried octets) }
+
+-- a request that is so many times answered Device busy (standard, ISDU)
+abbrev pub busy_times : ℕ → Request → List Exchange
+busy_times times request = replicate times (record { request = request; answer = Busy })
+
+-- a conversation is these settled exchanges in order, where each request was answered Device busy fewer than 16 times
+-- before (own)
+abbrev pub Follows : List Exchange → List Exchange → Type 0
+Follows conversation [] = conversation ≡ []
+Follows conversation (exchange ∷ settled) =
+    (times : ℕ) × (rest : List Exchange) × (times < MOST_REQUESTS)
+    × (conversation ≡ busy_times times exchange.request ++ exchange ∷ rest) × Follows rest settled

@@ -1,0 +1,6 @@
+pub mod Exchanges
+pub mod Upload
+pub mod Asked
+pub mod Machine
+pub mod Fields
+pub mod Download

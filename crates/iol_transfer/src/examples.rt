@@ -1,0 +1,58 @@
+//! Limits and conversations of the standard (IO-Link V1.1, Data Storage object), worked out by the check: a number that is
+//! wrong in a definition and in the code alike is refused here.
+
+ghost use Rattle.std.specs.Prelude.{◌≡◌, ◌++◌, ℕ, List, [], ◌∷◌, Ok};
+ghost use Rattle.arrayvec.specs.ArrayVec.{ArrayVec};
+ghost use Rattle.iol_types.specs.DataSet.{Entry, SetValue};
+ghost use Rattle.iol_types.specs.declared.key.Key.{Key};
+ghost use Rattle.iol_isdu.specs.declared.messages.Request.TheVariants as request;
+ghost use Rattle.iol_isdu.specs.declared.messages.Answer.TheVariants as answer;
+ghost use Rattle.iol_transfer.specs.Exchanges.{Exchange, carried};
+ghost use Rattle.iol_transfer.specs.Upload.{IsFinished};
+ghost use Rattle.iol_transfer.specs.Asked.{Start, Size, Checksum, request_of};
+ghost use Rattle.iol_transfer.specs.Download.{order_of, IsDownload};
+ghost use Rattle.iol_transfer.specs.declared.repeats.TheConstants.{MOST_REQUESTS};
+ghost use Rattle.iol_transfer.specs.declared.upload.TheConstants.{MOST_LISTS};
+
+/// A request is sent sixteen times at most, and sixteen lists are read at most.
+pub fn limits()
+    ensures requests { MOST_REQUESTS ≡ 16 }
+    ensures lists { MOST_LISTS ≡ 16 }
+{}
+
+/// What an upload asks of the Data Storage object: a write of 01 to Subindex 1, and reads of Subindexes 3 and 4.
+pub fn requests_of_an_upload()
+    ensures start { request_of Start ≡ request.Write 3 1 (carried (0x01 ∷ [])) }
+    ensures size { request_of Size ≡ request.Read 3 3 }
+    ensures checksum { (entries : List Entry) → request_of (Checksum entries) ≡ request.Read 3 4 }
+{}
+
+/// The requests of a download of two parameters: a write of 03 to Subindex 1, the parameters in order, and a write of 04.
+pub fn requests_of_a_download()
+    ensures { order_of (record {
+      entries = (record { index = 0x0040; subindex = 0x00 }, 0x0A ∷ 0x64 ∷ []) ∷ (record { index = 0x0041; subindex = 0x01 }, 0x7F ∷ []) ∷ [];
+      vendor = 0x01F4;
+      device = 0x00ABCD;
+      checksum = 0x024F;
+    })
+        ≡ request.Write 3 1 (carried (0x03 ∷ [])) ∷ request.Write 0x0040 0x00 (carried (0x0A ∷ 0x64 ∷ []))
+        ∷ request.Write 0x0041 0x01 (carried (0x7F ∷ [])) ∷ request.Write 3 1 (carried (0x04 ∷ [])) ∷ [] }
+{}
+
+/// A finished upload of two parameters, whose start was answered Device busy once.
+pub fn a_finished_upload()
+    ensures { IsFinished 0x01F4 0x00ABCD
+        (record { request = request.Write 3 1 (carried (0x01 ∷ [])); answer = answer.Busy }
+        ∷ record { request = request.Write 3 1 (carried (0x01 ∷ [])); answer = answer.WriteOk }
+        ∷ record { request = request.Read 3 3; answer = answer.ReadOk (carried (0x00 ∷ 0x00 ∷ 0x00 ∷ 0x0B ∷ [])) }
+        ∷ record { request = request.Read 3 5; answer = answer.ReadOk (carried (0x00 ∷ 0x40 ∷ 0x00 ∷ 0x00 ∷ 0x41 ∷ 0x01 ∷ 0x00 ∷ 0x00 ∷ [])) }
+        ∷ record { request = request.Read 0x0040 0x00; answer = answer.ReadOk (carried (0x0A ∷ 0x64 ∷ [])) }
+        ∷ record { request = request.Read 0x0041 0x01; answer = answer.ReadOk (carried (0x7F ∷ [])) }
+        ∷ record { request = request.Read 3 4; answer = answer.ReadOk (carried (0x00 ∷ 0x00 ∷ 0x02 ∷ 0x4F ∷ [])) } ∷ [])
+        (record {
+          entries = (record { index = 0x0040; subindex = 0x00 }, 0x0A ∷ 0x64 ∷ []) ∷ (record { index = 0x0041; subindex = 0x01 }, 0x7F ∷ []) ∷ [];
+          vendor = 0x01F4;
+          device = 0x00ABCD;
+          checksum = 0x024F;
+        }) }
+{}

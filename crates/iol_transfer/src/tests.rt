@@ -1,0 +1,6 @@
+//! Conversations with answers octet by octet: whole ones, and each end in a fault.
+
+mod allocations;
+mod conversations;
+mod downloads;
+mod uploads;

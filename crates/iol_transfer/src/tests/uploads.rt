@@ -1,0 +1,257 @@
+//! Uploads: one whole set, and each fault at its answer.
+
+use super::conversations::{DEVICE, End, Octets, VENDOR, converse, feed, feed_all, upload};
+use crate::{TransferFault, Upload, UploadStep};
+use arrayvec::ArrayVec;
+use iol_dsindex::{Next, write_index_list};
+use iol_isdu::{Answer, IsduFault, read_answer, write_answer};
+use iol_types::{DataSet, Key};
+use std::alloc::Global;
+use std::test::Fail;
+
+// The exchanges of an upload: DS_UploadStart, the size, the list, two values, and the checksum.
+const UPLOAD: [Octets<'static>; 6] = [
+    (&[0x25, 0x03, 0x01, 0x01, 0x26], &WRITE_DONE),
+    (&[0xA4, 0x03, 0x03, 0xA4], &SIZE),
+    (&[0xA4, 0x03, 0x05, 0xA2], &LIST),
+    (&[0x93, 0x40, 0xD3], &[0xD4, 0x0A, 0x64, 0xBA]),
+    (&[0xA4, 0x41, 0x01, 0xE4], &[0xD3, 0x7F, 0xAC]),
+    (&[0xA4, 0x03, 0x04, 0xA3], &CHECKSUM),
+];
+
+const WRITE_DONE: [u8; 2] = [0x52, 0x52];
+
+const SIZE: [u8; 6] = [0xD6, 0x00, 0x00, 0x00, 0x0B, 0xDD];
+
+const LIST: [u8; 10] = [0xDA, 0x00, 0x40, 0x00, 0x00, 0x41, 0x01, 0x00, 0x00, 0xDA];
+
+const CHECKSUM: [u8; 6] = [0xD6, 0x00, 0x00, 0x02, 0x4F, 0x9B];
+
+const BUSY: [u8; 1] = [0x01];
+
+const WRITE_REFUSED: [u8; 4] = [0x44, 0x80, 0x11, 0xD5];
+
+const READ_REFUSED: [u8; 4] = [0xC4, 0x80, 0x11, 0x55];
+
+const REFUSED: End = End::Fault(TransferFault::Refused {
+    error: 0x80,
+    additional: 0x11,
+});
+
+const UNEXPECTED: End = End::Fault(TransferFault::Unexpected);
+
+// Whether this is the set of the device.
+fn is_set_of_device(set: &DataSet) -> bool {
+    set.vendor() == VENDOR
+        && set.device().number() == DEVICE
+        && set.checksum() == 0x024F
+        && set.entry(0)
+            == Some((
+                Key {
+                    index: 0x0040,
+                    subindex: 0,
+                },
+                &[0x0A, 0x64],
+            ))
+        && set.entry(1)
+            == Some((
+                Key {
+                    index: 0x0041,
+                    subindex: 1,
+                },
+                &[0x7F],
+            ))
+        && set.len() == 2
+}
+
+// Whether an upload that has read all values is whole at the checksum, with the set of the device.
+fn gives_its_set(upload: &mut Upload) -> Result<bool, Fail> {
+    Ok(match upload.feed(read_answer(&CHECKSUM)?) {
+        UploadStep::Whole(set) => is_set_of_device(&set),
+        _ => false,
+    })
+}
+
+#[test]
+fn an_upload_makes_its_exchanges_and_gives_its_set(rt: HostRuntime) -> Result<(), Fail> {
+    let mut whole = upload(rt.alloc())?;
+    assert_eq!(rt; converse(&mut whole, &UPLOAD)?, End::Whole);
+    let mut given = upload(rt.alloc())?;
+    converse(&mut given, &UPLOAD[..5])?;
+    assert!(rt; gives_its_set(&mut given)?);
+    Ok(())
+}
+
+// What answers lead to, from the beginning.
+fn end_of(alloc: Global, answers: &[&[u8]]) -> Result<End, Fail> {
+    feed_all(&mut upload(alloc)?, answers)
+}
+
+#[test]
+fn each_answer_leads_to_its_end(rt: HostRuntime) -> Result<(), Fail> {
+    let rows: [(&[&[u8]], End); 13] = [
+        (&[&WRITE_REFUSED], REFUSED),
+        (&[&READ_REFUSED], UNEXPECTED),
+        (&[&SIZE], UNEXPECTED),
+        (&[&WRITE_DONE, &READ_REFUSED], REFUSED),
+        (&[&WRITE_DONE, &WRITE_DONE], UNEXPECTED),
+        (&[&WRITE_DONE, &WRITE_REFUSED], UNEXPECTED),
+        (
+            &[&WRITE_DONE, &[0xD6, 0x00, 0x00, 0x10, 0x01, 0xC7]],
+            End::Fault(TransferFault::Size),
+        ),
+        (
+            &[&WRITE_DONE, &[0xD6, 0x00, 0x00, 0x10, 0x00, 0xC6]],
+            End::None,
+        ),
+        (&[&WRITE_DONE, &[0xD5, 0x00, 0x00, 0x0B, 0xDE]], UNEXPECTED),
+        (
+            &[&WRITE_DONE, &SIZE, &[0xD6, 0x00, 0x40, 0x00, 0x00, 0x96]],
+            End::Fault(TransferFault::List),
+        ),
+        (&[&WRITE_DONE, &SIZE, &LIST, &READ_REFUSED], REFUSED),
+        (
+            &[
+                &WRITE_DONE,
+                &SIZE,
+                &LIST,
+                &[0xD2, 0xD2],
+                &[0xD2, 0xD2],
+                &[0xD5, 0x00, 0x02, 0x4F, 0x98],
+            ],
+            UNEXPECTED,
+        ),
+        (
+            &[
+                &WRITE_DONE,
+                &SIZE,
+                &LIST,
+                &[0xD2, 0xD2],
+                &[0xD2, 0xD2],
+                &CHECKSUM,
+            ],
+            End::Whole,
+        ),
+    ];
+    for (answers, end) in rows {
+        assert_eq!(rt; end_of(rt.alloc(), answers)?, end, "{answers:?}");
+    }
+    Ok(())
+}
+
+#[test]
+fn a_wrong_checksum_of_an_answer_is_told_before(rt: HostRuntime) {
+    assert_eq!(rt;
+        read_answer(&[0x44, 0x80, 0x11, 0xD4]).err(),
+        Some(IsduFault::Check)
+    );
+}
+
+// Feeds an upload an answer so many times.
+fn feed_times(upload: &mut Upload, times: usize, answer: &[u8]) -> Result<End, Fail> {
+    let mut end = End::None;
+    for _ in 0..times {
+        end = feed(upload, answer)?;
+    }
+    Ok(end)
+}
+
+// What so many Device busy lead to, and the start behind them.
+fn busy_before(alloc: Global, times: usize) -> Result<(End, End), Fail> {
+    let mut upload = upload(alloc)?;
+    let busy = feed_times(&mut upload, times, &BUSY)?;
+    Ok((busy, feed(&mut upload, &WRITE_DONE)?))
+}
+
+#[test]
+fn a_device_may_be_busy_fifteen_times(rt: HostRuntime) -> Result<(), Fail> {
+    assert_eq!(rt; busy_before(rt.alloc(), 15)?, (End::None, End::None));
+    let sixteenth = busy_before(rt.alloc(), 16)?.0;
+    assert_eq!(rt; sixteenth, End::Fault(TransferFault::Busy));
+    Ok(())
+}
+
+// What a list leads to behind so many that name 0x1200.
+fn list_behind(alloc: Global, times: usize, list: &[u8]) -> Result<End, Fail> {
+    let mut upload = upload(alloc)?;
+    feed_all(&mut upload, &[&WRITE_DONE, &SIZE])?;
+    let another = write_answer(&Answer::ReadOk(write_index_list(&[], Next::List(0x1200))));
+    feed_times(&mut upload, times, another.as_slice())?;
+    feed(&mut upload, list)
+}
+
+#[test]
+fn a_sixteenth_list_ends_or_is_a_fault(rt: HostRuntime) -> Result<(), Fail> {
+    let another = [0xD4, 0x12, 0x00, 0xC6];
+    let rows = [
+        (14, another, End::None),
+        (15, another, End::Fault(TransferFault::List)),
+        (15, [0xD4, 0x00, 0x00, 0xD4], End::None),
+    ];
+    for (times, list, end) in rows {
+        assert_eq!(rt;
+            list_behind(rt.alloc(), times, &list)?,
+            end,
+            "behind {times}"
+        );
+    }
+    Ok(())
+}
+
+#[test]
+fn a_key_of_two_lists_is_read_once(rt: HostRuntime) -> Result<(), Fail> {
+    let exchanges: [Octets<'_>; 6] = [
+        UPLOAD[0],
+        UPLOAD[1],
+        (UPLOAD[2].0, &[0xD7, 0x00, 0x40, 0x00, 0x12, 0x00, 0x85]),
+        (
+            &[0xB5, 0x12, 0x00, 0x00, 0xA7],
+            &[0xD7, 0x00, 0x40, 0x00, 0x00, 0x00, 0x97],
+        ),
+        UPLOAD[3],
+        UPLOAD[5],
+    ];
+    let mut upload = upload(rt.alloc())?;
+    assert_eq!(rt; converse(&mut upload, &exchanges)?, End::Whole);
+    Ok(())
+}
+
+// A list of 18 keys, as octets.
+fn list_of_18(octets: &mut ArrayVec<u8, 232>) -> Result<(), Fail> {
+    for subindex in 1..=18 {
+        octets.try_extend_from_slice(&[0x01, 0x00, subindex])?;
+    }
+    Ok(())
+}
+
+// What so many values of 232 octets lead to.
+fn values_of_232(alloc: Global, times: usize) -> Result<End, Fail> {
+    let mut upload = upload(alloc)?;
+    let mut list = ArrayVec::new();
+    list_of_18(&mut list)?;
+    feed_all(
+        &mut upload,
+        &[
+            &WRITE_DONE,
+            &SIZE,
+            write_answer(&Answer::ReadOk(list)).as_slice(),
+        ],
+    )?;
+    let mut value = ArrayVec::new();
+    value.try_extend_from_slice(&[0x55; 232])?;
+    feed_times(
+        &mut upload,
+        times,
+        write_answer(&Answer::ReadOk(value)).as_slice(),
+    )
+}
+
+#[test]
+fn values_of_more_than_4096_octets_are_a_fault(rt: HostRuntime) -> Result<(), Fail> {
+    assert_eq!(rt; values_of_232(rt.alloc(), 17)?, End::None);
+    assert_eq!(rt;
+        values_of_232(rt.alloc(), 18)?,
+        End::Fault(TransferFault::Size)
+    );
+    Ok(())
+}

@@ -1,0 +1,261 @@
+//! An upload: the conversation that reads a parameter set from a device.
+ghost use Rattle.std.specs.Prelude.{IfOk, ◌≡◌, ℕ, List, [], ◌∷◌, ◌++◌, not};
+ghost use Rattle.iol_types.specs.DataSet.{SetValue, IsSet};
+ghost use Rattle.iol_isdu.specs.declared.messages.Answer.TheVariants as answer;
+ghost use Rattle.iol_transfer.specs.Exchanges.{Exchange, carried, commanded};
+ghost use Rattle.iol_transfer.specs.Upload.{IsFinished};
+ghost use Rattle.iol_transfer.specs.Machine.{Machine, after_refusal};
+ghost use Rattle.iol_transfer.specs.Fields.{IsOutcome, IfWhole};
+
+use crate::fault::TransferFault;
+use crate::repeats::Repeats;
+use crate::stage::{Stage, list_read, number, size_read, value_read};
+use arrayvec::ArrayVec;
+use iol_dsindex::{DATA_STORAGE_SIZE, DS_COMMAND, DsCommand, PARAMETER_CHECKSUM};
+use iol_isdu::{Answer, Request};
+use iol_types::{DATA_STORAGE, DataSet, DeviceId, SetBuilder};
+use std::alloc::Global;
+use std::marker::Model;
+
+/// How many index lists an upload reads at most.
+pub const MOST_LISTS: u8 = 16;
+
+/// What an answer makes of an upload.
+#[derive(Drop)]
+pub enum UploadStep {
+    /// It goes on with the next request.
+    More,
+    /// It has ended with one whole set.
+    Whole(DataSet),
+    /// It has ended with none.
+    Fault(TransferFault),
+}
+
+/// An upload under way. A contract sees the record `Machine` of `specs/Machine.antt`, and says what it means of the
+/// exchanges since it began.
+#[derive(Drop)]
+pub struct Upload {
+    alloc: Global,
+    vendor: u16,
+    device: DeviceId,
+    repeats: Repeats,
+    stage: Stage,
+}
+
+impl Model for Upload {
+    ghost use Rattle.iol_transfer.specs.Machine.{Machine};
+
+    ghost Value = { Machine };
+
+    ghost use Rattle.iol_transfer.specs.Fields.{machine_of, IsStage};
+
+    ghost view = { machine_of };
+
+    ghost invariant = { λ u. IsStage u.stage };
+}
+
+impl Upload {
+    ghost use Rattle.iol_transfer.specs.Asked.{IsNext, IsShort, EndsIn, is_write};
+    ghost use Rattle.iol_transfer.specs.Machine.{asked, answered, step, after_read, after_write, after_busy, after_checksum, IsSinceBegin};
+    ghost use Rattle.iol_transfer.specs.Fields.{IsStage, IfMore, IfFault, IsWholeOrMemory, GoesOn};
+
+    /// An upload from a device with these numbers, which takes memory for its keys and values.
+    pub fn begin(alloc: Global, vendor: u16, device: DeviceId) -> Upload
+        ensures { IsSinceBegin vendor device [] result }
+    {
+        Upload {
+            alloc,
+            vendor,
+            device,
+            repeats: Repeats::none(),
+            stage: Stage::Starting,
+        }
+    }
+
+    /// The request to send: that which is next in the order of an upload, for the answers so far.
+    pub fn next(&self) -> Request
+        ensures asked { result ≡ asked self.now }
+        ensures order { (vendor device : ℕ) (conversation : List Exchange) → IsSinceBegin vendor device conversation self.now
+            → IsNext conversation result }
+    {
+        self.request()
+    }
+
+    /// Takes the answer to the request that was next. An upload that has ended is fed no more.
+    ///
+    /// `Whole` comes exactly where the exchanges since [`begin`](Upload::begin) are a finished upload of that set, unless
+    /// memory ran out.
+    ///
+    /// # Errors
+    /// The step `Fault` comes only on its cause, as [`TransferFault`] says; `Memory` only where keys or a value were to be
+    /// kept.
+    pub fn feed(&mut self, answer: Answer) -> UploadStep
+        ensures step { IsOutcome self.old answer result self.new (step self.old answer) }
+        ensures more { IfMore result ((vendor device : ℕ) (conversation : List Exchange) → IsSinceBegin vendor device conversation self.old
+            → IsSinceBegin vendor device (conversation ++ answered self.old answer ∷ []) self.new) }
+        ensures whole { IfWhole result (λ set. (vendor device : ℕ) (conversation : List Exchange) → IsSinceBegin vendor device conversation self.old
+            → IsFinished vendor device (conversation ++ answered self.old answer ∷ []) set) }
+        ensures only { (vendor device : ℕ) (conversation : List Exchange) (set : SetValue) → IsSinceBegin vendor device conversation self.old
+            → IsFinished vendor device (conversation ++ answered self.old answer ∷ []) set → IsWholeOrMemory result set }
+        ensures fault { IfFault result (λ why. (vendor device : ℕ) (conversation : List Exchange) → IsSinceBegin vendor device conversation self.old
+            → EndsIn conversation answer why) }
+    {
+        self.take(answer)
+    }
+
+    // The request for what is asked next.
+    fn request(&self) -> Request
+        ensures { result ≡ asked self.now }
+    {
+        match &self.stage {
+            Stage::Starting => command(DsCommand::UploadStart),
+            Stage::Sizing => Request::Read {
+                index: DATA_STORAGE,
+                subindex: DATA_STORAGE_SIZE,
+            },
+            Stage::Listing {
+                index,
+                subindex,
+                ..
+            } => Request::Read {
+                index: *index,
+                subindex: *subindex,
+            },
+            Stage::Reading { keys, place, .. } => match keys.get(*place) {
+                Some(key) => Request::Read {
+                    index: key.index,
+                    subindex: key.subindex,
+                },
+                None => Request::Read {
+                    index: DATA_STORAGE,
+                    subindex: PARAMETER_CHECKSUM,
+                },
+            },
+        }
+    }
+
+    // Takes an answer.
+    fn take(&mut self, answer: Answer) -> UploadStep
+        ensures step { IsOutcome self.old answer result self.new (step self.old answer) }
+        ensures set { IfWhole result IsSet }
+        ensures short { IsShort answer }
+    {
+        match answer {
+            Answer::Busy => self.wait(),
+            Answer::ReadOk(octets) => self.read(octets.as_slice()),
+            Answer::WriteOk => self.written(),
+            Answer::ReadFault { error, additional } => refused(!self.writes(), error, additional),
+            Answer::WriteFault { error, additional } => refused(self.writes(), error, additional),
+        }
+    }
+
+    // Whether it asks by a write.
+    fn writes(&self) -> bool
+        ensures { result ≡ is_write self.now.asks }
+    {
+        matches!(&self.stage, Stage::Starting)
+    }
+
+    // After Device busy.
+    fn wait(&mut self) -> UploadStep
+        ensures step { IsOutcome self.old answer.Busy result self.new (after_busy self.old) }
+        ensures set { IfWhole result IsSet }
+    {
+        match self.repeats.again() {
+            Ok(()) => UploadStep::More,
+            Err(fault) => UploadStep::Fault(fault),
+        }
+    }
+
+    // After a write.
+    fn written(&mut self) -> UploadStep
+        ensures step { IsOutcome self.old answer.WriteOk result self.new (after_write self.old self.old.asks) }
+        ensures set { IfWhole result IsSet }
+    {
+        if !self.writes() {
+            return UploadStep::Fault(TransferFault::Unexpected);
+        }
+        self.stage = Stage::Sizing;
+        self.repeats = Repeats::none();
+        UploadStep::More
+    }
+
+    // After octets that were read.
+    fn read(&mut self, octets: &[u8]) -> UploadStep
+        ensures step { IsOutcome self.old (answer.ReadOk (carried octets.now)) result self.new (after_read self.old self.old.asks octets.now) }
+        ensures set { IfWhole result IsSet }
+    {
+        match std::mem::replace(&mut self.stage, Stage::Starting) {
+            Stage::Starting => UploadStep::Fault(TransferFault::Unexpected),
+            Stage::Sizing => self.go_on(size_read(self.alloc, octets)),
+            Stage::Listing {
+                index,
+                subindex,
+                lists,
+                keys,
+            } => self.go_on(list_read(self.alloc, index, subindex, lists, keys, octets)),
+            Stage::Reading {
+                keys,
+                place,
+                entries,
+            } => {
+                if place < keys.len() {
+                    self.go_on(value_read(keys, place, entries, octets))
+                } else {
+                    self.end(entries, octets)
+                }
+            }
+        }
+    }
+
+    // Goes on to a stage.
+    fn go_on(&mut self, next: Result<Stage, TransferFault>) -> UploadStep
+        requires { IfOk next IsStage }
+        ensures { GoesOn self.old next result self.new }
+    {
+        match next {
+            Ok(stage) => {
+                self.stage = stage;
+                self.repeats = Repeats::none();
+                UploadStep::More
+            }
+            Err(fault) => UploadStep::Fault(fault),
+        }
+    }
+
+    // Ends with the set of these entries, where the octets are a checksum.
+    fn end(&mut self, entries: SetBuilder, octets: &[u8]) -> UploadStep
+        ensures step { IsOutcome self.old (answer.ReadOk (carried octets.now)) result self.new (after_checksum self.old entries octets.now) }
+        ensures set { IfWhole result IsSet }
+    {
+        match number(octets) {
+            Ok(checksum) => UploadStep::Whole(entries.finish(self.vendor, self.device, checksum)),
+            Err(fault) => UploadStep::Fault(fault),
+        }
+    }
+}
+
+// After an answer (-), to the service that was asked or to the other.
+fn refused(right: bool, error: u8, additional: u8) -> UploadStep
+    ensures step { (old new : Machine) (answer : Answer) → IsOutcome old answer result new (after_refusal right error additional) }
+    ensures set { IfWhole result IsSet }
+{
+    if right {
+        UploadStep::Fault(TransferFault::Refused { error, additional })
+    } else {
+        UploadStep::Fault(TransferFault::Unexpected)
+    }
+}
+
+// The request to write a command to the Data Storage of the device.
+pub(crate) fn command(command: DsCommand) -> Request
+    ensures { result ≡ commanded command }
+{
+    let mut octets = ArrayVec::new();
+    octets.push(command.to_octet());
+    Request::Write {
+        index: DATA_STORAGE,
+        subindex: DS_COMMAND,
+        octets,
+    }
+}
