@@ -24,8 +24,9 @@ pub struct Lost;
 /// # What the author of a link promises
 /// The clauses are proved of each `impl`. Of real devices they cannot say the following, and what
 /// stands above a link rests on it:
-/// - Within one connection one device answers. Where another may have come, after a loss of
-///   communication or a new wake-up, the next call is `Lost`, and is not made of the new device.
+/// - `device` tells the devices apart: within one connection one device answers, and it is the same
+///   piece of hardware. Where another may have come, after a loss of communication or a new wake-up,
+///   the next call is `Lost`, and is not made of the new device.
 /// - `steps` claims of the devices only what is known to be so.
 /// - `exchange` sends the request as it stands, once. It answers the octets that the device sent to
 ///   this request, as they came: not mended, not judged, and none left over from an earlier request.
@@ -36,6 +37,11 @@ pub struct Lost;
 pub trait DeviceLink {
     /// The number of the present connection.
     ghost number: { Self → ℕ };
+
+    /// The device that answers. While the number of the connection stays, so does the device. Of a
+    /// simulated link it is known; of a hardware link that it stays within one connection is its
+    /// author's premise.
+    ghost device: { Self → ℕ };
 
     /// From a link, the call may have this answer and leave that link.
     ghost steps: { Self → LinkCall → LinkAnswer → Self → Type 0 };
@@ -50,6 +56,7 @@ pub trait DeviceLink {
     fn take_event(&mut self) -> Option<u16>
         ensures step { steps self.old TakeEvent (event_answer result) self.new }
         ensures same_connection { number self.new ≡ number self.old }
+        ensures same_device { device self.new ≡ device self.old }
         ensures last { number self.old ≡ last_connection → IsNone result };
 
     /// The octets of Direct Parameter page 1, at their addresses 0x00 to 0x0F (IO-Link V1.1, Direct
@@ -62,6 +69,7 @@ pub trait DeviceLink {
         ensures step { steps self.old ReadPage (page_answer result) self.new }
         ensures connection { number self.new
             ≡ connection_after (number self.old) (page_answer result) }
+        ensures same_device { number self.new ≡ number self.old → device self.new ≡ device self.old }
         ensures last { number self.old ≡ last_connection → IsErr result };
 
     /// Sends the octets of a request, and gives the octets that the device answers, which may be
@@ -73,5 +81,6 @@ pub trait DeviceLink {
         ensures step { steps self.old (Exchange request.now) (exchange_answer result) self.new }
         ensures connection { number self.new
             ≡ connection_after (number self.old) (exchange_answer result) }
+        ensures same_device { number self.new ≡ number self.old → device self.new ≡ device self.old }
         ensures last { number self.old ≡ last_connection → IsErr result };
 }

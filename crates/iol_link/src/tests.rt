@@ -25,6 +25,8 @@ impl Unplugged {
 impl DeviceLink for Unplugged {
     ghost number = { λ link. link.connection };
 
+    ghost device = { λ link. link.connection };
+
     ghost steps = { λ _ _ _ _. Unit {0} };
 
     fn connection(&self) -> u64 {

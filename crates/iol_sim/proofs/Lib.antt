@@ -1,1 +1,5 @@
+pub mod ParameterLemmas
 pub mod Scripts
+pub mod SimLemmas
+pub mod SimRuns
+pub mod TallyLemmas

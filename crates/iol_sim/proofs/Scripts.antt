@@ -1,5 +1,5 @@
 -- A script answers_in_order its answers in order.
-use Rattle.std.proofs.Common.{◌≡◌, ℕ, ◌+◌, ◌-◌, ◌<◌, ◌≤◌, Bool, true, false, cond, List, [], ◌∷◌, ◌++◌, length, take, map, refl, ap, sym, ◌∙◌, subst, arith, append_assoc, suc}
+use Rattle.std.proofs.Common.{◌≡◌, ℕ, ◌+◌, ◌-◌, ◌<◌, ◌≤◌, Option, None, Bool, true, false, cond, List, [], ◌∷◌, ◌++◌, length, take, map, refl, ap, sym, ◌∙◌, subst, arith, append_assoc, suc}
 use Rattle.std.specs.Prelude.{◌==◌, nat_lt, min, replicate, All}
 use Rattle.std.proofs.lemmas.Bool.Decides.{nat_tests}
 use Rattle.std.proofs.lemmas.List.{append-nil}
@@ -13,9 +13,9 @@ use Rattle.iol_sim.specs.Script.{Script, ScriptStep, NextStep, AnswersInOrder, h
 abbrev pub Runs : Script → List Answered → Script → Type 0
 Runs = Run (λ s. s.connection) ScriptStep
 
-abbrev script_of : List (List ℕ) → List (List ℕ) → ℕ → Script
-script_of left requests connection =
-    record { left = left; requests = requests; connection = connection }
+abbrev script_of : List (List ℕ) → List (List ℕ) → Option (List ℕ) → List ℕ → ℕ → Script
+script_of left requests page events connection =
+    record { left = left; requests = requests; page = page; events = events; connection = connection }
 
 abbrev answers_of : List Answered → List LinkAnswer
 answers_of made = map (λ m. m.answer) made
@@ -30,23 +30,23 @@ unanswered true old new request answer h = h
 unanswered false old new request answer h = h
 
 -- with no answer left, each exchange is lost
-emptied : (kept : List (List ℕ)) (connection : ℕ) (last : Script) (made : List Answered)
+emptied : (kept : List (List ℕ)) (page : Option (List ℕ)) (events : List ℕ) (connection : ℕ) (last : Script) (made : List Answered)
     (requests : List (List ℕ)) → connection ≤ last_connection
-    → Runs (script_of [] kept connection) made last → Asks made requests
-    → AnswersInOrder (script_of [] kept connection) requests (answers_of made) last
-emptied kept connection last [] [] within run asks =
-    let P : Script → Type 0 = λ s. AnswersInOrder (script_of [] kept connection) [] [] s in
+    → Runs (script_of [] kept page events connection) made last → Asks made requests
+    → AnswersInOrder (script_of [] kept page events connection) requests (answers_of made) last
+emptied kept page events connection last [] [] within run asks =
+    let P : Script → Type 0 = λ s. AnswersInOrder (script_of [] kept page events connection) [] [] s in
     subst P run (record { in_order = refl; kept = sym (append-nil kept); connection = omega arith })
-emptied kept connection last [] (r ∷ rs) within run asks = cc
-emptied kept connection last (m ∷ ms) [] within run asks = cc
-emptied kept connection last (m ∷ ms) (r ∷ rs) within run asks =
+emptied kept page events connection last [] (r ∷ rs) within run asks = cc
+emptied kept page events connection last (m ∷ ms) [] within run asks = cc
+emptied kept page events connection last (m ∷ ms) (r ∷ rs) within run asks =
     let call : m.call ≡ Exchange r = cc in
     let rest : Asks ms rs = cc in
-    let old = script_of [] kept connection in
+    let old = script_of [] kept page events connection in
     let step = subst (λ c. ScriptStep old c m.answer run.0) call run.2 in
     let s = unanswered (has_no_answer old r) old run.0 r m.answer step in
     let after = subst (λ n. Runs n ms last) s.1 run.3 in
-    let h = emptied kept (min (connection + 1) last_connection) last ms rs
+    let h = emptied kept None [] (min (connection + 1) last_connection) last ms rs
     (omega arith) after rest in
     let all = h.in_order
     ∙ ap (λ t. t ++ replicate (length rs - 0) Gone) (take-nil {A = LinkAnswer} (length rs)) in
@@ -66,15 +66,15 @@ answered true old new left request answer is h = cc
 answered false old new left request answer is h = h
 
 -- while answers are left, each exchange has the next
-pub answers_in_order : (left kept : List (List ℕ)) (connection : ℕ) (last : Script) (made : List Answered)
+pub answers_in_order : (left kept : List (List ℕ)) (page : Option (List ℕ)) (events : List ℕ) (connection : ℕ) (last : Script) (made : List Answered)
     (requests : List (List ℕ)) → connection < last_connection
-    → Runs (script_of left kept connection) made last → Asks made requests
+    → Runs (script_of left kept page events connection) made last → Asks made requests
     → All (λ r. length r ≤ ISDU_OCTETS) requests
-    → AnswersInOrder (script_of left kept connection) requests (answers_of made) last
-answers_in_order [] kept connection last made requests within run asks fit =
-    emptied kept connection last made requests (omega arith) run asks
-answers_in_order (o ∷ os) kept connection last [] [] within run asks fit =
-    let P : Script → Type 0 = λ s. AnswersInOrder (script_of (o ∷ os) kept connection) [] [] s in
+    → AnswersInOrder (script_of left kept page events connection) requests (answers_of made) last
+answers_in_order [] kept page events connection last made requests within run asks fit =
+    emptied kept page events connection last made requests (omega arith) run asks
+answers_in_order (o ∷ os) kept page events connection last [] [] within run asks fit =
+    let P : Script → Type 0 = λ s. AnswersInOrder (script_of (o ∷ os) kept page events connection) [] [] s in
     let none : 0 ≡ 0 - suc (length os) = omega arith in
     subst P run (record {
       in_order = ap (λ k. replicate k Gone) none;
@@ -82,12 +82,12 @@ answers_in_order (o ∷ os) kept connection last [] [] within run asks fit =
           sym (append-nil kept);
       connection = omega arith;
     })
-answers_in_order (o ∷ os) kept connection last [] (r ∷ rs) within run asks fit = cc
-answers_in_order (o ∷ os) kept connection last (m ∷ ms) [] within run asks fit = cc
-answers_in_order (o ∷ os) kept connection last (m ∷ ms) (r ∷ rs) within run asks fit =
+answers_in_order (o ∷ os) kept page events connection last [] (r ∷ rs) within run asks fit = cc
+answers_in_order (o ∷ os) kept page events connection last (m ∷ ms) [] within run asks fit = cc
+answers_in_order (o ∷ os) kept page events connection last (m ∷ ms) (r ∷ rs) within run asks fit =
     let call : m.call ≡ Exchange r = cc in
     let rest : Asks ms rs = cc in
-    let old = script_of (o ∷ os) kept connection in
+    let old = script_of (o ∷ os) kept page events connection in
     let short : length r ≤ ISDU_OCTETS = All-head (λ r. length r ≤ ISDU_OCTETS) r rs fit in
     let on : (connection == last_connection) ≡ false = grind (arith, nat_tests, within) in
     let small : nat_lt ISDU_OCTETS (length r) ≡ false = grind (arith, nat_tests, short) in
@@ -95,7 +95,7 @@ answers_in_order (o ∷ os) kept connection last (m ∷ ms) (r ∷ rs) within ru
     let step = subst (λ c. ScriptStep old c m.answer run.0) call run.2 in
     let s = answered (has_no_answer old r) old run.0 (o ∷ os) r m.answer free step in
     let after = subst (λ n. Runs n ms last) s.1 run.3 in
-    let h = answers_in_order os (kept ++ r ∷ []) connection last ms rs within after rest
+    let h = answers_in_order os (kept ++ r ∷ []) page events connection last ms rs within after rest
     (All-tail (λ r. length r ≤ ISDU_OCTETS) r rs fit) in
     let fewer : length rs - length os ≡ suc (length rs) - suc (length os) = omega arith in
     record {

@@ -1,18 +1,25 @@
 -- What a link of a script is, and what it does.
-use Rattle.std.specs.Prelude.{◌≡◌, ◌+◌, ◌==◌, ◌||◌, nat_lt, ℕ, Bool, List, [], ◌∷◌, ◌++◌, length, min, map, take, ◌-◌, replicate, if◌then◌else◌}
+use Rattle.std.specs.Prelude.{◌≡◌, ◌+◌, ◌==◌, ◌||◌, nat_lt, ℕ, Bool, List, [], ◌∷◌, ◌++◌, length, min, map, take, ◌-◌, replicate, if◌then◌else◌, Option, Some, None}
 use Rattle.iol_isdu.specs.declared.parts.TheConstants.{ISDU_OCTETS}
-use Rattle.iol_link.specs.Link.{LinkCall, TakeEvent, ReadPage, Exchange, LinkAnswer, NoEvent, Octets, Gone, last_connection}
+use Rattle.iol_link.specs.Link.{LinkCall, TakeEvent, ReadPage, Exchange, LinkAnswer, NoEvent, Event, Octets, Gone, last_connection}
 
--- what a script link holds: the answers that are left, the requests that were answered, and the
--- number of the connection (own)
+-- what a script link holds: the answers that are left, the requests that were answered, the page
+-- and the events of the device, and the number of the connection (own)
 pub record Script : Type 0 where
   pub left : List (List ℕ)
   pub requests : List (List ℕ)
+  pub page : Option (List ℕ)
+  pub events : List ℕ
   pub connection : ℕ
 
--- the device is lost: the connection has the next number, if there is one (own)
+-- the device is lost, and with it its page and its events: the connection has the next number, if
+-- there is one (own)
 abbrev pub lost : Script → Script
-lost script = record script { connection = min (script.connection + 1) last_connection }
+lost script = record script {
+  page = None;
+  events = [];
+  connection = min (script.connection + 1) last_connection;
+}
 
 -- a request has the next of these answers, and where there is none the device is lost (own)
 abbrev pub NextStep : Script → List (List ℕ) → List ℕ → LinkAnswer → Script → Type 0
@@ -26,11 +33,25 @@ abbrev pub has_no_answer : Script → List ℕ → Bool
 has_no_answer script request =
     (script.connection == last_connection) || nat_lt ISDU_OCTETS (length request)
 
--- what a script link does at a call: it has no event and no page, and a request that is answered
--- has the next of the answers left (own)
+-- the next of these events is told, if there is one (own)
+abbrev pub EventStep : Script → List ℕ → LinkAnswer → Script → Type 0
+EventStep old [] answer new = (answer ≡ NoEvent) × (new ≡ old)
+EventStep old (code ∷ events) answer new =
+    (answer ≡ Event code) × (new ≡ record old { events = events })
+
+-- this page is read, and where there is none the device is lost (own)
+abbrev pub PageStep : Script → Option (List ℕ) → LinkAnswer → Script → Type 0
+PageStep old None answer new = (answer ≡ Gone) × (new ≡ lost old)
+PageStep old (Some page) answer new = (answer ≡ Octets page) × (new ≡ old)
+
+-- what a script link does at a call: its events are told in order, its page is read until the device
+-- is lost, and a request that is answered has the next of the answers left. On the last connection
+-- there is none of them (own)
 abbrev pub ScriptStep : Script → LinkCall → LinkAnswer → Script → Type 0
-ScriptStep old TakeEvent answer new = (answer ≡ NoEvent) × (new ≡ old)
-ScriptStep old ReadPage answer new = (answer ≡ Gone) × (new ≡ lost old)
+ScriptStep old TakeEvent answer new =
+    EventStep old (if old.connection == last_connection then [] else old.events) answer new
+ScriptStep old ReadPage answer new =
+    PageStep old (if old.connection == last_connection then None else old.page) answer new
 ScriptStep old (Exchange request) answer new =
     NextStep old (if has_no_answer old request then [] else old.left) request answer new
 

@@ -1,6 +1,6 @@
 //! A link with given answers.
 
-ghost use Rattle.std.specs.Prelude.{◌≡◌, ◌≤◌, [], length, map, IfOk};
+ghost use Rattle.std.specs.Prelude.{◌≡◌, ◌≤◌, [], Some, None, length, map, IfOk};
 
 use arrayvec::ArrayVec;
 use iol_isdu::ISDU_OCTETS;
@@ -8,12 +8,16 @@ use iol_link::{DeviceLink, Lost, PAGE_OCTETS};
 use std::alloc::{AllocError, Global};
 use std::marker::Model;
 
-/// A link that answers exchanges by given octets, in order, and is then `Lost` at each call. It has
-/// no page and no event. A request of more than 238 octets, which is no ISDU, is `Lost` too.
+/// A link that answers exchanges by given octets, in order, and is then `Lost` at each. A request of
+/// more than 238 octets, which is no ISDU, is `Lost` too. It may be given a page, which can be read
+/// until the device is lost, and events, which are told in order until the device is lost; without
+/// a page, to read it is `Lost`.
 #[derive(Debug, Drop)]
 pub struct ScriptLink {
     answers: Vec<ArrayVec<u8, ISDU_OCTETS>>,
     requests: Vec<ArrayVec<u8, ISDU_OCTETS>>,
+    page: Option<[u8; PAGE_OCTETS]>,
+    events: Vec<u16>,
     connection: u64,
 }
 
@@ -26,6 +30,8 @@ impl Model for ScriptLink {
     ghost view = { λ s. record {
       left = map (λ octets. octets.items) (drop (vec_len s.requests) s.answers.items);
       requests = map (λ octets. octets.items) s.requests.items;
+      page = s.page;
+      events = s.events.items;
       connection = s.connection;
     } };
 
@@ -36,18 +42,47 @@ impl Model for ScriptLink {
 impl ScriptLink {
     ghost use Rattle.iol_sim.specs.Script.{lost};
 
-    /// A link with these answers, on connection 0. Room for the requests that it will answer is
-    /// made here.
+    /// A link with these answers, no page and no events, on connection 0. Room for the requests that
+    /// it will answer is made here.
+    ///
+    /// # Errors
+    /// `AllocError` where it is out of memory.
     pub fn new(alloc: Global, answers: Vec<ArrayVec<u8, ISDU_OCTETS>>) -> Result<Self, AllocError>
         ensures { let left = map (λ octets. octets.items) answers.items in
-            IfOk result (λ link. link ≡ record { left = left; requests = []; connection = 0 }) }
+            IfOk result (λ link. link ≡ record {
+              left = left;
+              requests = [];
+              page = None;
+              events = [];
+              connection = 0;
+            }) }
     {
         let requests = Vec::with_capacity(alloc, answers.len())?;
         Ok(ScriptLink {
             answers,
             requests,
+            page: None,
+            events: Vec::new(alloc),
             connection: 0,
         })
+    }
+
+    /// The link with this page, which can be read until the device is lost.
+    pub fn with_page(self, page: [u8; PAGE_OCTETS]) -> Self
+        ensures { result ≡ record self { page = Some page } }
+    {
+        let mut link = self;
+        link.page = Some(page);
+        link
+    }
+
+    /// The link with these events, which are told in order until the device is lost.
+    pub fn with_events(self, events: Vec<u16>) -> Self
+        ensures { result ≡ record self { events = events.items } }
+    {
+        let mut link = self;
+        link.events = events;
+        link
     }
 
     /// The requests that were answered, in order.
@@ -60,6 +95,8 @@ impl ScriptLink {
     fn lose(&mut self) -> Lost
         ensures { self.new ≡ lost self.old }
     {
+        self.page = None;
+        self.events.clear();
         self.connection = self.connection.saturating_add(1);
         Lost
     }
@@ -70,6 +107,8 @@ impl DeviceLink for ScriptLink {
 
     ghost number = { λ script. script.connection };
 
+    ghost device = { λ script. script.connection };
+
     ghost steps = { ScriptStep };
 
     fn connection(&self) -> u64 {
@@ -77,11 +116,17 @@ impl DeviceLink for ScriptLink {
     }
 
     fn take_event(&mut self) -> Option<u16> {
-        None
+        if self.connection == u64::MAX || self.events.is_empty() {
+            return None;
+        }
+        Some(self.events.remove(0))
     }
 
     fn read_page(&mut self) -> Result<[u8; PAGE_OCTETS], Lost> {
-        Err(self.lose())
+        match self.page {
+            Some(page) if self.connection < u64::MAX => Ok(page),
+            _ => Err(self.lose()),
+        }
     }
 
     fn exchange(&mut self, request: &[u8]) -> Result<ArrayVec<u8, ISDU_OCTETS>, Lost> {

@@ -1,62 +1,43 @@
-//! A script link asked in order, past its end, and with requests that it does not answer.
+//! Simulated links and devices, called as a port calls them. Octets of exchanges are of the
+//! standard, worked out by an independent plain program.
 
-use crate::{DeviceLink, Lost, ScriptLink, a_script_answers_in_order};
-use arrayvec::ArrayVec;
-use iol_isdu::{Answer, ISDU_OCTETS, Request, write_answer, write_request};
-use iol_link::runs_join;
+use crate::{DeviceFault, SimDevice};
+use iol_types::{DeviceId, Key};
+use std::alloc::Global;
 use std::test::Fail;
 
-const WRITE_DONE: [u8; 2] = [0x52, 0x52];
+mod allocations;
+mod ample_memory;
+mod device;
+mod script;
+mod sim_link;
+mod transfers;
 
-fn ask<L: DeviceLink>(
-    link: &mut L,
-    request: &[u8],
-) -> (u64, Result<ArrayVec<u8, ISDU_OCTETS>, Lost>) {
-    let answer = link.exchange(request);
-    (link.connection(), answer)
+const FIRST: Key = Key {
+    index: 0x0040,
+    subindex: 0,
+};
+
+const SECOND: Key = Key {
+    index: 0x0041,
+    subindex: 1,
+};
+
+// A device of vendor 01F4 with this DeviceID, V1.1, with ISDUs and no parameters.
+fn bare_device(alloc: Global, device: u32) -> Result<SimDevice, Fail> {
+    let device = DeviceId::new(device).ok_or("a DeviceID is below 2^24")?;
+    Ok(SimDevice::new(alloc, 0x01F4, device, 0x11, true))
 }
 
-#[test]
-fn one_answer_is_given_once_then_the_device_is_lost(rt: HostRuntime) -> Result<(), Fail> {
-    let done = write_answer(&Answer::WriteOk);
-    assert_eq!(rt; done.as_slice(), WRITE_DONE.as_slice());
-    let mut answers = Vec::new(rt.alloc());
-    answers.push(done)?;
-    let mut link = ScriptLink::new(rt.alloc(), answers)?;
-    let first = link.connection();
-    let request = write_request(&Request::Read {
-        index: 0x10,
-        subindex: 0,
-    });
-
-    let (connection, answer) = ask(&mut link, request.as_slice());
-    assert_eq!(rt;
-        answer.ok().as_ref().map(|octets| octets.as_slice()),
-        Some(WRITE_DONE.as_slice())
-    );
-    assert_eq!(rt; connection, first);
-
-    for lost in 1..=3 {
-        let (connection, answer) = ask(&mut link, &[0x93, 0xFF, 0x6C]);
-        assert_eq!(rt; answer, Err(Lost));
-        assert_eq!(rt; connection - first, lost);
-    }
-    assert_eq!(rt; link.requests().len(), 1);
-    assert_eq!(rt;
-        link.requests()[0].as_slice(),
-        [0x93, 0x10, 0x83].as_slice()
-    );
-    Ok(())
+// Device S: DeviceID 00ABCD, with the parameters 0040.00 = 0A 64 and 0041.01 = 7F.
+fn device_s(alloc: Global) -> Result<SimDevice, Fail> {
+    let mut device = bare_device(alloc, 0x00ABCD)?;
+    device.add(FIRST, &[0x0A, 0x64])?;
+    device.add(SECOND, &[0x7F])?;
+    Ok(device)
 }
 
-#[test]
-fn a_script_has_no_event_and_no_page(rt: HostRuntime) -> Result<(), Fail> {
-    let mut link = ScriptLink::new(rt.alloc(), Vec::new(rt.alloc()))?;
-    assert_eq!(rt; link.take_event(), None);
-    assert_eq!(rt; link.connection(), 0);
-    assert_eq!(rt; link.read_page(), Err(Lost));
-    assert_eq!(rt; link.connection(), 1);
-    runs_join::<ScriptLink>();
-    a_script_answers_in_order();
-    Ok(())
+// What a device says to a further parameter of so many octets.
+fn fault_of(device: &mut SimDevice, key: Key, octets: &[u8]) -> Option<DeviceFault> {
+    device.add(key, octets).err()
 }

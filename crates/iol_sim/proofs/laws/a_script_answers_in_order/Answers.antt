@@ -3,4 +3,4 @@ use Rattle.iol_sim.proofs.laws.a_script_answers_in_order.Goals as goal
 
 pub returns : goal.returns
 returns c = λ first last made requests run within asks fit.
-    answers_in_order first.left first.requests first.connection last made requests within run asks fit
+    answers_in_order first.left first.requests first.page first.events first.connection last made requests within run asks fit

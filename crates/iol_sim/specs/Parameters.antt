@@ -1,0 +1,41 @@
+-- The parameters of a simulated device.
+use Rattle.std.specs.Prelude.{ℕ, ◌+◌, ◌*◌, ◌%◌, ◌^◌, ◌≤◌, nat_lt, if◌then◌else◌, List, [], ◌∷◌, length, All, Option, Some, None, is_some}
+use Rattle.std.specs.List.{flat_map, IsDistinct}
+use Rattle.std.specs.Map.{keys_of}
+use Rattle.iol_types.specs.Key.{same_key, is_reserved}
+use Rattle.iol_types.specs.DataSet.{Entry, IsEntry, data_at}
+use Rattle.iol_types.specs.declared.key.Key.{Key}
+use Rattle.iol_types.specs.declared.data_set.TheConstants.{MOST_ENTRY_OCTETS}
+use Rattle.iol_sim.specs.declared.parameters.TheConstants.{MOST_PARAMETERS}
+use Rattle.iol_sim.specs.declared.parameters.DeviceFault.{DeviceFault}
+use Rattle.iol_sim.specs.declared.parameters.DeviceFault.TheVariants.{ReservedKey, TooLong, Duplicate, TooMany}
+
+-- parameters that a simulated device may have: each may stand in a parameter set, no key stands
+-- twice, and they are at most 70 (own)
+pub record AreParameters (parameters : List Entry) : Type 0 where
+  pub each : All IsEntry parameters
+  pub distinct : IsDistinct same_key (keys_of parameters)
+  pub few : length parameters ≤ MOST_PARAMETERS
+
+-- why a parameter does not come to others, by the first cause; none where it may (own)
+abbrev pub add_fault : List Entry → Key → List ℕ → Option DeviceFault
+add_fault parameters key octets =
+    if is_reserved key then Some ReservedKey
+    else if nat_lt MOST_ENTRY_OCTETS (length octets) then Some TooLong
+    else if is_some (data_at parameters key) then Some Duplicate
+    else if nat_lt (length parameters) MOST_PARAMETERS then None
+    else Some TooMany
+
+-- octets, each times its place, where the first has this place (own)
+abbrev pub weighted : ℕ → List ℕ → ℕ
+weighted place [] = 0
+weighted place (octet ∷ octets) = place * octet + weighted (place + 1) octets
+
+-- the octets of all parameters, one parameter behind the other (own)
+abbrev pub all_octets : List Entry → List ℕ
+all_octets parameters = flat_map (λ (entry : Entry). entry.1) parameters
+
+-- Parameter_Checksum of a simulated device: the octets of all parameters, each times its place, from
+-- 1 on, modulo 2^32 (own)
+abbrev pub checksum_of : List Entry → ℕ
+checksum_of parameters = weighted 1 (all_octets parameters) % 2 ^ 32

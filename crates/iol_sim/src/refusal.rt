@@ -1,0 +1,40 @@
+//! Why a simulated device refuses a request.
+
+ghost use Rattle.std.specs.Prelude.{◌≡◌};
+ghost use Rattle.iol_sim.specs.Refusal.{code_of};
+
+/// The ErrorCode of every refusal: an error of the device's application.
+pub const DEVICE_APPLICATION_ERROR: u8 = 0x80;
+
+/// Why a simulated device refuses a request (IO-Link V1.1, ErrorTypes).
+#[derive(Clone, Copy, Debug, PartialEq, Eq)]
+pub enum Refusal {
+    /// No object has this Index and Subindex, 0x11.
+    NoIndex,
+    /// The Data Storage object has no such Subindex, 0x12.
+    NoSubindex,
+    /// The object is not read, or not written, at all or now, 0x23.
+    AccessDenied,
+    /// An octet that is no DS_Command, or not one octet, 0x30.
+    OutOfRange,
+    /// More octets than the parameter has, 0x33.
+    TooLong,
+    /// Fewer octets than the parameter has, 0x34.
+    TooShort,
+}
+
+impl Refusal {
+    /// The AdditionalCode.
+    pub fn code(self) -> u8
+        ensures { result ≡ code_of self }
+    {
+        match self {
+            Refusal::NoIndex => 0x11,
+            Refusal::NoSubindex => 0x12,
+            Refusal::AccessDenied => 0x23,
+            Refusal::OutOfRange => 0x30,
+            Refusal::TooLong => 0x33,
+            Refusal::TooShort => 0x34,
+        }
+    }
+}
