@@ -1,16 +1,17 @@
 -- Parameters of a device: in memory and apart from it, one more, and written.
 use Rattle.std.proofs.Common.{◌≡◌, ℕ, ◌≤◌, ◌<◌, Bool, true, false, cond, List, [], ◌∷◌, ◌++◌, length, Some, None, refl, ap, sym, ◌∙◌, subst, arith, is_some, length-append, zero, suc}
-use Rattle.std.specs.Prelude.{nat_lt, ◌==◌, All, slice_get}
-use Rattle.std.specs.List.{IsDistinct, AllByRecursion}
+use Rattle.std.specs.Prelude.{nat_lt, All, slice_get}
+use Rattle.std.specs.List.{IsDistinct}
 use Rattle.std.specs.Map.{keys_of}
 use Rattle.std.proofs.lemmas.List.{map-append}
 use Rattle.std.proofs.lemmas.List.Elements.{All-cons, All-push, All-head, All-tail}
-use Rattle.std.proofs.lemmas.Bool.{ltb-false, and_parts}
+use Rattle.std.proofs.lemmas.Bool.{ltb-false}
 use Rattle.std.proofs.lemmas.Bool.Decides.{nat_tests}
 use Rattle.arrayvec.specs.ArrayVec.{ArrayVec}
 use Rattle.indexmap.specs.IndexMap.{insert_entry}
 use Rattle.iol_types.specs.Key.{IsKey, same_key, is_reserved}
 use Rattle.iol_types.specs.DataSet.{Entry, IsEntry, data_at, entries_of}
+use Rattle.iol_types.proofs.Entries.{distinct-push}
 use Rattle.iol_types.specs.declared.key.Key.{Key}
 use Rattle.iol_types.specs.declared.data_set.TheConstants.{MOST_ENTRY_OCTETS}
 use Rattle.iol_sim.specs.Parameters.{AreParameters, add_fault}
@@ -41,42 +42,6 @@ may_be_added parameters key octets none =
     by false false false false r l t s none = cc
     by false false false true r l t s none =
         record { free = r; short = ltb-false _ _ l; absent = t; few = grind (arith, nat_tests, s) }
-
--- ---- keys apart from others
-
-false_if_never : (b : Bool) → (b ≡ true → ⊥) → b ≡ false
-false_if_never true never = absurd (never refl)
-false_if_never false never = refl
-
-other_way : (one two : Key) → same_key one two ≡ false → same_key two one ≡ false
-other_way one two apart = false_if_never (same_key two one) (λ same.
-    let parts = and_parts (two.index == one.index) (two.subindex == one.subindex) same in
-    let index : (one.index == two.index) ≡ true = grind (arith, nat_tests, parts.0) in
-    let subindex : (one.subindex == two.subindex) ≡ true = grind (arith, nat_tests, parts.1) in
-    let both : same_key one two ≡ true = rw (index, subindex) refl in
-    cc)
-
-absent_parts : (key : Key) (entry : Entry) (parameters : List Entry) → is_some (data_at (entry ∷ parameters) key) ≡ false
-    → (same_key key entry.0 ≡ false) × (is_some (data_at parameters key) ≡ false)
-absent_parts key entry parameters absent = by (same_key key entry.0) refl absent
-  where
-    by : (same : Bool) → same_key key entry.0 ≡ same → is_some (cond same (Some entry.1) (data_at parameters key)) ≡ false
-        → (same_key key entry.0 ≡ false) × (is_some (data_at parameters key) ≡ false)
-    by true is absent = cc
-    by false is absent = (is, absent)
-
-apart-push : (key new : Key) (keys : List Key) → AllByRecursion (λ other. same_key key other ≡ false) keys → same_key key new ≡ false
-    → AllByRecursion (λ other. same_key key other ≡ false) (keys ++ new ∷ [])
-apart-push key new [] all apart = (apart, tt)
-apart-push key new (other ∷ keys) all apart = (all.0, apart-push key new keys all.1 apart)
-
-distinct-push : (parameters : List Entry) (key : Key) → is_some (data_at parameters key) ≡ false → IsDistinct same_key (keys_of parameters)
-    → IsDistinct same_key (keys_of parameters ++ key ∷ [])
-unfolding IsDistinct
-distinct-push [] key absent distinct = (tt, tt)
-distinct-push (entry ∷ parameters) key absent distinct =
-    let parts = absent_parts key entry parameters absent in
-    (apart-push entry.0 key (keys_of parameters) distinct.0 (other_way key entry.0 parts.0), distinct-push parameters key parts.1 distinct.1)
 
 -- a parameter that nothing refuses may stand behind the others
 pub one-more : (parameters : List Entry) (key : Key) (octets : List ℕ) → AreParameters parameters → IsKey key

@@ -1,5 +1,5 @@
 -- An answer at which an upload ends whole ends a finished upload of its set.
-use Rattle.std.proofs.Common.{◌≡◌, ℕ, ◌+◌, Bool, true, false, not, cond, List, [], ◌∷◌, ◌++◌, length, fold, is_some, refl, ap, sym, ◌∙◌, subst, arith}
+use Rattle.std.proofs.Common.{◌≡◌, ℕ, ◌+◌, Bool, true, false, not, cond, List, [], ◌∷◌, ◌++◌, length, is_some, refl, ap, sym, ◌∙◌, subst, arith}
 use Rattle.std.proofs.lemmas.List.{append-nil}
 use Rattle.std.specs.Prelude.{nat_lt, ◌==◌, Result, Ok, Err}
 use Rattle.std.specs.Map.{keys_of}
@@ -20,9 +20,9 @@ use Rattle.iol_transfer.specs.declared.fault.TransferFault.TheVariants as fault
 use Rattle.iol_transfer.specs.declared.repeats.TheConstants.{MOST_REQUESTS}
 use Rattle.iol_transfer.specs.declared.upload.TheConstants.{MOST_LISTS}
 use Rattle.iol_transfer.specs.Exchanges.{Exchange, busy_times, read_of, Follows}
-use Rattle.iol_transfer.specs.Upload.{number_of, IsUpload, IsFinished}
-use Rattle.iol_transfer.specs.Asked.{Asks, Start, Size, IndexList, Value, Checksum, request_of, HasRead, IsAsking, is_write}
-use Rattle.iol_transfer.specs.Machine.{Machine, Outcome, More, Whole, Fault, begun, after_size, after_list, after_value, after_checksum, after_refusal, step, answered, Leads}
+use Rattle.iol_transfer.specs.Upload.{number_of, IsFinished}
+use Rattle.iol_transfer.specs.Asked.{Asks, Start, Size, IndexList, Value, Checksum, IsAsking, is_write}
+use Rattle.iol_transfer.specs.Machine.{Machine, More, Whole, Fault, begun, after_list, after_refusal, step, answered, Leads}
 use Rattle.iol_transfer.proofs.Order.{upload_at, with_answer, follows-more}
 use Rattle.iol_transfer.proofs.GoingOn.{under-way}
 

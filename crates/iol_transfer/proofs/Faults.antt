@@ -1,6 +1,6 @@
 -- An answer at which an upload ends in a fault is the cause of that fault.
-use Rattle.std.proofs.Common.{◌≡◌, ◌≢◌, ℕ, ◌+◌, ◌<◌, ◌≤◌, ◌⊎◌, inl, inr, suc, Bool, true, false, not, cond, ◌&&◌, ◌||◌, List, [], ◌∷◌, ◌++◌, length, All, Option, Some, None, is_some, refl, ap, sym, ◌∙◌, subst, arith}
-use Rattle.std.proofs.lemmas.List.Elements.{All-append, All-cons}
+use Rattle.std.proofs.Common.{◌≡◌, ◌≢◌, ℕ, ◌+◌, ◌<◌, ◌≤◌, ◌⊎◌, inl, inr, suc, Bool, true, false, not, cond, List, [], ◌∷◌, ◌++◌, length, All, Some, None, is_some, refl, sym, ◌∙◌, subst, arith}
+use Rattle.std.proofs.lemmas.List.Elements.{All-append}
 use Rattle.std.specs.Prelude.{nat_lt, ◌==◌, Result, Ok, Err}
 use Rattle.std.specs.List.{IsDistinct}
 use Rattle.std.specs.Map.{keys_of}
@@ -10,13 +10,12 @@ use Rattle.iol_types.specs.Key.{same_key, is_reserved}
 use Rattle.iol_types.specs.declared.key.Key.{Key}
 use Rattle.iol_types.specs.declared.key.TheConstants.{DATA_STORAGE}
 use Rattle.iol_types.specs.declared.data_set.TheConstants.{MOST_SET_OCTETS, MOST_ENTRY_OCTETS, ENTRY_HEAD_OCTETS}
-use Rattle.iol_types.specs.declared.set_builder.AddFault.{AddFault}
 use Rattle.iol_types.specs.declared.set_builder.AddFault.TheVariants.{ReservedKey, EntryTooLong, Duplicate, SetTooLarge}
 use Rattle.iol_types.specs.DataSet.{Entry, SetValue, data_at, octets_of, add_fault}
 use Rattle.iol_types.proofs.Entries.{absent-before}
 use Rattle.iol_isdu.specs.declared.messages.Answer.{Answer}
 use Rattle.iol_isdu.specs.declared.messages.Answer.TheVariants.{ReadOk, ReadFault, WriteOk, WriteFault, Busy}
-use Rattle.iol_dsindex.specs.List.{Listing, reading_of, first_places}
+use Rattle.iol_dsindex.specs.List.{Listing, reading_of}
 use Rattle.iol_dsindex.specs.declared.list.Next.{Next}
 use Rattle.iol_dsindex.specs.declared.list.Next.TheVariants as next_is
 use Rattle.iol_dsindex.specs.declared.list.ListFault.{ListFault}
@@ -28,8 +27,8 @@ use Rattle.iol_transfer.specs.declared.repeats.TheConstants.{MOST_REQUESTS}
 use Rattle.iol_transfer.specs.declared.upload.TheConstants.{MOST_LISTS}
 use Rattle.iol_transfer.specs.Exchanges.{Exchange}
 use Rattle.iol_transfer.specs.Upload.{number_of, AreLists, FollowsList}
-use Rattle.iol_transfer.specs.Asked.{Asks, Start, Size, IndexList, Value, Checksum, HasRead, IsAskedAfter, IsAsking, is_write, refusal, answers, IsUnexpected, IsCause, IsShort, NeedsMemory, EndsIn}
-use Rattle.iol_transfer.specs.Machine.{Machine, Outcome, More, Whole, Fault, begun, after_size, after_list, after_value, after_checksum, after_refusal, step, Leads}
+use Rattle.iol_transfer.specs.Asked.{Asks, Start, Size, IndexList, Value, Checksum, HasRead, IsAsking, is_write, refusal, answers, IsCause, IsShort, NeedsMemory, EndsIn}
+use Rattle.iol_transfer.specs.Machine.{Machine, More, Whole, Fault, begun, after_size, after_list, after_value, after_checksum, after_refusal, step, Leads}
 use Rattle.iol_transfer.proofs.Order.{upload_at}
 use Rattle.iol_transfer.proofs.GoingOn.{under-way}
 

@@ -1,5 +1,5 @@
 -- What `feed` of an upload ensures of the exchanges since it began, from what it does to the upload.
-use Rattle.std.proofs.Common.{◌≡◌, ℕ, ◌+◌, ◌⊎◌, inl, inr, List, [], ◌∷◌, ◌++◌, refl, ap, sym, ◌∙◌, subst}
+use Rattle.std.proofs.Common.{◌≡◌, ℕ, ◌⊎◌, inl, inr, List, [], ◌∷◌, ◌++◌, refl, ap, sym, ◌∙◌, subst}
 use Rattle.std.specs.Prelude.{Result, Ok, Err}
 use Rattle.iol_types.specs.DataSet.{SetValue, IsSet}
 use Rattle.iol_isdu.specs.declared.messages.Answer.{Answer}

@@ -1,13 +1,13 @@
 -- A finished upload makes its upload whole.
-use Rattle.std.proofs.Common.{◌≡◌, ℕ, zero, suc, ◌+◌, ◌<◌, ◌≤◌, Bool, true, false, not, cond, List, [], ◌∷◌, ◌++◌, length, map, fold, is_some, refl, ap, sym, ◌∙◌, subst, arith, append_assoc}
-use Rattle.std.proofs.lemmas.List.{map-append, append-nil}
-use Rattle.std.specs.Prelude.{nat_lt, ◌==◌, Result, Ok, Err}
+use Rattle.std.proofs.Common.{◌≡◌, ℕ, zero, suc, ◌+◌, ◌<◌, ◌≤◌, true, false, not, cond, List, [], ◌∷◌, ◌++◌, length, map, fold, is_some, ap, sym, ◌∙◌, subst, arith, append_assoc}
+use Rattle.std.proofs.lemmas.List.{append-nil}
+use Rattle.std.specs.Prelude.{nat_lt, ◌==◌, Result, Ok}
 use Rattle.std.specs.Map.{keys_of}
 use Rattle.std.proofs.lemmas.Bool.Decides.{nat_tests}
 use Rattle.iol_types.specs.declared.key.Key.{Key}
 use Rattle.iol_types.specs.declared.key.TheConstants.{DATA_STORAGE}
 use Rattle.iol_types.specs.declared.data_set.TheConstants.{MOST_SET_OCTETS}
-use Rattle.iol_types.specs.DataSet.{Entry, SetValue, AreEntries, IsSet, add_fault}
+use Rattle.iol_types.specs.DataSet.{Entry, SetValue, AreEntries, add_fault}
 use Rattle.iol_types.proofs.Entries.{may-stand, none-added}
 use Rattle.iol_isdu.specs.declared.messages.Request.{Request}
 use Rattle.iol_isdu.specs.declared.messages.Request.TheVariants.{Read}
@@ -21,10 +21,10 @@ use Rattle.iol_dsindex.proofs.FirstPlaces.{first_places-more}
 use Rattle.iol_transfer.specs.declared.fault.TransferFault.TheVariants as fault
 use Rattle.iol_transfer.specs.declared.repeats.TheConstants.{MOST_REQUESTS}
 use Rattle.iol_transfer.specs.declared.upload.TheConstants.{MOST_LISTS}
-use Rattle.iol_transfer.specs.Exchanges.{Exchange, busy_times, read_of, done, commanded, Follows}
-use Rattle.iol_transfer.specs.Upload.{IsSize, number_of, AreLists, FollowsList, opening, entry_read, IsUpload, IsFinished}
-use Rattle.iol_transfer.specs.Asked.{Asks, Start, Size, IndexList, Value, Checksum, request_of}
-use Rattle.iol_transfer.specs.Machine.{Machine, Outcome, More, Whole, Fault, begun, asked, reading, after_size, after_list, step, answered, Leads}
+use Rattle.iol_transfer.specs.Exchanges.{Exchange, busy_times, read_of, Follows}
+use Rattle.iol_transfer.specs.Upload.{number_of, AreLists, FollowsList, opening, entry_read, IsFinished}
+use Rattle.iol_transfer.specs.Asked.{Asks, Start, Size, IndexList, Value, Checksum}
+use Rattle.iol_transfer.specs.Machine.{Machine, Outcome, More, Whole, Fault, begun, reading, after_list, step, answered, Leads}
 use Rattle.iol_transfer.proofs.Order.{upload_at}
 
 -- ---- what a conversation leads to

@@ -1,5 +1,5 @@
 -- Each answer at which an upload goes on keeps to the order, so that what is asked next is known of the exchanges alone.
-use Rattle.std.proofs.Common.{◌≡◌, ℕ, ◌+◌, ◌<◌, Bool, true, false, not, cond, List, [], ◌∷◌, ◌++◌, length, fold, Option, Some, None, is_some, refl, ap, sym, ◌∙◌, subst, arith, append_assoc, lit<}
+use Rattle.std.proofs.Common.{◌≡◌, ℕ, ◌+◌, Bool, true, false, not, cond, List, [], ◌∷◌, ◌++◌, length, fold, Option, Some, None, is_some, refl, ap, sym, ◌∙◌, subst, arith, append_assoc, lit<}
 use Rattle.std.proofs.lemmas.List.{append-nil, replicate_more}
 use Rattle.std.specs.Prelude.{nat_lt, ◌==◌, Result, Ok, Err}
 use borrow.Author.Tests.{ltb-true, ltb-false}
@@ -7,22 +7,22 @@ use Rattle.std.proofs.lemmas.Bool.Decides.{nat_tests}
 use Rattle.iol_types.specs.declared.key.Key.{Key}
 use Rattle.iol_types.specs.declared.key.TheConstants.{DATA_STORAGE}
 use Rattle.iol_types.specs.declared.data_set.TheConstants.{MOST_SET_OCTETS}
-use Rattle.iol_types.specs.DataSet.{Entry, SetValue, IsSet, add_fault}
+use Rattle.iol_types.specs.DataSet.{Entry, SetValue, add_fault}
 use Rattle.iol_isdu.specs.declared.messages.Answer.{Answer}
 use Rattle.iol_isdu.specs.declared.messages.Answer.TheVariants.{ReadOk, ReadFault, WriteOk, WriteFault, Busy}
 use Rattle.iol_dsindex.specs.List.{Listing, reading_of, kept_with}
 use Rattle.iol_dsindex.specs.declared.list.Next.TheVariants as next_is
 use Rattle.iol_dsindex.specs.declared.list.ListFault.{ListFault}
-use Rattle.iol_dsindex.specs.declared.object.TheConstants.{INDEX_LIST, PARAMETER_CHECKSUM}
+use Rattle.iol_dsindex.specs.declared.object.TheConstants.{INDEX_LIST}
 use Rattle.iol_transfer.specs.declared.fault.TransferFault.{TransferFault}
 use Rattle.iol_transfer.specs.declared.fault.TransferFault.TheVariants as fault
 use Rattle.iol_transfer.specs.declared.repeats.TheConstants.{MOST_REQUESTS}
 use Rattle.iol_transfer.specs.declared.upload.TheConstants.{MOST_LISTS}
-use Rattle.iol_transfer.specs.Exchanges.{Exchange, busy_times, read_of, Follows}
-use Rattle.iol_transfer.specs.Upload.{IsSize, number_of, IsFinished}
+use Rattle.iol_transfer.specs.Exchanges.{Exchange, busy_times}
+use Rattle.iol_transfer.specs.Upload.{IsSize, number_of}
 use Rattle.iol_transfer.specs.Asked.{Asks, Start, Size, IndexList, Value, Checksum, request_of, IsAskedAfter, IsAsking, is_write}
-use Rattle.iol_transfer.specs.Machine.{Machine, Outcome, More, Whole, Fault, begun, asked, reading, after_size, after_list, after_value, after_checksum, after_refusal, step, answered, Leads}
-use Rattle.iol_transfer.proofs.Order.{upload_at, with_answer, follows-more, asked-reading, advance, size-read, list-ends, list-further, value-read}
+use Rattle.iol_transfer.specs.Machine.{Machine, Outcome, More, Whole, Fault, begun, reading, after_size, after_list, after_value, after_refusal, step, answered, Leads}
+use Rattle.iol_transfer.proofs.Order.{upload_at, with_answer, asked-reading, advance, size-read, list-ends, list-further, value-read}
 
 -- ---- outcomes that are not a fault
 

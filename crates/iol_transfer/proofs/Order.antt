@@ -1,29 +1,22 @@
 -- An upload that goes on has kept to the order.
-use Rattle.std.proofs.Common.{◌≡◌, ℕ, ◌+◌, ◌<◌, ◌≤◌, Bool, true, false, not, cond, List, [], ◌∷◌, ◌++◌, length, map, fold, is_some, refl, ap, sym, ◌∙◌, subst, arith, append_assoc, length-append, lit<}
-use Rattle.std.proofs.lemmas.List.{map-append, append-nil, replicate_more}
-use Rattle.std.specs.Prelude.{nat_lt, ◌==◌, Result, Ok, Err}
+use Rattle.std.proofs.Common.{◌≡◌, ℕ, ◌+◌, ◌<◌, List, [], ◌∷◌, ◌++◌, map, fold, refl, ap, sym, ◌∙◌, subst, arith, append_assoc, length-append, lit<}
+use Rattle.std.proofs.lemmas.List.{map-append, append-nil}
+use Rattle.std.specs.Prelude.{Ok}
 use Rattle.std.specs.Map.{keys_of}
-use borrow.Author.Tests.{ltb-true, ltb-false}
-use Rattle.std.proofs.lemmas.Bool.Decides.{nat_tests}
 use Rattle.iol_types.specs.declared.key.Key.{Key}
 use Rattle.iol_types.specs.declared.key.TheConstants.{DATA_STORAGE}
-use Rattle.iol_types.specs.declared.data_set.TheConstants.{MOST_SET_OCTETS}
-use Rattle.iol_types.specs.DataSet.{Entry, SetValue, add_fault}
+use Rattle.iol_types.specs.DataSet.{Entry}
 use Rattle.iol_isdu.specs.declared.messages.Answer.{Answer}
-use Rattle.iol_isdu.specs.declared.messages.Answer.TheVariants.{ReadOk, ReadFault, WriteOk, WriteFault, Busy}
-use Rattle.iol_dsindex.specs.List.{Listing, reading_of, first_places, kept_with}
+use Rattle.iol_dsindex.specs.List.{reading_of, kept_with}
 use Rattle.iol_dsindex.proofs.FirstPlaces.{first_places-more}
 use Rattle.iol_dsindex.specs.declared.list.Next.TheVariants as next_is
-use Rattle.iol_dsindex.specs.declared.list.ListFault.{ListFault}
-use Rattle.iol_dsindex.specs.declared.object.TheConstants.{INDEX_LIST, DATA_STORAGE_SIZE, PARAMETER_CHECKSUM}
-use Rattle.iol_transfer.specs.declared.fault.TransferFault.{TransferFault}
-use Rattle.iol_transfer.specs.declared.fault.TransferFault.TheVariants as fault
+use Rattle.iol_dsindex.specs.declared.object.TheConstants.{INDEX_LIST, DATA_STORAGE_SIZE}
 use Rattle.iol_transfer.specs.declared.repeats.TheConstants.{MOST_REQUESTS}
 use Rattle.iol_transfer.specs.declared.upload.TheConstants.{MOST_LISTS}
 use Rattle.iol_transfer.specs.Exchanges.{Exchange, busy_times, read_of, Follows}
-use Rattle.iol_transfer.specs.Upload.{IsSize, AreLists, opening, entry_read, number_of}
-use Rattle.iol_transfer.specs.Asked.{Asks, Start, Size, IndexList, Value, Checksum, request_of, LeadsTo, HasListed, HasRead, IsAskedAfter, IsAsking, is_write}
-use Rattle.iol_transfer.specs.Machine.{Machine, Outcome, More, Whole, Fault, begun, asked, goes_on, reading, after_size, after_list, after_value, after_checksum, after_refusal, step, answered, Leads}
+use Rattle.iol_transfer.specs.Upload.{IsSize, AreLists, opening, entry_read}
+use Rattle.iol_transfer.specs.Asked.{Asks, Size, request_of, LeadsTo, HasListed, HasRead, IsAskedAfter, IsAsking}
+use Rattle.iol_transfer.specs.Machine.{Machine, reading}
 
 -- an upload with these numbers
 abbrev pub upload_at : ℕ → ℕ → Asks → ℕ → Machine

@@ -1,8 +1,8 @@
 -- What `feed` of a download ensures of the exchanges since it began, from what it does to the download.
-use Rattle.std.proofs.Common.{◌≡◌, ◌≢◌, ℕ, zero, suc, ◌+◌, ◌<◌, ◌⊎◌, inl, inr, List, [], ◌∷◌, ◌++◌, map, replicate, length, drop, get_or, refl, ap, sym, ◌∙◌, subst, arith, append_assoc, lit<}
+use Rattle.std.proofs.Common.{◌≡◌, ◌≢◌, ℕ, zero, suc, ◌+◌, ◌<◌, ◌⊎◌, inl, inr, List, [], ◌∷◌, ◌++◌, map, length, drop, get_or, refl, ap, sym, ◌∙◌, subst, arith, append_assoc, lit<}
 use Rattle.std.proofs.lemmas.List.{map-append, append-nil, replicate_more, drop_more}
 use Rattle.std.proofs.lemmas.Option.{slice_get_within, get_or_from_slice_get}
-use Rattle.std.specs.Prelude.{Option, Some, None, slice_get}
+use Rattle.std.specs.Prelude.{Some, None, slice_get}
 use Rattle.iol_types.specs.DataSet.{Entry, SetValue}
 use Rattle.iol_isdu.specs.declared.messages.Request.{Request}
 use Rattle.iol_isdu.specs.declared.messages.Answer.{Answer}

@@ -1,5 +1,5 @@
 -- What an upload asks next, for the answers so far, and why it ends in a fault.
-use Rattle.std.specs.Prelude.{◌≡◌, ◌≢◌, ℕ, ◌+◌, ◌<◌, ◌≤◌, ◌⊎◌, Bool, true, false, List, [], ◌∷◌, ◌++◌, length, map, Result, Ok, Err, IsTrue}
+use Rattle.std.specs.Prelude.{◌≡◌, ◌≢◌, ℕ, ◌+◌, ◌<◌, ◌≤◌, ◌⊎◌, Bool, true, false, List, [], ◌∷◌, ◌++◌, length, map, Ok, Err, IsTrue}
 use Rattle.std.specs.Map.{keys_of}
 use Rattle.iol_types.specs.DataSet.{Entry, octets_of}
 use Rattle.iol_types.specs.declared.key.Key.{Key}

@@ -1,12 +1,11 @@
 -- Transfers in memory, as what they are to a contract.
-use Rattle.std.specs.Prelude.{◌≡◌, ℕ, ◌<◌, ◌≤◌, ◌⊎◌, List, drop, length, Result, Ok, Err}
+use Rattle.std.specs.Prelude.{◌≡◌, ◌<◌, ◌≤◌, ◌⊎◌, drop, length, Result, Ok, Err}
 use Rattle.iol_types.specs.DataSet.{SetValue}
 use Rattle.iol_isdu.specs.declared.messages.Answer.{Answer}
 use Rattle.iol_transfer.specs.Asked.{Asks, Start, Size, IndexList, NeedsMemory}
 use Rattle.iol_transfer.specs.Machine.{Machine, Outcome, More, Whole, Fault, reading, goes_on}
 use Rattle.iol_transfer.specs.declared.fault.TransferFault.{TransferFault}
 use Rattle.iol_transfer.specs.declared.fault.TransferFault.TheVariants as fault
-use Rattle.iol_transfer.specs.declared.repeats.TheConstants.{MOST_REQUESTS}
 use Rattle.iol_transfer.specs.declared.upload.TheConstants.{MOST_LISTS}
 use Rattle.iol_transfer.specs.declared.upload.Upload.TheInside.{Inside}
 use Rattle.iol_transfer.specs.declared.upload.UploadStep.{UploadStep}

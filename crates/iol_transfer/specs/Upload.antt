@@ -1,5 +1,5 @@
 -- What a finished upload is: a conversation with a device, and the parameter set that it read.
-use Rattle.std.specs.Prelude.{◌≡◌, ℕ, ◌≤◌, List, [], ◌∷◌, ◌++◌, length, map, Result, Ok}
+use Rattle.std.specs.Prelude.{◌≡◌, ℕ, ◌≤◌, List, [], ◌∷◌, ◌++◌, length, map, Ok}
 use Rattle.std.specs.Int.{from_be_bytes, w32}
 use Rattle.std.specs.Map.{keys_of}
 use Rattle.iol_types.specs.DataSet.{Entry, SetValue, IsSet}

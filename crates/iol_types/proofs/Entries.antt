@@ -107,7 +107,8 @@ apart-push : (key new : Key) (keys : List Key) → AllByRecursion (λ other. sam
 apart-push key new [] all apart = (apart, tt)
 apart-push key new (other ∷ keys) all apart = (all.0, apart-push key new keys all.1 apart)
 
-distinct-push : (entries : List Entry) (key : Key) → is_some (data_at entries key) ≡ false → IsDistinct same_key (keys_of entries)
+-- keys stay apart with one behind them that is not among them
+pub distinct-push : (entries : List Entry) (key : Key) → is_some (data_at entries key) ≡ false → IsDistinct same_key (keys_of entries)
     → IsDistinct same_key (keys_of entries ++ key ∷ [])
 unfolding IsDistinct
 distinct-push [] key absent distinct = (tt, tt)

@@ -1,8 +1,5 @@
-use Rattle.std.proofs.Common.{◌≡◌, ℕ, ◌<◌, ◌^◌, List, [], ◌∷◌, ◌++◌, refl, arith}
-use Rattle.std.specs.Prelude.{Ok}
-use Rattle.iol_types.specs.Key.{IsKey}
-use Rattle.iol_types.specs.declared.key.Key.{Key}
-use Rattle.iol_types.specs.DataSet.{Entry, SetValue, AreEntries, IsSet}
+use Rattle.std.proofs.Common.{[], ◌∷◌, refl, arith}
+use Rattle.iol_types.specs.DataSet.{Entry, AreEntries}
 use Rattle.iol_types.proofs.Entries.{no-entries, one-more, may_be_added}
 use Rattle.iol_dsindex.specs.declared.command.DsCommand.TheVariants.{UploadStart}
 use Rattle.iol_dsindex.specs.declared.list.Next.TheVariants as next_is
