@@ -5,3 +5,4 @@ pub mod Settled
 pub mod Syncs
 pub mod Orders
 pub mod DiskLaws
+pub mod FaultDisks

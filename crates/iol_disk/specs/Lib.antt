@@ -7,3 +7,4 @@ pub mod Undo
 pub mod Stops
 pub mod Memory
 pub mod Fresh
+pub mod FaultDisk

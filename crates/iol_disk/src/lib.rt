@@ -2,9 +2,10 @@
 //!
 //! In comes a caller that reads, writes and syncs whole sectors through [`SectorDisk`]; out goes, in each
 //! contract, what a read gives and what a stop at any moment may leave. [`MemoryDisk`] is such a disk, and can
-//! be stopped: a [`Pick`] says what the stop leaves of the sectors that no sync has settled.
+//! be stopped: a [`Pick`] says what the stop leaves of the sectors that no sync has settled. [`FaultDisk`] is another
+//! disk of which one call fails.
 //!
-//! Read `disk` first, then `memory`; `specs/Content.antt` has the words.
+//! Read `disk` first, then `memory` and `fault_disk`; `specs/Content.antt` has the words.
 //!
 //! Proofs of other crates cite the laws of `proofs/DiskLaws.antt`.
 #![tactic(auto)]
@@ -14,6 +15,7 @@ mod cells;
 mod disk;
 pub mod examples;
 mod fault;
+mod fault_disk;
 mod memory;
 mod pick;
 #[cfg(test)]
@@ -22,5 +24,6 @@ mod undo;
 
 pub use disk::{SECTOR_OCTETS, SectorDisk};
 pub use fault::DiskFault;
+pub use fault_disk::{Due, FaultDisk};
 pub use memory::MemoryDisk;
 pub use pick::Pick;

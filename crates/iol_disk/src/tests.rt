@@ -3,6 +3,8 @@
 use crate::{DiskFault, MemoryDisk, Pick, SECTOR_OCTETS, SectorDisk};
 use std::test::Fail;
 
+mod fault_disk;
+
 const ZEROS: [u8; SECTOR_OCTETS] = [0; SECTOR_OCTETS];
 
 const FIRST: [u8; SECTOR_OCTETS] = [0x11; SECTOR_OCTETS];
