@@ -77,7 +77,8 @@ impl Download {
         self.request()
     }
 
-    /// Takes the answer to the request that was next. A download that has ended is fed no more.
+    /// Takes the answer to the request that was next. A download that has ended is fed no more: what it sends then says
+    /// nothing.
     ///
     /// `Whole` comes exactly where DS_DownloadEnd was answered (+): the exchanges since [`begin`](Download::begin) are then a
     /// whole download of the set.

@@ -81,7 +81,7 @@ impl Upload {
         self.request()
     }
 
-    /// Takes the answer to the request that was next. An upload that has ended is fed no more.
+    /// Takes the answer to the request that was next. An upload that has ended is fed no more: what it asks then says nothing.
     ///
     /// `Whole` comes exactly where the exchanges since [`begin`](Upload::begin) are a finished upload of that set, unless
     /// memory ran out.

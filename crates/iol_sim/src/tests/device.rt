@@ -275,3 +275,21 @@ fn parameters_are_refused_in_this_order(rt: HostRuntime) -> Result<(), Fail> {
     );
     Ok(())
 }
+
+#[test]
+fn a_parameter_has_0_to_232_octets(rt: HostRuntime) -> Result<(), Fail> {
+    let mut device = bare_device(rt.alloc(), 0x00ABCD)?;
+    for index in 0..=232 {
+        let key = Key {
+            index: 0x0100 + index / 4,
+            subindex: 0,
+        };
+        let octets = [0x55; 232];
+        let octets = octets.get(..usize::from(index)).ok_or("232 octets")?;
+        if index % 4 == 0 {
+            device.add(key, octets)?;
+        }
+    }
+    assert_eq!(rt; device.count(), 59);
+    Ok(())
+}

@@ -80,3 +80,17 @@ fn a_page_and_events_are_there_until_the_device_is_lost(rt: HostRuntime) -> Resu
     assert_eq!(rt; link.read_page(), Err(Lost));
     Ok(())
 }
+
+#[test]
+fn a_long_script_is_answered_to_its_end(rt: HostRuntime) -> Result<(), Fail> {
+    let mut answers = Vec::new(rt.alloc());
+    for _ in 0..300 {
+        answers.push(Default::default())?;
+    }
+    let mut link = ScriptLink::new(rt.alloc(), answers)?;
+    for _ in 0..301 {
+        let _ = link.exchange(&[0x93, 0x10, 0x83]);
+    }
+    assert_eq!(rt; link.requests().len(), 300);
+    Ok(())
+}

@@ -4,7 +4,7 @@ use super::conversations::{DEVICE, End, Octets, VENDOR, converse, feed, feed_all
 use crate::{TransferFault, Upload, UploadStep};
 use arrayvec::ArrayVec;
 use iol_dsindex::{Next, write_index_list};
-use iol_isdu::{Answer, IsduFault, read_answer, write_answer};
+use iol_isdu::{Answer, ISDU_OCTETS, IsduFault, read_answer, write_answer};
 use iol_types::{DataSet, Key};
 use std::alloc::Global;
 use std::test::Fail;
@@ -24,6 +24,10 @@ const WRITE_DONE: [u8; 2] = [0x52, 0x52];
 const SIZE: [u8; 6] = [0xD6, 0x00, 0x00, 0x00, 0x0B, 0xDD];
 
 const LIST: [u8; 10] = [0xDA, 0x00, 0x40, 0x00, 0x00, 0x41, 0x01, 0x00, 0x00, 0xDA];
+
+const RESERVED_BEHIND_A_KEY: [u8; 10] = [
+    0xDA, 0x00, 0x40, 0x00, 0x00, 0x02, 0x00, 0x00, 0x00, 0x98,
+];
 
 const CHECKSUM: [u8; 6] = [0xD6, 0x00, 0x00, 0x02, 0x4F, 0x9B];
 
@@ -89,7 +93,7 @@ fn end_of(alloc: Global, answers: &[&[u8]]) -> Result<End, Fail> {
 
 #[test]
 fn each_answer_leads_to_its_end(rt: HostRuntime) -> Result<(), Fail> {
-    let rows: [(&[&[u8]], End); 13] = [
+    let rows: [(&[&[u8]], End); 14] = [
         (&[&WRITE_REFUSED], REFUSED),
         (&[&READ_REFUSED], UNEXPECTED),
         (&[&SIZE], UNEXPECTED),
@@ -107,6 +111,10 @@ fn each_answer_leads_to_its_end(rt: HostRuntime) -> Result<(), Fail> {
         (&[&WRITE_DONE, &[0xD5, 0x00, 0x00, 0x0B, 0xDE]], UNEXPECTED),
         (
             &[&WRITE_DONE, &SIZE, &[0xD6, 0x00, 0x40, 0x00, 0x00, 0x96]],
+            End::Fault(TransferFault::List),
+        ),
+        (
+            &[&WRITE_DONE, &SIZE, &RESERVED_BEHIND_A_KEY],
             End::Fault(TransferFault::List),
         ),
         (&[&WRITE_DONE, &SIZE, &LIST, &READ_REFUSED], REFUSED),
@@ -216,42 +224,60 @@ fn a_key_of_two_lists_is_read_once(rt: HostRuntime) -> Result<(), Fail> {
     Ok(())
 }
 
-// A list of 18 keys, as octets.
-fn list_of_18(octets: &mut ArrayVec<u8, 232>) -> Result<(), Fail> {
-    for subindex in 1..=18 {
-        octets.try_extend_from_slice(&[0x01, 0x00, subindex])?;
+// An answer with the octets of a list: so many keys from an Index on, and behind them what is next, if that is said.
+fn list_of(count: u16, first: u16, next: &[u8]) -> Result<ArrayVec<u8, ISDU_OCTETS>, Fail> {
+    let mut octets = ArrayVec::new();
+    for index in first..first.saturating_add(count) {
+        octets.try_extend_from_slice(&index.to_be_bytes())?;
+        octets.try_extend_from_slice(&[0x00])?;
+    }
+    octets.try_extend_from_slice(next)?;
+    Ok(write_answer(&Answer::ReadOk(octets)))
+}
+
+// An upload that has read a list of so many keys behind one of 76.
+fn listed(alloc: Global, count: u16) -> Result<Upload, Fail> {
+    let mut upload = upload(alloc)?;
+    feed_all(&mut upload, &[&WRITE_DONE, &SIZE])?;
+    feed(&mut upload, list_of(76, 0x0100, &[0x12, 0x00])?.as_slice())?;
+    feed(&mut upload, list_of(count, 0x0200, &[])?.as_slice())?;
+    Ok(upload)
+}
+
+#[test]
+fn the_longest_lists_are_read_to_their_end(rt: HostRuntime) -> Result<(), Fail> {
+    for count in [0, 1, 76, 77] {
+        let mut upload = listed(rt.alloc(), count)?;
+        feed_times(&mut upload, 76 + usize::from(count), &[0xD2, 0xD2])?;
+        assert_eq!(rt; feed(&mut upload, &CHECKSUM)?, End::Whole, "{count}");
     }
     Ok(())
 }
 
-// What so many values of 232 octets lead to.
-fn values_of_232(alloc: Global, times: usize) -> Result<End, Fail> {
-    let mut upload = upload(alloc)?;
-    let mut list = ArrayVec::new();
-    list_of_18(&mut list)?;
-    feed_all(
-        &mut upload,
-        &[
-            &WRITE_DONE,
-            &SIZE,
-            write_answer(&Answer::ReadOk(list)).as_slice(),
-        ],
-    )?;
+// An answer with a value of so many octets.
+fn value_of(octets: usize) -> Result<ArrayVec<u8, ISDU_OCTETS>, Fail> {
     let mut value = ArrayVec::new();
-    value.try_extend_from_slice(&[0x55; 232])?;
-    feed_times(
-        &mut upload,
-        times,
-        write_answer(&Answer::ReadOk(value)).as_slice(),
-    )
+    for _ in 0..octets {
+        value.try_extend_from_slice(&[0x55])?;
+    }
+    Ok(write_answer(&Answer::ReadOk(value)))
+}
+
+// What a value of so many octets leads to behind seventeen of 232.
+fn last_value(alloc: Global, octets: usize) -> Result<End, Fail> {
+    let mut upload = upload(alloc)?;
+    let list = list_of(18, 0x0100, &[])?;
+    feed_all(&mut upload, &[&WRITE_DONE, &SIZE, list.as_slice()])?;
+    feed_times(&mut upload, 17, value_of(232)?.as_slice())?;
+    feed(&mut upload, value_of(octets)?.as_slice())
 }
 
 #[test]
-fn values_of_more_than_4096_octets_are_a_fault(rt: HostRuntime) -> Result<(), Fail> {
-    assert_eq!(rt; values_of_232(rt.alloc(), 17)?, End::None);
-    assert_eq!(rt;
-        values_of_232(rt.alloc(), 18)?,
-        End::Fault(TransferFault::Size)
-    );
+fn values_may_count_4096_octets(rt: HostRuntime) -> Result<(), Fail> {
+    assert_eq!(rt; last_value(rt.alloc(), 80)?, End::None);
+    for octets in [81, 232] {
+        let end = last_value(rt.alloc(), octets)?;
+        assert_eq!(rt; end, End::Fault(TransferFault::Size), "{octets}");
+    }
     Ok(())
 }
