@@ -1,5 +1,5 @@
 -- An answer at which an upload ends in a fault is the cause of that fault.
-use Rattle.std.proofs.Common.{◌≡◌, ◌≢◌, ℕ, ◌+◌, ◌<◌, ◌≤◌, ◌⊎◌, inl, inr, suc, Bool, true, false, not, cond, List, [], ◌∷◌, ◌++◌, length, All, Some, None, is_some, refl, sym, ◌∙◌, subst, arith}
+use Rattle.std.proofs.Common.{◌≡◌, ◌≢◌, ℕ, ◌+◌, ◌<◌, ◌≤◌, ◌⊎◌, inl, inr, suc, Bool, true, false, not, cond, List, [], ◌∷◌, ◌++◌, length, All, Some, None, is_some, refl, ap, sym, ◌∙◌, subst, arith}
 use Rattle.std.proofs.lemmas.List.Elements.{All-append}
 use Rattle.std.specs.Prelude.{nat_lt, ◌==◌, Result, Ok, Err}
 use Rattle.std.specs.List.{IsDistinct}
@@ -108,28 +108,21 @@ not-equal one two test = λ same. let yes : (one == two) ≡ true = grind (arith
 
 -- ---- causes
 
--- an answer (-)
-write-refused : (write : Bool) (asks : Asks) (busy error additional : ℕ) (why : TransferFault) → is_write asks ≡ write
-    → after_refusal write error additional ≡ Fault why → IsCause asks busy (WriteFault error additional) why
-write-refused true asks busy error additional why is told =
-    subst (IsCause asks busy (WriteFault error additional)) (same-fault _ _ told) (by (is_write asks) is)
-  where
-    by : (write : Bool) → write ≡ true → WriteFault error additional ≡ refusal write error additional
-    by true is = refl
-    by false is = cc
-write-refused false asks busy error additional why is told =
-    subst (IsCause asks busy (WriteFault error additional)) (same-fault _ _ told) (inl (λ wrong. let no : true ≡ false = sym wrong ∙ is in cc))
+-- an answer (-): to what was asked it is a refusal, and else it is to the other service
+refused-cause : (right : Bool) (asks : Asks) (busy : ℕ) (answer : Answer) (error additional : ℕ) (why : TransferFault)
+    → (right ≡ true → answer ≡ refusal (is_write asks) error additional) → (right ≡ false → answers (is_write asks) answer → ⊥)
+    → after_refusal right error additional ≡ Fault why → IsCause asks busy answer why
+refused-cause true asks busy answer error additional why to_it other told = subst (IsCause asks busy answer) (same-fault _ _ told) (to_it refl)
+refused-cause false asks busy answer error additional why to_it other told = subst (IsCause asks busy answer) (same-fault _ _ told) (inl (other refl))
 
-read-refused : (write : Bool) (asks : Asks) (busy error additional : ℕ) (why : TransferFault) → is_write asks ≡ write
-    → after_refusal (not write) error additional ≡ Fault why → IsCause asks busy (ReadFault error additional) why
-read-refused false asks busy error additional why is told =
-    subst (IsCause asks busy (ReadFault error additional)) (same-fault _ _ told) (by (is_write asks) is)
-  where
-    by : (write : Bool) → write ≡ false → ReadFault error additional ≡ refusal write error additional
-    by false is = refl
-    by true is = cc
-read-refused true asks busy error additional why is told =
-    subst (IsCause asks busy (ReadFault error additional)) (same-fault _ _ told) (inl (λ wrong. let no : true ≡ false = sym is ∙ wrong in cc))
+differ : true ≡ false → ⊥
+differ same = cc
+
+turned : (test other : Bool) → not test ≡ other → test ≡ not other
+turned true true is = cc
+turned true false is = refl
+turned false true is = refl
+turned false false is = cc
 
 -- the declared size
 size-cause : (vendor device busy : ℕ) (octets : List ℕ) (why : TransferFault)
@@ -194,8 +187,13 @@ cause-of vendor device busy Size WriteOk conversation why asking short is = unex
 cause-of vendor device busy (IndexList index subindex lists keys) WriteOk conversation why asking short is = unexpected (IndexList index subindex lists keys) busy WriteOk why (λ wrong. cc) is
 cause-of vendor device busy (Value entries key behind) WriteOk conversation why asking short is = unexpected (Value entries key behind) busy WriteOk why (λ wrong. cc) is
 cause-of vendor device busy (Checksum entries) WriteOk conversation why asking short is = unexpected (Checksum entries) busy WriteOk why (λ wrong. cc) is
-cause-of vendor device busy asks (ReadFault error additional) conversation why asking short is = read-refused (is_write asks) asks busy error additional why refl is
-cause-of vendor device busy asks (WriteFault error additional) conversation why asking short is = write-refused (is_write asks) asks busy error additional why refl is
+cause-of vendor device busy asks (ReadFault error additional) conversation why asking short is =
+    refused-cause (not (is_write asks)) asks busy (ReadFault error additional) error additional why
+    (λ right. ap (λ write. refusal write error additional) (sym (turned (is_write asks) true right)))
+    (λ wrong to_read. differ (sym (turned (is_write asks) false wrong) ∙ to_read)) is
+cause-of vendor device busy asks (WriteFault error additional) conversation why asking short is =
+    refused-cause (is_write asks) asks busy (WriteFault error additional) error additional why
+    (λ right. ap (λ write. refusal write error additional) (sym right)) (λ wrong to_write. differ (sym to_write ∙ wrong)) is
 cause-of vendor device busy Start (ReadOk values) conversation why asking short is = unexpected Start busy (ReadOk values) why (λ wrong. cc) is
 cause-of vendor device busy Size (ReadOk values) conversation why asking short is = size-cause vendor device busy values.items why is
 cause-of vendor device busy (IndexList index subindex lists keys) (ReadOk values) conversation why asking short is =
