@@ -26,4 +26,5 @@ pub mod BlankRecords
 pub mod DiskGate
 pub mod WrittenJournals
 pub mod Formatted
+pub mod Erased
 pub mod Plainly

@@ -14,6 +14,7 @@ pub mod Written
 pub mod Progress
 pub mod Reading
 pub mod Formatting
+pub mod Erasing
 pub mod Faults
 pub mod Replay
 pub mod Orders

@@ -31,10 +31,14 @@ abbrev pub or_damaged : {A : Type 0} → Option A → ℕ → Result A Cause
 or_damaged (Some x) sector = Ok x
 or_damaged None sector = Err (damaged sector)
 
+-- the gate of the disk is there, and open (format, Recovery)
+abbrev pub is_formatted : ℕ → Image → Bool
+is_formatted sectors image = nat_lt DISK_GATE sectors && is_open (image DISK_GATE)
+
 -- the layout that a disk of so many sectors is formatted with (format, Recovery)
 abbrev pub layout_in : ℕ → Image → Result Layout Cause
 layout_in sectors image =
-    if nat_lt 1 sectors && is_open (image DISK_GATE)
+    if is_formatted sectors image
     then (or_damaged (geometry_of (image GEOMETRY)) GEOMETRY >>= λ g. if_sound (nat_le (total (layout_of g)) sectors) GEOMETRY (layout_of g))
     else Err unformatted
 

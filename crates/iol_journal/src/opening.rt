@@ -12,10 +12,10 @@ ghost use Rattle.iol_journal.specs.declared.header.TheConstants.{LAST_NUMBER};
 
 use crate::area::Area;
 use crate::cause::RecoverCause;
-use crate::geometry::{DISK_GATE, GEOMETRY, Geometry};
+use crate::geometry::{GEOMETRY, Geometry};
 use crate::header::Header;
 use crate::layout::Layout;
-use crate::reading::{gate, read_sector};
+use crate::reading::{gate, is_formatted, read_sector};
 use iol_disk::{DiskFault, SectorDisk};
 
 // The layout of a formatted disk.
@@ -27,7 +27,7 @@ pub(crate) fn find_layout<D: SectorDisk>(disk: &mut D) -> Result<Layout, Recover
     ensures same { Same (D.disk disk.old) (D.disk disk.new) }
 {
     let sectors = disk.sectors();
-    if sectors < 2 || !gate(DISK_GATE).is_open(disk)? {
+    if !is_formatted(disk)? {
         return Err(RecoverCause::NotFormatted);
     }
     let octets = read_sector(disk, GEOMETRY)?;

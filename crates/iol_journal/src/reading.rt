@@ -1,11 +1,14 @@
 //! Reads of a sector and of a gate.
 
-ghost use Rattle.std.specs.Prelude.{◌≡◌, ◌<◌, ◌≤◌, ◌+◌, IfOk};
+ghost use Rattle.std.specs.Prelude.{◌≡◌, ◌<◌, ◌≤◌, ◌+◌, true, IfOk};
 ghost use Rattle.iol_disk.specs.Disk.{Same, FailsOnlyAs};
 ghost use Rattle.iol_disk.specs.declared.fault.DiskFault.{DiskFault};
+ghost use Rattle.iol_journal.specs.Meaning.{is_formatted};
 ghost use Rattle.iol_journal.specs.Reading.{Shows};
+ghost use Rattle.iol_journal.specs.declared.geometry.TheConstants.{DISK_GATE};
 ghost use Rattle.iol_slots.specs.Gate.{is_open};
 
+use crate::geometry::DISK_GATE;
 use iol_disk::{DiskFault, SECTOR_OCTETS, SectorDisk};
 use iol_slots::Slot;
 
@@ -34,4 +37,17 @@ pub(crate) fn gate(sector: usize) -> Slot
         body: sector + 1,
         sectors: 0,
     }
+}
+
+// Whether the gate of the disk is there, and open.
+pub(crate) fn is_formatted<D: SectorDisk>(disk: &mut D) -> Result<bool, DiskFault>
+    ensures read { IfOk result (λ answer. Shows (D.disk disk.old) (λ image. answer ≡ is_formatted (D.disk disk.old).sectors image)) }
+    ensures there { IfOk result (λ answer. answer ≡ true → DISK_GATE < (D.disk disk.old).sectors) }
+    ensures same { Same (D.disk disk.old) (D.disk disk.new) }
+    ensures fault { FailsOnlyAs DiskFault.Read (D.disk disk.old) (D.disk disk.new) result }
+{
+    if disk.sectors() <= DISK_GATE {
+        return Ok(false);
+    }
+    gate(DISK_GATE).is_open(disk)
 }
