@@ -12,10 +12,9 @@ use Rattle.iol_types.specs.declared.command.Command.{Command}
 use Rattle.iol_record.specs.Record.{IsCommandRecord, command_octets}
 use Rattle.iol_record.proofs.RecordLaws.{command_at-record}
 use Rattle.iol_disk.specs.Content.{Image}
-use Rattle.iol_journal.specs.Octets.{number_at, octets_at, padded, sectors_reached}
+use Rattle.iol_journal.specs.Octets.{number_at, octets_at, padded, sectors_reached, sector_of}
 use Rattle.iol_journal.specs.Journals.{values}
 use Rattle.iol_journal.specs.Body.{commands_of, fits, head_of, batch_of, records_of, head_octets, body_octets}
-use Rattle.iol_journal.specs.Batches.{sector_of}
 use Rattle.iol_journal.specs.declared.header.TheConstants.{LAST_NUMBER}
 use Rattle.iol_journal.specs.declared.batch.TheConstants.{MOST_COMMANDS, MOST_RECORD_OCTETS, BODY_HEAD_OCTETS}
 use Rattle.iol_journal.proofs.Sectors.{octets_at-add}

@@ -15,6 +15,11 @@ pub bind_ok : {A B : Type 0} (first : Result A Cause) (next : A → Result B Cau
 bind_ok (Ok x) next y is = (x, refl, is)
 bind_ok (Err cause) next y is = cc
 
+-- readings that go on alike
+pub bind_same : {A B : Type 0} (first : Result A Cause) (f g : A → Result B Cause) → ((x : A) → f x ≡ g x) → (first >>= f) ≡ (first >>= g)
+bind_same (Ok x) f g same = same x
+bind_same (Err cause) f g same = refl
+
 pub if_sound-ok : {A : Type 0} (test : Bool) (sector : ℕ) (x y : A) → if_sound test sector x ≡ Ok y → (test ≡ true) × (x ≡ y)
 if_sound-ok true sector x y is = (refl, cc)
 if_sound-ok false sector x y is = cc

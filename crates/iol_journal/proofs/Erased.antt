@@ -1,10 +1,8 @@
 -- What a stop leaves of a disk while it is erased.
-use Rattle.std.proofs.Common.{◌≡◌, ◌≢◌, ◌≤◌, ◌<◌, ◌⊎◌, ℕ, zero, suc, ◌+◌, ◌-◌, ◌^◌, nat_lt, ◌&&◌, Bool, true, false, IsTrue, if◌then◌else◌, List, [], ◌∷◌, take, length, Option, Some, None, Result, Ok, Err, OnOk, inl, inr, refl, sym, ◌∙◌, ap, subst, arith}
+use Rattle.std.proofs.Common.{◌≡◌, ◌≢◌, ◌≤◌, ◌<◌, ◌⊎◌, ℕ, zero, suc, ◌-◌, ◌^◌, nat_lt, Bool, true, false, IsTrue, [], ◌∷◌, take, Option, Result, Ok, Err, OnOk, inl, inr, refl, sym, ◌∙◌, ap, subst, arith}
 use Rattle.std.proofs.Math.Bool.{and-false}
 use Rattle.std.proofs.lemmas.Bool.Decides.{nat_tests}
-use Rattle.iol_types.specs.Command.{CommandValue}
-use Rattle.iol_types.specs.State.{State, after, legal}
-use Rattle.iol_record.specs.Reading.{◌>>=◌}
+use Rattle.iol_types.specs.State.{State, after}
 use Rattle.iol_disk.specs.Content.{Image, Content, IsImage, reads, wrote, synced}
 use Rattle.iol_disk.specs.Calls.{Call, write, sync, content_after_all, Made, FailedIn}
 use Rattle.iol_disk.specs.Disk.{Disk, After, Same, HasFailed}
@@ -14,41 +12,21 @@ use Rattle.iol_disk.specs.declared.fault.DiskFault.TheVariants.{Read, Write, Syn
 use Rattle.iol_disk.proofs.DiskLaws.{reads-is_image, image-wrote, image-synced, reads-wrote_here, HasOnTheWay, made_leaves, failed_leaves, leaves_sync, made_one, made_append, made_then_same, failed_first, failed_later}
 use Rattle.iol_slots.specs.Gate.{is_open, closed_gate}
 use Rattle.iol_slots.proofs.SlotLaws.{is_open-closed_gate}
-use Rattle.iol_journal.specs.Header.{header_of}
-use Rattle.iol_journal.specs.Layout.{Layout, gate_at, header_at, port_at, slot_at, body_at}
-use Rattle.iol_journal.specs.Octets.{octets_at}
-use Rattle.iol_journal.specs.Body.{batch_of}
-use Rattle.iol_journal.specs.Meaning.{Cause, unformatted, or_damaged, if_sound, is_formatted, layout_in, header_in, in_use_in, greatest, ports_from, log_from, Log, Standing, Meaning, standing_in, meaning}
+use Rattle.iol_journal.specs.Layout.{Layout, gate_at, header_at}
+use Rattle.iol_journal.specs.Meaning.{unformatted, is_formatted, layout_in, header_in, in_use_in, greatest, ports_from, log_from, standing_in, meaning}
 use Rattle.iol_journal.specs.Erasing.{erase_calls, MakesErasureOf, MakesErasure, MeansAsBeforeOrNothing, EachUnformatted}
 use Rattle.iol_journal.specs.Orders.{Makes}
 use Rattle.iol_journal.specs.Reading.{Shows}
 use Rattle.iol_journal.specs.declared.area.Area.{Area}
 use Rattle.iol_journal.specs.declared.area.Area.TheVariants.{A, B}
 use Rattle.iol_journal.specs.declared.header.Header.{Header}
-use Rattle.iol_journal.specs.declared.geometry.TheConstants.{BODY_SECTORS, GEOMETRY, DISK_GATE}
+use Rattle.iol_journal.specs.declared.geometry.TheConstants.{GEOMETRY, DISK_GATE}
 use Rattle.iol_journal.specs.declared.opening.InUse.{InUse}
-use Rattle.iol_journal.proofs.Chains.{by_test}
+use Rattle.iol_journal.proofs.Chains.{by_test, bind_same}
 use Rattle.iol_journal.proofs.EmptyJournals.{shut-unformatted}
+use Rattle.iol_journal.proofs.Logs.{log_from-same}
 use Rattle.iol_journal.proofs.Recovered.{synced-honest, synced-then, synced-reads, no_read}
-use Rattle.iol_journal.proofs.Sectors.{octets_at-same, ports_from-same}
-
--- readings that go on alike
-bind_same : {A B : Type 0} (first : Result A Cause) (f g : A → Result B Cause) → ((x : A) → f x ≡ g x) → (first >>= f) ≡ (first >>= g)
-bind_same (Ok x) f g same = same x
-bind_same (Err cause) f g same = refl
-
-log_from-same : (layout : Layout) (a : Area) (epoch : ℕ) (old new : Image) (k left number : ℕ) (state : State)
-    → ((i : ℕ) → slot_at layout a k ≤ i → new i ≡ old i) → log_from layout a epoch new k left number state ≡ log_from layout a epoch old k left number state
-log_from-same layout a epoch old new k zero number state same = refl
-log_from-same layout a epoch old new k (suc left) number state same =
-    let gate : new (slot_at layout a k) ≡ old (slot_at layout a k) = same (slot_at layout a k) (omega arith) in
-    let body : octets_at new (body_at layout a k 0) BODY_SECTORS ≡ octets_at old (body_at layout a k 0) BODY_SECTORS =
-    octets_at-same old new (body_at layout a k 0) BODY_SECTORS (λ i above below. same i (omega (arith, above))) in
-    rw (gate, body)
-    (ap (λ (rest : Result Log Cause). if is_open (old (slot_at layout a k)) then rest else Ok (record { used = k; number = number; state = state }))
-    (bind_same (or_damaged (batch_of epoch (number + 1) (octets_at old (body_at layout a k 0) BODY_SECTORS)) (body_at layout a k 0)) _ _
-    (λ commands. bind_same (if_sound (legal state commands) (body_at layout a k 0) commands) _ _
-    (λ passed. log_from-same layout a epoch old new (k + 1) left (number + length passed) (after state passed) (λ i above. same i (omega (arith, above)))))))
+use Rattle.iol_journal.proofs.Sectors.{ports_from-same}
 
 -- of the gate of the disk an image shows whether it is open, and nothing else
 module _ (sectors : ℕ) (old new : Image) (same : (i : ℕ) → i ≢ DISK_GATE → new i ≡ old i) (gate : is_open (new DISK_GATE) ≡ is_open (old DISK_GATE)) where
@@ -76,7 +54,7 @@ module _ (sectors : ℕ) (old new : Image) (same : (i : ℕ) → i ≢ DISK_GATE
   log_same : (layout : Layout) (u : InUse) (ports : State)
       → log_from layout u.area u.header.epoch new 0 layout.slots u.header.base ports ≡ log_from layout u.area u.header.epoch old 0 layout.slots u.header.base ports
   log_same layout u ports =
-      log_from-same layout u.area u.header.epoch old new 0 layout.slots u.header.base ports (λ i above. same i (omega (arith, above, behind layout u.area)))
+      log_from-same layout u.area u.header.epoch old new 0 layout.slots u.header.base ports (λ i above below. same i (omega (arith, above, behind layout u.area)))
 
   standing_same : standing_in sectors new ≡ standing_in sectors old
   unfolding standing_in
@@ -110,8 +88,11 @@ module _ (sectors : ℕ) (c : Content) (was_open : is_open (reads c DISK_GATE) �
       let w = image-wrote DISK_GATE closed_gate (synced c) image is in
       let was = image-synced c w.0 w.1 in
       by_test (is_open (image DISK_GATE)) _
-      (λ opened. inr (reads c, reads-is_image c,
-      meaning_same sectors (reads c) image (λ i other. w.2 i other ∙ ap (λ (left : Image). left i) was) (opened ∙ sym was_open)))
+      (λ opened. inr (
+        reads c,
+        reads-is_image c,
+        meaning_same sectors (reads c) image (λ i other. w.2 i other ∙ ap (λ (left : Image). left i) was) (opened ∙ sym was_open),
+      ))
       (λ closed. inl (shut-unformatted sectors image closed))
 
   closed_now : (image : Image) → IsImage (synced closing) image → meaning sectors image ≡ Err unformatted

@@ -1,10 +1,17 @@
 pub mod Geometries
 pub mod Chains
 pub mod Sectors
+pub mod Rows
 pub mod Logs
 pub mod Frames
+pub mod OtherArea
 pub mod Bodies
+pub mod AreaRecords
+pub mod RecordSectors
 pub mod Phases
+pub mod Stages
+pub mod StageCalls
+pub mod CheckpointSteps
 pub mod BatchCalls
 pub mod JournalLaws
 pub mod Steps

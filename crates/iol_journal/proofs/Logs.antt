@@ -1,5 +1,5 @@
 -- The slots of an image, read up to the first closed gate.
-use Rattle.std.proofs.Common.{◌≡◌, ◌≤◌, ◌<◌, ℕ, zero, suc, ◌+◌, true, false, List, length, Some, Ok, refl, sym, ◌∙◌, ap, subst, arith}
+use Rattle.std.proofs.Common.{◌≡◌, ◌≤◌, ◌<◌, ℕ, zero, suc, ◌+◌, true, false, if◌then◌else◌, List, length, Some, Result, Ok, refl, sym, ◌∙◌, ap, subst, arith}
 use Rattle.iol_types.specs.Command.{CommandValue}
 use Rattle.iol_types.specs.State.{State, after, legal}
 use Rattle.iol_disk.specs.Content.{Image}
@@ -8,10 +8,10 @@ use Rattle.iol_journal.specs.Layout.{Layout}
 use Rattle.iol_journal.specs.Layout.{slot_at, body_at}
 use Rattle.iol_journal.specs.Octets.{octets_at}
 use Rattle.iol_journal.specs.Body.{batch_of}
-use Rattle.iol_journal.specs.Meaning.{if_sound, or_damaged, Log, log_from}
+use Rattle.iol_journal.specs.Meaning.{Cause, if_sound, or_damaged, Log, log_from}
 use Rattle.iol_journal.specs.declared.area.Area.{Area}
 use Rattle.iol_journal.specs.declared.geometry.TheConstants.{BODY_SECTORS}
-use Rattle.iol_journal.proofs.Chains.{ok, by_test, bind_ok, if_sound-ok, or_damaged-ok}
+use Rattle.iol_journal.proofs.Chains.{ok, by_test, bind_ok, bind_same, if_sound-ok, or_damaged-ok}
 use Rattle.iol_journal.proofs.Sectors.{octets_at-same}
 
 -- the first slot is open: its commands, which pass, and what is read behind it
@@ -133,3 +133,19 @@ log-more layout a epoch old new k (suc left) number state log commands is same r
     subst (λ (l : Log). log_from layout a epoch new l.used (suc left) l.number l.state
     ≡ Ok (record { used = log.used + 1; number = log.number + length commands; state = after log.state commands })) (sym ends)
     (at_end layout a epoch new left log commands open_gate batch passes (λ less. shut (omega (arith, less, e)))))
+
+-- Images that are the same in all slots have the same log.
+pub log_from-same : (layout : Layout) (a : Area) (epoch : ℕ) (old new : Image) (k left number : ℕ) (state : State)
+    → ((i : ℕ) → slot_at layout a k ≤ i → i < slot_at layout a (k + left) → new i ≡ old i)
+    → log_from layout a epoch new k left number state ≡ log_from layout a epoch old k left number state
+log_from-same layout a epoch old new k zero number state same = refl
+log_from-same layout a epoch old new k (suc left) number state same =
+    let gate : new (slot_at layout a k) ≡ old (slot_at layout a k) = same (slot_at layout a k) (omega arith) (omega arith) in
+    let body : octets_at new (body_at layout a k 0) BODY_SECTORS ≡ octets_at old (body_at layout a k 0) BODY_SECTORS =
+    octets_at-same old new (body_at layout a k 0) BODY_SECTORS (λ i above below. same i (omega (arith, above)) (omega (arith, below))) in
+    rw (gate, body)
+    (ap (λ (rest : Result Log Cause). if is_open (old (slot_at layout a k)) then rest else Ok (record { used = k; number = number; state = state }))
+    (bind_same (or_damaged (batch_of epoch (number + 1) (octets_at old (body_at layout a k 0) BODY_SECTORS)) (body_at layout a k 0)) _ _
+    (λ commands. bind_same (if_sound (legal state commands) (body_at layout a k 0) commands) _ _
+    (λ passed. log_from-same layout a epoch old new (k + 1) left (number + length passed) (after state passed)
+    (λ i above below. same i (omega (arith, above)) (omega (arith, below)))))))

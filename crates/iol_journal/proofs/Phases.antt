@@ -10,12 +10,12 @@ use Rattle.iol_disk.proofs.DiskLaws.{reads-is_image, image-settled, image-synced
 use Rattle.iol_slots.specs.Gate.{is_open, open_gate}
 use Rattle.iol_slots.proofs.SlotLaws.{is_open-open_gate}
 use Rattle.iol_journal.specs.Layout.{slot_at, body_at}
-use Rattle.iol_journal.specs.Octets.{octets_at}
+use Rattle.iol_journal.specs.Octets.{octets_at, sector_of}
 use Rattle.iol_journal.specs.Body.{batch_of}
 use Rattle.iol_journal.specs.Meaning.{Standing}
 use Rattle.iol_journal.specs.Kept.{IsKeptAs, KeptEither, EachMeans}
 use Rattle.iol_disk.specs.Calls.{Call, content_after, content_after_all, Made}
-use Rattle.iol_journal.specs.Batches.{body_for, sectors_for, sector_of, call_of, next_phase, IsPhase}
+use Rattle.iol_journal.specs.Batches.{body_for, sectors_for, call_of, next_phase, IsPhase}
 use Rattle.iol_journal.specs.Journals.{standing_at, with_batch, IsPlanned}
 use Rattle.iol_journal.specs.Underway.{EachKept, IsAtRest, HasWritten, IsBetween, Holds}
 use Rattle.iol_journal.specs.declared.place.Idle.{Idle}
@@ -29,7 +29,7 @@ use Rattle.iol_journal.proofs.Bodies.{octets_at-in_slot}
 use Rattle.iol_journal.proofs.Frames.{SameButSlot, kept_closed, kept_open, kept_means}
 
 -- nothing is left behind one call
-left_behind : (c : Content) (image : Image) (place : ℕ) → IsImage (content_after_all (take {A = Call} place []) c) image → IsImage c image
+pub left_behind : (c : Content) (image : Image) (place : ℕ) → IsImage (content_after_all (take {A = Call} place []) c) image → IsImage c image
 left_behind c image zero is = is
 left_behind c image (suc place) is = is
 

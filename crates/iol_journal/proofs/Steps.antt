@@ -2,13 +2,14 @@
 use Rattle.std.proofs.Common.{◌≡◌, ◌≤◌, ℕ, ◌+◌, nat_lt, if◌then◌else◌, Bool, true, false, List, [], ◌∷◌, Option, Some, None, IsTrue, Result, Ok, Err, refl, sym, ◌∙◌, ap, subst, arith}
 use Rattle.std.proofs.lemmas.Bool.Decides.{nat_tests}
 use Rattle.iol_types.specs.Command.{CommandValue}
+use Rattle.iol_types.proofs.StateLemmas.{length-after}
 use Rattle.iol_disk.specs.Calls.{Call, Made, FailedIn}
 use Rattle.iol_disk.specs.Disk.{Disk}
 use Rattle.iol_disk.specs.Moments.{LeavesOnly}
 use Rattle.iol_disk.specs.declared.fault.DiskFault.{DiskFault}
 use Rattle.iol_disk.proofs.DiskLaws.{HasOnTheWay, made_leaves, failed_leaves}
 use Rattle.iol_journal.specs.Batches.{body_for, sectors_for, call_of, calls_from, next_phase, IsPhase}
-use Rattle.iol_journal.specs.Journals.{WritingView, IsPlanned, IsPlan, with_batch}
+use Rattle.iol_journal.specs.Journals.{WritingView, IsPlanned, IsPlan, IsResting, with_batch}
 use Rattle.iol_journal.specs.Kept.{KeptEither}
 use Rattle.iol_journal.specs.Meaning.{Standing}
 use Rattle.iol_journal.specs.Orders.{Makes}
@@ -82,7 +83,10 @@ module _ (s : Standing) (idle : Idle) (commands : List CommandValue) (body : Lis
     in_phase = in_next (sectors_for s commands) p q planned.in_phase (sym (next_is (Some q) is));
     read_back = planned.read_back;
     passes = planned.passes;
+    some = planned.some;
     bound = planned.bound;
+    begun = planned.begun;
+    count = planned.count;
   }
 
   abbrev left : Phase → List Call
@@ -111,6 +115,16 @@ module _ (s : Standing) (idle : Idle) (commands : List CommandValue) (body : Lis
         order = some.1;
         failed = subst (λ (b : List ℕ). FailedIn (call_of s b p ∷ []) told old new) same_body failed;
       }
+
+-- the journal rests behind its last call
+pub resting_behind : (d d' : Disk) (s : Standing) (commands : List CommandValue) (p : Phase) → IsPlanned d s commands p → d'.sectors ≡ d.sectors → IsResting d' (with_batch s commands)
+resting_behind d d' s commands p planned same = record {
+  fits = subst (λ (n : ℕ). total s.layout ≤ n) (sym same) planned.fits;
+  within = omega (arith, planned.room);
+  bound = planned.bound;
+  begun = omega (arith, planned.begun, planned.some);
+  count = length-after s.state commands ∙ planned.count;
+}
 
 -- the same of the batch as contracts see it
 pub moment_of : {D : Type 0} (disk : D → Disk) {w v : WritingView D} {plan : Plan} (left : D) (result : Result Unit DiskFault) → w ≡ v

@@ -1,5 +1,5 @@
 -- The disk calls that write a batch, in their order.
-use Rattle.std.specs.Prelude.{◌<◌, ℕ, ◌+◌, ◌-◌, ◌*◌, nat_lt, if◌then◌else◌, List, [], ◌∷◌, ◌++◌, length, map, slice_range, Option, Some, None}
+use Rattle.std.specs.Prelude.{◌<◌, ℕ, ◌+◌, ◌-◌, nat_lt, if◌then◌else◌, List, [], ◌∷◌, ◌++◌, length, map, Option, Some, None}
 use Rattle.std.specs.List.{range_with_len}
 use Rattle.iol_types.specs.Command.{CommandValue}
 use Rattle.iol_disk.specs.Calls.{Call, write, sync}
@@ -7,10 +7,9 @@ use Rattle.iol_slots.specs.Gate.{open_gate}
 use Rattle.iol_journal.specs.Body.{body_octets}
 use Rattle.iol_journal.specs.Layout.{slot_at, body_at}
 use Rattle.iol_journal.specs.Meaning.{Standing}
-use Rattle.iol_journal.specs.Octets.{sectors_reached}
+use Rattle.iol_journal.specs.Octets.{sectors_reached, sector_of}
 use Rattle.iol_journal.specs.declared.phase.Phase.{Phase}
 use Rattle.iol_journal.specs.declared.phase.Phase.TheVariants.{Body, SyncBody, Gate, SyncGate}
-use Rattle.iol_disk.specs.declared.disk.TheConstants.{SECTOR_OCTETS}
 
 -- the body of a batch behind a journal that stands so, and how many sectors it has (format, Orders of disk calls)
 abbrev pub body_for : Standing → List CommandValue → List ℕ
@@ -18,10 +17,6 @@ body_for s commands = body_octets s.epoch (s.number + 1) commands
 
 abbrev pub sectors_for : Standing → List CommandValue → ℕ
 sectors_for s commands = sectors_reached (length (body_for s commands))
-
--- sector j of a body that lies in whole sectors (format, Orders of disk calls)
-abbrev pub sector_of : List ℕ → ℕ → List ℕ
-sector_of body j = slice_range body (SECTOR_OCTETS * j) (SECTOR_OCTETS * (j + 1))
 
 -- the write of a sector of the body to the first free slot, and that of the slot's open gate (format, Orders of disk
 -- calls)

@@ -63,6 +63,15 @@ with_batch s commands = record {
   state = after s.state commands;
 }
 
+-- What holds of a journal at rest, on any disk (own)
+pub record IsResting (d : Disk) (s : Standing) : Type 0 where
+  pub fits : total s.layout ≤ d.sectors
+  pub within : s.used ≤ s.layout.slots
+  pub bound : s.number ≤ LAST_NUMBER
+  -- each epoch but the first has begun after a command, and each used slot has one
+  pub begun : s.epoch + s.used ≤ s.number + 1
+  pub count : length s.state ≡ s.layout.ports
+
 -- What holds of a batch on its way, on any disk (own)
 pub record IsPlanned (d : Disk) (s : Standing) (commands : List CommandValue) (phase : Phase) : Type 0 where
   pub fits : total s.layout ≤ d.sectors
@@ -73,7 +82,10 @@ pub record IsPlanned (d : Disk) (s : Standing) (commands : List CommandValue) (p
   -- whatever follows the body in its slot, it is read as these commands, and they pass
   pub read_back : (rest : List ℕ) → batch_of s.epoch (s.number + 1) (body_for s commands ++ rest) ≡ Some commands
   pub passes : legal s.state commands ≡ true
+  pub some : 1 ≤ length commands
   pub bound : s.number + length commands ≤ LAST_NUMBER
+  pub begun : s.epoch + s.used ≤ s.number + 1
+  pub count : length s.state ≡ s.layout.ports
 
 -- A plan has the body of the batch, its sectors, and the state behind it (own)
 pub record IsPlan (s : Standing) (commands : List CommandValue) (plan : Plan) : Type 0 where

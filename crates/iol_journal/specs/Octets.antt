@@ -1,5 +1,5 @@
 -- Octets of an image, the numbers in them, and octets as they are written to sectors.
-use Rattle.std.specs.Prelude.{ℕ, zero, suc, ◌+◌, ◌-◌, ◌*◌, ◌/◌, List, [], ◌++◌, length, replicate, take, drop}
+use Rattle.std.specs.Prelude.{ℕ, zero, suc, ◌+◌, ◌-◌, ◌*◌, ◌/◌, List, [], ◌++◌, length, replicate, take, drop, slice_range}
 use Rattle.std.specs.Int.{Width, byte_len, from_be_bytes}
 use Rattle.iol_disk.specs.Content.{Image}
 use Rattle.iol_disk.specs.declared.disk.TheConstants.{SECTOR_OCTETS}
@@ -20,3 +20,7 @@ sectors_reached octets = (octets + (SECTOR_OCTETS - 1)) / SECTOR_OCTETS
 -- octets, and zeros behind them to the end of the last sector that they reach (format, Disk layout)
 unfoldable pub padded : List ℕ → List ℕ
 padded octets = octets ++ replicate (SECTOR_OCTETS * sectors_reached (length octets) - length octets) 0
+
+-- sector j of octets that lie in whole sectors; sectors are counted from 0 (format, Disk layout)
+abbrev pub sector_of : List ℕ → ℕ → List ℕ
+sector_of octets j = slice_range octets (SECTOR_OCTETS * j) (SECTOR_OCTETS * (j + 1))

@@ -7,7 +7,8 @@ use Rattle.iol_slots.specs.Gate.{is_open}
 use Rattle.iol_journal.specs.Layout.{slot_at, body_at}
 use Rattle.iol_journal.specs.Meaning.{Standing}
 use Rattle.iol_journal.specs.Kept.{IsKeptAs}
-use Rattle.iol_journal.specs.Batches.{body_for, sectors_for, sector_of}
+use Rattle.iol_journal.specs.Batches.{body_for, sectors_for}
+use Rattle.iol_journal.specs.Octets.{sector_of}
 use Rattle.iol_journal.specs.Journals.{WritingView, with_batch}
 use Rattle.iol_journal.specs.declared.place.Idle.{Idle}
 use Rattle.iol_journal.specs.declared.phase.Phase.{Phase}

@@ -1,8 +1,10 @@
 //! A journal at rest, and which batches it takes.
 
+use crate::area_plan::AreaPlan;
 use crate::batch::{Batch, apply_all, is_too_large};
 use crate::body::body_of;
-use crate::header::LAST_NUMBER;
+use crate::checkpointing::Checkpointing;
+use crate::header::{Header, LAST_NUMBER};
 use crate::place::Place;
 use crate::writing::{Plan, Writing};
 use iol_disk::{SECTOR_OCTETS, SectorDisk};
@@ -22,19 +24,13 @@ pub struct Journal<D: SectorDisk> {
 }
 
 impl<D: SectorDisk> Model for Journal<D> {
-    ghost use Rattle.std.specs.Prelude.{◌≤◌, ◌+◌};
-    ghost use Rattle.iol_journal.specs.Layout.{total};
-    ghost use Rattle.iol_journal.specs.Journals.{JournalView};
-    ghost use Rattle.iol_journal.specs.declared.header.TheConstants.{LAST_NUMBER};
+    ghost use Rattle.iol_journal.specs.Journals.{JournalView, IsResting, standing_at};
 
     ghost Value = { JournalView D };
 
-    ghost use Rattle.iol_journal.specs.Journals.{standing_at};
-
     ghost view = { λ j. record { disk = j.disk; standing = standing_at j.place j.number j.state; idle = j.place.idle } };
 
-    ghost invariant = { λ j. (total j.place.layout ≤ (D.disk j.disk).sectors) × (j.place.used ≤ j.place.layout.slots)
-        × (j.number ≤ LAST_NUMBER) };
+    ghost invariant = { λ j. IsResting (D.disk j.disk) (standing_at j.place j.number j.state) };
 }
 
 /// Why a batch was not begun. The causes are judged in this order.
@@ -66,6 +62,13 @@ impl From<AllocError> for BeginCause {
     }
 }
 
+/// A checkpoint that was not begun, and the journal as it was.
+#[derive(Drop)]
+pub struct CheckpointFault<D: SectorDisk> {
+    pub cause: AllocError,
+    pub journal: Journal<D>,
+}
+
 /// A batch that was not begun, why, and the journal as it was.
 #[derive(Drop)]
 pub struct BeginFault<D: SectorDisk> {
@@ -75,12 +78,14 @@ pub struct BeginFault<D: SectorDisk> {
 }
 
 impl<D: SectorDisk> Journal<D> {
-    ghost use Rattle.std.specs.Prelude.{◌≡◌, ◌≤◌, ◌+◌, length, None, IfOk, IfErr, OnOk};
-    ghost use Rattle.iol_journal.specs.Layout.{total};
+    ghost use Rattle.std.specs.Prelude.{◌≡◌, ◌≤◌, ◌<◌, ◌+◌, ◌*◌, nat_lt, false, length, None, IfOk, IfErr, OnOk};
+    ghost use Rattle.iol_journal.specs.AreaPlans.{AreRecords, IsAreaPlan};
+    ghost use Rattle.iol_journal.specs.Checkpoints.{checkpoint_calls, first_stage, next_area, next_header};
+    ghost use Rattle.iol_journal.specs.CheckpointViews.{stages_left, IsCheckpointUnderway};
     ghost use Rattle.iol_journal.specs.Begin.{batch_refusal, IsBatchRefusal};
     ghost use Rattle.iol_journal.specs.Underway.{IsAtRest, IsUnderway};
     ghost use Rattle.iol_journal.specs.Batches.{batch_calls};
-    ghost use Rattle.iol_journal.specs.Journals.{standing_at, values, calls_left, IsPlan, IsPlanned};
+    ghost use Rattle.iol_journal.specs.Journals.{standing_at, values, calls_left, IsPlan, IsPlanned, IsResting};
     ghost use Rattle.iol_journal.specs.declared.header.TheConstants.{LAST_NUMBER};
     ghost use Rattle.iol_journal.specs.declared.phase.Phase.TheVariants.{Body};
 
@@ -92,9 +97,7 @@ impl<D: SectorDisk> Journal<D> {
         number: u64,
         state: MasterState,
     ) -> Journal<D>
-        requires fits { total place.layout ≤ (D.disk disk).sectors }
-        requires within { place.used ≤ place.layout.slots }
-        requires bound { number ≤ LAST_NUMBER }
+        requires { IsResting (D.disk disk) (standing_at place number state) }
         ensures disk { result.disk ≡ disk }
         ensures standing { result.standing ≡ standing_at place number state }
         ensures idle { result.idle ≡ place.idle }
@@ -114,6 +117,14 @@ impl<D: SectorDisk> Journal<D> {
         ensures bound { result ≤ LAST_NUMBER }
     {
         self.number
+    }
+
+    /// Whether a slot is free. Where none is, a checkpoint comes before the next batch.
+    pub fn has_free_slot(&self) -> bool
+        ensures free { result ≡ nat_lt self.now.standing.used self.now.standing.layout.slots }
+        ensures used { result ≡ false → 0 < self.now.standing.used }
+    {
+        self.place.used < self.place.layout.slots()
     }
 
     /// The disk, to be recovered again.
@@ -196,5 +207,58 @@ impl<D: SectorDisk> Journal<D> {
         } else {
             Err(BeginCause::Misfit)
         }
+    }
+
+    /// Makes a checkpoint ready, which frees all slots. Its steps then take no memory.
+    ///
+    /// # Errors
+    /// Out of memory; the journal is handed back.
+    pub fn checkpoint(self) -> Result<Checkpointing<D>, CheckpointFault<D>>
+        requires { 0 < self.standing.used }
+        ensures begun { IfOk result (λ c. (c.disk ≡ self.disk) × (c.standing ≡ self.standing) × (c.stage ≡ first_stage self.idle)) }
+        // Its steps make these disk calls: one for each slot, nine for each port, and nine more, at most.
+        ensures calls { IfOk result (λ c. stages_left c ≡ checkpoint_calls self.standing self.idle) }
+        ensures at_most { IfOk result (λ c. length (stages_left c) ≤ self.standing.layout.slots + 9 * self.standing.layout.ports + 9) }
+        // It changes no meaning.
+        ensures underway { IsAtRest (D.disk self.disk) self.standing self.idle → IfOk result (λ c. IsCheckpointUnderway D.disk c) }
+        ensures back { IfErr result (λ fault. fault.journal ≡ self) }
+    {
+        match self.plan_area() {
+            Ok(plan) => {
+                let Journal {
+                    alloc,
+                    disk,
+                    place,
+                    number,
+                    state,
+                } = self;
+                Ok(Checkpointing::begun(alloc, disk, place, number, state, plan))
+            }
+            Err(cause) => Err(CheckpointFault {
+                cause,
+                journal: self,
+            }),
+        }
+    }
+
+    // What a checkpoint writes into the other area.
+    fn plan_area(&self) -> Result<AreaPlan, AllocError>
+        requires { 0 < self.now.standing.used }
+        ensures plan { IfOk result (IsAreaPlan self.now.standing.layout (next_area self.now.standing) (next_header self.now.standing) self.now.standing.state) }
+        ensures records { OnOk result (AreRecords self.now.standing.layout (next_area self.now.standing) self.now.standing.state) }
+        ensures sectors { OnOk result (self.now.standing.layout.port_sectors ≤ 9) }
+    {
+        let header = Header {
+            epoch: self.place.epoch + 1,
+            base: self.number,
+        };
+        let _sectors = self.place.layout.port_sectors();
+        AreaPlan::of(
+            self.alloc,
+            self.place.layout,
+            self.place.area.other(),
+            header,
+            &self.state,
+        )
     }
 }

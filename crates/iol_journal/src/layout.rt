@@ -27,7 +27,9 @@ impl Model for Layout {
 }
 
 impl Layout {
-    ghost use Rattle.std.specs.Prelude.{◌≡◌, ◌<◌, ◌≤◌, ◌+◌};
+    ghost use Rattle.std.specs.Prelude.{◌≡◌, ◌<◌, ◌≤◌, ◌+◌, ◌*◌};
+    ghost use Rattle.iol_record.specs.declared.encode.TheConstants.{LARGEST_PORT_RECORD};
+    ghost use Rattle.iol_disk.specs.declared.disk.TheConstants.{SECTOR_OCTETS};
     ghost use Rattle.iol_journal.specs.Layout.{total, area_sectors, gate_at, header_at, port_at, slot_at, body_at, layout_of};
 
     // The layout of a geometry.
@@ -48,7 +50,8 @@ impl Layout {
 
     // How many slots each area has.
     pub(crate) fn slots(self) -> usize
-        ensures { result ≡ self.slots }
+        ensures value { result ≡ self.slots }
+        ensures some { 1 ≤ result }
     {
         self.geometry.slots()
     }
@@ -58,6 +61,8 @@ impl Layout {
         ensures value { result ≡ self.port_sectors }
         ensures some { 1 ≤ result }
         ensures bound { result ≤ 9 }
+        // The largest record fits them.
+        ensures room { LARGEST_PORT_RECORD ≤ SECTOR_OCTETS * result }
     {
         let _geometry = &self.geometry;
         PORT_SECTORS

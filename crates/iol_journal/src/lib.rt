@@ -13,10 +13,12 @@
 #![tactic(auto)]
 
 mod area;
+mod area_plan;
 mod batch;
 mod body;
 mod calls;
 mod cause;
+mod checkpointing;
 mod erasing;
 pub mod examples;
 mod formatting;
@@ -30,25 +32,30 @@ mod opening;
 mod phase;
 mod place;
 mod reading;
+mod records;
 mod recovery;
 mod replay;
 mod sector;
 mod snapshot;
+mod stage;
+mod stage_calls;
 mod writing;
 
 pub use area::Area;
 pub use batch::Batch;
 pub use body::Head;
 pub use cause::RecoverCause;
+pub use checkpointing::{CheckpointProgress, Checkpointing};
 pub use erasing::erase;
 pub use formatting::{FormatFault, format};
 pub use geometry::Geometry;
 pub use header::{Header, LAST_NUMBER};
-pub use journal::{BeginCause, BeginFault, Journal};
+pub use journal::{BeginCause, BeginFault, CheckpointFault, Journal};
 pub use opening::InUse;
 pub use phase::Phase;
 pub use place::Idle;
 pub use recovery::RecoverFault;
+pub use stage::Stage;
 pub use writing::{Progress, Writing, Written};
 
 #[cfg(test)]

@@ -57,6 +57,7 @@ pub(crate) fn find_areas<D: SectorDisk>(disk: &mut D, layout: Layout) -> Result<
     ensures finds { Finds (λ areas. areas.in_use) (D.disk disk.old) (in_use_in layout) result }
     ensures other { IfOk result (λ areas. Shows (D.disk disk.old) (λ image. areas.other ≡ header_of (image (header_at layout (other areas.in_use.area))))) }
     ensures base { IfOk result (λ areas. areas.in_use.header.base ≤ LAST_NUMBER) }
+    ensures begun { IfOk result (λ areas. areas.in_use.header.epoch ≤ areas.in_use.header.base + 1) }
     ensures counted { Counted (D.disk disk.old) (D.disk disk.new) result }
     ensures takes_no_memory { result ≡ Err RecoverCause.Memory → ⊥ }
     ensures same { Same (D.disk disk.old) (D.disk disk.new) }
@@ -129,6 +130,7 @@ pub(crate) fn greatest_of(
     ensures says { Says (λ used. used) (greatest layout a b) result }
     ensures no_fault { IfErr result (λ told. IsFault told → ⊥) }
     ensures base { IfOk result (λ used. used.header.base ≤ LAST_NUMBER) }
+    ensures begun { IfOk result (λ used. used.header.epoch ≤ used.header.base + 1) }
 {
     match (a, b) {
         (None, None) => Err(RecoverCause::Damaged {
@@ -154,6 +156,7 @@ fn in_use_of(layout: Layout, area: Area, header: Header) -> Result<InUse, Recove
     ensures says { Says (λ used. used) (in_use layout area header) result }
     ensures no_fault { IfErr result (λ told. IsFault told → ⊥) }
     ensures base { IfOk result (λ used. used.header.base ≤ LAST_NUMBER) }
+    ensures begun { IfOk result (λ used. used.header.epoch ≤ used.header.base + 1) }
 {
     if header.is_sound() {
         Ok(InUse { area, header })

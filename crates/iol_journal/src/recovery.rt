@@ -3,12 +3,10 @@
 ghost use Rattle.std.specs.Prelude.{◌≡◌, ◌≤◌, Err, IsTrue, IfOk, OnOk};
 ghost use Rattle.iol_disk.specs.Content.{Image, IsImage};
 ghost use Rattle.iol_disk.specs.Moments.{LeavesOnly};
-ghost use Rattle.iol_journal.specs.Journals.{standing_at};
-ghost use Rattle.iol_journal.specs.Layout.{total};
+ghost use Rattle.iol_journal.specs.Journals.{standing_at, IsResting};
 ghost use Rattle.iol_journal.specs.Meaning.{standing_in};
 ghost use Rattle.iol_journal.specs.Reading.{Shows, Finds};
 ghost use Rattle.iol_journal.specs.Recovery.{HasChosen, MakesRecovery, idle_in};
-ghost use Rattle.iol_journal.specs.declared.header.TheConstants.{LAST_NUMBER};
 
 use crate::cause::RecoverCause;
 use crate::journal::Journal;
@@ -89,8 +87,8 @@ fn find<D: SectorDisk>(alloc: Global, disk: &mut D) -> Result<Found, RecoverCaus
     // What it read is the only image.
     ensures settled { OnOk result (Shows (D.disk disk.old) (λ read. (image : Image) → IsImage (D.disk disk.new).content image → image ≡ read)) }
     ensures any_moment { LeavesOnly (D.disk disk.old) (D.disk disk.new) (IsImage (D.disk disk.old).content) }
-    ensures fits { IfOk result (λ found. (total found.place.layout ≤ (D.disk disk.new).sectors) × (found.place.used ≤ found.place.layout.slots)
-        × (found.number ≤ LAST_NUMBER) × (found.copy ≡ found.state)) }
+    ensures resting { IfOk result (λ found. IsResting (D.disk disk.new) (standing_at found.place found.number found.state)) }
+    ensures copy { IfOk result (λ found. found.copy ≡ found.state) }
 {
     disk.sync()?;
     let layout = find_layout(disk)?;

@@ -50,6 +50,7 @@ pub(crate) fn replay_slots<D: SectorDisk>(
         (λ image. log_from layout area header.epoch image 0 layout.slots header.base state.old) result }
     ensures counted { Counted (D.disk disk.old) (D.disk disk.new) result }
     ensures within { IfOk result (λ end. (end.used ≤ layout.slots) × (header.base + end.used ≤ end.number) × (end.number ≤ LAST_NUMBER)) }
+    ensures ports { OnOk result (length state.new ≡ length state.old) }
     ensures same { Same (D.disk disk.old) (D.disk disk.new) }
 {
     let mut body = Vec::with_capacity(alloc, BODY_SECTORS * SECTOR_OCTETS)?;
@@ -133,6 +134,7 @@ pub(crate) fn replay_body(
     ensures reached { HoldsRecords body.now → IfOk result (λ last. reached number state.old (batch_of epoch (number + 1) body.now)
         ≡ option_map (λ last. record { number = last; state = state.new }) last) }
     ensures later { IfOk result (λ last. IfSome last (λ last. (number < last) × (last ≤ LAST_NUMBER))) }
+    ensures ports { OnOk result (length state.new ≡ length state.old) }
 {
     let head = Head::read(body);
     if !head.fits(epoch, number + 1) {
@@ -166,8 +168,9 @@ fn replay(
     records: &[u8],
     state: &mut MasterState,
 ) -> Result<bool, AllocError>
-    ensures { IfOk result (λ all. (number : ℕ) → reached number state.old (commands_of count records.now)
+    ensures reached { IfOk result (λ all. (number : ℕ) → reached number state.old (commands_of count records.now)
         ≡ (if all then Some (record { number = number + count; state = state.new }) else None)) }
+    ensures ports { OnOk result (length state.new ≡ length state.old) }
 {
     let mut rest = records;
     for _ in 0..count {

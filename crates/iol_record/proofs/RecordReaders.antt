@@ -15,7 +15,7 @@ use Rattle.iol_types.specs.State.{Stored, Port, IsPort, may_have}
 use Rattle.iol_record.specs.declared.fault.RecordFault.TheVariants.{Short}
 use Rattle.iol_record.specs.declared.reader.Tag.{Tag}
 use Rattle.iol_record.specs.declared.reader.Tag.TheVariants as tag
-use Rattle.iol_record.specs.declared.encode.TheConstants.{LARGEST_COMMAND_RECORD}
+use Rattle.iol_record.specs.declared.encode.TheConstants.{LARGEST_COMMAND_RECORD, LARGEST_PORT_RECORD}
 use Rattle.iol_record.specs.Record.{config_octets, set_octets, command_octets, stored_octets, port_octets, IsCommandRecord, IsPortRecord}
 use Rattle.iol_record.specs.Reading.{tag_octet, config_at, arguments_at, command_at, followed, field_at, flag_field, stored_at, may_stand, port_parts_at, port_record_at}
 use Rattle.iol_record.proofs.Readers.{extended, Splits, IsReader, field_reads, both_reads, joined_reads, followed_reads, tested_reads, nothing_reads, in_other_words, only_front}
@@ -264,6 +264,17 @@ length-command_record front (Store port revision set) is =
     let long = ap length is.spelling in
     let all = length-set_octets set in
     (omega (arith, long), omega (arith, long, all, is.in_range.2.entries.fits))
+
+-- a port's record has at least one octet, and at most the largest's
+pub length-port_octets : (port : Port) → IsPort port → (0 < length (port_octets port)) × (length (port_octets port) ≤ LARGEST_PORT_RECORD)
+length-port_octets port is = by_stored port.config port.revision port.stored is.set
+  where
+    by_stored : (config : PortConfig) (revision : ℕ) (stored : Option Stored) → IfSome stored (λ stored. IsSet stored.set)
+        → (0 < length (port_octets (port_of (config, (revision, stored))))) × (length (port_octets (port_of (config, (revision, stored)))) ≤ LARGEST_PORT_RECORD)
+    by_stored config revision None set = (omega arith, omega arith)
+    by_stored config revision (Some stored) set =
+        let all = length-set_octets stored.set in
+        (omega (arith, all), omega (arith, all, set.entries.fits))
 
 -- what is not short as a port is read the same before more octets
 pub port_record_at-append : (octets more : List ℕ) → (port_record_at octets ≡ Err Short → ⊥) → port_record_at (octets ++ more) ≡ extended more (port_record_at octets)

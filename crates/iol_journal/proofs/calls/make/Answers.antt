@@ -1,6 +1,6 @@
 use Rattle.std.proofs.Common.{refl, arith}
 use Rattle.iol_slots.specs.Gate.{open_gate}
-use Rattle.iol_journal.specs.Batches.{sector_of}
+use Rattle.iol_journal.specs.Octets.{sector_of}
 use Rattle.iol_journal.specs.Layout.{slot_at, body_at}
 use Rattle.iol_journal.proofs.Geometries.{slot-inside}
 use Rattle.iol_journal.proofs.Making.{makes_write, makes_sync}

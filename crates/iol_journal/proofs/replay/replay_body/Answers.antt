@@ -12,7 +12,7 @@ returns-then-not-fits-clause-reached c = λ holds.
 pub returns-then-branch-clause-reached : goal.returns-then-branch-clause-reached
 returns-then-branch-clause-reached c = λ holds.
     let records : 22 + c.read-head.result.octets - 22 ≡ c.read-head.result.octets = omega arith in
-    let applied = rw c.if-branch.true at c.in_ok-replay.ensures c.args.number in
+    let applied = rw c.if-branch.true at c.in_ok-replay.ensures.reached c.args.number in
     rw c.from.ensures
     (ap (reached c.args.number c.args.state.now)
     (batch_of-fits c.args.epoch (c.args.number + 1) c.args.body.now c.read-head.result c.read-head.ensures (sym c.fits.ensures ∙ c.if-not-fits.false))
@@ -24,7 +24,7 @@ returns-else-end-body-clause-reached c = λ holds.
     let records : 22 + c.read-head.result.octets - 22 ≡ c.read-head.result.octets = omega arith in
     elim c.else-end-body.branch [
       | else-end-body-via-then-end-body+in_ok-replay+else-branch w ↦
-          let refused = rw w.if-branch.false at w.in_ok-replay.ensures c.args.number in
+          let refused = rw w.if-branch.false at w.in_ok-replay.ensures.reached c.args.number in
           ap (reached c.args.number c.args.state.now)
           (batch_of-fits c.args.epoch (c.args.number + 1) c.args.body.now c.read-head.result c.read-head.ensures (sym c.fits.ensures ∙ fit))
           ∙ rw records at refused

@@ -16,6 +16,7 @@ loop-used-init g c = record {
   quiet = refl;
   later = omega arith;
   bound = c.requires.base;
+  ports = refl;
   read = λ h left is.
       let all : left ≡ c.args.layout.slots = omega arith in
       ap (λ (n : ℕ). log_from c.args.layout c.args.area c.args.header.epoch (reads (g.D.SectorDisk.disk c.args.disk.now).content) 0 n c.args.header.base c.args.state.now) all;
@@ -37,6 +38,7 @@ loop-used-preserved g c =
       quiet = c.in_ok-read_body.ensures.counted ∙ c.in_ok-is_open.ensures.fault ∙ kept.quiet;
       later = omega (arith, kept.later, after);
       bound = omega (arith, after);
+      ports = c.in_ok-number.ensures.ports ∙ kept.ports;
       read = λ h left is.
           let holds = c.in_ok-read_body.ensures.holds (same-honest _ _ same h) in
           let leads = replayed holds in
@@ -119,3 +121,9 @@ pub read_body-requires-clause-fits : goal.read_body-requires-clause-fits
 read_body-requires-clause-fits g c =
     let below : c.loop-used.used < c.args.layout.slots = omega (arith, c.slots-used-end.ensures) in
     omega (arith, c.requires.fits, slot-inside c.args.layout c.args.area c.loop-used.used below, c.slot-slot.ensures.body, c.loop-used.invariant.same.sectors, c.is_open.ensures.same.sectors)
+
+pub returns-then-not-branch-clause-ports : goal.returns-then-not-branch-clause-ports
+returns-then-not-branch-clause-ports g c = c.loop-used.invariant.ports
+
+pub returns-clause-ports : goal.returns-clause-ports
+returns-clause-ports g c = c.loop-used.invariant.ports

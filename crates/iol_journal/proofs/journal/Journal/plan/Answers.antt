@@ -50,7 +50,7 @@ returns-then-branch-clause-planned g c =
     let body = c.in_ok-body.ensures in
     let whole = subst (λ (b : List ℕ). length b ≡ 512 * sectors_reached (length b)) (spelled g c) body.whole in
     let planned : IsPlanned (g.D.SectorDisk.disk j.disk) s commands (Body 0) = record {
-      fits = c.self.invariant.0;
+      fits = c.self.invariant.fits;
       room = omega arith;
       whole = whole;
       short = subst (λ (b : List ℕ). sectors_reached (length b) ≤ 16) (spelled g c) body.short.1;
@@ -58,7 +58,10 @@ returns-then-branch-clause-planned g c =
       read_back = λ rest.
           subst (λ (b : List ℕ). batch_of j.place.epoch (j.number + 1) (b ++ rest) ≡ Some commands) (spelled g c) ((rw (c.deref-2.ensures.value, next) at body.sound) (omega arith) (omega arith) rest);
       passes = passes g c;
+      some = omega (arith, count);
       bound = omega (arith, count);
+      begun = c.self.invariant.begun;
+      count = c.self.invariant.count;
     } in
     let made : Plan = record { body = c.in_ok-body.body; sectors = c.len-sectors.result / 512; next = c.apply_all.new.state } in
     let plan : IsPlan s commands made = record {

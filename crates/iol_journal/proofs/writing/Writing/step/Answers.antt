@@ -1,12 +1,12 @@
-use Rattle.std.proofs.Common.{arith, ◌≡◌, ◌∙◌, [], sym, ap, subst}
+use Rattle.std.proofs.Common.{arith, ◌≡◌, ◌+◌, ◌∙◌, [], sym, ap, subst}
 use Rattle.std.proofs.lemmas.List.{length-map}
 use Rattle.iol_types.specs.Command.{value_of}
 use Rattle.iol_journal.specs.Batches.{body_for, sectors_for, calls_from}
 use Rattle.iol_journal.specs.Underway.{IsAtRest, IsUnderway}
-use Rattle.iol_journal.specs.Journals.{WritingView, standing_at, with_batch, values, calls_left}
+use Rattle.iol_journal.specs.Journals.{WritingView, IsResting, standing_at, with_batch, values, calls_left}
 use Rattle.iol_journal.specs.Progress.{MakesFirst, FailsFirst}
 use Rattle.iol_journal.proofs.Phases.{rest_means, standing_behind}
-use Rattle.iol_journal.proofs.Steps.{moment_of, underway, durable, makes_first, makes_last, fails_first, planned_next}
+use Rattle.iol_journal.proofs.Steps.{moment_of, underway, durable, makes_first, makes_last, fails_first, planned_next, resting_behind}
 use Rattle.iol_journal.proofs.writing.Writing.step.Goals as goal
 
 pub returns-in-Err-clause-call : goal.returns-in-Err-clause-call
@@ -55,10 +55,14 @@ invariant_of-result g c =
       c.self.invariant.2,
     )
 
-pub at_rest-journal-requires-clause-fits : goal.at_rest-journal-requires-clause-fits
-at_rest-journal-requires-clause-fits g c =
+pub at_rest-journal-requires : goal.at_rest-journal-requires
+at_rest-journal-requires g c =
     let w = c.self.inside in
-    omega (arith, c.self.invariant.0.fits, (c.in_default.ensures.makes w.number w.state).after.sectors)
+    let s = standing_at w.place w.number w.state in
+    let commands = values w.batch.commands.items in
+    let behind = standing_behind w.place w.number (w.number + c.len.result) w.state w.plan.next commands (omega (arith, c.len.ensures, length-map w.batch.commands.items value_of)) c.self.invariant.1.next in
+    subst (IsResting (g.D.SectorDisk.disk c.make.new.disk)) (sym behind)
+    (resting_behind _ _ s commands w.phase c.self.invariant.0 (c.in_default.ensures.makes w.number w.state).after.sectors)
 
 pub returns-in-None-clause-call : goal.returns-in-None-clause-call
 returns-in-None-clause-call g c =

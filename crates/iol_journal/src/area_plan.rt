@@ -1,0 +1,68 @@
+//! What an area holds once it is written: closed slots, a header, and the records of a state.
+
+ghost use Rattle.std.specs.Prelude.{◌≡◌, ◌≤◌, ◌<◌, [], ◌∷◌, length, IfOk, OnOk};
+ghost use Rattle.iol_journal.specs.AreaPlans.{AreRecords, IsAreaPlan};
+ghost use Rattle.iol_journal.specs.AreaWrites.{slot_write, header_write};
+ghost use Rattle.iol_journal.specs.Layout.{total};
+ghost use Rattle.iol_journal.specs.Orders.{Makes};
+
+use crate::area::Area;
+use crate::header::Header;
+use crate::layout::Layout;
+use crate::records::{RecordSector, records_of};
+use iol_disk::{DiskFault, SectorDisk};
+use iol_types::MasterState;
+use std::alloc::{AllocError, Global};
+
+// What is to be written into an area, but for its gate: a formatted disk's first area, or the other area at a checkpoint.
+#[derive(Debug, Drop)]
+pub(crate) struct AreaPlan {
+    pub layout: Layout,
+    pub area: Area,
+    pub header: Header,
+    pub records: Vec<RecordSector>,
+}
+
+impl AreaPlan {
+    // The plan of an area that begins with this header and state.
+    pub(crate) fn of(
+        alloc: Global,
+        layout: Layout,
+        area: Area,
+        header: Header,
+        state: &MasterState,
+    ) -> Result<AreaPlan, AllocError>
+        requires { length state.now ≡ layout.ports }
+        ensures plan { IfOk result (IsAreaPlan layout area header state.now) }
+        ensures records { OnOk result (AreRecords layout area state.now) }
+    {
+        let records = records_of(alloc, layout, area, state)?;
+        Ok(AreaPlan {
+            layout,
+            area,
+            header,
+            records,
+        })
+    }
+
+    // Closes the gate of a slot.
+    pub(crate) fn close_slot<D: SectorDisk>(
+        &self,
+        disk: &mut D,
+        slot: usize,
+    ) -> Result<(), DiskFault>
+        requires fits { total self.now.layout ≤ (D.disk disk.old).sectors }
+        requires there { slot < self.now.layout.slots }
+        ensures { Makes (slot_write self.now.layout self.now.area slot ∷ []) (D.disk disk.old) (D.disk disk.new) result }
+    {
+        self.layout.slot(self.area, slot).close_gate(disk)
+    }
+
+    // Writes the header.
+    pub(crate) fn write_header<D: SectorDisk>(&self, disk: &mut D) -> Result<(), DiskFault>
+        requires { total self.now.layout ≤ (D.disk disk.old).sectors }
+        ensures { Makes (header_write self.now.layout self.now.area self.now.header.epoch self.now.header.base ∷ []) (D.disk disk.old) (D.disk disk.new) result }
+    {
+        disk.write(self.layout.header(self.area), &self.header.octets())
+    }
+}
