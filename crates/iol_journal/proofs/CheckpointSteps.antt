@@ -1,7 +1,7 @@
 -- What a step of a checkpoint makes of the disk, as its one call says.
 use Rattle.std.proofs.Common.{◌≡◌, ◌≤◌, ◌<◌, ℕ, ◌+◌, List, [], ◌∷◌, length, map, slice_get, get_or, Option, Some, None, unwrap_or, IfSome, IsTrue, Result, Ok, Err, refl, sym, ◌∙◌, ap, subst, arith}
 use Rattle.std.proofs.lemmas.List.{length-map}
-use Rattle.std.proofs.lemmas.Option.{slice_get-map, slice_get_read}
+use Rattle.std.proofs.lemmas.Option.{slice_get-map, slice_get_read, slice_get-get_or, slice_get_within}
 use Rattle.std.specs.Option.{option_map}
 use Rattle.iol_types.specs.State.{State}
 use Rattle.iol_disk.specs.Calls.{Call, write, sync, content_after, Made, FailedIn}
@@ -58,16 +58,21 @@ plan-row sectors layout a header state plan fits records is =
     subst (IsRow 0 sectors) (sym is.records_are)
     (row-wider (port_at layout a 0) 0 sectors _ (omega arith) (row-higher (port_at layout a 0) (slot_at layout a 0) sectors _ (omega (arith, fits, inside)) records.row))
 
--- the sector in a place
-in_place : (items : List RecordSector) (i : ℕ) (found : RecordSector) → i < length items → found ≡ get_or items i found → slice_get (map write_of items) i ≡ Some (write_of found)
-in_place items i found below is = slice_get-map write_of items i ∙ ap (option_map write_of) (slice_get_read items (length items) i found refl below is)
+-- the sector in a place, as it is found
+pub found-there : (items : List RecordSector) (i : ℕ) (found : RecordSector) → i < length items → found ≡ get_or items i found → slice_get (map write_of items) i ≡ Some (write_of found)
+found-there items i found below is = slice_get-map write_of items i ∙ ap (option_map write_of) (slice_get_read items (length items) i found refl below is)
+
+-- the same of a slice of them
+pub shown-there : (items shown : List RecordSector) (i : ℕ) (d : RecordSector) → shown ≡ items → i < length shown → slice_get (map write_of items) i ≡ Some (write_of (get_or shown i d))
+shown-there items shown i d same below =
+    subst (λ (all : List RecordSector). slice_get (map write_of all) i ≡ Some (write_of (get_or shown i d))) same
+    (slice_get-map write_of shown i ∙ ap (option_map write_of) (slice_get-get_or shown i d below))
 
 -- it lies on the disk
-pub sector-inside : (sectors : ℕ) (items : List RecordSector) (i : ℕ) (found : RecordSector) → IsRow 0 sectors (map write_of items) → i < length items
-    → found ≡ get_or items i found → found.sector < sectors
-sector-inside sectors items i found row below is =
-    let nth = row-nth 0 sectors (map write_of items) i row (omega (arith, below, length-map items write_of)) in
-    let same : nth.sector ≡ found.sector = same_sector _ _ _ _ (sym nth.at_place ∙ in_place items i found below is) in
+pub sector-inside : (sectors : ℕ) (calls : List Call) (i : ℕ) (found : RecordSector) → IsRow 0 sectors calls → slice_get calls i ≡ Some (write_of found) → found.sector < sectors
+sector-inside sectors calls i found row there =
+    let nth = row-nth 0 sectors calls i row (slice_get_within calls i (write_of found) there) in
+    let same : nth.sector ≡ found.sector = same_sector _ _ _ _ (sym nth.at_place ∙ there) in
     omega (arith, nth.below, same)
   where
     sector_of_call : Option Call → ℕ
@@ -83,7 +88,7 @@ pub record-call : (s : Standing) (plan : AreaPlan) (i : ℕ) (found : RecordSect
     → found ≡ get_or plan.records.items i found → write_of found ≡ call_at s (WriteRecord i)
 record-call s plan i found planned below is =
     sym (ap (λ (calls : List Call). unwrap_or (slice_get calls i) sync) (sym planned.records_are)
-    ∙ ap (λ (call : Option Call). unwrap_or call sync) (in_place plan.records.items i found below is))
+    ∙ ap (λ (call : Option Call). unwrap_or call sync) (found-there plan.records.items i found below is))
 
 -- the stage that comes next, as it is told by the sizes of the plan
 pub next_is : (s : Standing) (plan : AreaPlan) (stage : Stage) (next : Option Stage) (slots records : ℕ) → IsAreaPlan s.layout (next_area s) (next_header s) s.state plan

@@ -1,6 +1,5 @@
 -- While the gate of the disk is shut nothing counts that is written behind it; what is there counts once the gate is durable and open.
-use Rattle.std.proofs.Common.{◌≡◌, ◌≢◌, ◌≤◌, ℕ, zero, suc, ◌+◌, false, List, [], ◌∷◌, ◌++◌, map, inl, sym, ◌∙◌, ap, subst, take}
-use Rattle.std.specs.List.{range_with_len}
+use Rattle.std.proofs.Common.{◌≡◌, ◌≢◌, ◌≤◌, ℕ, zero, suc, false, List, [], ◌∷◌, ◌++◌, inl, sym, ◌∙◌, ap, subst, take}
 use Rattle.iol_types.specs.State.{empty_state}
 use Rattle.iol_disk.specs.Content.{Image, Content, IsImage, reads, wrote, synced}
 use Rattle.iol_disk.specs.Calls.{Call, write, sync, content_after, content_after_all}
@@ -30,10 +29,6 @@ pub spares-append : (first second : List Call) → Spares first → Spares secon
 spares-append [] second a b = b
 spares-append (write sector octets ∷ first) second a b = (a.0, spares-append first second a.1 b)
 spares-append (sync ∷ first) second a b = spares-append first second a b
-
-pub spares-row : (place : ℕ → ℕ) (octets : List ℕ) (s n : ℕ) → ((k : ℕ) → DISK_GATE ≢ place k) → Spares (map (λ k. write (place k) octets) (range_with_len s n))
-spares-row place octets s zero apart = tt
-spares-row place octets s (suc n) apart = (apart s, spares-row place octets (s + 1) n apart)
 
 shut-wrote : (sector : ℕ) (octets : List ℕ) (c : Content) → DISK_GATE ≢ sector → Shut c → Shut (wrote sector octets c)
 shut-wrote sector octets c apart shut image is = let w = image-wrote sector octets c image is in ap is_open (w.2 DISK_GATE apart) ∙ shut w.0 w.1

@@ -27,9 +27,7 @@ pub mod Paddings
 pub mod Making
 pub mod Refusals
 pub mod EmptyParts
-pub mod Filled
 pub mod EmptyJournals
-pub mod BlankRecords
 pub mod DiskGate
 pub mod WrittenJournals
 pub mod Formatted

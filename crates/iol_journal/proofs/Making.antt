@@ -1,9 +1,11 @@
 -- Calls that were made in their order, or up to one that failed, put together.
-use Rattle.std.proofs.Common.{◌≡◌, ◌<◌, ℕ, zero, suc, ◌+◌, ◌-◌, List, [], ◌∷◌, ◌++◌, map, Result, Ok, Err, OnOk, OnErr, refl, sym, ◌∙◌, ap, subst, arith}
+use Rattle.std.proofs.Common.{◌≡◌, ◌<◌, ℕ, zero, suc, ◌+◌, ◌-◌, List, [], ◌∷◌, ◌++◌, map, take, drop, slice_get, Some, Result, Ok, Err, OnOk, OnErr, refl, sym, ◌∙◌, ap, subst, arith}
 use Rattle.std.specs.List.{range_with_len}
 use Rattle.std.proofs.lemmas.Result.{err_from_is_err_and}
 use Rattle.std.specs.Result.{IsErrAnd}
 use Rattle.std.proofs.lemmas.List.FromFn.{map-range_with_len_more}
+use Rattle.std.proofs.lemmas.List.{take_more, take-append-drop}
+use Rattle.std.proofs.lemmas.Option.{slice_get_within, get_or_from_slice_get}
 use Rattle.iol_disk.specs.Content.{wrote, synced}
 use Rattle.iol_disk.specs.Disk.{Disk, After, Same, WroteSome, FailsOnlyAs}
 use Rattle.iol_disk.specs.Calls.{Call, write, sync, Made, FailedIn}
@@ -91,3 +93,22 @@ failed_in_row f n k {told = told} {old = old} {between = between} {new = new} be
     subst (λ (calls : List Call). FailedIn calls told old new)
     (sym (row_append f 0 (k + 1) (n - (k + 1))) ∙ ap (λ (m : ℕ). map f (range_with_len 0 m)) split)
     (failed_first _ _ told old new front)
+
+-- the calls up to one more
+take_next : (calls : List Call) (i : ℕ) (call : Call) → slice_get calls i ≡ Some call → take (i + 1) calls ≡ take i calls ++ call ∷ []
+take_next calls i call at =
+    take_more calls i call (slice_get_within calls i call at) ∙ ap (λ (last : Call). take i calls ++ last ∷ []) (get_or_from_slice_get calls i call call at)
+
+-- one call more of a list of calls
+pub made_next : (calls : List Call) (i : ℕ) (call : Call) {result : Result Unit DiskFault} {done : Unit} {old between new : Disk} → slice_get calls i ≡ Some call
+    → Made (take i calls) old between → result ≡ Ok done → Makes (call ∷ []) between new result → Made (take (i + 1) calls) old new
+made_next calls i call {old = old} {between = between} {new = new} at so_far is makes =
+    subst (λ (front : List Call). Made front old new) (sym (take_next calls i call at)) (made_append _ _ old between new so_far (made_of (call ∷ []) is makes))
+
+-- a call of a list failed
+pub failed_next : (calls : List Call) (i : ℕ) (call : Call) {result : Result Unit DiskFault} {told : DiskFault} {old between new : Disk} → slice_get calls i ≡ Some call
+    → Made (take i calls) old between → result ≡ Err told → Makes (call ∷ []) between new result → FailedIn calls told old new
+failed_next calls i call {told = told} {old = old} {between = between} {new = new} at so_far is makes =
+    let front : FailedIn (take (i + 1) calls) told old new =
+    subst (λ (first : List Call). FailedIn first told old new) (sym (take_next calls i call at)) (failed_later _ _ told old between new so_far (failed_of (call ∷ []) is makes)) in
+    subst (λ (all : List Call). FailedIn all told old new) (take-append-drop (i + 1) calls) (failed_first _ (drop (i + 1) calls) told old new front)

@@ -1,17 +1,14 @@
 -- The disk calls of a format, in their order.
-use Rattle.std.specs.Prelude.{List, [], ◌∷◌, ◌++◌, map, Result, Ok, Err}
-use Rattle.std.specs.List.{range_with_len}
-use Rattle.iol_types.specs.State.{blank}
-use Rattle.iol_record.specs.Record.{port_octets}
+use Rattle.std.specs.Prelude.{List, [], ◌∷◌, ◌++◌, Result, Ok, Err}
+use Rattle.iol_types.specs.State.{empty_state}
 use Rattle.iol_disk.specs.Disk.{Disk, After, HasFailed}
 use Rattle.iol_disk.specs.Calls.{Call, write, sync, content_after_all, Made, FailedIn}
 use Rattle.iol_disk.specs.declared.fault.DiskFault.{DiskFault}
 use Rattle.iol_disk.specs.declared.fault.DiskFault.TheVariants.{Read}
 use Rattle.iol_slots.specs.Gate.{open_gate, closed_gate}
+use Rattle.iol_journal.specs.AreaWrites.{slot_writes, header_write, port_writes}
 use Rattle.iol_journal.specs.Geometry.{Geometry, geometry_octets}
-use Rattle.iol_journal.specs.Header.{header_octets}
-use Rattle.iol_journal.specs.Layout.{layout_of, gate_at, header_at, port_at, slot_at}
-use Rattle.iol_journal.specs.Octets.{padded}
+use Rattle.iol_journal.specs.Layout.{layout_of, gate_at}
 use Rattle.iol_journal.specs.declared.area.Area.TheVariants.{A, B}
 use Rattle.iol_journal.specs.declared.geometry.TheConstants.{GEOMETRY, DISK_GATE}
 use Rattle.iol_journal.specs.declared.formatting.FormatFault.{FormatFault}
@@ -28,21 +25,14 @@ abbrev pub gate_writes : Geometry → List Call
 gate_writes g =
     write GEOMETRY (geometry_octets g) ∷ write (gate_at (layout_of g) A) open_gate ∷ write (gate_at (layout_of g) B) closed_gate ∷ []
 
--- the gates of A's slots: each is closed (format, Orders of disk calls)
-abbrev pub slot_writes : Geometry → List Call
-slot_writes g = map (λ k. write (slot_at (layout_of g) A k) closed_gate) (range_with_len 0 g.slots)
-
 -- the headers: A is in its first epoch, and B was never in use (format, Orders of disk calls)
 abbrev pub header_writes : Geometry → List Call
-header_writes g = write (header_at (layout_of g) A) (header_octets 1 0) ∷ write (header_at (layout_of g) B) (header_octets 0 0) ∷ []
+header_writes g = header_write (layout_of g) A 1 0 ∷ header_write (layout_of g) B 0 0 ∷ []
 
--- the records of A's ports: none was ever configured (format, Orders of disk calls)
-abbrev pub port_writes : Geometry → List Call
-port_writes g = map (λ p. write (port_at (layout_of g) A p) (padded (port_octets blank))) (range_with_len 0 g.ports)
-
--- the writes of an empty journal (format, Orders of disk calls)
+-- the writes of an empty journal: the gates of the areas, those of A's slots, the headers, and the records of A's ports,
+-- none of which was ever configured (format, Orders of disk calls)
 abbrev pub journal_writes : Geometry → List Call
-journal_writes g = gate_writes g ++ slot_writes g ++ header_writes g ++ port_writes g
+journal_writes g = gate_writes g ++ slot_writes (layout_of g) A ++ header_writes g ++ port_writes (layout_of g) A 0 (empty_state g.ports)
 
 -- the gate of the disk is opened once all that was written is durable: sync, open gate, sync (format, Orders of disk
 -- calls)

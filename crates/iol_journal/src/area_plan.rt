@@ -1,8 +1,8 @@
 //! What an area holds once it is written: closed slots, a header, and the records of a state.
 
-ghost use Rattle.std.specs.Prelude.{◌≡◌, ◌≤◌, ◌<◌, [], ◌∷◌, length, IfOk, OnOk};
-ghost use Rattle.iol_journal.specs.AreaPlans.{AreRecords, IsAreaPlan};
-ghost use Rattle.iol_journal.specs.AreaWrites.{slot_write, header_write};
+ghost use Rattle.std.specs.Prelude.{◌≡◌, ◌≤◌, ◌<◌, [], ◌∷◌, length, map, IfOk, OnOk};
+ghost use Rattle.iol_journal.specs.AreaPlans.{AreRecords, IsAreaPlan, write_of};
+ghost use Rattle.iol_journal.specs.AreaWrites.{slot_write, slot_writes, header_write, IsRow};
 ghost use Rattle.iol_journal.specs.Layout.{total};
 ghost use Rattle.iol_journal.specs.Orders.{Makes};
 
@@ -64,5 +64,27 @@ impl AreaPlan {
         ensures { Makes (header_write self.now.layout self.now.area self.now.header.epoch self.now.header.base ∷ []) (D.disk disk.old) (D.disk disk.new) result }
     {
         disk.write(self.layout.header(self.area), &self.header.octets())
+    }
+
+    // Closes the gates of all slots.
+    pub(crate) fn close_slots<D: SectorDisk>(&self, disk: &mut D) -> Result<(), DiskFault>
+        requires { total self.now.layout ≤ (D.disk disk.old).sectors }
+        ensures { Makes (slot_writes self.now.layout self.now.area) (D.disk disk.old) (D.disk disk.new) result }
+    {
+        for slot in 0..self.layout.slots() {
+            self.close_slot(disk, slot)?;
+        }
+        Ok(())
+    }
+
+    // Writes the records, sector by sector.
+    pub(crate) fn write_records<D: SectorDisk>(&self, disk: &mut D) -> Result<(), DiskFault>
+        requires { IsRow 0 (D.disk disk.old).sectors (map write_of self.now.records.items) }
+        ensures { Makes (map write_of self.now.records.items) (D.disk disk.old) (D.disk disk.new) result }
+    {
+        for record in &self.records {
+            record.write(disk)?;
+        }
+        Ok(())
     }
 }

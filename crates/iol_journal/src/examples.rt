@@ -1,13 +1,14 @@
 //! Facts with values of docs/FORMATS.md, worked out by the check: a number that is wrong in a definition and in the code
 //! alike is refused here.
 
-ghost use Rattle.std.specs.Prelude.{◌≡◌, ◌++◌, [], ◌∷◌, replicate, map, true, false};
+ghost use Rattle.std.specs.Prelude.{◌≡◌, ◌++◌, [], ◌∷◌, replicate, map, length, true, false};
 ghost use Rattle.iol_types.specs.Command.{Configure};
 ghost use Rattle.iol_types.specs.Examples.{example_config};
 ghost use Rattle.iol_disk.specs.Calls.{write, sync};
 ghost use Rattle.iol_journal.specs.Batches.{batch_calls};
 ghost use Rattle.iol_journal.specs.Body.{body_octets, fits};
-ghost use Rattle.iol_journal.specs.Examples.{two_by_four, first_body, first_standing, standing_of};
+ghost use Rattle.iol_journal.specs.Checkpoints.{checkpoint_calls};
+ghost use Rattle.iol_journal.specs.Examples.{two_by_four, checkpoint_of_two_by_four, first_body, first_standing, standing_of};
 ghost use Rattle.iol_journal.specs.Geometry.{IsGeometry, geometry_of, geometry_octets};
 ghost use Rattle.iol_journal.specs.Header.{header_of, header_octets, is_sound};
 ghost use Rattle.iol_slots.specs.Gate.{open_gate, closed_gate};
@@ -24,6 +25,7 @@ ghost use Rattle.iol_journal.specs.declared.header.TheConstants.{LAST_NUMBER};
 use crate::area::Area;
 use crate::geometry::{DISK_GATE, GEOMETRY};
 use crate::journal::BeginCause;
+use crate::place::Idle;
 
 /// A geometry has 1 to 32 ports and 1 to 256 slots.
 pub fn geometries()
@@ -108,6 +110,14 @@ pub fn a_format()
         ∷ write 22 closed_gate ∷ write 39 closed_gate ∷ write 56 closed_gate ∷ write 73 closed_gate
         ∷ write 3 (header_octets 1 0) ∷ write 91 (header_octets 0 0) ∷ write 4 (padded BLANK_RECORD) ∷ write 13 (padded BLANK_RECORD)
         ∷ sync ∷ write 1 open_gate ∷ sync ∷ [] }
+{}
+
+/// The disk calls of a checkpoint into area B, of 2 ports that were never configured and 4 slots: 13, and two more where the
+/// header of B is not older.
+pub fn a_checkpoint()
+    ensures older { checkpoint_calls (standing_of 4 4) Idle.Older ≡ checkpoint_of_two_by_four }
+    ensures closed { checkpoint_calls (standing_of 4 4) Idle.Closed ≡ write 91 (header_octets 0 0) ∷ sync ∷ checkpoint_of_two_by_four }
+    ensures thirteen { length checkpoint_of_two_by_four ≡ 13 }
 {}
 
 /// Why an image means nothing: there is no gate of the disk, the disk is smaller than its geometry, no area is open, both are

@@ -1,28 +1,26 @@
 //! An empty journal is written.
 
-ghost use Rattle.std.specs.Prelude.{◌≡◌, ◌≤◌, ◌<◌, ◌⊎◌, ◌↔◌, ◌++◌, true, false, Err, OnOk, IfOk, IfErr, IsErrOf};
-ghost use Rattle.iol_types.specs.State.{blank, empty_state};
-ghost use Rattle.iol_record.specs.Record.{port_octets};
+ghost use Rattle.std.specs.Prelude.{◌≡◌, ◌≤◌, ◌<◌, ◌⊎◌, ◌↔◌, ◌++◌, [], ◌∷◌, true, false, Err, OnOk, IfOk, IfErr, IsErrOf};
+ghost use Rattle.iol_types.specs.State.{empty_state};
 ghost use Rattle.iol_disk.specs.Content.{IsImage};
 ghost use Rattle.iol_disk.specs.Moments.{LeavesOnly};
 ghost use Rattle.iol_slots.specs.Gate.{is_open};
-ghost use Rattle.iol_journal.specs.Formatting.{IfUntouched, IsEmptyOrUnformatted, LeavesFormat};
+ghost use Rattle.iol_journal.specs.AreaWrites.{header_write};
+ghost use Rattle.iol_journal.specs.Formatting.{IfUntouched, IsEmptyOrUnformatted, IsFirstArea, LeavesFormat};
 ghost use Rattle.iol_journal.specs.Kept.{EachMeans};
 ghost use Rattle.iol_journal.specs.Layout.{layout_of, total};
-ghost use Rattle.iol_journal.specs.Octets.{padded};
-ghost use Rattle.iol_journal.specs.Orders.{Makes, MakesFormat, gate_writes, slot_writes, header_writes, port_writes, journal_writes, opening_calls};
+ghost use Rattle.iol_journal.specs.Orders.{Makes, MakesFormat, gate_writes, journal_writes, opening_calls};
 ghost use Rattle.iol_journal.specs.Reading.{Shows};
 ghost use Rattle.iol_journal.specs.declared.geometry.TheConstants.{DISK_GATE};
 ghost use Rattle.iol_journal.specs.declared.formatting.FormatFault.TheVariants.{TooSmall, AlreadyFormatted, Memory};
 
 use crate::area::Area;
+use crate::area_plan::AreaPlan;
 use crate::geometry::{DISK_GATE, GEOMETRY, Geometry};
 use crate::header::Header;
 use crate::reading::gate;
-use crate::sector::sector_of;
-use iol_disk::{DiskFault, SECTOR_OCTETS, SectorDisk};
-use iol_record::encode_port;
-use iol_types::{MasterState, PortId};
+use iol_disk::{DiskFault, SectorDisk};
+use iol_types::MasterState;
 use std::alloc::{AllocError, Global};
 use thiserror::Error;
 
@@ -102,35 +100,34 @@ pub fn format<D: SectorDisk>(
     if gate(DISK_GATE).is_open(disk)? {
         return Err(FormatFault::AlreadyFormatted);
     }
-    let record = blank_record(alloc)?;
-    write_journal(disk, geometry, &record)?;
+    let plan = first_area(alloc, geometry)?;
+    write_journal(disk, geometry, &plan)?;
     Ok(())
 }
 
-// The first sector of the record of a port that was never configured.
-fn blank_record(alloc: Global) -> Result<[u8; SECTOR_OCTETS], AllocError>
-    ensures { IfOk result (λ octets. octets ≡ padded (port_octets blank)) }
+// What area A begins with: it is in its first epoch, and its ports were never configured.
+fn first_area(alloc: Global, geometry: Geometry) -> Result<AreaPlan, AllocError>
+    ensures { IfOk result (IsFirstArea geometry) }
 {
-    let master = MasterState::new(alloc, 1)?;
-    let port = master.port(PortId::new(1).unwrap()).unwrap();
-    let record = encode_port(alloc, port)?;
-    Ok(sector_of(record.as_slice()))
+    let state = MasterState::new(alloc, geometry.ports())?;
+    let header = Header { epoch: 1, base: 0 };
+    AreaPlan::of(alloc, geometry.layout(), Area::A, header, &state)
 }
 
-// Writes an empty journal whose ports have this record, and opens the gate of the disk once all else is durable.
+// Writes an empty journal, and opens the gate of the disk once all else is durable.
 fn write_journal<D: SectorDisk>(
     disk: &mut D,
     geometry: Geometry,
-    port_record: &[u8; SECTOR_OCTETS],
+    plan: &AreaPlan,
 ) -> Result<(), DiskFault>
     requires fits { total (layout_of geometry) ≤ (D.disk disk.old).sectors }
-    requires blank { port_record.now ≡ padded (port_octets blank) }
+    requires plan { IsFirstArea geometry plan.now }
     ensures { Makes (journal_writes geometry ++ opening_calls) (D.disk disk.old) (D.disk disk.new) result }
 {
     write_gates(disk, geometry)?;
-    close_slots(disk, geometry)?;
-    write_headers(disk, geometry)?;
-    write_ports(disk, geometry, port_record)?;
+    plan.close_slots(disk)?;
+    write_headers(disk, plan)?;
+    plan.write_records(disk)?;
     open_disk(disk)
 }
 
@@ -145,45 +142,15 @@ fn write_gates<D: SectorDisk>(disk: &mut D, geometry: Geometry) -> Result<(), Di
     gate(layout.gate(Area::B)).close_gate(disk)
 }
 
-// Closes the gate of each slot of area A.
-fn close_slots<D: SectorDisk>(disk: &mut D, geometry: Geometry) -> Result<(), DiskFault>
-    requires { total (layout_of geometry) ≤ (D.disk disk.old).sectors }
-    ensures { Makes (slot_writes geometry) (D.disk disk.old) (D.disk disk.new) result }
+// Writes the header of the area, and that of area B, which was never in use.
+fn write_headers<D: SectorDisk>(disk: &mut D, plan: &AreaPlan) -> Result<(), DiskFault>
+    requires { total plan.now.layout ≤ (D.disk disk.old).sectors }
+    ensures { Makes (header_write plan.now.layout plan.now.area plan.now.header.epoch plan.now.header.base ∷ header_write plan.now.layout Area.B 0 0 ∷ [])
+        (D.disk disk.old) (D.disk disk.new) result }
 {
-    let layout = geometry.layout();
-    for slot in 0..geometry.slots() {
-        layout.slot(Area::A, slot).close_gate(disk)?;
-    }
-    Ok(())
-}
-
-// Writes the headers: area A is in its first epoch, and area B was never in use.
-fn write_headers<D: SectorDisk>(disk: &mut D, geometry: Geometry) -> Result<(), DiskFault>
-    requires { total (layout_of geometry) ≤ (D.disk disk.old).sectors }
-    ensures { Makes (header_writes geometry) (D.disk disk.old) (D.disk disk.new) result }
-{
-    let layout = geometry.layout();
-    let first = Header { epoch: 1, base: 0 };
+    plan.write_header(disk)?;
     let unused = Header { epoch: 0, base: 0 };
-    disk.write(layout.header(Area::A), &first.octets())?;
-    disk.write(layout.header(Area::B), &unused.octets())
-}
-
-// Writes the record to each port of area A.
-fn write_ports<D: SectorDisk>(
-    disk: &mut D,
-    geometry: Geometry,
-    port_record: &[u8; SECTOR_OCTETS],
-) -> Result<(), DiskFault>
-    requires fits { total (layout_of geometry) ≤ (D.disk disk.old).sectors }
-    requires blank { port_record.now ≡ padded (port_octets blank) }
-    ensures { Makes (port_writes geometry) (D.disk disk.old) (D.disk disk.new) result }
-{
-    let layout = geometry.layout();
-    for port in 0..usize::from(geometry.ports()) {
-        disk.write(layout.port(Area::A, port), port_record)?;
-    }
-    Ok(())
+    disk.write(plan.layout.header(Area::B), &unused.octets())
 }
 
 // Opens the gate of the disk once all that was written is durable.

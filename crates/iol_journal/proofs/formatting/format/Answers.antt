@@ -20,15 +20,15 @@ returns-then-branch-clause-any_moment g c = quiet-any_moment c.args.geometry _ _
 pub returns-then-branch-clause-untouched : goal.returns-then-branch-clause-untouched
 returns-then-branch-clause-untouched g c = quiet-moments _ _ _ c.in_ok-sync.ensures.synced c.is_open.ensures.same
 
-pub returns-in_err-record-clause-any_moment : goal.returns-in_err-record-clause-any_moment
-returns-in_err-record-clause-any_moment g c = quiet-any_moment c.args.geometry _ _ _ c.in_ok-sync.ensures.synced c.is_open.ensures.same
+pub returns-in_err-plan-clause-any_moment : goal.returns-in_err-plan-clause-any_moment
+returns-in_err-plan-clause-any_moment g c = quiet-any_moment c.args.geometry _ _ _ c.in_ok-sync.ensures.synced c.is_open.ensures.same
 
-pub returns-in_err-record-clause-untouched : goal.returns-in_err-record-clause-untouched
-returns-in_err-record-clause-untouched g c =
-    untouched c.from_residual-in_err-record.result _ (quiet-moments _ _ _ c.in_ok-sync.ensures.synced c.is_open.ensures.same)
+pub returns-in_err-plan-clause-untouched : goal.returns-in_err-plan-clause-untouched
+returns-in_err-plan-clause-untouched g c =
+    untouched c.from_residual-in_err-plan.result _ (quiet-moments _ _ _ c.in_ok-sync.ensures.synced c.is_open.ensures.same)
 
-pub returns-in_err-record-clause-since : goal.returns-in_err-record-clause-since
-returns-in_err-record-clause-since g c closed =
+pub returns-in_err-plan-clause-since : goal.returns-in_err-plan-clause-since
+returns-in_err-plan-clause-since g c closed =
     written-since c.args.geometry _ _ _ _ c.in_ok-sync.ensures.synced c.is_open.ensures.same closed (behind-nothing c.args.geometry _)
 
 pub returns-in_err-write_journal-clause-any_moment : goal.returns-in_err-write_journal-clause-any_moment
@@ -57,8 +57,8 @@ returns-in_err-is_open-clause-kept g c opened = quiet-moments _ _ _ c.in_ok-sync
 pub returns-then-branch-clause-kept : goal.returns-then-branch-clause-kept
 returns-then-branch-clause-kept g c opened = quiet-moments _ _ _ c.in_ok-sync.ensures.synced c.is_open.ensures.same
 
-pub returns-in_err-record-clause-kept : goal.returns-in_err-record-clause-kept
-returns-in_err-record-clause-kept g c opened = quiet-moments _ _ _ c.in_ok-sync.ensures.synced c.is_open.ensures.same
+pub returns-in_err-plan-clause-kept : goal.returns-in_err-plan-clause-kept
+returns-in_err-plan-clause-kept g c opened = quiet-moments _ _ _ c.in_ok-sync.ensures.synced c.is_open.ensures.same
 
 pub returns-in_err-write_journal-clause-kept : goal.returns-in_err-write_journal-clause-kept
 returns-in_err-write_journal-clause-kept g c opened =

@@ -5,7 +5,7 @@ use Rattle.iol_journal.specs.Checkpoints.{next_area, next_header}
 use Rattle.iol_journal.specs.Header.{header_octets}
 use Rattle.iol_journal.specs.Layout.{gate_at, header_at}
 use Rattle.iol_journal.specs.Orders.{Makes}
-use Rattle.iol_journal.proofs.CheckpointSteps.{gate-place, header-place, sector-inside, record-call}
+use Rattle.iol_journal.proofs.CheckpointSteps.{gate-place, header-place, found-there, sector-inside, record-call}
 use Rattle.iol_journal.proofs.Making.{makes_write, makes_sync}
 use Rattle.iol_journal.proofs.stage_calls.make_stage.Goals as goal
 
@@ -57,5 +57,6 @@ pub returns-in-SyncOpen : goal.returns-in-SyncOpen
 returns-in-SyncOpen g c = λ s is. let e = c.sync-in-SyncOpen.ensures in rw c.in-SyncOpen.is (makes_sync c.sync-in-SyncOpen.result _ _ e.synced e.same e.fault)
 
 pub write-requires-in-WriteRecord : goal.write-requires-in-WriteRecord
-write-requires-in-WriteRecord g c = sector-inside _ c.args.plan.now.records.items c.in-WriteRecord.i c.index.result.now c.requires.row
-    (rw c.in-WriteRecord.is at c.requires.in_stage) c.index.ensures
+write-requires-in-WriteRecord g c =
+    let below = rw c.in-WriteRecord.is at c.requires.in_stage in
+    sector-inside _ _ c.in-WriteRecord.i c.index.result.now c.requires.row (found-there c.args.plan.now.records.items c.in-WriteRecord.i c.index.result.now below c.index.ensures)
