@@ -14,6 +14,9 @@ pub mod StageCalls
 pub mod CheckpointSteps
 pub mod BatchCalls
 pub mod JournalLaws
+pub mod RunLaws
+pub mod StretchLaws
+pub mod RunSteps
 pub mod Steps
 pub mod Replays
 pub mod Readings

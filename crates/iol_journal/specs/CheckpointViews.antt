@@ -4,12 +4,15 @@ use Rattle.iol_disk.specs.Calls.{Call}
 use Rattle.iol_disk.specs.Disk.{Disk}
 use Rattle.iol_journal.specs.Checkpoints.{stage_calls, StageHolds}
 use Rattle.iol_journal.specs.Meaning.{Standing}
+use Rattle.iol_journal.specs.declared.history.History.{History}
 use Rattle.iol_journal.specs.declared.stage.Stage.{Stage}
 
--- a checkpoint on its way as contracts see it: the disk, how the journal stood before it, and its next disk call (own)
+-- a checkpoint on its way as contracts see it: the disk, how the journal stood before it and what it had
+-- done, and its next disk call (own)
 pub record CheckpointingView (D : Type 0) : Type 0 where
   pub disk : D
   pub standing : Standing
+  pub history : History
   pub stage : Stage
 
 -- the disk calls that a checkpoint on its way still makes (own)

@@ -6,6 +6,7 @@ use Rattle.iol_types.specs.declared.command.Command.{Command}
 use Rattle.iol_disk.specs.Disk.{Disk}
 use Rattle.iol_journal.specs.Layout.{total}
 use Rattle.iol_journal.specs.Meaning.{Standing}
+use Rattle.iol_journal.specs.declared.history.History.{History}
 use Rattle.iol_journal.specs.declared.place.Idle.{Idle}
 use Rattle.iol_journal.specs.declared.place.Place.{Place}
 use Rattle.iol_journal.specs.declared.phase.Phase.{Phase}
@@ -21,11 +22,13 @@ use Rattle.iol_disk.specs.declared.disk.TheConstants.{SECTOR_OCTETS}
 abbrev pub values : List Command → List CommandValue
 values commands = map value_of commands
 
--- a journal as contracts see it: its disk, how it stands, and how the other area is harmless (own)
+-- a journal as contracts see it: its disk, how it stands, how the other area is harmless, and what it has done since
+-- it was recovered (own)
 pub record JournalView (D : Type 0) : Type 0 where
   pub disk : D
   pub standing : Standing
   pub idle : Idle
+  pub history : History
 
 -- a batch on its way as contracts see it: the disk, how the journal stood before it, its commands and its next disk
 -- call (own)
@@ -33,6 +36,8 @@ pub record WritingView (D : Type 0) : Type 0 where
   pub disk : D
   pub standing : Standing
   pub idle : Idle
+  -- what the journal had done before the batch
+  pub history : History
   -- the commands of the batch, and the disk call that comes next
   pub commands : List CommandValue
   pub phase : Phase
@@ -62,6 +67,15 @@ with_batch s commands = record {
   number = s.number + length commands;
   state = after s.state commands;
 }
+
+-- the commands of a history lead from what recovery found to where the journal stands (own)
+pub record LeadsTo (s : Standing) (history : History) : Type 0 where
+  pub number : s.number ≡ history.first + length history.commands
+  pub state : s.state ≡ after history.start history.commands
+
+-- a history after more commands (own)
+abbrev pub written_behind : History → List CommandValue → History
+written_behind history commands = record history { commands = history.commands ++ commands }
 
 -- What holds of a journal at rest, on any disk (own)
 pub record IsResting (d : Disk) (s : Standing) : Type 0 where

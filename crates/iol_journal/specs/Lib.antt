@@ -9,7 +9,11 @@ pub mod AreaPlans
 pub mod Kept
 pub mod Batches
 pub mod Journals
+pub mod History
 pub mod Underway
+pub mod Runs
+pub mod Running
+pub mod Stretches
 pub mod Checkpoints
 pub mod Recovery
 pub mod Begin
@@ -17,6 +21,7 @@ pub mod Written
 pub mod CheckpointViews
 pub mod Progress
 pub mod Checkpointing
+pub mod CheckpointRuns
 pub mod Reading
 pub mod Formatting
 pub mod Erasing

@@ -1,6 +1,7 @@
 //! A checkpoint on its way to the other area.
 
 use crate::area_plan::AreaPlan;
+use crate::history::History;
 use crate::journal::Journal;
 use crate::place::{Idle, Place};
 use crate::stage::Stage;
@@ -19,6 +20,7 @@ pub struct Checkpointing<D: SectorDisk> {
     place: Place,
     number: u64,
     state: MasterState,
+    history: History,
     plan: AreaPlan,
     stage: Stage,
 }
@@ -27,14 +29,15 @@ impl<D: SectorDisk> Model for Checkpointing<D> {
     ghost use Rattle.iol_journal.specs.AreaPlans.{IsAreaPlan};
     ghost use Rattle.iol_journal.specs.Checkpoints.{IsDrafted, next_area, next_header};
     ghost use Rattle.iol_journal.specs.CheckpointViews.{CheckpointingView};
-    ghost use Rattle.iol_journal.specs.Journals.{standing_at};
+    ghost use Rattle.iol_journal.specs.Journals.{standing_at, LeadsTo};
 
     ghost Value = { CheckpointingView D };
 
-    ghost view = { λ c. record { disk = c.disk; standing = standing_at c.place c.number c.state; stage = c.stage } };
+    ghost view = { λ c. record { disk = c.disk; standing = standing_at c.place c.number c.state; history = c.history; stage = c.stage } };
 
     ghost invariant = { λ c. IsDrafted (D.disk c.disk) (standing_at c.place c.number c.state) c.stage
-        × IsAreaPlan c.place.layout (next_area (standing_at c.place c.number c.state)) (next_header (standing_at c.place c.number c.state)) c.state c.plan };
+        × IsAreaPlan c.place.layout (next_area (standing_at c.place c.number c.state)) (next_header (standing_at c.place c.number c.state)) c.state c.plan
+        × LeadsTo (standing_at c.place c.number c.state) c.history };
 }
 
 /// What a step of a checkpoint answers.
@@ -52,10 +55,12 @@ impl<D: SectorDisk> Checkpointing<D> {
     ghost use Rattle.iol_disk.specs.Moments.{LeavesOnly};
     ghost use Rattle.iol_journal.specs.AreaPlans.{IsAreaPlan};
     ghost use Rattle.iol_journal.specs.Checkpoints.{checkpointed, first_stage, next_area, next_header, IsDrafted};
-    ghost use Rattle.iol_journal.specs.Journals.{standing_at};
+    ghost use Rattle.iol_journal.specs.Journals.{standing_at, LeadsTo};
     ghost use Rattle.iol_journal.specs.CheckpointViews.{stages_left, IsCheckpointUnderway};
     ghost use Rattle.iol_journal.specs.Checkpointing.{checkpoint_disk, IfGoesOn, IfCheckpointed, CheckpointStepMakes};
+    ghost use Rattle.iol_journal.specs.CheckpointRuns.{IsRunCheckpointing, HasCheckpointed};
     ghost use Rattle.iol_journal.specs.Kept.{KeptMeans, EachMeans};
+    ghost use Rattle.iol_journal.specs.Runs.{Run};
     ghost use Rattle.iol_journal.specs.Underway.{IsAtRest};
     ghost use Rattle.iol_journal.specs.declared.place.Idle.TheVariants.{Older};
 
@@ -66,11 +71,13 @@ impl<D: SectorDisk> Checkpointing<D> {
         place: Place,
         number: u64,
         state: MasterState,
+        history: History,
         plan: AreaPlan,
     ) -> Checkpointing<D>
         requires drafted { IsDrafted (D.disk disk) (standing_at place number state) (first_stage place.idle) }
         requires plan { IsAreaPlan place.layout (next_area (standing_at place number state)) (next_header (standing_at place number state)) state plan }
-        ensures { result ≡ record { disk = disk; standing = standing_at place number state; stage = first_stage place.idle } }
+        requires history { LeadsTo (standing_at place number state) history }
+        ensures { result ≡ record { disk = disk; standing = standing_at place number state; history = history; stage = first_stage place.idle } }
     {
         let stage = Stage::first(place.idle);
         Checkpointing {
@@ -79,6 +86,7 @@ impl<D: SectorDisk> Checkpointing<D> {
             place,
             number,
             state,
+            history,
             plan,
             stage,
         }
@@ -94,6 +102,7 @@ impl<D: SectorDisk> Checkpointing<D> {
             place: _,
             number: _,
             state: _,
+            history: _,
             plan: _,
             stage: _,
         } = self;
@@ -107,9 +116,11 @@ impl<D: SectorDisk> Checkpointing<D> {
         ensures any_moment { IsCheckpointUnderway D.disk self → LeavesOnly (D.disk self.disk) (D.disk (checkpoint_disk result))
             (KeptMeans (D.disk self.disk).sectors self.standing.number self.standing.state) }
         ensures underway { IsCheckpointUnderway D.disk self → IfGoesOn result (λ c. IsCheckpointUnderway D.disk c) }
-        ensures more { IfGoesOn result (λ c. c.standing ≡ self.standing) }
+        // Each run of the journal goes on: each image since a moment of it has all that was acknowledged by then.
+        ensures run { (r : Run) → IsRunCheckpointing D.disk r self → HasCheckpointed D.disk r result }
+        ensures more { IfGoesOn result (λ c. (c.standing ≡ self.standing) × (c.history ≡ self.history)) }
         // The other area is in use, under the next epoch, with no slot used.
-        ensures done { IfCheckpointed result (λ journal. (journal.standing ≡ checkpointed self.standing) × (journal.idle ≡ Older)) }
+        ensures done { IfCheckpointed result (λ journal. (journal.standing ≡ checkpointed self.standing) × (journal.idle ≡ Older) × (journal.history ≡ self.history)) }
         ensures durable { IsCheckpointUnderway D.disk self → IfCheckpointed result (λ journal. IsAtRest (D.disk journal.disk) journal.standing journal.idle
             × EachMeans (D.disk journal.disk) journal.standing.number journal.standing.state) }
     {
@@ -119,6 +130,7 @@ impl<D: SectorDisk> Checkpointing<D> {
             place,
             number,
             state,
+            history,
             plan,
             stage,
         } = self;
@@ -132,6 +144,7 @@ impl<D: SectorDisk> Checkpointing<D> {
                 place,
                 number,
                 state,
+                history,
                 plan,
                 stage,
             }),
@@ -143,7 +156,9 @@ impl<D: SectorDisk> Checkpointing<D> {
                     used: 0,
                     idle: Idle::Older,
                 };
-                CheckpointProgress::Done(Journal::at_rest(alloc, disk, place, number, state))
+                CheckpointProgress::Done(Journal::at_rest(
+                    alloc, disk, place, number, state, history,
+                ))
             }
         }
     }

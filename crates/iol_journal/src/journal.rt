@@ -5,6 +5,7 @@ use crate::batch::{Batch, apply_all, is_too_large};
 use crate::body::body_of;
 use crate::checkpointing::Checkpointing;
 use crate::header::{Header, LAST_NUMBER};
+use crate::history::History;
 use crate::place::Place;
 use crate::writing::{Plan, Writing};
 use iol_disk::{SECTOR_OCTETS, SectorDisk};
@@ -21,16 +22,18 @@ pub struct Journal<D: SectorDisk> {
     place: Place,
     number: u64,
     state: MasterState,
+    history: History,
 }
 
 impl<D: SectorDisk> Model for Journal<D> {
-    ghost use Rattle.iol_journal.specs.Journals.{JournalView, IsResting, standing_at};
+    ghost use Rattle.iol_journal.specs.Journals.{JournalView, IsResting, LeadsTo, standing_at};
 
     ghost Value = { JournalView D };
 
-    ghost view = { λ j. record { disk = j.disk; standing = standing_at j.place j.number j.state; idle = j.place.idle } };
+    ghost view = { λ j. record { disk = j.disk; standing = standing_at j.place j.number j.state; idle = j.place.idle; history = j.history } };
 
-    ghost invariant = { λ j. IsResting (D.disk j.disk) (standing_at j.place j.number j.state) };
+    ghost invariant = { λ j. IsResting (D.disk j.disk) (standing_at j.place j.number j.state)
+        × LeadsTo (standing_at j.place j.number j.state) j.history };
 }
 
 /// Why a batch was not begun. The causes are judged in this order.
@@ -78,14 +81,18 @@ pub struct BeginFault<D: SectorDisk> {
 }
 
 impl<D: SectorDisk> Journal<D> {
-    ghost use Rattle.std.specs.Prelude.{◌≡◌, ◌≤◌, ◌<◌, ◌+◌, ◌*◌, nat_lt, false, length, None, IfOk, IfErr, OnOk};
+    ghost use Rattle.std.specs.Prelude.{◌≡◌, ◌≤◌, ◌<◌, ◌+◌, ◌*◌, ◌++◌, nat_lt, false, List, length, None, IfOk, IfErr, OnOk};
     ghost use Rattle.iol_journal.specs.AreaPlans.{AreRecords, IsAreaPlan};
     ghost use Rattle.iol_journal.specs.Checkpoints.{checkpoint_calls, first_stage, next_area, next_header};
     ghost use Rattle.iol_journal.specs.CheckpointViews.{stages_left, IsCheckpointUnderway};
     ghost use Rattle.iol_journal.specs.Begin.{batch_refusal, IsBatchRefusal};
     ghost use Rattle.iol_journal.specs.Underway.{IsAtRest, IsUnderway};
     ghost use Rattle.iol_journal.specs.Batches.{batch_calls};
-    ghost use Rattle.iol_journal.specs.Journals.{standing_at, values, calls_left, IsPlan, IsPlanned, IsResting};
+    ghost use Rattle.iol_journal.specs.Runs.{Run, with_batch_begun};
+    ghost use Rattle.iol_journal.specs.Running.{IsRunAtRest, IsRunWriting};
+    ghost use Rattle.iol_journal.specs.CheckpointRuns.{IsRunCheckpointing};
+    ghost use Rattle.iol_types.specs.Command.{CommandValue};
+    ghost use Rattle.iol_journal.specs.Journals.{standing_at, values, calls_left, IsPlan, IsPlanned, IsResting, LeadsTo};
     ghost use Rattle.iol_journal.specs.declared.header.TheConstants.{LAST_NUMBER};
     ghost use Rattle.iol_journal.specs.declared.phase.Phase.TheVariants.{Body};
 
@@ -96,11 +103,14 @@ impl<D: SectorDisk> Journal<D> {
         place: Place,
         number: u64,
         state: MasterState,
+        history: History,
     ) -> Journal<D>
-        requires { IsResting (D.disk disk) (standing_at place number state) }
+        requires resting { IsResting (D.disk disk) (standing_at place number state) }
+        requires history { LeadsTo (standing_at place number state) history }
         ensures disk { result.disk ≡ disk }
         ensures standing { result.standing ≡ standing_at place number state }
         ensures idle { result.idle ≡ place.idle }
+        ensures history { result.history ≡ history }
     {
         Journal {
             alloc,
@@ -108,6 +118,7 @@ impl<D: SectorDisk> Journal<D> {
             place,
             number,
             state,
+            history,
         }
     }
 
@@ -137,6 +148,7 @@ impl<D: SectorDisk> Journal<D> {
             place: _,
             number: _,
             state: _,
+            history: _,
         } = self;
         disk
     }
@@ -146,13 +158,16 @@ impl<D: SectorDisk> Journal<D> {
     /// # Errors
     /// `TooLarge`, `NeedsCheckpoint`, `Memory` or `Misfit`, in this order; journal and batch are handed back.
     pub fn begin(self, batch: Batch) -> Result<Writing<D>, BeginFault<D>>
-        ensures begun { IfOk result (λ w. (w.disk ≡ self.disk) × (w.standing ≡ self.standing) × (w.idle ≡ self.idle)
+        ensures begun { IfOk result (λ w. (w.disk ≡ self.disk) × (w.standing ≡ self.standing) × (w.idle ≡ self.idle) × (w.history ≡ self.history)
             × (w.commands ≡ values batch.commands.items) × (w.phase ≡ Body 0)) }
         // Its steps make these disk calls, 19 at most.
         ensures calls { IfOk result (λ w. calls_left w ≡ batch_calls self.standing (values batch.commands.items)) }
         ensures at_most { IfOk result (λ w. length (calls_left w) ≤ 19) }
         // It changes no meaning.
         ensures underway { IsAtRest (D.disk self.disk) self.standing self.idle → IfOk result (λ w. IsUnderway D.disk w) }
+        // Each run of the journal goes on as one whose first queued commands are underway.
+        ensures run { IfOk result (λ w. (r : Run) (behind : List CommandValue) → r.queued ≡ values batch.commands.items ++ behind
+            → IsRunAtRest D.disk r self → IsRunWriting D.disk (with_batch_begun r (values batch.commands.items) behind) w) }
         ensures follows { OnOk result (batch_refusal self.standing batch.first (values batch.commands.items) ≡ None) }
         ensures cause { IfErr result (λ fault. IsBatchRefusal self.standing batch.first (values batch.commands.items) fault.cause) }
         ensures back { IfErr result (λ fault. (fault.journal ≡ self) × (fault.batch ≡ batch)) }
@@ -165,8 +180,9 @@ impl<D: SectorDisk> Journal<D> {
                     place,
                     number,
                     state,
+                    history,
                 } = self;
-                Ok(Writing::begun(alloc, disk, place, number, state, batch, plan))
+                Ok(Writing::begun(alloc, disk, place, number, state, history, batch, plan))
             }
             Err(cause) => Err(BeginFault {
                 cause,
@@ -215,12 +231,14 @@ impl<D: SectorDisk> Journal<D> {
     /// Out of memory; the journal is handed back.
     pub fn checkpoint(self) -> Result<Checkpointing<D>, CheckpointFault<D>>
         requires { 0 < self.standing.used }
-        ensures begun { IfOk result (λ c. (c.disk ≡ self.disk) × (c.standing ≡ self.standing) × (c.stage ≡ first_stage self.idle)) }
+        ensures begun { IfOk result (λ c. (c.disk ≡ self.disk) × (c.standing ≡ self.standing) × (c.stage ≡ first_stage self.idle) × (c.history ≡ self.history)) }
         // Its steps make these disk calls: one for each slot, nine for each port, and nine more, at most.
         ensures calls { IfOk result (λ c. stages_left c ≡ checkpoint_calls self.standing self.idle) }
         ensures at_most { IfOk result (λ c. length (stages_left c) ≤ self.standing.layout.slots + 9 * self.standing.layout.ports + 9) }
         // It changes no meaning.
         ensures underway { IsAtRest (D.disk self.disk) self.standing self.idle → IfOk result (λ c. IsCheckpointUnderway D.disk c) }
+        // Each run of the journal goes on.
+        ensures run { IfOk result (λ c. (r : Run) → IsRunAtRest D.disk r self → IsRunCheckpointing D.disk r c) }
         ensures back { IfErr result (λ fault. fault.journal ≡ self) }
     {
         match self.plan_area() {
@@ -231,8 +249,9 @@ impl<D: SectorDisk> Journal<D> {
                     place,
                     number,
                     state,
+                    history,
                 } = self;
-                Ok(Checkpointing::begun(alloc, disk, place, number, state, plan))
+                Ok(Checkpointing::begun(alloc, disk, place, number, state, history, plan))
             }
             Err(cause) => Err(CheckpointFault {
                 cause,

@@ -1,7 +1,7 @@
 //! A journal is found on a disk.
 
 ghost use Rattle.std.specs.Prelude.{◌≡◌, ◌≤◌, Err, IsTrue, IfOk, OnOk};
-ghost use Rattle.iol_disk.specs.Content.{Image, IsImage};
+ghost use Rattle.iol_disk.specs.Content.{Image, IsImage, clock};
 ghost use Rattle.iol_disk.specs.Moments.{LeavesOnly};
 ghost use Rattle.iol_journal.specs.Journals.{standing_at, IsResting};
 ghost use Rattle.iol_journal.specs.Meaning.{standing_in};
@@ -9,6 +9,7 @@ ghost use Rattle.iol_journal.specs.Reading.{Shows, Finds};
 ghost use Rattle.iol_journal.specs.Recovery.{HasChosen, MakesRecovery, idle_in};
 
 use crate::cause::RecoverCause;
+use crate::history::History;
 use crate::journal::Journal;
 use crate::opening::{find_areas, find_layout};
 use crate::place::{Idle, Place};
@@ -35,12 +36,14 @@ struct Found {
 }
 
 impl<D: SectorDisk> Journal<D> {
-    ghost use Rattle.std.specs.Prelude.{◌≡◌, ℕ, Ok, IsTrue, IfOk, IfErr};
+    ghost use Rattle.std.specs.Prelude.{◌≡◌, ℕ, [], Ok, IsTrue, IfOk, IfErr};
     ghost use Rattle.iol_types.specs.State.{State};
     ghost use Rattle.iol_journal.specs.Kept.{IsKept, EachMeans};
     ghost use Rattle.iol_journal.specs.Underway.{IsAtRest};
     ghost use Rattle.iol_journal.specs.Reading.{SaysWhy};
     ghost use Rattle.iol_journal.specs.Recovery.{recovered_disk, cause_of};
+    ghost use Rattle.iol_journal.specs.Runs.{Run, IsRun, begun};
+    ghost use Rattle.iol_journal.specs.Running.{IsRunAtRest};
 
     /// Finds the journal that a disk holds, and the state after its commands. It begins with a sync, and writes nothing.
     ///
@@ -63,13 +66,27 @@ impl<D: SectorDisk> Journal<D> {
         ensures means { IfOk result (λ found. (number : ℕ) (state : State) → IsTrue (D.disk disk).honest → EachMeans (D.disk disk) number state
             → (found.0.standing.number ≡ number) × (found.0.standing.state ≡ state)
             × IsAtRest (D.disk found.0.disk) found.0.standing found.0.idle × EachMeans (D.disk found.0.disk) number state) }
+        ensures history { IfOk result (λ found. found.0.history ≡ record { first = found.0.standing.number; start = found.1; commands = [] }) }
         // No image is added.
         ensures any_moment { LeavesOnly (D.disk disk) (D.disk (recovered_disk result)) (IsImage (D.disk disk).content) }
+        // Each run on the disk stays one.
+        ensures run { (r : Run) → IsRun (D.disk disk) r → IsRun (D.disk (recovered_disk result)) r }
+        // On a kept image a run begins, with what is found.
+        ensures begins { IfOk result (λ found. Shows (D.disk disk) (IsKept (D.disk disk).sectors)
+            → IsRunAtRest D.disk (begun (clock (D.disk found.0.disk).content) found.0.standing.number found.0.standing.state) found.0) }
     {
         let mut disk = disk;
         match find(alloc, &mut disk) {
             Ok(found) => {
-                let journal = Journal::at_rest(alloc, disk, found.place, found.number, found.state);
+                let history = History::begun(found.number, &found.copy);
+                let journal = Journal::at_rest(
+                    alloc,
+                    disk,
+                    found.place,
+                    found.number,
+                    found.state,
+                    history,
+                );
                 Ok((journal, found.copy))
             }
             Err(cause) => Err(RecoverFault { cause, disk }),

@@ -1,4 +1,6 @@
 mod batches;
+mod checkpoints;
+mod erasing;
 mod failing;
 mod faults;
 mod growths;

@@ -2,6 +2,7 @@
 
 use crate::batch::Batch;
 use crate::calls::make;
+use crate::history::History;
 use crate::journal::Journal;
 use crate::phase::Phase;
 use crate::place::Place;
@@ -27,6 +28,7 @@ pub struct Writing<D: SectorDisk> {
     place: Place,
     number: u64,
     state: MasterState,
+    history: History,
     batch: Batch,
     plan: Plan,
     phase: Phase,
@@ -39,19 +41,20 @@ impl<D: SectorDisk> Model for Writing<D> {
 
     ghost Value = { WritingView D };
 
-    ghost use Rattle.iol_journal.specs.Journals.{standing_at, values, IsPlan};
+    ghost use Rattle.iol_journal.specs.Journals.{standing_at, values, IsPlan, LeadsTo};
 
     ghost view = { λ w. record {
       disk = w.disk;
       standing = standing_at w.place w.number w.state;
       idle = w.place.idle;
+      history = w.history;
       commands = values w.batch.commands.items;
       phase = w.phase;
     } };
 
     ghost invariant = { λ w. IsPlanned (D.disk w.disk) (standing_at w.place w.number w.state) (values w.batch.commands.items) w.phase
         × IsPlan (standing_at w.place w.number w.state) (values w.batch.commands.items) w.plan
-        × (w.batch.first ≡ w.number + 1) };
+        × (w.batch.first ≡ w.number + 1) × LeadsTo (standing_at w.place w.number w.state) w.history };
 }
 
 /// Evidence that a batch is durable: every image of the disk has it. Only [`step`](Writing::step) makes one, and it
@@ -99,8 +102,10 @@ impl<D: SectorDisk> Writing<D> {
     ghost use Rattle.iol_disk.specs.Moments.{LeavesOnly};
     ghost use Rattle.iol_journal.specs.Kept.{KeptEither, EachMeans};
     ghost use Rattle.iol_journal.specs.Underway.{IsAtRest, IsUnderway};
-    ghost use Rattle.iol_journal.specs.Journals.{IsPlan, IsPlanned, calls_left, standing_at, with_batch, values};
+    ghost use Rattle.iol_journal.specs.Journals.{IsPlan, IsPlanned, calls_left, standing_at, with_batch, values, LeadsTo, written_behind};
     ghost use Rattle.iol_journal.specs.Progress.{stepped_disk, IfMore, IfDone, StepMakes};
+    ghost use Rattle.iol_journal.specs.Runs.{Run};
+    ghost use Rattle.iol_journal.specs.Running.{IsRunWriting, HasStepped};
     ghost use Rattle.iol_journal.specs.declared.phase.Phase.TheVariants.{Body};
 
     // A batch before its first step.
@@ -110,16 +115,19 @@ impl<D: SectorDisk> Writing<D> {
         place: Place,
         number: u64,
         state: MasterState,
+        history: History,
         batch: Batch,
         plan: Plan,
     ) -> Writing<D>
         requires planned { IsPlanned (D.disk disk) (standing_at place number state) (values batch.commands.items) (Body 0) }
         requires plan { IsPlan (standing_at place number state) (values batch.commands.items) plan }
         requires first { batch.first ≡ number + 1 }
+        requires history { LeadsTo (standing_at place number state) history }
         ensures { result ≡ record {
           disk = disk;
           standing = standing_at place number state;
           idle = place.idle;
+          history = history;
           commands = values batch.commands.items;
           phase = Body 0;
         } }
@@ -130,6 +138,7 @@ impl<D: SectorDisk> Writing<D> {
             place,
             number,
             state,
+            history,
             batch,
             plan,
             phase: Phase::Body(0),
@@ -146,6 +155,7 @@ impl<D: SectorDisk> Writing<D> {
             place: _,
             number: _,
             state: _,
+            history: _,
             batch: _,
             plan: _,
             phase: _,
@@ -163,9 +173,12 @@ impl<D: SectorDisk> Writing<D> {
         // Every image has the batch.
         ensures durable { IsUnderway D.disk self → IfDone result (λ journal _. IsAtRest (D.disk journal.disk) journal.standing journal.idle
             × EachMeans (D.disk journal.disk) journal.standing.number journal.standing.state) }
-        ensures more { IfMore result (λ w. (w.standing ≡ self.standing) × (w.idle ≡ self.idle) × (w.commands ≡ self.commands)) }
+        // Each run whose batch this is goes on: each image since a moment of it has all that was acknowledged by then.
+        ensures run { (r : Run) → IsRunWriting D.disk r self → HasStepped D.disk r result }
+        ensures more { IfMore result (λ w. (w.standing ≡ self.standing) × (w.idle ≡ self.idle) × (w.history ≡ self.history) × (w.commands ≡ self.commands)) }
         // The batch is behind those before it.
         ensures done { IfDone result (λ journal written. (journal.standing ≡ with_batch self.standing self.commands) × (journal.idle ≡ self.idle)
+            × (journal.history ≡ written_behind self.history self.commands)
             × (written.first ≡ self.standing.number + 1) × (written.commands ≡ self.commands)) }
     {
         let Writing {
@@ -174,6 +187,7 @@ impl<D: SectorDisk> Writing<D> {
             place,
             number,
             state,
+            history,
             batch,
             plan,
             phase,
@@ -188,6 +202,7 @@ impl<D: SectorDisk> Writing<D> {
                 place,
                 number,
                 state,
+                history,
                 batch,
                 plan,
                 phase,
@@ -198,7 +213,8 @@ impl<D: SectorDisk> Writing<D> {
                     ..place
                 };
                 let number = number + batch.commands.len() as u64;
-                let journal = Journal::at_rest(alloc, disk, place, number, plan.next);
+                let history = history.with_batch(&batch);
+                let journal = Journal::at_rest(alloc, disk, place, number, plan.next, history);
                 Progress::Done(journal, Written { batch })
             }
         }

@@ -1,12 +1,14 @@
-use Rattle.std.proofs.Common.{◌≡◌, [], length, Some, None, sym, ◌∙◌, ap, subst, arith}
+use Rattle.std.proofs.Common.{◌≡◌, [], length, Some, None, refl, sym, ◌∙◌, ap, subst, arith}
 use Rattle.iol_journal.specs.Checkpoints.{checkpointed, next_stage, snapshot_writes, stage_calls}
 use Rattle.iol_journal.specs.CheckpointViews.{CheckpointingView, IsCheckpointUnderway, stages_left}
 use Rattle.iol_journal.specs.Journals.{standing_at}
+use Rattle.iol_journal.specs.Meaning.{Standing}
 use Rattle.iol_journal.specs.Progress.{MakesFirst, FailsFirst}
 use Rattle.iol_journal.specs.Underway.{IsAtRest}
 use Rattle.iol_journal.specs.declared.place.Idle.TheVariants.{Older}
 use Rattle.iol_journal.proofs.CheckpointSteps.{plan-row, next_is, moment_of, underway, durable, drafted_next, resting, makes_first, makes_last, fails_first}
 use Rattle.iol_journal.proofs.Phases.{rest_means}
+use Rattle.iol_journal.proofs.RunSteps.{run_of_same_meaning}
 use Rattle.iol_journal.proofs.checkpointing.Checkpointing.step.Given
 use Rattle.iol_journal.proofs.checkpointing.Checkpointing.step.Goals as goal
 
@@ -62,10 +64,10 @@ pub invariant_of-result : goal.invariant_of-result
 invariant_of-result g c =
     let w = c.self.inside in
     let s = standing_at w.place w.number w.state in
-    (drafted_next s w.stage _ _ c.self.invariant.0 c.in-Some.stage (next_told g c) (c.in_default.ensures s c.self.invariant.1), c.self.invariant.1)
+    (drafted_next s w.stage _ _ c.self.invariant.0 c.in-Some.stage (next_told g c) (c.in_default.ensures s c.self.invariant.1), c.self.invariant.1, c.self.invariant.2)
 
-pub at_rest-requires : goal.at_rest-requires
-at_rest-requires g c =
+pub at_rest-requires-clause-resting : goal.at_rest-requires-clause-resting
+at_rest-requires-clause-resting g c =
     let w = c.self.inside in
     let s = standing_at w.place w.number w.state in
     rw c.other.ensures (resting s w.stage _ _ c.self.invariant.0 (c.in_default.ensures s c.self.invariant.1))
@@ -94,6 +96,11 @@ returns-in-None-clause-any_moment g c =
     rw c.at_rest.ensures.disk
     (moment_of g.D.SectorDisk.disk c.make_stage.new.disk c.make_stage.result c.self.view_is c.self.invariant.0 (c.make_stage.ensures (standing_at w.place w.number w.state) c.self.invariant.1))
 
+-- the journal behind the last call stands in the other area
+standing_after : (g : Given.Over) (c : goal.After-drop-plan-in-None-1 g)
+    → c.at_rest.result.standing ≡ checkpointed (standing_at c.self.inside.place c.self.inside.number c.self.inside.state)
+standing_after g c = rw c.other.ensures at c.at_rest.ensures.standing
+
 pub returns-in-None-clause-durable : goal.returns-in-None-clause-durable
 returns-in-None-clause-durable g c u =
     let d = g.D.SectorDisk.disk in
@@ -101,5 +108,31 @@ returns-in-None-clause-durable g c u =
     let s = standing_at w.place w.number w.state in
     let under = subst (λ (v : CheckpointingView g.row.D.Denot). IsCheckpointUnderway d v) (sym c.self.view_is) u in
     let rests : IsAtRest (d c.make_stage.new.disk) (checkpointed s) Older = durable s w.stage _ _ c.self.invariant.0 (none_told g c) (c.in_default.ensures s c.self.invariant.1) under in
-    let standing : c.at_rest.result.standing ≡ checkpointed s = rw c.other.ensures at c.at_rest.ensures.standing in
-    rest_means _ _ _ _ _ _ (ap d c.at_rest.ensures.disk) standing c.at_rest.ensures.idle rests
+    rest_means _ _ _ _ _ _ (ap d c.at_rest.ensures.disk) (standing_after g c) c.at_rest.ensures.idle rests
+
+pub returns-in-Err-clause-run : goal.returns-in-Err-clause-run
+returns-in-Err-clause-run g c r run =
+    let d = g.D.SectorDisk.disk in
+    let s = c.args.self.standing in
+    (run_of_same_meaning (d c.args.self.disk) (d c.make_stage.new.disk) s s r refl refl (returns-in-Err-clause-any_moment g c run.0) run.1).0
+
+pub returns-in-Some-clause-run : goal.returns-in-Some-clause-run
+returns-in-Some-clause-run g c r run =
+    let d = g.D.SectorDisk.disk in
+    let w = c.self.inside in (
+      returns-in-Some-clause-underway g c run.0,
+      run_of_same_meaning (d c.args.self.disk) (d c.make_stage.new.disk) c.args.self.standing (standing_at w.place w.number w.state) r
+          (ap (λ (v : CheckpointingView g.row.D.Denot). v.standing.number) c.self.view_is) (ap (λ (v : CheckpointingView g.row.D.Denot). v.standing.state) c.self.view_is)
+          (returns-in-Some-clause-any_moment g c run.0) run.1,
+      run.2,
+    )
+
+pub returns-in-None-clause-run : goal.returns-in-None-clause-run
+returns-in-None-clause-run g c r run =
+    let d = g.D.SectorDisk.disk in
+    let standing = standing_after g c ∙ ap (λ (v : CheckpointingView g.row.D.Denot). checkpointed v.standing) c.self.view_is in (
+      (returns-in-None-clause-durable g c run.0).0,
+      run_of_same_meaning (d c.args.self.disk) (d c.at_rest.result.disk) c.args.self.standing c.at_rest.result.standing r
+          (ap (λ (t : Standing). t.number) standing) (ap (λ (t : Standing). t.state) standing) (returns-in-None-clause-any_moment g c run.0) run.1,
+      run.2,
+    )

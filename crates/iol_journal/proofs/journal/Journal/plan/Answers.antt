@@ -50,7 +50,7 @@ returns-then-branch-clause-planned g c =
     let body = c.in_ok-body.ensures in
     let whole = subst (λ (b : List ℕ). length b ≡ 512 * sectors_reached (length b)) (spelled g c) body.whole in
     let planned : IsPlanned (g.D.SectorDisk.disk j.disk) s commands (Body 0) = record {
-      fits = c.self.invariant.fits;
+      fits = c.self.invariant.0.fits;
       room = omega arith;
       whole = whole;
       short = subst (λ (b : List ℕ). sectors_reached (length b) ≤ 16) (spelled g c) body.short.1;
@@ -60,8 +60,8 @@ returns-then-branch-clause-planned g c =
       passes = passes g c;
       some = omega (arith, count);
       bound = omega (arith, count);
-      begun = c.self.invariant.begun;
-      count = c.self.invariant.count;
+      begun = c.self.invariant.0.begun;
+      count = c.self.invariant.0.count;
     } in
     let made : Plan = record { body = c.in_ok-body.body; sectors = c.len-sectors.result / 512; next = c.apply_all.new.state } in
     let plan : IsPlan s commands made = record {

@@ -6,7 +6,9 @@ use Rattle.iol_journal.specs.Underway.{IsAtRest, IsUnderway}
 use Rattle.iol_journal.specs.Journals.{WritingView, IsResting, standing_at, with_batch, values, calls_left}
 use Rattle.iol_journal.specs.Progress.{MakesFirst, FailsFirst}
 use Rattle.iol_journal.proofs.Phases.{rest_means, standing_behind}
+use Rattle.iol_journal.proofs.RunSteps.{run_of_call, run_of_written}
 use Rattle.iol_journal.proofs.Steps.{moment_of, underway, durable, makes_first, makes_last, fails_first, planned_next, resting_behind}
+use Rattle.iol_journal.proofs.writing.Writing.step.Given
 use Rattle.iol_journal.proofs.writing.Writing.step.Goals as goal
 
 pub returns-in-Err-clause-call : goal.returns-in-Err-clause-call
@@ -53,10 +55,11 @@ invariant_of-result g c =
       planned_next _ w.place.idle _ _ _ _ _ _ c.self.invariant.0 plan.body plan.sectors c.in-Some.phase (sym c.in-Some.is ∙ c.next.ensures) (c.in_default.ensures.makes w.number w.state),
       plan,
       c.self.invariant.2,
+      c.self.invariant.3,
     )
 
-pub at_rest-journal-requires : goal.at_rest-journal-requires
-at_rest-journal-requires g c =
+pub at_rest-journal-requires-clause-resting : goal.at_rest-journal-requires-clause-resting
+at_rest-journal-requires-clause-resting g c =
     let w = c.self.inside in
     let s = standing_at w.place w.number w.state in
     let commands = values w.batch.commands.items in
@@ -79,6 +82,14 @@ returns-in-None-clause-any_moment g c =
     rw c.at_rest-journal.ensures.disk
     (moment_of g.D.SectorDisk.disk c.make.new.disk c.make.result c.self.view_is c.self.invariant.0 c.self.invariant.1 (c.make.ensures.makes w.number w.state))
 
+-- the journal behind the last call stands behind the batch
+standing_after : (g : Given.Over) (c : goal.After-drop-state-inside-in-None-1 g)
+    → c.at_rest-journal.result.standing ≡ with_batch (standing_at c.self.inside.place c.self.inside.number c.self.inside.state) (values c.self.inside.batch.commands.items)
+standing_after g c =
+    let w = c.self.inside in
+    c.at_rest-journal.ensures.standing
+    ∙ standing_behind w.place w.number _ w.state w.plan.next (values w.batch.commands.items) (omega (arith, c.len.ensures, length-map w.batch.commands.items value_of)) c.self.invariant.1.next
+
 pub returns-in-None-clause-durable : goal.returns-in-None-clause-durable
 returns-in-None-clause-durable g c u =
     let d = g.D.SectorDisk.disk in
@@ -87,6 +98,24 @@ returns-in-None-clause-durable g c u =
     let under = subst (λ (v : WritingView g.row.D.Denot). IsUnderway d v) (sym c.self.view_is) u in
     let rests : IsAtRest (d c.make.new.disk) (with_batch (standing_at w.place w.number w.state) (values w.batch.commands.items)) w.place.idle =
     durable _ w.place.idle _ _ _ _ _ _ c.self.invariant.0 plan.body plan.sectors (sym c.in-None.is ∙ c.next.ensures) (c.in_default.ensures.makes w.number w.state) under in
-    let standing : c.at_rest-journal.result.standing ≡ with_batch (standing_at w.place w.number w.state) (values w.batch.commands.items) =
-    c.at_rest-journal.ensures.standing ∙ standing_behind w.place w.number _ w.state w.plan.next (values w.batch.commands.items) (omega (arith, c.len.ensures, length-map w.batch.commands.items value_of)) plan.next in
-    rest_means _ _ _ _ _ _ (ap d c.at_rest-journal.ensures.disk) standing c.at_rest-journal.ensures.idle rests
+    rest_means _ _ _ _ _ _ (ap d c.at_rest-journal.ensures.disk) (standing_after g c) c.at_rest-journal.ensures.idle rests
+
+pub returns-in-Err-clause-run : goal.returns-in-Err-clause-run
+returns-in-Err-clause-run g c r writing = run_of_call g.D.SectorDisk.disk c.args.self c.make.new.disk (returns-in-Err-clause-any_moment g c writing.0) writing
+
+pub returns-in-Some-clause-run : goal.returns-in-Some-clause-run
+returns-in-Some-clause-run g c r writing = (
+  returns-in-Some-clause-underway g c writing.0,
+  (
+    run_of_call g.D.SectorDisk.disk c.args.self c.make.new.disk (returns-in-Some-clause-any_moment g c writing.0) writing,
+    ap (λ (v : WritingView g.row.D.Denot). v.standing.number) c.self.view_is ∙ writing.1.1,
+    ap (λ (v : WritingView g.row.D.Denot). v.standing.state) c.self.view_is ∙ writing.1.2,
+  ),
+  writing.2 ∙ sym (ap (λ (v : WritingView g.row.D.Denot). v.commands) c.self.view_is),
+)
+
+pub returns-in-None-clause-run : goal.returns-in-None-clause-run
+returns-in-None-clause-run g c r writing =
+    run_of_written g.D.SectorDisk.disk c.args.self c.at_rest-journal.result (returns-in-None-clause-durable g c writing.0).0
+    (standing_after g c ∙ ap (λ (v : WritingView g.row.D.Denot). with_batch v.standing v.commands) c.self.view_is)
+    (returns-in-None-clause-any_moment g c writing.0) writing

@@ -1,0 +1,58 @@
+//! What a journal has done since it was recovered, as a value without octets.
+
+ghost use Rattle.std.specs.Prelude.{◌≡◌, ℕ, List, []};
+ghost use Rattle.std.specs.Borrow.{ftrue};
+ghost use Rattle.iol_types.specs.Command.{CommandValue};
+ghost use Rattle.iol_types.specs.State.{State};
+
+use crate::batch::Batch;
+use iol_types::MasterState;
+use std::marker::Model;
+
+/// What a journal has done since it was recovered: the number and the state that were found, and the commands that
+/// were written since. It has no octets: contracts alone see it.
+#[derive(Drop)]
+pub struct History {
+    pub ghost first: { ℕ },
+    pub ghost start: { State },
+    pub ghost commands: { List CommandValue },
+}
+
+impl Model for History {
+    ghost also_owns = { λ _. ftrue };
+}
+
+// What a history is read off.
+#[derive(Clone, Copy, Drop)]
+enum Source<'a> {
+    // the number and the state that recovery found
+    Begun(u64, &'a MasterState),
+    // the history so far, and a batch that is written behind it
+    Continued(&'a History, &'a Batch),
+}
+
+impl History {
+    ghost use Rattle.iol_journal.specs.History.{history_of};
+    ghost use Rattle.iol_journal.specs.Journals.{values, written_behind};
+
+    // Recovery found this number and state, and nothing is written since.
+    pub(crate) fn begun(number: u64, state: &MasterState) -> History
+        ensures { result ≡ record { first = number; start = state.now; commands = [] } }
+    {
+        History::read_off(&Source::Begun(number, state))
+    }
+
+    // One batch more is written.
+    pub(crate) fn with_batch(&self, batch: &Batch) -> History
+        ensures { result ≡ written_behind self.now (values batch.now.commands.items) }
+    {
+        History::read_off(&Source::Continued(self, batch))
+    }
+
+    // Proved by hand, as no code can set what contracts alone see.
+    fn read_off(_source: &Source<'_>) -> History
+        ensures { result ≡ history_of _source.now }
+    {
+        History {}
+    }
+}
