@@ -1,15 +1,19 @@
 //! A journal of commands on a sector disk, which a power stop at any moment leaves readable.
 //!
 //! In come a disk and commands; out go a master's state after them, and the promise that a batch is durable once
-//! its last step is done. [`format`] makes an empty journal of a [`Geometry`]; [`Journal::recover`] finds the
-//! journal on a disk, and the state; [`Journal::begin`] takes a [`Batch`], which [`Writing::step`] writes one
-//! disk call at a time. Each of these owns its disk, and hands it back.
+//! its last step is done. [`format`] makes an empty journal of a [`Geometry`], and [`erase`] makes a disk unformatted;
+//! [`Journal::recover`] finds the journal on a disk, and the state; [`Journal::begin`] takes a [`Batch`], which
+//! [`Writing::step`] writes one disk call at a time; where no slot is free, [`Journal::checkpoint`] and
+//! [`Checkpointing::step`] write the state into the other area, which frees all. Each of these owns its disk, and hands
+//! it back.
 //!
 //! Modules in reading order: where things stand (`area`, `geometry`, `layout`, `header`, `place`), what stands there
-//! (`numbers`, `batch`, `body`), reading it (`cause`, `reading`, `opening`, `snapshot`, `replay`, `recovery`), and
-//! writing it (`formatting`, `journal`, `phase`, `calls`, `writing`); then `laws`, for proofs of other crates, and
-//! `examples`, facts with values of the layout. What an image of a disk means is said in `specs/Meaning.antt`. [`Area`],
-//! [`Head`], [`Header`], [`Idle`], [`InUse`] and [`Phase`] are what contracts show of a journal.
+//! (`numbers`, `batch`, `body`, `records`, `area_plan`), reading it (`cause`, `reading`, `opening`, `snapshot`, `replay`,
+//! `recovery`), and writing it (`formatting`, `erasing`, `history`, `journal`, `phase`, `calls`, `writing`, `stage`,
+//! `stage_calls`, `checkpointing`); then `laws` and `runs`, for proofs of other crates, and `examples`, facts with values
+//! of the layout. What an image of a disk means is said in `specs/Meaning.antt`, what a run of batches and checkpoints
+//! keeps in `specs/Runs.antt`. [`Area`], [`Head`], [`Header`], [`History`], [`Idle`], [`InUse`], [`Phase`] and [`Stage`]
+//! are what contracts show of a journal.
 #![tactic(auto)]
 
 mod area;

@@ -2,8 +2,12 @@
 //!
 //! By itself the run meets no refusal. With `rt try --test --fail-alloc N` it meets one, at the Nth growth.
 
+use super::checkpoints::{checkpoint_of, steps};
 use super::{begun, configure, recovered, stepped, two_ports_four_slots};
-use crate::{Batch, BeginCause, FormatFault, Journal, Progress, RecoverCause, Writing, format};
+use crate::{
+    Batch, BeginCause, CheckpointProgress, FormatFault, Journal, Progress, RecoverCause, Writing,
+    format,
+};
 use iol_disk::{DiskFault, MemoryDisk};
 use std::alloc::Global;
 use std::test::Fail;
@@ -78,8 +82,47 @@ fn written(alloc: Global, writing: Writing<MemoryDisk>) -> Result<Journal<Memory
     }
 }
 
+// The journal with a free slot. A checkpoint whose sync found no memory left the journal as it was, or is done.
+fn with_free_slot(
+    alloc: Global,
+    journal: Journal<MemoryDisk>,
+) -> Result<Journal<MemoryDisk>, Fail> {
+    if journal.has_free_slot() {
+        return Ok(journal);
+    }
+    let checkpointing = match journal.checkpoint() {
+        Ok(checkpointing) => checkpointing,
+        Err(fault) => checkpoint_of(fault.journal)?,
+    };
+    match steps(checkpointing, 64) {
+        CheckpointProgress::Done(journal) => Ok(journal),
+        CheckpointProgress::Failed(disk, DiskFault::Sync) => recovered_twice(alloc, disk),
+        CheckpointProgress::Failed(_, fault) => Err(Fail::from(fault)),
+        CheckpointProgress::More(_) => Err(Fail::new("the checkpoint is not done")),
+    }
+}
+
 #[test]
-fn a_refused_growth_is_answered_and_loses_nothing(rt: HostRuntime) -> Result<(), Fail> {
+fn a_refused_growth_of_a_checkpoint_is_answered_and_loses_nothing(
+    rt: HostRuntime,
+) -> Result<(), Fail> {
+    let mut journal = recovered_twice(rt.alloc(), formatted_twice(rt.alloc())?)?;
+    for _ in 0..8 {
+        if journal.number() < 6 {
+            journal = with_free_slot(rt.alloc(), journal)?;
+        }
+        if journal.number() < 6 && journal.has_free_slot() {
+            let batch = next_batch(rt.alloc(), &journal)?;
+            journal = written(rt.alloc(), begun_twice(journal, batch)?)?;
+        }
+    }
+    let journal = recovered_twice(rt.alloc(), journal.disk())?;
+    assert_eq!(rt; journal.number(), 6);
+    Ok(())
+}
+
+#[test]
+fn a_refused_growth_is_is_answered_and_loses_nothing(rt: HostRuntime) -> Result<(), Fail> {
     let mut journal = recovered_twice(rt.alloc(), formatted_twice(rt.alloc())?)?;
     assert_eq!(rt; journal.number(), 0);
     let mut before = 0;
