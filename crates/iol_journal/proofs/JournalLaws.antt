@@ -7,6 +7,7 @@ use Rattle.iol_disk.specs.Disk.{Disk}
 use Rattle.iol_slots.specs.Gate.{is_open}
 use Rattle.iol_journal.specs.Batches.{body_for, sectors_for}
 use Rattle.iol_journal.specs.Begin.{follows, is_too_large, batch_refusal}
+use Rattle.iol_journal.specs.CheckpointViews.{CheckpointingView, IsCheckpointUnderway}
 use Rattle.iol_journal.specs.Journals.{WritingView, with_batch}
 use Rattle.iol_journal.specs.Kept.{KeptEither, EachMeans}
 use Rattle.iol_journal.specs.Layout.{slot_at}
@@ -18,6 +19,7 @@ use Rattle.iol_journal.specs.declared.phase.Phase.{Phase}
 use Rattle.iol_journal.specs.declared.phase.Phase.TheVariants.{Body, SyncBody, Gate, SyncGate}
 use Rattle.iol_journal.proofs.Chains.{by_test}
 use Rattle.iol_journal.proofs.Frames.{kept_means}
+use Rattle.iol_journal.proofs.Stages.{stage_means}
 
 -- with its gate open the slot counts, with its gate closed it does not
 pub between_means_either : (size : ℕ) (s : Standing) (idle : Idle) (commands : List CommandValue) (image : Image)
@@ -39,6 +41,11 @@ pub underway_means_either : {D : Type 0} (disk : D → Disk) (w : WritingView D)
     → (image : Image) → IsImage (disk w.disk).content image → KeptEither (disk w.disk).sectors w.standing.number w.standing.state w.commands image
 underway_means_either disk w under h =
     holds_means_either (disk w.disk).sectors w.standing w.idle w.commands (body_for w.standing w.commands) (sectors_for w.standing w.commands) w.phase (disk w.disk).content (under h)
+
+-- while a checkpoint is under way each image means the number and the state
+pub checkpoint_means_its_state : {D : Type 0} (disk : D → Disk) (c : CheckpointingView D) → IsCheckpointUnderway disk c
+    → EachMeans (disk c.disk) c.standing.number c.standing.state
+checkpoint_means_its_state disk c under h image is = stage_means (disk c.disk).sectors c.standing c.stage (disk c.disk).content (under h) image is
 
 -- a journal at rest means its number and state
 pub rest_means_its_state : (d : Disk) (s : Standing) (idle : Idle) → IsAtRest d s idle → EachMeans d s.number s.state

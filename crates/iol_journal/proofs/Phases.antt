@@ -1,5 +1,5 @@
 -- The disk calls of a batch, one after the other, on an honest disk.
-use Rattle.std.proofs.Common.{◌≡◌, ◌≢◌, ◌≤◌, ◌<◌, inl, inr, ℕ, zero, suc, ◌+◌, ◌*◌, nat_lt, if◌then◌else◌, Bool, true, false, IsTrue, List, [], ◌∷◌, ◌++◌, length, take, Some, None, refl, sym, ◌∙◌, ap, subst, arith}
+use Rattle.std.proofs.Common.{◌≡◌, ◌≢◌, ◌≤◌, ◌<◌, inl, inr, ℕ, zero, suc, ◌+◌, ◌*◌, nat_lt, if◌then◌else◌, Bool, true, false, IsTrue, List, [], ◌∷◌, ◌++◌, length, Some, None, refl, sym, ◌∙◌, ap, subst, arith}
 use Rattle.std.proofs.lemmas.Bool.{cases_lt}
 use Rattle.std.proofs.lemmas.Bool.Decides.{nat_tests}
 use Rattle.iol_types.specs.Command.{CommandValue}
@@ -14,7 +14,7 @@ use Rattle.iol_journal.specs.Octets.{octets_at, sector_of}
 use Rattle.iol_journal.specs.Body.{batch_of}
 use Rattle.iol_journal.specs.Meaning.{Standing}
 use Rattle.iol_journal.specs.Kept.{IsKeptAs, KeptEither, EachMeans}
-use Rattle.iol_disk.specs.Calls.{Call, content_after, content_after_all, Made}
+use Rattle.iol_disk.specs.Calls.{content_after, Made}
 use Rattle.iol_journal.specs.Batches.{body_for, sectors_for, call_of, next_phase, IsPhase}
 use Rattle.iol_journal.specs.Journals.{standing_at, with_batch, IsPlanned}
 use Rattle.iol_journal.specs.Underway.{EachKept, IsAtRest, HasWritten, IsBetween, Holds}
@@ -27,11 +27,7 @@ use Rattle.iol_journal.proofs.BatchCalls.{phase_of}
 use Rattle.iol_journal.proofs.JournalLaws.{between_means_either}
 use Rattle.iol_journal.proofs.Bodies.{octets_at-in_slot}
 use Rattle.iol_journal.proofs.Frames.{SameButSlot, kept_closed, kept_open, kept_means}
-
--- nothing is left behind one call
-pub left_behind : (c : Content) (image : Image) (place : ℕ) → IsImage (content_after_all (take {A = Call} place []) c) image → IsImage c image
-left_behind c image zero is = is
-left_behind c image (suc place) is = is
+use Rattle.iol_journal.proofs.Rows.{left_behind}
 
 -- a batch for the first free slot
 pub record IsFit (s : Standing) (commands : List CommandValue) (body : List ℕ) (sectors : ℕ) : Type 0 where

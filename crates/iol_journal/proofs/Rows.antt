@@ -2,7 +2,7 @@
 use Rattle.std.proofs.Common.{◌≡◌, ◌≢◌, ◌≤◌, ◌<◌, ◌⊎◌, inl, inr, ℕ, zero, suc, ◌+◌, List, [], ◌∷◌, ◌++◌, length, map, take, slice_get, Some, refl, ◌∙◌, ap, subst, arith}
 use Rattle.std.specs.List.{range_with_len}
 use Rattle.std.proofs.lemmas.Bool.{cases_lt}
-use Rattle.iol_disk.specs.Content.{Image, Content, reads, wrote}
+use Rattle.iol_disk.specs.Content.{Image, Content, IsImage, reads, wrote}
 use Rattle.iol_disk.specs.Calls.{Call, write, sync, content_after_all}
 use Rattle.iol_disk.proofs.DiskLaws.{reads-wrote_here, reads-wrote_other}
 use Rattle.iol_journal.specs.AreaWrites.{IsRow, HasWrites}
@@ -129,3 +129,8 @@ row-nth low high (write sector octets ∷ calls) (suc i) row less =
       below = rest.below;
       more = λ old new same here has. (same sector (omega (arith, rest.from)) ∙ has.0, rest.more old new same here has.1);
     }
+
+-- nothing is left behind one call
+pub left_behind : (c : Content) (image : Image) (place : ℕ) → IsImage (content_after_all (take {A = Call} place []) c) image → IsImage c image
+left_behind c image zero is = is
+left_behind c image (suc place) is = is

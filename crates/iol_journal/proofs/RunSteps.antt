@@ -11,8 +11,10 @@ use Rattle.iol_journal.specs.Kept.{KeptMeans, KeptEither}
 use Rattle.iol_journal.specs.Meaning.{Standing}
 use Rattle.iol_journal.specs.Runs.{Run, IsRun, number_of, state_of, begun, with_mark, with_batch_begun, with_batch_written}
 use Rattle.iol_journal.specs.Running.{IsRunAt, IsRunAtRest, IsRunWriting}
+use Rattle.iol_journal.specs.CheckpointRuns.{IsRunCheckpointing}
+use Rattle.iol_journal.specs.CheckpointViews.{CheckpointingView}
 use Rattle.iol_journal.specs.Underway.{IsAtRest, IsUnderway}
-use Rattle.iol_journal.proofs.JournalLaws.{rest_means_its_state, underway_means_either}
+use Rattle.iol_journal.proofs.JournalLaws.{checkpoint_means_its_state, rest_means_its_state, underway_means_either}
 use Rattle.iol_journal.proofs.RunLaws.{batch_begins, batch_ends, batch_stays, checkpoint_stays, marked, run_begins}
 
 -- a batch is begun
@@ -86,6 +88,20 @@ marked_underway disk r w acknowledged le (under, (run, number, state), commands)
     state,
   ),
   commands,
+)
+
+-- a moment, while a checkpoint is on its way
+pub marked_checkpointing : {D : Type 0} (disk : D → Disk) (r : Run) (c : CheckpointingView D) (acknowledged : ℕ) → acknowledged ≤ number_of r
+    → IsRunCheckpointing disk r c → IsRunCheckpointing disk (with_mark r (record { clock = clock (disk c.disk).content; acknowledged = acknowledged })) c
+marked_checkpointing disk r c acknowledged le (under, (run, number, state), none) = (
+  under,
+  (
+    marked (disk c.disk) r acknowledged le
+        (λ h image is. inl (rw (← number, ← state) (checkpoint_means_its_state disk c under h image is))) run,
+    number,
+    state,
+  ),
+  none,
 )
 
 -- a journal was found, and is at rest

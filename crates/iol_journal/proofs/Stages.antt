@@ -32,8 +32,7 @@ use Rattle.iol_journal.specs.declared.stage.Stage.TheVariants.{ClearHeader, Sync
 use Rattle.iol_journal.proofs.Chains.{IsRead, stands_read, by_test}
 use Rattle.iol_journal.proofs.Frames.{kept_means}
 use Rattle.iol_journal.proofs.OtherArea.{two_before, in_use_header, other_frame, IsWhole, whole_stands}
-use Rattle.iol_journal.proofs.Phases.{left_behind}
-use Rattle.iol_journal.proofs.Rows.{has-same, row-nth}
+use Rattle.iol_journal.proofs.Rows.{has-same, left_behind, row-nth}
 
 -- a header is read as it is written
 pub header_of-octets : (epoch base : ℕ) → epoch < 2 ^ 64 → base < 2 ^ 64 → header_of (header_octets epoch base) ≡ record { epoch = epoch; base = base }

@@ -5,6 +5,7 @@ ghost use Rattle.iol_types.specs.Command.{CommandValue};
 ghost use Rattle.iol_disk.specs.Content.{Image, IsImage};
 ghost use Rattle.iol_disk.specs.Disk.{Disk};
 ghost use Rattle.iol_journal.specs.Begin.{follows, is_too_large, batch_refusal};
+ghost use Rattle.iol_journal.specs.CheckpointViews.{CheckpointingView, IsCheckpointUnderway};
 ghost use Rattle.iol_journal.specs.Journals.{WritingView};
 ghost use Rattle.iol_journal.specs.Kept.{KeptEither, EachMeans};
 ghost use Rattle.iol_journal.specs.Meaning.{Standing};
@@ -19,6 +20,11 @@ pub fn underway_means_either<D: SectorDisk>()
     ensures { (w : WritingView D) → IsUnderway D.disk w → IsTrue (D.disk w.disk).honest
         → (image : Image) → IsImage (D.disk w.disk).content image
         → KeptEither (D.disk w.disk).sectors w.standing.number w.standing.state w.commands image }
+{}
+
+/// While a checkpoint is under way each image of an honest disk is kept, and means the number and the state.
+pub fn checkpoint_means_its_state<D: SectorDisk>()
+    ensures { (c : CheckpointingView D) → IsCheckpointUnderway D.disk c → EachMeans (D.disk c.disk) c.standing.number c.standing.state }
 {}
 
 /// Each image of a disk on which a journal is at rest is kept, and means the journal's number and state.

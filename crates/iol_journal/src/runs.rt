@@ -7,6 +7,8 @@ ghost use Rattle.iol_types.specs.State.{State, after, legal};
 ghost use Rattle.iol_disk.specs.Content.{Image, IsImage, IsImageSince, clock};
 ghost use Rattle.iol_disk.specs.Disk.{Disk};
 ghost use Rattle.iol_disk.specs.Moments.{LeavesOnly};
+ghost use Rattle.iol_journal.specs.CheckpointRuns.{IsRunCheckpointing};
+ghost use Rattle.iol_journal.specs.CheckpointViews.{CheckpointingView};
 ghost use Rattle.iol_journal.specs.Journals.{JournalView, WritingView};
 ghost use Rattle.iol_journal.specs.Kept.{KeptMeans, KeptEither, EachMeans};
 ghost use Rattle.iol_journal.specs.Runs.{Run, HasPrefix, IsRun, accepted, number_of, state_of, begun, with_mark, with_commands};
@@ -43,6 +45,12 @@ pub fn marked_at_rest<D: SectorDisk>()
 pub fn marked_underway<D: SectorDisk>()
     ensures { (r : Run) (w : WritingView D) (acknowledged : ℕ) → acknowledged ≤ number_of r → IsRunWriting D.disk r w
         → IsRunWriting D.disk (with_mark r (record { clock = clock (D.disk w.disk).content; acknowledged = acknowledged })) w }
+{}
+
+/// It may be acknowledged while a checkpoint is on its way.
+pub fn marked_checkpointing<D: SectorDisk>()
+    ensures { (r : Run) (c : CheckpointingView D) (acknowledged : ℕ) → acknowledged ≤ number_of r → IsRunCheckpointing D.disk r c
+        → IsRunCheckpointing D.disk (with_mark r (record { clock = clock (D.disk c.disk).content; acknowledged = acknowledged })) c }
 {}
 
 /// The disk calls of a checkpoint keep a run.

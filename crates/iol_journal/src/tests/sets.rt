@@ -1,8 +1,9 @@
 //! A port with a parameter set that counts 4,096 octets: 17 entries of 232 octets, and one of 80.
 
 use super::batches::batch_refusal;
+use super::checkpoints::checkpointed;
 use super::power_stops::{disk_after, is_left};
-use super::recorded::Call::{Read, Sync};
+use super::recorded::Call::{Read, Sync, Write};
 use super::recorded::Recorded;
 use super::{
     PICKS, answer, begun, config, configure, finished, formatted, journal_of, put, recovered,
@@ -218,4 +219,52 @@ fn a_clear_in_a_batch_leaves_the_revision_and_no_set(rt: HostRuntime) -> Result<
     let (journal, state) = recovered(rt.alloc(), journal.disk())?;
     assert_eq!(rt; journal.number(), 3);
     assert_port(&rt, rt.alloc(), &state, false)
+}
+
+// The same journal with three more batches, each a Configure of port 2: no slot is free.
+fn full_journal_with_the_set(alloc: Global) -> Result<Journal<MemoryDisk>, Fail> {
+    let mut journal = journal_with_the_set(alloc)?;
+    for first in 3..6 {
+        let commands = Vec::from_array(alloc, [configure(2)?])?;
+        journal = finished(begun(journal, Batch { first, commands })?)?.0;
+    }
+    Ok(journal)
+}
+
+#[test]
+fn a_checkpoint_writes_each_sector_that_a_record_reaches(rt: HostRuntime) -> Result<(), Fail> {
+    let disk = Recorded::new(rt.alloc(), full_journal_with_the_set(rt.alloc())?.disk());
+    let journal = checkpointed(recovered(rt.alloc(), disk)?.0)?;
+    let mut wanted = Vec::from_slice(
+        rt.alloc(),
+        &[
+            Write(90),
+            Sync,
+            Write(110),
+            Write(127),
+            Write(144),
+            Write(161),
+            Sync,
+            Write(91),
+        ],
+    )?;
+    for sector in 92..102 {
+        wanted.push(Write(sector))?;
+    }
+    wanted.extend_from_slice(&[Sync, Write(90), Sync])?;
+    // The recovery reads nine sectors of the first body, and has 25 calls.
+    let calls = journal.disk().calls();
+    assert_eq!(rt; calls.get(25..), Some(wanted.as_slice()));
+    Ok(())
+}
+
+#[test]
+fn a_set_is_recovered_behind_checkpoints(rt: HostRuntime) -> Result<(), Fail> {
+    for pick in PICKS {
+        let journal = checkpointed(full_journal_with_the_set(rt.alloc())?)?;
+        let (journal, state) = recovered(rt.alloc(), journal.disk().stop(pick))?;
+        assert_eq!(rt; journal.number(), 5, "under {pick:?}");
+        assert_port(&rt, rt.alloc(), &state, true)?;
+    }
+    Ok(())
 }
