@@ -1,9 +1,9 @@
 -- A write that is made to fail has written some octets.
-use Rattle.std.proofs.Common.{◌≡◌, ℕ, ◌+◌, ◌≤◌, cond, Bool, true, false, List, refl, arith}
+use Rattle.std.proofs.Common.{ℕ, ◌≤◌, cond, Bool, true, false, List, arith}
 use Rattle.std.specs.Prelude.{Result, Ok, Err, OnOk, OnErr}
 use Rattle.iol_disk.specs.Content.{wrote}
 use Rattle.iol_disk.specs.Disk.{Disk, After, WroteSome}
-use Rattle.iol_disk.specs.FaultDisk.{is_of, one_nearer, fails_now, counted, made_to_fail}
+use Rattle.iol_disk.specs.FaultDisk.{is_of, one_nearer, counted, made_to_fail}
 use Rattle.iol_disk.specs.declared.fault.DiskFault.{DiskFault}
 use Rattle.iol_disk.specs.declared.fault_disk.Due.{Due}
 use Rattle.iol_disk.specs.declared.fault_disk.Due.TheVariants.{Never, After as AfterOthers, Past}

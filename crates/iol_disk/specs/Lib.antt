@@ -8,3 +8,4 @@ pub mod Stops
 pub mod Memory
 pub mod Fresh
 pub mod FaultDisk
+pub mod ImageFile

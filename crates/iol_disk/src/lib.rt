@@ -3,9 +3,10 @@
 //! In comes a caller that reads, writes and syncs whole sectors through [`SectorDisk`]; out goes, in each
 //! contract, what a read gives and what a stop at any moment may leave. [`MemoryDisk`] is such a disk, and can
 //! be stopped: a [`Pick`] says what the stop leaves of the sectors that no sync has settled. [`FaultDisk`] is another
-//! disk of which one call fails.
+//! disk of which one call fails. [`ImageFile`] is a file of sectors, of which nothing is promised but its size and its
+//! faults.
 //!
-//! Read `disk` first, then `memory` and `fault_disk`; `specs/Content.antt` has the words.
+//! Read `disk` first, then `memory`, `fault_disk` and `image_file`; `specs/Content.antt` has the words.
 //!
 //! Proofs of other crates cite the laws of `proofs/DiskLaws.antt`.
 #![tactic(auto)]
@@ -16,7 +17,10 @@ mod disk;
 pub mod examples;
 mod fault;
 mod fault_disk;
+mod image_fault;
+mod image_file;
 mod memory;
+mod new_file;
 mod pick;
 #[cfg(test)]
 mod tests;
@@ -25,5 +29,7 @@ mod undo;
 pub use disk::{SECTOR_OCTETS, SectorDisk};
 pub use fault::DiskFault;
 pub use fault_disk::{Due, FaultDisk};
+pub use image_fault::ImageFault;
+pub use image_file::ImageFile;
 pub use memory::MemoryDisk;
 pub use pick::Pick;

@@ -4,6 +4,8 @@ use crate::{DiskFault, MemoryDisk, Pick, SECTOR_OCTETS, SectorDisk};
 use std::test::Fail;
 
 mod fault_disk;
+mod image_file;
+mod trial_files;
 
 const ZEROS: [u8; SECTOR_OCTETS] = [0; SECTOR_OCTETS];
 

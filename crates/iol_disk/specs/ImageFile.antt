@@ -1,0 +1,39 @@
+-- An image file as contracts see it.
+use Rattle.std.specs.Prelude.{◌≡◌, ◌⊎◌, ◌/◌, false, [], None}
+use Rattle.iol_disk.specs.Content.{Content}
+use Rattle.iol_disk.specs.Disk.{Disk}
+use Rattle.iol_disk.specs.declared.disk.TheConstants.{SECTOR_OCTETS}
+use Rattle.iol_disk.specs.declared.fault.DiskFault.TheVariants.{Read, Write, Sync}
+use Rattle.iol_disk.specs.declared.image_fault.ImageFault.{ImageFault}
+use Rattle.iol_disk.specs.declared.image_fault.ImageFault.TheVariants.{Open, Disk as OfDisk, Memory}
+use Rattle.iol_disk.specs.declared.image_file.ImageFile.{ImageFile}
+
+-- what stands for the content of a disk of which nothing is known; no promise speaks of it (own)
+abbrev pub unknown_content : Content
+unknown_content = record { durable = λ i. []; written = λ i. None; past = [] }
+
+-- an image file as contracts see it: not honest, with the whole sectors of its octets (format, Image files)
+abbrev pub as_disk : {F : Type 0} → ImageFile F → Disk
+as_disk file = record {
+  sectors = file.octets / SECTOR_OCTETS;
+  honest = false;
+  failures = file.failures;
+  content = unknown_content;
+}
+
+-- nothing is known of the disk, and no call of it has failed (own)
+pub record IsUnknown (d : Disk) : Type 0 where
+  pub not_honest : d.honest ≡ false
+  pub no_failure : d.failures ≡ 0
+
+-- the file is not opened or made (own)
+abbrev pub IsUnopened : ImageFault → Type 0
+IsUnopened fault = (fault ≡ Open) ⊎ (fault ≡ Memory)
+
+-- why a file is not made: it cannot be, or a write or a sync of the new file failed (own)
+abbrev pub IsCreateFault : ImageFault → Type 0
+IsCreateFault fault = IsUnopened fault ⊎ ((fault ≡ OfDisk Write) ⊎ (fault ≡ OfDisk Sync))
+
+-- why a file is not opened: it cannot be, or its length cannot be read (own)
+abbrev pub IsOpenFault : ImageFault → Type 0
+IsOpenFault fault = IsUnopened fault ⊎ (fault ≡ OfDisk Read)

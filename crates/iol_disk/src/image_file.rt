@@ -1,0 +1,142 @@
+//! A file of whole sectors as a disk.
+
+use crate::disk::{SECTOR_OCTETS, SectorDisk};
+use crate::fault::DiskFault;
+use crate::image_fault::{ImageFault, unopened};
+use crate::new_file::{octets_of, settle, write_zeros};
+use std::fs::{File, OpenFile};
+use std::io;
+use std::os::unix::fs::FileExt;
+use std::rt::Files;
+
+/// An image file as a disk: a file of whole sectors of 512 octets, from its first octet on (docs/FORMATS.md, "Image
+/// files"). What follows the last whole sector is neither read nor written.
+///
+/// Nothing is known of what a file keeps, so it is not honest, and no contract promises its content. How many sectors it
+/// has is told once, when it is made or opened. A call goes on where the system took or gave only a part, and takes no
+/// memory. Nothing keeps another program from the file.
+#[derive(Drop)]
+pub struct ImageFile<F> {
+    file: F,
+    // how long the file was when it was made or opened
+    octets: u64,
+    failures: u64,
+}
+
+impl<F: FileExt + OpenFile + Drop> ImageFile<F> {
+    ghost use Rattle.std.specs.Prelude.{◌≡◌, ◌<◌, ◌≤◌, ◌*◌, ◌^◌, Err, IfOk, IfErr};
+    ghost use Rattle.iol_disk.specs.Disk.{Same, FailsOnlyAs};
+    ghost use Rattle.iol_disk.specs.declared.disk.TheConstants.{SECTOR_OCTETS};
+    ghost use Rattle.iol_disk.specs.declared.image_fault.ImageFault.TheVariants.{Open};
+    ghost use Rattle.iol_disk.specs.ImageFile.{as_disk, IsUnknown, IsCreateFault, IsOpenFault};
+
+    /// Makes the file at `path`, of so many sectors of zeros, and settles it, so that a later sync has no more than
+    /// octets to make durable. A file that is there is left alone.
+    ///
+    /// # Errors
+    /// `Open` where the file cannot be made, as where one is there or no file can have so many octets, or `Memory`; there
+    /// is no new file then. `Disk` where a call on the new file fails, by `Write` or by `Sync`: the file stays, with fewer
+    /// zeros or not settled.
+    pub fn create<R: Files<File = F>>(
+        rt: &R,
+        path: &str,
+        sectors: usize,
+    ) -> Result<ImageFile<F>, ImageFault>
+        ensures sectors { IfOk result (λ made. (as_disk made).sectors ≡ sectors) }
+        ensures too_many { 2 ^ 63 ≤ sectors * SECTOR_OCTETS → result ≡ Err Open }
+        ensures unknown { IfOk result (λ made. IsUnknown (as_disk made)) }
+        ensures fault { IfErr result IsCreateFault }
+    {
+        let octets = octets_of(sectors).ok_or(ImageFault::Open)?;
+        let file = match File::create_new(rt, path) {
+            Ok(file) => file,
+            Err(error) => return Err(unopened(error)),
+        };
+        if write_zeros(&file, octets).is_err() {
+            return Err(ImageFault::Disk(DiskFault::Write));
+        }
+        if settle(rt, &file, path).is_err() {
+            return Err(ImageFault::Disk(DiskFault::Sync));
+        }
+        Ok(ImageFile {
+            file,
+            octets,
+            failures: 0,
+        })
+    }
+
+    /// Opens the file at `path`, to read and to write.
+    ///
+    /// # Errors
+    /// `Open` where it cannot be opened, as where there is none, or `Memory`; `Disk` of `Read` where its length cannot be
+    /// read.
+    pub fn open<R: Files<File = F>>(rt: &R, path: &str) -> Result<ImageFile<F>, ImageFault>
+        ensures unknown { IfOk result (λ opened. IsUnknown (as_disk opened)) }
+        ensures fault { IfErr result IsOpenFault }
+    {
+        let file = match File::options().read(true).write(true).open(rt, path) {
+            Ok(file) => file,
+            Err(error) => return Err(unopened(error)),
+        };
+        let octets = match file.metadata() {
+            Ok(metadata) => metadata.len(),
+            Err(_) => return Err(ImageFault::Disk(DiskFault::Read)),
+        };
+        Ok(ImageFile {
+            file,
+            octets,
+            failures: 0,
+        })
+    }
+
+    // Where a sector begins in the file.
+    fn first_octet(&self, n: usize) -> u64
+        requires { n < (as_disk self.now).sectors }
+        ensures { result ≡ n * SECTOR_OCTETS }
+    {
+        n as u64 * SECTOR_OCTETS as u64
+    }
+
+    // What a disk call answers whose call of the file ended so; a failure is counted.
+    fn counted(&mut self, ended: io::Result<()>, fault: DiskFault) -> Result<(), DiskFault>
+        ensures same { Same (as_disk self.old) (as_disk self.new) }
+        ensures fault { FailsOnlyAs fault (as_disk self.old) (as_disk self.new) result }
+    {
+        match ended {
+            Ok(()) => Ok(()),
+            Err(_) => {
+                self.failures = self.failures.saturating_add(1);
+                Err(fault)
+            }
+        }
+    }
+}
+
+impl<F: FileExt + OpenFile + Drop> SectorDisk for ImageFile<F> {
+    ghost use Rattle.iol_disk.specs.ImageFile.{as_disk};
+
+    ghost disk = { as_disk };
+
+    fn sectors(&self) -> usize {
+        (self.octets / SECTOR_OCTETS as u64) as usize
+    }
+
+    fn read(&mut self, n: usize, octets: &mut [u8; SECTOR_OCTETS]) -> Result<(), DiskFault> {
+        // A read that fails may have filled a part of the sector.
+        let mut found = [0; SECTOR_OCTETS];
+        let ended = self.file.read_exact_at(&mut found, self.first_octet(n));
+        self.counted(ended, DiskFault::Read)?;
+        *octets = found;
+        Ok(())
+    }
+
+    fn write(&mut self, n: usize, octets: &[u8; SECTOR_OCTETS]) -> Result<(), DiskFault> {
+        let ended = self.file.write_all_at(octets, self.first_octet(n));
+        self.counted(ended, DiskFault::Write)
+    }
+
+    fn sync(&mut self) -> Result<(), DiskFault> {
+        let ended = self.file.sync_all();
+        self.counted(ended, DiskFault::Sync)
+    }
+}
