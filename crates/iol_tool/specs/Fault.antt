@@ -1,7 +1,9 @@
 -- The exit status of a fault, and the fault of a script.
 use Rattle.std.specs.Prelude.{ℕ}
 use Rattle.iol_tool.specs.declared.fault.Fault.{Fault}
-use Rattle.iol_tool.specs.declared.fault.Fault.TheVariants.{Words, Script, Geometry, Memory}
+use Rattle.iol_tool.specs.declared.fault.Fault.TheVariants.{Words, Script, Geometry, Memory, NotFormatted, Damaged, Disk}
+use Rattle.iol_journal.specs.declared.cause.RecoverCause.{RecoverCause}
+use Rattle.iol_journal.specs.declared.cause.RecoverCause.TheVariants as cause
 use Rattle.iol_script.specs.declared.script.ScriptFault.{ScriptFault}
 use Rattle.iol_script.specs.declared.script.ScriptFault.TheVariants as script
 
@@ -17,3 +19,10 @@ status_of _ = 1
 abbrev pub fault_for : ScriptFault → Fault
 fault_for script.NotValid = Script
 fault_for script.Memory = Memory
+
+-- why a command fails whose disk is not recovered (format, Texts)
+abbrev pub unrecovered : RecoverCause → Fault
+unrecovered (cause.Disk fault) = Disk
+unrecovered cause.NotFormatted = NotFormatted
+unrecovered (cause.Damaged sector) = Damaged sector
+unrecovered cause.Memory = Memory

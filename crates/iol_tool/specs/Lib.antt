@@ -4,3 +4,4 @@ pub mod Runs
 pub mod Queue
 pub mod Stop
 pub mod Store
+pub mod Images

@@ -2,21 +2,25 @@
 
 use crate::commands::{print, report, run_text};
 use crate::fault::Fault;
+use crate::image_commands::{format_image, show_image};
+use crate::words::{Asked, read_words};
+use clap::Error;
 use clap::error::ErrorKind;
-use clap::{Arg, Command, Error};
 use iol_script::SCRIPT_OCTETS;
 use std::alloc::Global;
-use std::fs::File;
+use std::fs::{File, OpenFile};
 use std::io::{self, Read, Write};
+use std::os::unix::fs::FileExt;
 use std::rt::{Env, Files};
 
 // Carries out the command that the program's words name, and answers the exit status: 2 where the words are wrong, 0
 // for help, and else that of the command.
-pub(crate) fn run_program<R: Env + Files + AllocGlobal, W: Write, E: Write>(
-    rt: &R,
-    out: &mut W,
-    err: &mut E,
-) -> u8 {
+pub(crate) fn run_program<
+    F: FileExt + OpenFile + Drop,
+    R: Env + Files<File = F> + AllocGlobal,
+    W: Write,
+    E: Write,
+>(rt: &R, out: &mut W, err: &mut E) -> u8 {
     match words(rt) {
         Ok(words) => run_words(rt, words.as_slice(), out, err),
         Err(fault) => report(err, &fault),
@@ -32,35 +36,25 @@ fn words<R: Env + AllocGlobal>(rt: &R) -> Result<Vec<String>, Fault<'static>> {
 }
 
 // Carries out the command that these words name, the first of which is the name of the program.
-pub(crate) fn run_words<R: Files + AllocGlobal, W: Write, E: Write>(
-    rt: &R,
-    words: &[String],
-    out: &mut W,
-    err: &mut E,
-) -> u8 {
-    match script_path(rt.alloc(), words) {
-        Ok(path) => run_file(rt, path, out, err),
+pub(crate) fn run_words<
+    F: FileExt + OpenFile + Drop,
+    R: Files<File = F> + AllocGlobal,
+    W: Write,
+    E: Write,
+>(rt: &R, words: &[String], out: &mut W, err: &mut E) -> u8 {
+    match read_words(rt.alloc(), words) {
+        Ok(Asked::Run { script }) => run_file(rt, script, out, err),
+        Ok(
+            Asked::Format {
+                image,
+                ports,
+                slots,
+                force,
+            },
+        ) => format_image(rt, image, ports, slots, force, out, err),
+        Ok(Asked::Show { image }) => show_image(rt, image, out, err),
         Err(error) => answer(rt.alloc(), &error, out, err),
     }
-}
-
-// The path after the word `run`, which clap has seen to be there.
-fn script_path(alloc: Global, words: &[String]) -> Result<&str, Error> {
-    let script = Arg::new(alloc, "SCRIPT")
-        .required(true)
-        .help("The path of a script in TOML");
-    let run = Command::new(alloc, "run")
-        .about("Runs a script on a disk in memory, and prints its trace and the recovered state")
-        .arg(script)?;
-    let program = Command::new(alloc, "iolmaster")
-        .about("The data storage of an IO-Link master")
-        .subcommand_required(true)
-        .subcommand(run)?;
-    let matches = program.try_get_matches_from(words)?;
-    let path = matches
-        .subcommand()
-        .and_then(|(_, run)| run.get_str("SCRIPT"));
-    Ok(path.unwrap_or(""))
 }
 
 // Shows what clap answers in place of a command: why the words are wrong, or the help.

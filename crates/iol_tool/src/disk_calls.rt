@@ -1,6 +1,9 @@
 //! The disk calls of a run: those of a recovery, and those of a batch.
-ghost use Rattle.std.specs.Prelude.{◌≡◌, IfOk, IfErr};
+ghost use Rattle.std.specs.Prelude.{◌≡◌, Ok, IfOk, IfErr};
+ghost use Rattle.iol_journal.specs.Meaning.{standing_in};
+ghost use Rattle.iol_journal.specs.Reading.{Shows};
 ghost use Rattle.iol_tool.specs.Fault.{status_of};
+ghost use Rattle.iol_tool.specs.Images.{TellsWhy};
 ghost use Rattle.iol_tool.specs.Store.{IsWritten};
 
 use crate::acknowledgement::Acknowledgement;
@@ -20,7 +23,9 @@ pub(crate) fn recover<D: SectorDisk + Drop>(
     alloc: Global,
     disk: D,
 ) -> Result<(Journal<D>, MasterState), Fault<'static>>
+    ensures found { IfOk result (λ found. Shows (D.disk disk) (λ image. standing_in (D.disk disk).sectors image ≡ Ok found.0.standing)) }
     ensures state { IfOk result (λ found. found.1 ≡ found.0.standing.state) }
+    ensures cause { IfErr result (λ fault. Shows (D.disk disk) (λ image. TellsWhy (standing_in (D.disk disk).sectors image) fault)) }
     ensures status { IfErr result (λ fault. status_of fault ≡ 1) }
 {
     match Journal::recover(alloc, disk) {

@@ -1,8 +1,9 @@
 //! Why a command of the program fails.
 ghost use Rattle.std.specs.Prelude.{◌≡◌};
-ghost use Rattle.iol_tool.specs.Fault.{status_of, fault_for};
-ghost use Rattle.iol_tool.specs.declared.fault.Fault.TheVariants.{Memory};
+ghost use Rattle.iol_tool.specs.Fault.{status_of, fault_for, unrecovered};
+ghost use Rattle.iol_tool.specs.declared.fault.Fault.TheVariants.{Disk, Memory};
 
+use iol_disk::DiskFault;
 use iol_journal::{FormatFault, RecoverCause};
 use iol_script::ScriptFault;
 use std::alloc::{AllocError, AllocFailed};
@@ -35,7 +36,7 @@ pub(crate) enum Fault<'a> {
     /// A word of the command line is no text.
     #[error("a word is not UTF-8")]
     Words,
-    /// The file at this path cannot be opened or read.
+    /// The file at this path cannot be opened, read or made.
     #[error("cannot open {path}")]
     File { path: &'a str },
     /// The text is no script.
@@ -85,6 +86,14 @@ impl From<ScriptFault> for Fault<'_> {
     }
 }
 
+impl From<DiskFault> for Fault<'_> {
+    ghost from_gives = { λ _ fault. fault ≡ Disk };
+
+    fn from(_fault: DiskFault) -> Self {
+        Fault::Disk
+    }
+}
+
 impl From<FormatFault> for Fault<'_> {
     ghost from_gives = { λ _ fault. status_of fault ≡ 1 };
 
@@ -99,7 +108,7 @@ impl From<FormatFault> for Fault<'_> {
 }
 
 impl From<RecoverCause> for Fault<'_> {
-    ghost from_gives = { λ _ fault. status_of fault ≡ 1 };
+    ghost from_gives = { λ cause fault. fault ≡ unrecovered cause };
 
     fn from(cause: RecoverCause) -> Self {
         match cause {

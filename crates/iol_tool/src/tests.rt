@@ -3,6 +3,7 @@
 mod failing;
 mod failures;
 mod faults;
+mod images;
 mod runs;
 mod scripts;
 mod words;

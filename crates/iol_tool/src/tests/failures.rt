@@ -4,6 +4,7 @@ use super::failing::FailingDisk;
 use super::{CONFIGURE, CONFIGURE_GREATEST, DRAIN, script_of, stop_that_keeps};
 use crate::fault::Fault;
 use crate::geometry::geometry_of;
+use crate::image::{format_disk, show_disk};
 use crate::run::run;
 use iol_script::Script;
 use std::alloc::{AllocError, Global};
@@ -109,6 +110,33 @@ fn a_call_that_fails_in_a_batch_ends_the_writing(rt: HostRuntime) -> Result<(), 
         let text = two_batches(rt.alloc(), keep)?;
         let run = printed(rt.alloc(), text.as_str(), before.saturating_add(call))?;
         assert_eq!(rt; run?.as_str(), lines, "{keep} {call}");
+    }
+    Ok(())
+}
+
+// What a format answers, and then a recovery, on a disk whose call after so many fails.
+fn formatted_and_shown(
+    alloc: Global,
+    good: usize,
+    force: bool,
+) -> Result<(Option<Fault<'static>>, Option<Fault<'static>>), Fail> {
+    let geometry = geometry_of(1, 1).ok_or("a geometry")?;
+    let mut disk = FailingDisk::new(alloc, geometry.sectors(), good)?;
+    let formatted = format_disk(alloc, &mut disk, geometry, force).err();
+    Ok((formatted, show_disk(alloc, disk).err()))
+}
+
+#[test]
+fn a_call_that_fails_in_a_format_or_a_recovery_is_told(rt: HostRuntime) -> Result<(), Fail> {
+    // A format makes 12 calls and an erasure of a closed gate 2; a recovery makes 9.
+    for (calls, force) in [(12, false), (14, true)] {
+        for good in 0..30 {
+            let (formatted, shown) = formatted_and_shown(rt.alloc(), good, force)?;
+            let fails = good < calls;
+            assert_eq!(rt; formatted == Some(Fault::Disk), fails, "{good} {force}");
+            let later = calls <= good && good < calls.saturating_add(9);
+            assert_eq!(rt; shown == Some(Fault::Disk), later, "{good} {force}");
+        }
     }
     Ok(())
 }

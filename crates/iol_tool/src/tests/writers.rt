@@ -1,9 +1,10 @@
 //! Writers that fail.
 
 use crate::commands::run_text;
-use std::io;
+use crate::image_commands::{format_image, show_image};
 use std::io::Write;
 use std::test::Fail;
+use std::{fs, io};
 
 // A writer that fails at each call, and counts the calls.
 #[derive(Drop)]
@@ -62,5 +63,33 @@ fn a_fault_that_cannot_be_written_keeps_its_status(rt: HostRuntime) -> Result<()
         assert!(rt; 0 < err.calls);
         assert_eq!(rt; out.as_slice(), b"".as_slice());
     }
+    Ok(())
+}
+
+#[test]
+fn a_writer_that_fails_is_met_on_image_files_too(rt: HostRuntime) -> Result<(), Fail> {
+    let path = "iol_tool_test_writers.img";
+    let _ = fs::remove_file(&rt, path);
+    let mut out = Broken { calls: 0 };
+    let mut err = Vec::new(rt.alloc());
+    let status = format_image(&rt, path, 1, 1, false, &mut out, &mut err);
+    assert_eq!(rt; status, 1, "a format that is not printed");
+    assert_eq!(rt;
+        show_image(&rt, path, &mut out, &mut err),
+        1,
+        "a state that is not printed"
+    );
+    assert_eq!(rt; out.calls, 2);
+    assert_eq!(rt; err.as_slice(), b"".as_slice());
+    let mut out = Vec::new(rt.alloc());
+    let mut err = Broken { calls: 0 };
+    let status = format_image(&rt, path, 1, 1, false, &mut out, &mut err);
+    assert_eq!(rt; status, 1, "a fault that is not printed");
+    let status = format_image(&rt, path, 0, 1, false, &mut out, &mut err);
+    assert_eq!(rt; status, 2, "a geometry that is not valid");
+    fs::remove_file(&rt, path)?;
+    assert_eq!(rt; show_image(&rt, path, &mut out, &mut err), 1, "no file");
+    assert!(rt; 2 < err.calls);
+    assert_eq!(rt; out.as_slice(), b"".as_slice());
     Ok(())
 }

@@ -1,0 +1,112 @@
+//! What the words of the command line ask for.
+
+use clap::{Arg, ArgAction, ArgMatches, Command, Error, value_parser};
+use std::alloc::Global;
+
+// A command, with what its words say.
+pub(crate) enum Asked<'a> {
+    Run {
+        script: &'a str,
+    },
+    Format {
+        image: &'a str,
+        ports: u16,
+        slots: u16,
+        force: bool,
+    },
+    Show {
+        image: &'a str,
+    },
+}
+
+// The command that these words name, the first of which is the name of the program.
+//
+// # Errors
+// What is wrong with the words, or the help that they ask for.
+pub(crate) fn read_words(alloc: Global, words: &[String]) -> Result<Asked<'_>, Error> {
+    let program = Command::new(alloc, "iolmaster")
+        .about("The data storage of an IO-Link master")
+        .subcommand_required(true)
+        .subcommand(run(alloc)?)?
+        .subcommand(format(alloc)?)?
+        .subcommand(show(alloc)?)?;
+    let matches = program.try_get_matches_from(words)?;
+    Ok(match matches.subcommand() {
+        Some(("format", format)) => Asked::Format {
+            image: text(format, "IMAGE"),
+            ports: number(format, "ports"),
+            slots: number(format, "slots"),
+            force: format.get_flag("force"),
+        },
+        Some(("show", show)) => Asked::Show {
+            image: text(show, "IMAGE"),
+        },
+        Some((_, run)) => Asked::Run {
+            script: text(run, "SCRIPT"),
+        },
+        // clap asks for a command
+        None => Asked::Run { script: "" },
+    })
+}
+
+fn run<'a>(alloc: Global) -> Result<Command<'a>, Error> {
+    let script = Arg::new(alloc, "SCRIPT")
+        .required(true)
+        .help("The path of a script in TOML");
+    Ok(
+        Command::new(alloc, "run")
+            .about(
+                "Runs a script on a disk in memory, and prints its trace and the recovered state",
+            )
+            .arg(script)?,
+    )
+}
+
+fn format<'a>(alloc: Global) -> Result<Command<'a>, Error> {
+    let force = Arg::new(alloc, "force")
+        .long("force")
+        .action(ArgAction::SetTrue)
+        .help("Erases a journal that is there");
+    Ok(
+        Command::new(alloc, "format")
+            .about("Formats an image file, which is made if there is none")
+            .arg(image(alloc))?
+            .arg(count(alloc, "ports").help("How many ports the master has, 1 to 32"))?
+            .arg(count(alloc, "slots").help("How many batches each area holds, 1 to 256"))?
+            .arg(force)?,
+    )
+}
+
+fn show<'a>(alloc: Global) -> Result<Command<'a>, Error> {
+    Ok(
+        Command::new(alloc, "show")
+            .about("Recovers the state on an image file, and prints it")
+            .arg(image(alloc))?,
+    )
+}
+
+// The path of an image file.
+fn image<'a>(alloc: Global) -> Arg<'a> {
+    Arg::new(alloc, "IMAGE")
+        .required(true)
+        .help("The path of an image file")
+}
+
+// An option with a whole number, 0 to 65,535.
+fn count<'a>(alloc: Global, name: &'a str) -> Arg<'a> {
+    Arg::new(alloc, name)
+        .long(name)
+        .required(true)
+        .value_name("N")
+        .value_parser(value_parser!(u16))
+}
+
+// The value of an argument that clap has seen to be there.
+fn text<'a>(matches: &ArgMatches<'a>, name: &str) -> &'a str {
+    matches.get_str(name).unwrap_or("")
+}
+
+// The number of an option that clap has seen to be there.
+fn number(matches: &ArgMatches<'_>, name: &str) -> u16 {
+    matches.get_one::<u16>(name).unwrap_or(0)
+}
