@@ -43,7 +43,7 @@ pub enum BeginCause {
     #[error("the batch is too large")]
     TooLarge,
     /// No slot is free.
-    #[error("the journal is full")]
+    #[error("no slot is free")]
     NeedsCheckpoint,
     /// Out of memory.
     #[error("out of memory")]

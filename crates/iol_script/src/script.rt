@@ -2,6 +2,7 @@
 ghost use Rattle.std.specs.Prelude.{◌≡◌};
 ghost use Rattle.iol_script.specs.declared.script.ScriptFault.TheVariants.{Memory};
 
+use crate::fail::{FailingCall, fail_in};
 use crate::step::Step;
 use crate::steps::{before_stop, read_steps, values_in};
 use crate::stop::Keep;
@@ -21,6 +22,8 @@ pub struct Script {
     pub ports: i64,
     /// The number of slots in each area, as it stands in the text.
     pub slots: i64,
+    /// The disk call that fails, if one does.
+    pub fail: Option<FailingCall>,
     /// What is done, in order.
     pub steps: Vec<Step>,
     /// What the stop at the end leaves of the sectors that no sync has settled.
@@ -60,8 +63,8 @@ impl Script {
     ghost use Rattle.iol_script.specs.Script.{IsText, said_by, said_in, said_of};
 
     /// The script in a text of at most 65,536 octets: TOML with the whole numbers `ports` and `slots`, of any size
-    /// that 64 bits hold, and the steps, of which a stop is the last. Where there is none, one that keeps what is new
-    /// is added.
+    /// that 64 bits hold, perhaps a disk call that fails, and the steps, of which a stop is the last. Where there is
+    /// none, one that keeps what is new is added.
     ///
     /// # Errors
     /// `NotValid` where the text is no script; `Memory` where reading a text is out of memory.
@@ -88,17 +91,19 @@ impl Script {
         ensures script { IfOk result (λ script. said_by (table_view table.now) ≡ Some (said_of script)) }
         ensures not_valid { result ≡ Err ScriptFault.NotValid → said_by (table_view table.now) ≡ None }
     {
-        if !has_only_keys(table, &["ports", "slots", "step"]) {
+        if !has_only_keys(table, &["ports", "slots", "fail", "step"]) {
             return Err(ScriptFault::NotValid);
         }
         let ports = integer_at(table, "ports").ok_or(ScriptFault::NotValid)?;
         let slots = integer_at(table, "slots").ok_or(ScriptFault::NotValid)?;
+        let fail = fail_in(table).ok_or(ScriptFault::NotValid)?;
         let values = values_in(table).ok_or(ScriptFault::NotValid)?;
         let (values, keep) = before_stop(values);
         let steps = read_steps(alloc, values)?;
         Ok(Script {
             ports,
             slots,
+            fail,
             steps,
             keep,
         })

@@ -8,7 +8,7 @@ const CONFIGURE: &str =
     r#"do = "configure", port = 1, mode = 1, validation = 3, vendor = 500, device = 43981"#;
 
 // What stands at the top of a script, and why it is not valid.
-const TOPS: [(&str, &str); 20] = [
+const TOPS: [(&str, &str); 19] = [
     ("it is no TOML", "ports"),
     ("a key stands twice", "ports = 2\nports = 2\nslots = 4"),
     ("ports are missing", "slots = 4"),
@@ -40,10 +40,6 @@ const TOPS: [(&str, &str); 20] = [
     (
         "devices are not simulated",
         "ports = 2\nslots = 4\n[[device]]\nport = 1\nvendor = 500\ndevice = 43981",
-    ),
-    (
-        "disks do not fail",
-        "ports = 2\nslots = 4\nfail = \"sync 2\"",
     ),
     (
         "no number of ports makes up for a wrong step",
@@ -173,6 +169,37 @@ const STEPS: [(&str, &str); 39] = [
     ),
 ];
 
+// What stands at the key `fail`, and the call that it says.
+const FAILS: [(&str, CallKind, u32); 4] = [
+    ("read 1", CallKind::Read, 1),
+    ("write 1000000", CallKind::Write, 1_000_000),
+    ("sync 7", CallKind::Sync, 7),
+    ("sync 10", CallKind::Sync, 10),
+];
+
+// What says no call there.
+const NO_FAILS: [&str; 19] = [
+    r#""read""#,
+    r#""read ""#,
+    r#""read  1""#,
+    r#""read 01""#,
+    r#""read 0""#,
+    r#""read +1""#,
+    r#""read -1""#,
+    r#""read 1000001""#,
+    r#""read 18446744073709551617""#,
+    r#""read 1_000""#,
+    r#""Read 1""#,
+    r#""read 1 ""#,
+    r#"" read 1""#,
+    r#""seek 1""#,
+    r#""1""#,
+    r#""""#,
+    "7",
+    "true",
+    r#"["read 1"]"#,
+];
+
 // Numbers of ports and slots that no disk has, and that are read all the same.
 const NUMBERS: [(i64, i64); 4] = [(0, 4), (33, 257), (-2, 4), (2, i64::MAX)];
 
@@ -265,6 +292,22 @@ fn numbers_are_read_as_they_stand(rt: HostRuntime) -> Result<(), Fail> {
         let text = format!(in rt.alloc(); "ports = {ports}\nslots = {slots}\n")?;
         let script = Script::read(rt.alloc(), text.as_bytes())?;
         assert_eq!(rt; (script.ports, script.slots), (ports, slots));
+    }
+    Ok(())
+}
+
+#[test]
+fn the_call_that_fails_is_read_where_there_is_one(rt: HostRuntime) -> Result<(), Fail> {
+    let script = Script::read(rt.alloc(), b"ports = 2\nslots = 4\n")?;
+    assert_eq!(rt; script.fail, None, "there is none");
+    for (value, kind, number) in FAILS {
+        let text = format!(in rt.alloc(); "ports = 2\nslots = 4\nfail = \"{value}\"\n")?;
+        let script = Script::read(rt.alloc(), text.as_bytes())?;
+        assert_eq!(rt; script.fail, Some(FailingCall { kind, number }), "{value}");
+    }
+    for value in NO_FAILS {
+        let text = format!(in rt.alloc(); "ports = 2\nslots = 4\nfail = {value}\n")?;
+        expect_not_valid(&rt, text.as_bytes(), value);
     }
     Ok(())
 }

@@ -1,9 +1,10 @@
 //! The disks that a run can be made on.
-ghost use Rattle.std.specs.Prelude.{◌≡◌};
-ghost use Rattle.iol_tool.specs.Stop.{pick_of};
+ghost use Rattle.std.specs.Prelude.{◌≡◌, IfSome};
+ghost use Rattle.iol_disk.specs.FaultDisk.{inner, kind_of, due_of};
+ghost use Rattle.iol_tool.specs.Stop.{pick_of, fault_of, due_at};
 
-use iol_disk::{MemoryDisk, Pick, SectorDisk};
-use iol_script::Keep;
+use iol_disk::{DiskFault, FaultDisk, MemoryDisk, Pick, SectorDisk};
+use iol_script::{CallKind, FailingCall, Keep};
 
 // A disk that a power stop can be tried on.
 pub(crate) trait Stoppable: SectorDisk {
@@ -17,6 +18,29 @@ pub(crate) trait Stoppable: SectorDisk {
 impl Stoppable for MemoryDisk {
     fn stop(self, pick: Pick) -> MemoryDisk {
         MemoryDisk::stop(self, pick)
+    }
+}
+
+// A disk of which the call fails that a script says, if it says one.
+pub(crate) fn failing<D: SectorDisk>(disk: D, fail: Option<FailingCall>) -> FaultDisk<D>
+    ensures disk { inner result ≡ disk }
+    ensures kind { IfSome fail (λ call. kind_of result ≡ fault_of call.kind) }
+    ensures due { due_of result ≡ due_at fail }
+{
+    match fail {
+        Some(call) => FaultDisk::new(disk, fault_of(call.kind), u64::from(call.number)),
+        None => FaultDisk::new(disk, DiskFault::Read, 0),
+    }
+}
+
+// How a call of this kind fails.
+fn fault_of(kind: CallKind) -> DiskFault
+    ensures { result ≡ fault_of kind }
+{
+    match kind {
+        CallKind::Read => DiskFault::Read,
+        CallKind::Write => DiskFault::Write,
+        CallKind::Sync => DiskFault::Sync,
     }
 }
 

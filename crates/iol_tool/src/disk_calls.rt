@@ -1,17 +1,22 @@
-//! The disk calls of a run: those of a recovery, and those of a batch.
+//! The disk calls of a run: those of a recovery, of a checkpoint and of a batch.
 ghost use Rattle.std.specs.Prelude.{◌≡◌, Ok, IfOk, IfErr};
+ghost use Rattle.iol_journal.specs.Checkpoints.{checkpointed};
+ghost use Rattle.iol_journal.specs.Journals.{values};
 ghost use Rattle.iol_journal.specs.Meaning.{standing_in};
 ghost use Rattle.iol_journal.specs.Reading.{Shows};
 ghost use Rattle.iol_tool.specs.Fault.{status_of};
 ghost use Rattle.iol_tool.specs.Images.{TellsWhy};
-ghost use Rattle.iol_tool.specs.Store.{IsWritten};
+ghost use Rattle.iol_tool.specs.Store.{IfWorks, IsFinished, with_free_slot};
 
 use crate::acknowledgement::Acknowledgement;
 use crate::event::Event;
 use crate::fault::Fault;
 use crate::store::Store;
 use iol_disk::SectorDisk;
-use iol_journal::{BeginCause, Journal, Progress, RecoverFault, Writing};
+use iol_journal::{
+    Batch, BeginCause, BeginFault, CheckpointFault, CheckpointProgress, Checkpointing, Journal,
+    Progress, RecoverFault, Writing,
+};
 use iol_types::MasterState;
 use std::alloc::Global;
 
@@ -34,9 +39,58 @@ pub(crate) fn recover<D: SectorDisk + Drop>(
     }
 }
 
+// Makes a checkpoint where no slot is free, up to a disk call that fails.
+//
+// # Errors
+// `Memory`.
+pub(crate) fn with_free_slot<D: SectorDisk + Drop>(
+    journal: Journal<D>,
+) -> Result<Store<D>, Fault<'static>>
+    ensures standing { IfOk result (λ store. IfWorks store (λ behind. behind.standing ≡ with_free_slot journal.standing)) }
+    ensures status { IfErr result (λ fault. status_of fault ≡ 1) }
+{
+    if journal.has_free_slot() {
+        return Ok(Store::Journal(journal));
+    }
+    match journal.checkpoint() {
+        Ok(checkpointing) => Ok(finish_checkpoint(checkpointing)),
+        Err(CheckpointFault { cause, .. }) => Err(Fault::from(cause)),
+    }
+}
+
+// Makes the disk calls of a checkpoint, up to one that fails.
+fn finish_checkpoint<D: SectorDisk>(mut checkpointing: Checkpointing<D>) -> Store<D>
+    ensures { IfWorks result (λ journal. journal.standing ≡ checkpointed checkpointing.standing) }
+{
+    loop {
+        match checkpointing.step() {
+            CheckpointProgress::More(more) => checkpointing = more,
+            CheckpointProgress::Done(journal) => return Store::Journal(journal),
+            CheckpointProgress::Failed(disk, _fault) => return Store::Failed(disk),
+        }
+    }
+}
+
+// Writes a batch into a free slot, unless a disk call fails, and says what is reported of it.
+//
+// # Errors
+// `Memory`, or `Misfit` where the batch does not follow the journal.
+pub(crate) fn write_batch<D: SectorDisk + Drop>(
+    journal: Journal<D>,
+    batch: Batch,
+) -> Result<(Store<D>, Event), Fault<'static>>
+    ensures finished { IfOk result (λ made. IsFinished journal.standing (values batch.commands.items) made.0 made.1) }
+    ensures status { IfErr result (λ fault. status_of fault ≡ 1) }
+{
+    match journal.begin(batch) {
+        Ok(writing) => Ok(finish(writing)),
+        Err(BeginFault { cause, .. }) => Err(fault_of(cause)),
+    }
+}
+
 // Makes the disk calls of a batch, up to one that fails, and says what is reported of it.
-pub(crate) fn finish<D: SectorDisk>(mut writing: Writing<D>) -> (Store<D>, Event)
-    ensures { IsWritten writing.standing writing.commands result.0 result.1 }
+fn finish<D: SectorDisk>(mut writing: Writing<D>) -> (Store<D>, Event)
+    ensures { IsFinished writing.standing writing.commands result.0 result.1 }
 {
     loop {
         match writing.step() {
@@ -50,14 +104,13 @@ pub(crate) fn finish<D: SectorDisk>(mut writing: Writing<D>) -> (Store<D>, Event
     }
 }
 
-// Why a batch of the queue is not begun. It is of one command, follows the journal and passes, so where memory is not
-// missing a slot is.
-pub(crate) fn fault_of(cause: BeginCause) -> Fault<'static>
+// Why a batch is not begun. One of the queue is of one command, follows the journal and passes, so that nothing but
+// memory is missing.
+fn fault_of(cause: BeginCause) -> Fault<'static>
     ensures { status_of result ≡ 1 }
 {
     match cause {
         BeginCause::Memory => Fault::Memory,
-        BeginCause::TooLarge | BeginCause::NeedsCheckpoint | BeginCause::Misfit =>
-            Fault::JournalFull,
+        BeginCause::TooLarge | BeginCause::NeedsCheckpoint | BeginCause::Misfit => Fault::Misfit,
     }
 }

@@ -7,7 +7,7 @@ ghost use Rattle.iol_tool.specs.Store.{has_failed};
 ghost use Rattle.iol_tool.specs.declared.event.Event.TheVariants.{Refused};
 ghost use Rattle.iol_tool.specs.declared.event.Refusal.TheVariants.{Stopped};
 
-use crate::disk::{Stoppable, pick_of};
+use crate::disk::{Stoppable, failing, pick_of};
 use crate::event::{Event, Refusal};
 use crate::fault::Fault;
 use crate::queue::Queue;
@@ -28,19 +28,21 @@ pub(crate) struct Trace {
     pub(crate) state: MasterState,
 }
 
-// Runs a script on a disk, which it formats for this geometry.
+// Runs a script on a disk, which it formats for this geometry. From the recovery behind the format up to the stop the
+// disk is one of which the call fails that the script says.
 //
 // # Errors
-// `Memory`, `Disk`, `TooSmall`, `AlreadyFormatted` or `JournalFull`, where it is first met.
+// `Memory`, `Disk`, `TooSmall`, `AlreadyFormatted` or `Misfit`, where it is first met.
 pub(crate) fn run<D: Stoppable + Drop>(
     alloc: Global,
-    disk: D,
+    mut disk: D,
     geometry: Geometry,
     script: &Script,
 ) -> Result<Trace, Fault<'static>>
     ensures { IfErr result (λ fault. status_of fault ≡ 1) }
 {
-    let (mut store, state) = Store::format(alloc, disk, geometry)?;
+    iol_journal::format(alloc, &mut disk, geometry)?;
+    let (mut store, state) = Store::recover(alloc, failing(disk, script.fail))?;
     let mut queue = Queue::new(alloc, state)?;
     let mut events = Vec::new(alloc);
     for step in &script.steps {

@@ -1,11 +1,11 @@
 //! The disk of a run.
 
 use crate::disk::Stoppable;
-use crate::disk_calls::{fault_of, finish, recover};
+use crate::disk_calls::{recover, with_free_slot, write_batch};
 use crate::event::Event;
 use crate::fault::Fault;
-use iol_disk::{Pick, SectorDisk};
-use iol_journal::{Batch, BeginFault, Geometry, Journal};
+use iol_disk::{FaultDisk, Pick, SectorDisk};
+use iol_journal::{Batch, Journal};
 use iol_types::MasterState;
 use std::alloc::Global;
 
@@ -42,44 +42,56 @@ impl<D: SectorDisk + Drop> Store<D> {
     ghost use Rattle.std.specs.Prelude.{◌≡◌, false, IfOk, IfErr};
     ghost use Rattle.iol_journal.specs.Journals.{values};
     ghost use Rattle.iol_tool.specs.Fault.{status_of};
-    ghost use Rattle.iol_tool.specs.Store.{has_failed, IfWorks, Writes};
+    ghost use Rattle.iol_tool.specs.Store.{has_failed, IfWorks, IsWithFreeSlot, Writes};
 
-    // A disk that is formatted, and the state that it then means.
+    // A disk with its journal, and the state that it means.
     //
     // # Errors
-    // `TooSmall`, `AlreadyFormatted` or `Memory`, or `Disk` where a disk call fails.
-    pub(crate) fn format(
-        alloc: Global,
-        mut disk: D,
-        geometry: Geometry,
-    ) -> Result<(Store<D>, MasterState), Fault<'static>>
+    // Why the disk is not recovered.
+    pub(crate) fn recover(alloc: Global, disk: D) -> Result<(Store<D>, MasterState), Fault<'static>>
         ensures works { IfOk result (λ made. has_failed made.0 ≡ false) }
         ensures state { IfOk result (λ made. IfWorks made.0 (λ journal. made.1 ≡ journal.standing.state)) }
         ensures status { IfErr result (λ fault. status_of fault ≡ 1) }
     {
-        iol_journal::format(alloc, &mut disk, geometry)?;
         let (journal, state) = recover(alloc, disk)?;
         Ok((Store::Journal(journal), state))
     }
 
-    // Writes a batch, unless a disk call fails or has failed, and says what is reported of it.
+    // Writes a batch, unless a disk call fails or has failed, and says what is reported of it. Where no slot is free a
+    // checkpoint is made first.
     //
     // # Errors
-    // `Memory`, or `JournalFull` where no slot is free.
+    // `Memory`, or `Misfit` where the batch does not follow the journal.
     pub(crate) fn write(self, batch: Batch) -> Result<(Store<D>, Event), Fault<'static>>
         ensures writes { IfOk result (λ made. Writes self (values batch.commands.items) made.0 made.1) }
         ensures status { IfErr result (λ fault. status_of fault ≡ 1) }
     {
-        match self {
+        match self.with_free_slot()? {
             Store::Failed(disk) => Ok((Store::Failed(disk), Event::DiskFailed)),
-            Store::Journal(journal) => match journal.begin(batch) {
-                Ok(writing) => Ok(finish(writing)),
-                Err(BeginFault { cause, .. }) => Err(fault_of(cause)),
-            },
+            Store::Journal(journal) => write_batch(journal, batch),
         }
     }
 
-    // The number and the state that a power stop leaves.
+    // Makes a checkpoint where no slot is free, unless a disk call fails or has failed.
+    //
+    // # Errors
+    // `Memory`.
+    fn with_free_slot(self) -> Result<Store<D>, Fault<'static>>
+        ensures slot { IfOk result (λ store. IsWithFreeSlot self store) }
+        ensures status { IfErr result (λ fault. status_of fault ≡ 1) }
+    {
+        match self {
+            Store::Failed(disk) => Ok(Store::Failed(disk)),
+            Store::Journal(journal) => with_free_slot(journal),
+        }
+    }
+}
+
+impl<D: Stoppable + Drop> Store<FaultDisk<D>> {
+    ghost use Rattle.std.specs.Prelude.{◌≡◌, IfErr};
+    ghost use Rattle.iol_tool.specs.Fault.{status_of};
+
+    // The number and the state that a power stop leaves of the disk on which no call is made to fail any more.
     //
     // # Errors
     // Why the disk is not recovered.
@@ -88,11 +100,10 @@ impl<D: SectorDisk + Drop> Store<D> {
         alloc: Global,
         pick: Pick,
     ) -> Result<(u64, MasterState), Fault<'static>>
-    where
-        D: Stoppable,
         ensures { IfErr result (λ fault. status_of fault ≡ 1) }
     {
-        let (journal, state) = recover(alloc, self.into_disk().stop(pick))?;
+        let disk = self.into_disk().disk();
+        let (journal, state) = recover(alloc, disk.stop(pick))?;
         Ok((journal.number(), state))
     }
 }

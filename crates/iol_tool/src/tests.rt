@@ -1,6 +1,5 @@
 //! What the commands write, and their statuses.
 
-mod failing;
 mod failures;
 mod faults;
 mod images;

@@ -122,7 +122,7 @@ fn a_refused_growth_of_a_checkpoint_is_answered_and_loses_nothing(
 }
 
 #[test]
-fn a_refused_growth_is_is_answered_and_loses_nothing(rt: HostRuntime) -> Result<(), Fail> {
+fn a_refused_growth_is_answered_and_loses_nothing(rt: HostRuntime) -> Result<(), Fail> {
     let mut journal = recovered_twice(rt.alloc(), formatted_twice(rt.alloc())?)?;
     assert_eq!(rt; journal.number(), 0);
     let mut before = 0;

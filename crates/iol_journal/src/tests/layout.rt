@@ -60,3 +60,14 @@ fn the_first_batch_stands_in_the_first_slot(rt: HostRuntime) -> Result<(), Fail>
     );
     Ok(())
 }
+
+#[test]
+fn a_disk_may_be_larger_than_its_journal(rt: HostRuntime) -> Result<(), Fail> {
+    let mut disk = MemoryDisk::new(rt.alloc(), 200)?;
+    format(rt.alloc(), &mut disk, two_ports_four_slots()?)?;
+    let (journal, _) = recovered(rt.alloc(), disk)?;
+    let (journal, _) = finished(begun(journal, batch(rt.alloc(), 1, 1)?)?)?;
+    let (journal, _) = recovered(rt.alloc(), journal.disk())?;
+    assert_eq!(rt; journal.number(), 1);
+    Ok(())
+}

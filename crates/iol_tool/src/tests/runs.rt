@@ -139,12 +139,38 @@ fn what_is_acknowledged_is_recovered_whatever_a_stop_keeps(rt: HostRuntime) -> R
     Ok(())
 }
 
+// Sees that so many Configures of port 1, each written by itself, are acknowledged and recovered, whatever the stop keeps.
+fn expect_each_recovered(
+    rt: &(impl Abort + AllocGlobal),
+    (geometry, other_ports): (&str, &str),
+    count: usize,
+) -> Result<(), Fail> {
+    let mut lines = String::new(rt.alloc());
+    let mut steps = String::new(rt.alloc());
+    for number in 1..=count {
+        writeln!(lines, "accepted {number}\nacknowledged {number}")?;
+        writeln!(steps, "{CONFIGURE}{DRAIN}")?;
+    }
+    let port = "mode 1 validation 3 vendor 01F4 device 00ABCD set none";
+    writeln!(
+        lines,
+        "stopped\nrecovered {count}\nport 1 revision {count} {port}"
+    )?;
+    lines.push_str(other_ports)?;
+    for keep in ["old", "new", "zero", "pattern"] {
+        let stop = stop_that_keeps(rt.alloc(), keep)?;
+        let script = format!(in rt.alloc(); "{geometry}\n{steps}{stop}")?;
+        let answer = answer_to(rt.alloc(), script.as_bytes());
+        expect_answer(rt, &answer, (0, lines.as_str(), ""), keep)?;
+    }
+    Ok(())
+}
+
 #[test]
-fn four_slots_do_not_take_a_fifth_batch(rt: HostRuntime) -> Result<(), Fail> {
-    let script = script_of(rt.alloc(), &[CONFIGURE, DRAIN].repeat(rt.alloc(), 5)?)?;
-    let answer = answer_to(rt.alloc(), script.as_bytes());
-    let wanted = (1, "", "error: the journal is full\n");
-    expect_answer(&rt, &answer, wanted, "four slots are used")
+fn a_checkpoint_comes_before_a_batch_that_finds_no_slot_free(rt: HostRuntime) -> Result<(), Fail> {
+    let port = "port 2 revision 0 mode 0 validation 0 vendor 0000 device 000000 set none\n";
+    expect_each_recovered(&rt, ("ports = 2\nslots = 4", port), 5)?;
+    expect_each_recovered(&rt, ("ports = 1\nslots = 1", ""), 20)
 }
 
 #[test]

@@ -1,0 +1,83 @@
+//! The disk call of a run that a script makes to fail.
+ghost use Rattle.std.specs.Prelude.{◌≡◌};
+ghost use Rattle.toml.specs.View.{table_view};
+ghost use Rattle.iol_script.specs.Fail.{kind_of, number_in, call_in, fail_in, has_first_digit};
+
+use crate::table::value_at;
+use toml::Table;
+
+/// The last call of a kind that a script can make to fail.
+pub const LAST_FAILING_CALL: u32 = 1_000_000;
+
+/// A kind of disk call.
+#[derive(Clone, Copy, Debug, PartialEq, Eq)]
+pub enum CallKind {
+    /// A sector is read.
+    Read,
+    /// A sector is written.
+    Write,
+    /// All that was written is made durable.
+    Sync,
+}
+
+/// The call of a run that fails.
+#[derive(Clone, Copy, Debug, PartialEq, Eq)]
+pub struct FailingCall {
+    /// The kind of call.
+    pub kind: CallKind,
+    /// Which call of this kind, counted from 1 to [`LAST_FAILING_CALL`].
+    pub number: u32,
+}
+
+// What a table says at the key `fail`: nothing, or the call that fails; `None` where the value there says no call.
+pub(crate) fn fail_in(table: &Table) -> Option<Option<FailingCall>>
+    ensures { result ≡ fail_in (table_view table.now) }
+{
+    match value_at(table, "fail") {
+        Some(value) => Some(Some(call_in(value.as_str()?)?)),
+        None => Some(None),
+    }
+}
+
+// The call that a text says: its kind, a space and its number.
+fn call_in(text: &str) -> Option<FailingCall>
+    ensures { result ≡ call_in text.now }
+{
+    let (word, digits) = text.split_once(' ')?;
+    Some(FailingCall {
+        kind: kind_of(word)?,
+        number: number_in(digits)?,
+    })
+}
+
+fn kind_of(word: &str) -> Option<CallKind>
+    ensures { result ≡ kind_of word.now }
+{
+    match word {
+        "read" => Some(CallKind::Read),
+        "write" => Some(CallKind::Write),
+        "sync" => Some(CallKind::Sync),
+        _ => None,
+    }
+}
+
+// The number that digits write, without sign or leading zero, of 1 to 1,000,000.
+fn number_in(digits: &str) -> Option<u32>
+    ensures { result ≡ number_in digits.now }
+{
+    if !has_first_digit(digits) {
+        return None;
+    }
+    let number = digits.parse().ok()?;
+    if LAST_FAILING_CALL < number {
+        return None;
+    }
+    Some(number)
+}
+
+// Whether a text begins with a digit from 1 on.
+fn has_first_digit(text: &str) -> bool
+    ensures { result ≡ has_first_digit text.now }
+{
+    matches!(text.as_bytes().first(), Some(b'1'..=b'9'))
+}
