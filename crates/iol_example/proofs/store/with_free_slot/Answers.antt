@@ -1,0 +1,53 @@
+use Rattle.std.proofs.Common.{List, length, refl, ap, ◌∙◌, arith}
+use Rattle.iol_disk.specs.Calls.{Call}
+use Rattle.iol_journal.specs.Journals.{JournalView}
+use Rattle.iol_example.proofs.StoreLaws.{from_rest, checkpoint_goes_on}
+use Rattle.iol_example.proofs.store.with_free_slot.Goals as goal
+
+pub returns-then-has_free_slot-clause-any_moment : goal.returns-then-has_free_slot-clause-any_moment
+returns-then-has_free_slot-clause-any_moment g c = λ rests. from_rest _ _ c.args.journal.standing c.args.journal.idle refl rests
+
+pub returns-in-Err-clause-any_moment : goal.returns-in-Err-clause-any_moment
+returns-in-Err-clause-any_moment g c = λ rests.
+    from_rest _ _ c.args.journal.standing c.args.journal.idle
+    (ap (λ (j : JournalView g.row.D.Denot). g.D.SectorDisk.disk j.disk) c.in-Err.ensures.back) rests
+
+pub loop-next-init : goal.loop-next-init
+loop-next-init g c =
+    let begun = c.in-Ok.ensures.begun in (
+      begun.1,
+      c.in-Ok.ensures.underway,
+      λ rests. from_rest _ _ c.args.journal.standing c.args.journal.idle (ap g.D.SectorDisk.disk begun.0) rests,
+      c.in-Ok.ensures.run,
+    )
+
+pub loop-next-smaller : goal.loop-next-smaller
+loop-next-smaller g c = omega (arith, ap (λ (calls : List Call). length calls) c.in-More.ensures.call.order)
+
+pub loop-next-preserved : goal.loop-next-preserved
+loop-next-preserved g c =
+    let so_far = c.loop-next.invariant in (
+      c.in-More.ensures.more.0 ∙ so_far.0,
+      λ rests. c.in-More.ensures.underway (so_far.1 rests),
+      λ rests. checkpoint_goes_on _ _ _ _ _ so_far.0 (so_far.2 rests) (c.in-More.ensures.any_moment (so_far.1 rests)),
+      λ r run. c.in-More.ensures.run r (so_far.3 r run),
+    )
+
+pub returns-in-Done-clause-any_moment : goal.returns-in-Done-clause-any_moment
+returns-in-Done-clause-any_moment g c = λ rests.
+    let so_far = c.loop-next.invariant in
+    checkpoint_goes_on _ _ _ _ _ so_far.0 (so_far.2 rests) (c.in-Done.ensures.any_moment (so_far.1 rests))
+
+pub returns-in-Done-clause-rests : goal.returns-in-Done-clause-rests
+returns-in-Done-clause-rests g c = λ rests. (c.in-Done.ensures.durable (c.loop-next.invariant.1 rests)).0
+
+pub returns-in-Done-clause-run : goal.returns-in-Done-clause-run
+returns-in-Done-clause-run g c = λ r run. c.in-Done.ensures.run r (c.loop-next.invariant.3 r run)
+
+pub returns-in-Failed-clause-any_moment : goal.returns-in-Failed-clause-any_moment
+returns-in-Failed-clause-any_moment g c = λ rests.
+    let so_far = c.loop-next.invariant in
+    checkpoint_goes_on _ _ _ _ _ so_far.0 (so_far.2 rests) (c.in-Failed.ensures.any_moment (so_far.1 rests))
+
+pub returns-in-Failed-clause-run : goal.returns-in-Failed-clause-run
+returns-in-Failed-clause-run g c = λ r run. c.in-Failed.ensures.run r (c.loop-next.invariant.3 r run)

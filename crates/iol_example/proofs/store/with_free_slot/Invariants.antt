@@ -1,0 +1,23 @@
+use Rattle.std.proofs.Common.{◌≡◌, length}
+use Rattle.iol_disk.specs.Moments.{LeavesOnly}
+use Rattle.iol_journal.specs.CheckpointRuns.{IsRunCheckpointing}
+use Rattle.iol_journal.specs.CheckpointViews.{stages_left, IsCheckpointUnderway}
+use Rattle.iol_journal.specs.Kept.{KeptMeans}
+use Rattle.iol_journal.specs.Runs.{Run}
+use Rattle.iol_journal.specs.Running.{IsRunAtRest}
+use Rattle.iol_example.specs.Store.{Rests}
+use Rattle.iol_example.proofs.store.with_free_slot.Given as goal
+
+-- the checkpoint stays under way behind the same commands, and so far left the number and the state
+abbrev pub invariant-loop-next : goal.invariant-loop-next
+invariant-loop-next g l =
+    let d = g.D.SectorDisk.disk in
+    let j = l.fn.journal in
+    (l.checkpointing.standing ≡ j.standing)
+    × (Rests d j → IsCheckpointUnderway d l.checkpointing)
+    × (Rests d j → LeavesOnly (d j.disk) (d l.checkpointing.disk) (KeptMeans (d j.disk).sectors j.standing.number j.standing.state))
+    × ((r : Run) → IsRunAtRest d r j → IsRunCheckpointing d r l.checkpointing)
+
+-- each step makes one of the disk calls that are left
+abbrev pub decreases-loop-next : goal.decreases-loop-next
+decreases-loop-next g l = length (stages_left l.checkpointing)

@@ -1,0 +1,77 @@
+use Rattle.std.proofs.Common.{◌≡◌, List, ◌∷◌, [], ◌++◌, Err, ap, ◌∙◌, subst}
+use Rattle.std.proofs.lemmas.Result.{err_from_is_err_and}
+use Rattle.iol_types.specs.Command.{CommandValue, value_of}
+use Rattle.iol_journal.specs.Journals.{values}
+use Rattle.iol_journal.specs.Meaning.{Standing}
+use Rattle.iol_journal.specs.Runs.{with_batch_begun}
+use Rattle.iol_journal.specs.Running.{IsRunWriting}
+use Rattle.iol_example.specs.Store.{left_disk}
+use Rattle.iol_example.proofs.StoreLaws.{rests_at, or_after, batch_behind, refused_as_it_was, written_rests, run_of_queued}
+use Rattle.iol_example.proofs.store.write.Goals as goal
+
+-- no slot was freed
+pub returns-in_err-journal-clause-any_moment : goal.returns-in_err-journal-clause-any_moment
+returns-in_err-journal-clause-any_moment g c = λ rests.
+    let p = err_from_is_err_and c.from_residual.result c.from_residual.ensures.1 in
+    rw (p.1, p.2) (or_after _ (g.D.SectorDisk.disk (left_disk (Err c.in_err-journal.field-0.0))) _ _ (value_of c.args.command ∷ []) (c.in_err-journal.ensures.any_moment rests))
+
+pub returns-in_err-journal-clause-refused : goal.returns-in_err-journal-clause-refused
+returns-in_err-journal-clause-refused g c = λ rests.
+    let p = err_from_is_err_and c.from_residual.result c.from_residual.ensures.1 in
+    rw (p.1, p.2) (refused_as_it_was g.D.SectorDisk.disk c.args.journal (Err c.in_err-journal.field-0.0) c.in_err-journal.ensures.refused rests)
+
+-- memory ran out
+pub returns-in_default-clause-any_moment : goal.returns-in_default-clause-any_moment
+returns-in_default-clause-any_moment g c = λ rests. or_after _ _ _ _ (value_of c.args.command ∷ []) (c.in_ok-journal.ensures.any_moment rests)
+
+pub returns-in_default-clause-refused : goal.returns-in_default-clause-refused
+returns-in_default-clause-refused g c = λ rests.
+    let same = c.in_ok-journal.ensures.same in
+    rests_at g.D.SectorDisk.disk _ _ c.in_ok-journal.journal (c.in_ok-journal.ensures.rests rests) same.0 same.1
+
+pub returns-in_default-clause-run : goal.returns-in_default-clause-run
+returns-in_default-clause-run g c = λ r behind queued run. c.in_ok-journal.ensures.run r run
+
+-- the batch was begun
+pub returns-in-Ok-begin-clause-any_moment : goal.returns-in-Ok-begin-clause-any_moment
+returns-in-Ok-begin-clause-any_moment g c = λ rests.
+    let freed = c.in_ok-journal.ensures in
+    let begun = c.in-Ok-begin.ensures in
+    batch_behind _ _ _ _ _ _ _ _ _ _
+    (ap g.D.SectorDisk.disk begun.begun.0)
+    (ap (λ (s : Standing). s.number) begun.begun.1 ∙ freed.same.0)
+    (ap (λ (s : Standing). s.state) begun.begun.1 ∙ freed.same.1)
+    (begun.begun.4 ∙ ap values c.in-Ok.ensures.items)
+    (freed.any_moment rests)
+    (c.finish.ensures.any_moment (begun.underway (freed.rests rests)))
+
+pub returns-in-Ok-begin-clause-durable : goal.returns-in-Ok-begin-clause-durable
+returns-in-Ok-begin-clause-durable g c = λ rests.
+    let freed = c.in_ok-journal.ensures in
+    let begun = c.in-Ok-begin.ensures in
+    written_rests g.D.SectorDisk.disk c.in-Ok-begin.writing _ _ (value_of c.args.command) c.finish.result
+    (ap (λ (s : Standing). s.number) begun.begun.1 ∙ freed.same.0)
+    (ap (λ (s : Standing). s.state) begun.begun.1 ∙ freed.same.1)
+    (begun.begun.4 ∙ ap values c.in-Ok.ensures.items)
+    c.finish.ensures.done
+    (c.finish.ensures.rests (begun.underway (freed.rests rests)))
+
+pub returns-in-Ok-begin-clause-run : goal.returns-in-Ok-begin-clause-run
+returns-in-Ok-begin-clause-run g c = λ r behind queued run.
+    let d = g.D.SectorDisk.disk in
+    let writes = subst (λ (cs : List CommandValue). r.queued ≡ cs ++ behind → IsRunWriting d (with_batch_begun r cs behind) c.in-Ok-begin.writing)
+    (ap values c.in-Ok.ensures.items)
+    (λ first. c.in-Ok-begin.ensures.run r behind first (c.in_ok-journal.ensures.run r run)) queued in
+    run_of_queued d r (value_of c.args.command ∷ []) behind _ c.finish.result run.2 queued c.finish.ensures.taken (c.finish.ensures.run _ writes)
+
+-- the batch was refused
+pub returns-in-Err-clause-any_moment : goal.returns-in-Err-clause-any_moment
+returns-in-Err-clause-any_moment g c = λ rests. rw c.in-Err.ensures.back.0 (or_after _ _ _ _ (value_of c.args.command ∷ []) (c.in_ok-journal.ensures.any_moment rests))
+
+pub returns-in-Err-clause-refused : goal.returns-in-Err-clause-refused
+returns-in-Err-clause-refused g c = λ rests.
+    let same = c.in_ok-journal.ensures.same in
+    rw c.in-Err.ensures.back.0 (rests_at g.D.SectorDisk.disk _ _ c.in_ok-journal.journal (c.in_ok-journal.ensures.rests rests) same.0 same.1)
+
+pub returns-in-Err-clause-run : goal.returns-in-Err-clause-run
+returns-in-Err-clause-run g c = λ r behind queued run. rw c.in-Err.ensures.back.0 (c.in_ok-journal.ensures.run r run)

@@ -1,0 +1,66 @@
+-- What a store answers.
+use Rattle.std.specs.Prelude.{◌≡◌, ◌<◌, ℕ, ◌+◌, true, IsTrue, [], ◌∷◌, Some, Result, Ok, Err}
+use Rattle.iol_types.specs.Command.{CommandValue}
+use Rattle.iol_types.specs.State.{State}
+use Rattle.iol_disk.specs.Disk.{Disk}
+use Rattle.iol_journal.specs.Begin.{batch_refusal}
+use Rattle.iol_journal.specs.Geometry.{Geometry}
+use Rattle.iol_journal.specs.Journals.{JournalView}
+use Rattle.iol_journal.specs.Kept.{EachMeans}
+use Rattle.iol_journal.specs.Layout.{layout_of, total}
+use Rattle.iol_journal.specs.Meaning.{Standing, is_formatted}
+use Rattle.iol_journal.specs.Reading.{Shows}
+use Rattle.iol_journal.specs.Runs.{Run, IsRun}
+use Rattle.iol_journal.specs.Running.{IsRunAtRest}
+use Rattle.iol_journal.specs.Underway.{IsAtRest}
+use Rattle.iol_journal.specs.declared.cause.RecoverCause.TheVariants.{NotFormatted, Damaged}
+use Rattle.iol_journal.specs.declared.formatting.FormatFault.TheVariants.{TooSmall, AlreadyFormatted}
+use Rattle.iol_journal.specs.declared.journal.BeginCause.{BeginCause}
+use Rattle.iol_journal.specs.declared.journal.BeginCause.TheVariants.{Memory}
+use Rattle.iol_example.specs.declared.store.CreateFault.{CreateFault}
+use Rattle.iol_example.specs.declared.store.CreateFault.TheVariants.{Format, Recover}
+use Rattle.iol_example.specs.declared.store.WriteFault.{WriteFault}
+use Rattle.iol_example.specs.declared.store.WriteFault.TheVariants.{Refused, Failed}
+
+-- the journal of a store is at rest on its disk (own)
+abbrev pub Rests : {D : Type 0} → (D → Disk) → JournalView D → Type 0
+Rests disk j = IsAtRest (disk j.disk) j.standing j.idle
+
+-- a store is at rest with this number and state: on an honest disk its journal stands so, and each image means them
+-- (own)
+pub record RestsAt {D : Type 0} (disk : D → Disk) (number : ℕ) (state : State) (j : JournalView D) : Type 0 where
+  pub rests : Rests disk j
+  pub stands : IsTrue (disk j.disk).honest → (j.standing.number ≡ number) × (j.standing.state ≡ state)
+  pub means : EachMeans (disk j.disk) number state
+
+-- why a disk has no new store: too small is one with fewer sectors than the geometry asks for, and already formatted one
+-- that shows so; what was formatted on an honest disk is never found damaged (own)
+abbrev pub IsCreateFault : Disk → Geometry → CreateFault → Type 0
+IsCreateFault d g (Format TooSmall) = d.sectors < total (layout_of g)
+IsCreateFault d g (Format AlreadyFormatted) = Shows d (λ image. is_formatted d.sectors image ≡ true)
+IsCreateFault d g (Recover NotFormatted) = IsTrue d.honest → ⊥
+IsCreateFault d g (Recover (Damaged sector)) = IsTrue d.honest → ⊥
+IsCreateFault d g fault = Unit {0}
+
+-- the disk of what a write answers: in the journal, or handed back (own)
+abbrev pub left_disk : {D : Type 0} → Result (JournalView D) (WriteFault D) → D
+left_disk (Ok behind) = behind.disk
+left_disk (Err (Refused back cause)) = back.disk
+left_disk (Err (Failed left fault)) = left
+
+-- a fact of the journal that a refusal hands back, and of its cause (own)
+abbrev pub IfRefused : {D : Type 0} → Result (JournalView D) (WriteFault D) → (JournalView D → BeginCause → Type 0) → Type 0
+IfRefused (Err (Refused back cause)) P = P back cause
+IfRefused answer P = Unit {0}
+
+-- why a command is refused: memory ran out, or the batch of it alone is refused where the journal stands (own)
+abbrev pub IsRefusal : Standing → CommandValue → BeginCause → Type 0
+IsRefusal s command Memory = Unit {0}
+IsRefusal s command cause = batch_refusal s (s.number + 1) (command ∷ []) ≡ Some cause
+
+-- a run after a write: another run, where the command is written; the run as it was, where it is refused; and a disk
+-- that failed leaves it a run (own)
+abbrev pub LeavesRun : {D : Type 0} → (D → Disk) → Run → Run → Result (JournalView D) (WriteFault D) → Type 0
+LeavesRun disk before written (Ok behind) = IsRunAtRest disk written behind
+LeavesRun disk before written (Err (Refused back cause)) = IsRunAtRest disk before back
+LeavesRun disk before written (Err (Failed left fault)) = IsRun (disk left) before
