@@ -64,23 +64,30 @@ pub struct Written {
 }
 
 impl Model for Written {
+    ghost use Rattle.std.specs.Prelude.{◌≤◌, ◌+◌, length};
     ghost use Rattle.iol_journal.specs.Written.{WrittenView};
+    ghost use Rattle.iol_journal.specs.declared.header.TheConstants.{LAST_NUMBER};
 
     ghost Value = { WrittenView };
 
     ghost use Rattle.iol_journal.specs.Journals.{values};
 
     ghost view = { λ w. record { first = w.batch.first; commands = values w.batch.commands.items } };
+
+    ghost invariant = { λ w. (1 ≤ w.batch.first) × (w.batch.first + length w.batch.commands.items ≤ LAST_NUMBER + 1) };
 }
 
 impl Written {
-    ghost use Rattle.std.specs.Prelude.{◌≡◌};
+    ghost use Rattle.std.specs.Prelude.{◌≡◌, ◌≤◌, ◌+◌, length};
     ghost use Rattle.iol_journal.specs.Journals.{values};
+    ghost use Rattle.iol_journal.specs.declared.header.TheConstants.{LAST_NUMBER};
 
     /// The batch, which gives up what this stands for.
     pub fn into_batch(self) -> Batch
         ensures first { result.first ≡ self.first }
         ensures commands { values result.commands.items ≡ self.commands }
+        // Commands have the numbers 1 to LAST_NUMBER.
+        ensures numbers { (1 ≤ self.first) × (self.first + length self.commands ≤ LAST_NUMBER + 1) }
     {
         let Written { batch } = self;
         batch
