@@ -1,5 +1,5 @@
 -- Each step of a seat keeps the rule of the word.
-use Rattle.std.proofs.Common.{◌≡◌, ◌≢◌, ℕ, zero, suc, ◌+◌, ◌==◌, true, false, true≢false, List, [], ◌∷◌, ◌++◌, length, set, refl, sym, ap, ◌∙◌, subst, ⊎_elim, arith, add-zero, length-append}
+use Rattle.std.proofs.Common.{◌≡◌, ◌≢◌, ℕ, zero, suc, ◌+◌, ◌≤◌, ◌==◌, true, false, true≢false, List, [], ◌∷◌, ◌++◌, length, set, refl, sym, ap, ◌∙◌, subst, ⊎_elim, arith, add-zero, length-append}
 use Rattle.std.specs.Prelude.{slice_index, slice_set}
 use mathlib.Core.Option.{some, some-injective}
 use mathlib.Core.List.{IsPrefix}
@@ -10,6 +10,7 @@ use Rattle.atomic_table.proofs.Lists.{at_set, at_snoc, set_again, exchanged}
 use Rattle.iol_types.specs.Command.{CommandValue}
 use Rattle.iol_journal.specs.Journals.{values}
 use Rattle.iol_journal.specs.declared.batch.Batch.{Batch}
+use Rattle.iol_journal.specs.declared.header.TheConstants.{LAST_NUMBER}
 use Rattle.iol_front.specs.Fronts.{Start}
 use Rattle.iol_front.specs.Seats.{SeatView, publisher, silent, another_of, told_by}
 use Rattle.iol_front.specs.Rule.{IsSo, CountsList, Looked, Published, Retired}
@@ -28,11 +29,12 @@ so_set st all who views id w others mine seat v e =
     ⊎_elim (λ t. so_here st all who id seat w v t.0 t.1 mine) (λ t. others seat v t.0 t.1) (at_set views id seat w v e)
 
 -- the first state keeps the rule
-pub begins : {S : Type 0} (st : Start) → CountsList {S = S} st (opening (st.number ∷ []) [] (publisher st []))
-begins st = record {
+pub begins : {S : Type 0} (st : Start) → st.number ≤ LAST_NUMBER → CountsList {S = S} st (opening (st.number ∷ []) [] (publisher st []))
+begins st low = record {
   all = [];
   publisher = 0;
   word = rw add-zero refl;
+  bound = rw add-zero low;
   seats = first;
 }
   where
@@ -46,7 +48,8 @@ module _ {S : Type 0} (st : Start) where
       let mine = k.seats id v at says in
       let all : List CommandValue = k.all in
       let w : SeatView = record { says = v.says; publishes = v.publishes; start = v.start; seen = all; told = [] } in
-      let now : slice_index s.words 0 ≡ v.start.number + length all = ap (λ ws. slice_index ws 0) k.word ∙ ap (λ (x : Start). x.number + length all) (sym mine.0) in (
+      let found : slice_index s.words 0 ≡ st.number + length all = ap (λ ws. slice_index ws 0) k.word in
+      let now : slice_index s.words 0 ≡ v.start.number + length all = found ∙ ap (λ (x : Start). x.number + length all) (sym mine.0) in (
         w,
         keeps,
         tt,
@@ -54,9 +57,10 @@ module _ {S : Type 0} (st : Start) where
           all = all;
           publisher = k.publisher;
           word = ap (λ ws. slice_set ws 0 (slice_index ws 0)) k.word;
+          bound = k.bound;
           seats = so_set st all k.publisher s.views id w (λ seat u _ e. k.seats seat u e) (λ _. (mine.0, prefix_self all, prefix_nil all, λ o. (refl, (mine.3 o).1)));
         },
-        (record { same = refl; seen = mine.1; told = mine.2; whole = λ publishing. sym (mine.3 publishing).0; count = now }, refl),
+        (record { same = refl; seen = mine.1; told = mine.2; whole = λ publishing. sym (mine.3 publishing).0; count = now; bound = subst (λ n. n ≤ LAST_NUMBER) (sym found) k.bound }, refl),
       )
 
   pub retires : (slots id : ℕ) (sp : Step S) (v : SeatView) → Allows (CountsList st) slots id (v, []) 0 (λ n. n) (Retired sp (v, []))
@@ -68,6 +72,7 @@ module _ {S : Type 0} (st : Start) where
       all = k.all;
       publisher = k.publisher;
       word = ap (λ ws. slice_set ws 0 (slice_index ws 0)) k.word;
+      bound = k.bound;
       seats = so_set st k.all k.publisher s.views id silent (λ seat u _ e. k.seats seat u e) off;
     },
     (refl, refl),
@@ -78,6 +83,7 @@ module _ {S : Type 0} (st : Start) where
     all = k.all;
     publisher = k.publisher;
     word = k.word;
+    bound = k.bound;
     seats = λ seat u e. ⊎_elim
         (λ was. k.seats seat u (subst (λ l. get_elem? l seat ≡ some u) (set_again s.views id v at) was))
         (λ (same : another_of v ≡ u). subst (λ (x : SeatView). IsSo st k.all k.publisher seat x) same (λ says. let mine = k.seats id v at says in (mine.0, mine.1, prefix_nil k.all, off)))
@@ -92,6 +98,7 @@ module _ {S : Type 0} (st : Start) where
         all = k.all;
         publisher = k.publisher;
         word = k.word;
+        bound = k.bound;
         seats = so_set st k.all k.publisher (set s.views id (told_by v w)) other silent
             (λ seat u _ e. so_set st k.all k.publisher s.views id (told_by v w) (λ seat' u' _ e'. k.seats seat' u' e') mine seat u e) off;
       }
@@ -101,9 +108,9 @@ so_more st all more who seat v away h says =
     let own = h says in
     (own.0, prefix_trans v.seen all (all ++ more) own.1 (prefix_append all more), prefix_trans v.told all (all ++ more) own.2 (prefix_append all more), λ o. absurd (away (own.3 o).1))
 
-pub publishes : (st : Start) (slots id : ℕ) (v : SeatView) (b : Batch) (old new : ℕ) → v.says ≡ true → v.publishes ≡ true → old ≡ v.start.number + length v.seen → new ≡ old + length (values b.commands.items)
+pub publishes : (st : Start) (slots id : ℕ) (v : SeatView) (b : Batch) (old new : ℕ) → v.says ≡ true → v.publishes ≡ true → old ≡ v.start.number + length v.seen → new ≡ old + length (values b.commands.items) → new ≤ LAST_NUMBER
     → Allows (CountsList st) slots id (v, []) 0 (λ n. either (n == old) new n) (Published (step slots 0 old new (some b)) (v, []))
-publishes st slots id v b old new says publishing is long s k len at small =
+publishes st slots id v b old new says publishing is long low s k len at small =
     let mine = k.seats id v at says in
     let whole = mine.3 publishing in
     let more : List CommandValue = (values b.commands.items) in
@@ -112,6 +119,7 @@ publishes st slots id v b old new says publishing is long s k len at small =
     let found : slice_index s.words 0 ≡ st.number + length all = ap (λ ws. slice_index ws 0) k.word in
     let word : slice_index s.words 0 ≡ old = found ∙ (ap (λ l. st.number + length l) (sym whole.0) ∙ (ap (λ (x : Start). x.number + length v.seen) (sym mine.0) ∙ sym is)) in
     let sum : length (all ++ more) ≡ length all + length more = length-append all more in
+    let low_all : st.number + length (all ++ more) ≤ LAST_NUMBER = omega (arith, found, word, sum, long, low) in
     let next : either (slice_index s.words 0 == old) new (slice_index s.words 0) ≡ st.number + length (all ++ more) =
     exchanged (slice_index s.words 0) old new (λ n. n ≡ st.number + length (all ++ more))
     (λ _. omega arith)
@@ -123,6 +131,7 @@ publishes st slots id v b old new says publishing is long s k len at small =
         all = all ++ more;
         publisher = k.publisher;
         word = ap (λ ws. slice_set ws 0 (either (slice_index s.words 0 == old) new (slice_index s.words 0))) k.word ∙ ap (λ n. n ∷ []) next;
+        bound = low_all;
         seats = so_set st (all ++ more) k.publisher s.views id w
             (λ seat u away e. so_more st all more k.publisher seat u (λ same. away (same ∙ sym whole.1)) (k.seats seat u e))
             (λ _. (mine.0, subst (λ l. IsPrefix (l ++ more) (all ++ more)) (sym whole.0) (prefix_self (all ++ more)), prefix_trans v.told all (all ++ more) mine.2 (prefix_append all more), λ _. (ap (λ l. l ++ more) whole.0, whole.1)));
@@ -138,7 +147,7 @@ module _ {S : Type 0} (st : Start) where
   pub retires_as : (slots id : ℕ) (sp : Step S) (m : Me S SeatView) → m.1 ≡ [] → Allows (CountsList st) slots id m 0 (λ n. n) (Retired sp m)
   retires_as slots id sp m bare = subst (λ (c : List (ℕ × S)). Allows (CountsList st) slots id (m.0, c) 0 (λ n. n) (Retired sp (m.0, c))) (sym bare) (retires st slots id sp m.0)
 
-pub publishes_as : (st : Start) (slots id : ℕ) (m : Me Batch SeatView) (b : Batch) (old new : ℕ) → m.0.says ≡ true → m.0.publishes ≡ true → m.1 ≡ [] → old ≡ m.0.start.number + length m.0.seen → new ≡ old + length (values b.commands.items)
+pub publishes_as : (st : Start) (slots id : ℕ) (m : Me Batch SeatView) (b : Batch) (old new : ℕ) → m.0.says ≡ true → m.0.publishes ≡ true → m.1 ≡ [] → old ≡ m.0.start.number + length m.0.seen → new ≡ old + length (values b.commands.items) → new ≤ LAST_NUMBER
     → Allows (CountsList st) slots id m 0 (λ n. either (n == old) new n) (Published (step slots 0 old new (some b)) m)
-publishes_as st slots id m b old new says publishing bare is long =
-    subst (λ (c : List (ℕ × Batch)). Allows (CountsList st) slots id (m.0, c) 0 (λ n. either (n == old) new n) (Published (step slots 0 old new (some b)) (m.0, c))) (sym bare) (publishes st slots id m.0 b old new says publishing is long)
+publishes_as st slots id m b old new says publishing bare is long low =
+    subst (λ (c : List (ℕ × Batch)). Allows (CountsList st) slots id (m.0, c) 0 (λ n. either (n == old) new n) (Published (step slots 0 old new (some b)) (m.0, c))) (sym bare) (publishes st slots id m.0 b old new says publishing is long low)

@@ -1,5 +1,5 @@
 -- The rule of the one word of a front, and what each step tells the seat that makes it.
-use Rattle.std.specs.Prelude.{◌≡◌, ℕ, ◌+◌, true, List, [], ◌∷◌, ◌++◌, length}
+use Rattle.std.specs.Prelude.{◌≡◌, ℕ, ◌+◌, ◌≤◌, true, List, [], ◌∷◌, ◌++◌, length}
 use mathlib.Core.Option.{Option, some, none}
 use mathlib.Core.List.{IsPrefix}
 use lib.ListN.{get_elem?}
@@ -7,6 +7,7 @@ use Rattle.atomic_table.specs.Table as table
 use Rattle.iol_types.specs.Command.{CommandValue}
 use Rattle.iol_journal.specs.Journals.{values}
 use Rattle.iol_journal.specs.declared.batch.Batch.{Batch}
+use Rattle.iol_journal.specs.declared.header.TheConstants.{LAST_NUMBER}
 use Rattle.iol_front.specs.Fronts.{Start}
 use Rattle.iol_front.specs.Seats.{SeatView, silent}
 
@@ -17,12 +18,13 @@ IsSo start all publisher seat v =
     v.says ≡ true
     → (v.start ≡ start) × IsPrefix v.seen all × IsPrefix v.told all × (v.publishes ≡ true → (v.seen ≡ all) × (seat ≡ publisher))
 
--- the word counts the list: it is the start number and how many commands are published; and what each seat says is so
--- (own)
+-- the word counts the list: it is the start number and how many commands are published, 2^62 at most; and what each seat
+-- says is so (own)
 pub record CountsList {S : Type 0} (start : Start) (s : table.State S SeatView) : Type 0 where
   pub all : List CommandValue
   pub publisher : ℕ
   pub word : s.words ≡ (start.number + length all) ∷ []
+  pub bound : start.number + length all ≤ LAST_NUMBER
   pub seats : (seat : ℕ) (v : SeatView) → get_elem? s.views seat ≡ some v → IsSo start all publisher seat v
 
 -- a look: the seat has seen a list that begins with all that it had seen, and with all that it was told of, and found
@@ -34,6 +36,7 @@ pub record LooksAt (v : SeatView) (found : ℕ) (w : SeatView) : Type 0 where
   -- the publisher had seen all
   pub whole : v.publishes ≡ true → w.seen ≡ v.seen
   pub count : found ≡ v.start.number + length w.seen
+  pub bound : found ≤ LAST_NUMBER
 
 -- a step that looks (own)
 abbrev pub Looked : {S : Type 0} → table.Step S → table.Me S SeatView → ℕ → table.Me S SeatView → Type 0

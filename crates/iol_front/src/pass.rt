@@ -1,8 +1,9 @@
 //! What has seen a beginning of the list.
 
-ghost use Rattle.std.specs.Prelude.{◌≡◌, ◌+◌, true, [], length, IfOk};
+ghost use Rattle.std.specs.Prelude.{◌≡◌, ◌+◌, ◌≤◌, true, [], length, IfOk};
 ghost use mathlib.Core.List.{IsPrefix};
 ghost use Rattle.std.specs.Arc.{arc_value};
+ghost use Rattle.iol_journal.specs.declared.header.TheConstants.{LAST_NUMBER};
 ghost use Rattle.iol_front.specs.Seats.{reader};
 
 use crate::name::Name;
@@ -21,9 +22,10 @@ pub struct Pass<F: Name> {
 }
 
 impl<F: Name> Model for Pass<F> {
-    ghost use Rattle.std.specs.Prelude.{◌≡◌, ◌+◌, List, [], length};
+    ghost use Rattle.std.specs.Prelude.{◌≡◌, ◌+◌, ◌≤◌, List, [], length};
     ghost use Rattle.std.specs.Arc.{arc_value};
     ghost use Rattle.iol_types.specs.Command.{CommandValue};
+    ghost use Rattle.iol_journal.specs.declared.header.TheConstants.{LAST_NUMBER};
     ghost use Rattle.iol_front.specs.Seats.{reader};
 
     ghost Value = { List CommandValue };
@@ -31,7 +33,8 @@ impl<F: Name> Model for Pass<F> {
     ghost view = { λ p. p.seat.me.0.seen };
 
     ghost invariant = { λ p. ((arc_value p.board).shared.table_id ≡ F.front.table) × (F.front.table.words ≡ 1) × (p.seat.table_id ≡ F.front.table)
-        × (p.seat.me ≡ (reader F.front.start p.seat.me.0.seen, [])) × (p.number ≡ F.front.start.number + length p.seat.me.0.seen) };
+        × (p.seat.me ≡ (reader F.front.start p.seat.me.0.seen, [])) × (p.number ≡ F.front.start.number + length p.seat.me.0.seen)
+        × (p.number ≤ LAST_NUMBER) };
 }
 
 impl<F: Name> Pass<F> {
@@ -40,6 +43,7 @@ impl<F: Name> Pass<F> {
         requires table { ((arc_value board).shared.table_id ≡ F.front.table) × (F.front.table.words ≡ 1) × (seat.table_id ≡ F.front.table) }
         requires seat { seat.me ≡ (reader F.front.start seat.me.0.seen, []) }
         requires number { number ≡ F.front.start.number + length seat.me.0.seen }
+        requires bound { number ≤ LAST_NUMBER }
         ensures { result ≡ seat.me.0.seen }
     {
         Pass {
@@ -52,7 +56,8 @@ impl<F: Name> Pass<F> {
 
     /// The number of the last command that it has seen, or the start number.
     pub fn count(&self) -> u64
-        ensures { result ≡ F.front.start.number + length self.now }
+        ensures count { result ≡ F.front.start.number + length self.now }
+        ensures bound { result ≤ LAST_NUMBER }
     {
         self.number
     }
@@ -62,6 +67,7 @@ impl<F: Name> Pass<F> {
     pub fn look(&mut self) -> u64
         ensures kept { IsPrefix self.old self.new }
         ensures count { result ≡ F.front.start.number + length self.new }
+        ensures bound { result ≤ LAST_NUMBER }
     {
         self.number = look_at(&self.board, &mut self.seat);
         self.number

@@ -1,7 +1,8 @@
 //! The word, its rule, and the five kinds of step that a seat makes on it.
 
-ghost use Rattle.std.specs.Prelude.{◌≡◌, ◌+◌, ◌^◌, ◌<◌, true, [], length};
+ghost use Rattle.std.specs.Prelude.{◌≡◌, ◌+◌, ◌≤◌, true, [], length};
 ghost use Rattle.iol_journal.specs.Journals.{values};
+ghost use Rattle.iol_journal.specs.declared.header.TheConstants.{LAST_NUMBER};
 ghost use Rattle.iol_front.specs.Seats.{another_of, told_by, silent};
 ghost use Rattle.iol_front.specs.Rule.{LooksAt, Grows};
 
@@ -129,7 +130,7 @@ pub(crate) fn add_batch(board: &Board, seat: &mut Place, count: u64, batch: &Bat
     requires place { (seat.old.table_id ≡ board.now.shared.table_id) × (board.now.shared.table_id.words ≡ 1) }
     requires owns { (seat.old.me.0.says ≡ true) × (seat.old.me.0.publishes ≡ true) × (seat.old.me.1 ≡ []) }
     requires count { count ≡ seat.old.me.0.start.number + length seat.old.me.0.seen }
-    requires fits { count + length batch.now.commands.items < 2 ^ 64 }
+    requires fits { count + length batch.now.commands.items ≤ LAST_NUMBER }
     ensures same { (seat.new.table_id ≡ seat.old.table_id) × (seat.new.me.1 ≡ []) }
     ensures grown { Grows seat.old.me.0 (values batch.now.commands.items) seat.new.me.0 }
     ensures next { result ≡ count + length batch.now.commands.items }

@@ -1,7 +1,10 @@
-//! Three batches that are published while a pass is in another thread.
+//! Three batches that are published while a pass is in another thread, and memory that runs out.
 
 ghost use Rattle.std.specs.Prelude.{◌≡◌, ◌+◌, length, IfOk};
 ghost use Rattle.iol_journal.specs.Journals.{with_batch};
+
+mod allocations;
+mod ample_memory;
 
 use crate::{Front, Name};
 use iol_disk::MemoryDisk;

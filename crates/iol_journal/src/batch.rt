@@ -14,8 +14,8 @@ use std::alloc::AllocError;
 pub(crate) const MOST_COMMANDS: usize = 64;
 // The octets of a slot's body before the records: epoch 8, number of the first command 8, count 2, octets of the records 4.
 pub(crate) const BODY_HEAD_OCTETS: usize = 22;
-// The most octets of records that a slot's body holds.
-pub(crate) const MOST_RECORD_OCTETS: usize = 8170;
+/// The most octets of records that a batch has: what a slot's body holds behind its head.
+pub const MOST_RECORD_OCTETS: usize = 8170;
 
 /// Commands that are written together, and the number of the first.
 #[derive(Debug, Drop)]

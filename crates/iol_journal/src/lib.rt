@@ -48,7 +48,7 @@ mod stage_calls;
 mod writing;
 
 pub use area::Area;
-pub use batch::Batch;
+pub use batch::{Batch, MOST_RECORD_OCTETS};
 pub use body::Head;
 pub use cause::RecoverCause;
 pub use checkpointing::{CheckpointProgress, Checkpointing};

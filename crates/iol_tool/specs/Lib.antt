@@ -1,7 +1,6 @@
 pub mod Fault
 pub mod Geometry
 pub mod Runs
-pub mod Queue
 pub mod Stop
 pub mod Store
 pub mod Images

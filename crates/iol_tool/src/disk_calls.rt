@@ -6,16 +6,14 @@ ghost use Rattle.iol_journal.specs.Meaning.{standing_in};
 ghost use Rattle.iol_journal.specs.Reading.{Shows};
 ghost use Rattle.iol_tool.specs.Fault.{status_of};
 ghost use Rattle.iol_tool.specs.Images.{TellsWhy};
-ghost use Rattle.iol_tool.specs.Store.{IfWorks, IsFinished, with_free_slot};
+ghost use Rattle.iol_tool.specs.Store.{IfWorks, IsFinished, IsOutcome, with_free_slot};
 
-use crate::acknowledgement::Acknowledgement;
-use crate::event::Event;
 use crate::fault::Fault;
 use crate::store::Store;
 use iol_disk::SectorDisk;
 use iol_journal::{
     Batch, BeginCause, BeginFault, CheckpointFault, CheckpointProgress, Checkpointing, Journal,
-    Progress, RecoverFault, Writing,
+    Progress, RecoverFault, Writing, Written,
 };
 use iol_types::MasterState;
 use std::alloc::Global;
@@ -43,9 +41,7 @@ pub(crate) fn recover<D: SectorDisk + Drop>(
 //
 // # Errors
 // `Memory`.
-pub(crate) fn with_free_slot<D: SectorDisk + Drop>(
-    journal: Journal<D>,
-) -> Result<Store<D>, Fault<'static>>
+fn with_free_slot<D: SectorDisk + Drop>(journal: Journal<D>) -> Result<Store<D>, Fault<'static>>
     ensures standing { IfOk result (λ store. IfWorks store (λ behind. behind.standing ≡ with_free_slot journal.standing)) }
     ensures status { IfErr result (λ fault. status_of fault ≡ 1) }
 {
@@ -71,15 +67,35 @@ fn finish_checkpoint<D: SectorDisk>(mut checkpointing: Checkpointing<D>) -> Stor
     }
 }
 
-// Writes a batch into a free slot, unless a disk call fails, and says what is reported of it.
+// What became of a batch: it is written, or a disk call has failed.
+pub(crate) enum Outcome<D: SectorDisk> {
+    Written(Journal<D>, Written),
+    Failed(D),
+}
+
+// Writes a batch, unless a disk call fails. Where no slot is free a checkpoint is made first.
 //
 // # Errors
 // `Memory`, or `Misfit` where the batch does not follow the journal.
-pub(crate) fn write_batch<D: SectorDisk + Drop>(
+pub(crate) fn write<D: SectorDisk + Drop>(
     journal: Journal<D>,
     batch: Batch,
-) -> Result<(Store<D>, Event), Fault<'static>>
-    ensures finished { IfOk result (λ made. IsFinished journal.standing (values batch.commands.items) made.0 made.1) }
+) -> Result<Outcome<D>, Fault<'static>>
+    ensures outcome { IfOk result (λ outcome. IsOutcome journal.standing (values batch.commands.items) outcome) }
+    ensures status { IfErr result (λ fault. status_of fault ≡ 1) }
+{
+    match with_free_slot(journal)? {
+        Store::Journal(journal) => write_batch(journal, batch),
+        Store::Failed(disk) => Ok(Outcome::Failed(disk)),
+    }
+}
+
+// Writes a batch into a free slot, unless a disk call fails.
+fn write_batch<D: SectorDisk + Drop>(
+    journal: Journal<D>,
+    batch: Batch,
+) -> Result<Outcome<D>, Fault<'static>>
+    ensures finished { IfOk result (λ outcome. IsFinished journal.standing (values batch.commands.items) outcome) }
     ensures status { IfErr result (λ fault. status_of fault ≡ 1) }
 {
     match journal.begin(batch) {
@@ -88,24 +104,21 @@ pub(crate) fn write_batch<D: SectorDisk + Drop>(
     }
 }
 
-// Makes the disk calls of a batch, up to one that fails, and says what is reported of it.
-fn finish<D: SectorDisk>(mut writing: Writing<D>) -> (Store<D>, Event)
-    ensures { IsFinished writing.standing writing.commands result.0 result.1 }
+// Makes the disk calls of a batch, up to one that fails.
+fn finish<D: SectorDisk>(mut writing: Writing<D>) -> Outcome<D>
+    ensures { IsFinished writing.standing writing.commands result }
 {
     loop {
         match writing.step() {
             Progress::More(more) => writing = more,
-            Progress::Done(journal, written) => {
-                let acknowledged = Acknowledgement::of(written);
-                return (Store::Journal(journal), Event::Acknowledged(acknowledged));
-            }
-            Progress::Failed(disk, _fault) => return (Store::Failed(disk), Event::DiskFailed),
+            Progress::Done(journal, written) => return Outcome::Written(journal, written),
+            Progress::Failed(disk, _fault) => return Outcome::Failed(disk),
         }
     }
 }
 
-// Why a batch is not begun. One of the queue is of one command, follows the journal and passes, so that nothing but
-// memory is missing.
+// Why a batch is not begun. One of the core follows the journal and passes, and fits a slot, so that nothing but memory
+// is missing.
 fn fault_of(cause: BeginCause) -> Fault<'static>
     ensures { status_of result ≡ 1 }
 {

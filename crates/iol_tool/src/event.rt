@@ -1,8 +1,5 @@
 //! The events of a run, each of which is a line of its trace (docs/FORMATS.md, "Texts").
-ghost use Rattle.std.specs.Prelude.{◌≡◌};
-ghost use Rattle.iol_tool.specs.declared.event.Refusal.TheVariants.{Command};
-
-use crate::acknowledgement::Acknowledgement;
+use iol_core::SubmitFault;
 use iol_types::CommandFault;
 use std::fmt;
 
@@ -12,62 +9,37 @@ pub(crate) enum Event {
     /// The command with this number is in the queue.
     Accepted(u64),
     /// A command is refused.
-    Refused(Refusal),
-    /// Commands are durable.
-    Acknowledged(Acknowledgement),
+    Refused(SubmitFault),
+    /// The commands up to this number are durable.
+    Acknowledged(u64),
     /// A call of the disk failed, and nothing more is written.
     DiskFailed,
     /// The power stopped.
     Stopped,
 }
 
-// Why a command is refused. The causes are judged in this order.
-#[derive(Clone, Copy, Debug, PartialEq, Eq)]
-pub(crate) enum Refusal {
-    /// The disk has failed.
-    Stopped,
-    /// The command does not pass the state that it meets.
-    Command(CommandFault),
-    /// The queue has no room.
-    QueueFull,
-    /// No number is left for a command.
-    Exhausted,
-}
-
-impl From<CommandFault> for Refusal {
-    ghost from_gives = { λ fault refusal. refusal ≡ Command fault };
-
-    fn from(fault: CommandFault) -> Refusal {
-        Refusal::Command(fault)
-    }
-}
-
 impl fmt::Display for Event {
     fn fmt<W: fmt::Write>(&self, f: &mut fmt::Formatter<W>) -> fmt::Result {
         match self {
             Event::Accepted(number) => write!(f, "accepted {number}"),
-            Event::Refused(refusal) => write!(f, "refused {refusal}"),
-            Event::Acknowledged(acknowledged) => {
-                let number = acknowledged.number();
-                write!(f, "acknowledged {number}")
-            }
+            Event::Refused(fault) => write!(f, "refused {}", name_of(*fault)),
+            Event::Acknowledged(number) => write!(f, "acknowledged {number}"),
             Event::DiskFailed => f.write_str("disk failed"),
             Event::Stopped => f.write_str("stopped"),
         }
     }
 }
 
-impl fmt::Display for Refusal {
-    fn fmt<W: fmt::Write>(&self, f: &mut fmt::Formatter<W>) -> fmt::Result {
-        f.write_str(match self {
-            Refusal::Stopped => "Stopped",
-            Refusal::Command(CommandFault::UnknownPort) => "UnknownPort",
-            Refusal::Command(CommandFault::RevisionSpent) => "RevisionSpent",
-            Refusal::Command(CommandFault::NotAllowed) => "NotAllowed",
-            Refusal::Command(CommandFault::StaleRevision) => "StaleRevision",
-            Refusal::Command(CommandFault::WrongDevice) => "WrongDevice",
-            Refusal::QueueFull => "QueueFull",
-            Refusal::Exhausted => "Exhausted",
-        })
+// What the trace calls a refusal.
+fn name_of(fault: SubmitFault) -> &'static str {
+    match fault {
+        SubmitFault::Stopped => "Stopped",
+        SubmitFault::Command(CommandFault::UnknownPort) => "UnknownPort",
+        SubmitFault::Command(CommandFault::RevisionSpent) => "RevisionSpent",
+        SubmitFault::Command(CommandFault::NotAllowed) => "NotAllowed",
+        SubmitFault::Command(CommandFault::StaleRevision) => "StaleRevision",
+        SubmitFault::Command(CommandFault::WrongDevice) => "WrongDevice",
+        SubmitFault::QueueFull => "QueueFull",
+        SubmitFault::Exhausted => "Exhausted",
     }
 }

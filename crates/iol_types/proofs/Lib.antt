@@ -1,2 +1,4 @@
+pub mod Deciding
 pub mod Entries
+pub mod Places
 pub mod StateLemmas

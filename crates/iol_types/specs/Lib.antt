@@ -5,5 +5,6 @@ pub mod DataSet
 pub mod SetInMemory
 pub mod Command
 pub mod State
+pub mod Sameness
 pub mod Port
 pub mod Examples

@@ -58,6 +58,56 @@ impl Command {
     }
 }
 
+/// Commands are equal where they say the same; of two sets the contents are compared. It takes no
+/// memory.
+impl PartialEq for Command {
+    ghost use Rattle.std.specs.Prelude.{◌≡◌, ◌↔◌, IsTrue};
+    ghost use Rattle.std.specs.Ordering.{on};
+    ghost use Rattle.std.specs.Cmp.{partial_equiv_from_equiv};
+    ghost use Rattle.iol_types.specs.Command.{value_of};
+    ghost use Rattle.iol_types.specs.Sameness.{same_command, same_command-laws};
+
+    ghost eq = { on value_of same_command };
+
+    ghost laws = { partial_equiv_from_equiv same_command-laws };
+
+    fn eq(&self, other: &Command) -> bool
+        ensures test { result ≡ same_command (value_of self.now) (value_of other.now) }
+        ensures exactly { IsTrue result ↔ (value_of self.now ≡ value_of other.now) }
+    {
+        use Command::{Clear, Configure, Store};
+        match (self, other) {
+            (
+                Configure { port, config },
+                Configure {
+                    port: other_port,
+                    config: other_config,
+                },
+            ) => port == other_port && config == other_config,
+            (Clear { port }, Clear { port: other_port }) => port == other_port,
+            (
+                Store {
+                    port,
+                    revision,
+                    set,
+                },
+                Store {
+                    port: other_port,
+                    revision: other_revision,
+                    set: other_set,
+                },
+            ) => port == other_port && revision == other_revision && set == other_set,
+            _ => false,
+        }
+    }
+}
+
+impl Eq for Command {
+    ghost use Rattle.iol_types.specs.Sameness.{same_command-laws};
+
+    ghost laws = { same_command-laws };
+}
+
 /// A change that a client may ask for. A contract speaks of its value, `command_of` in
 /// `specs/Command.antt`.
 #[derive(Clone, Copy, Debug, PartialEq, Eq)]

@@ -111,8 +111,8 @@ impl PortConfig {
             && matches!(self.validation, Validation::BackupAndRestore)
     }
 
-    // Whether a port has a parameter set: IOL_MANUAL with Backup and Restore, or with Restore.
-    fn may_keep_set(&self) -> bool
+    /// Whether a port may have a parameter set of its device: IOL_MANUAL with Backup and Restore, or with Restore.
+    pub fn may_keep_set(&self) -> bool
         ensures { result ≡ may_keep_set self.now }
     {
         matches!(self.mode, PortMode::IolManual)

@@ -1,5 +1,5 @@
 //! What is kept of a device: its parameters, whose they are, and the checksum that it gave.
-ghost use Rattle.std.specs.Prelude.{◌≡◌, ◌≤◌, length, nat_eq, slice_get, IfSome};
+ghost use Rattle.std.specs.Prelude.{◌≡◌, ◌≤◌, ◌↔◌, length, nat_eq, slice_get, IsTrue, IfSome};
 ghost use Rattle.std.specs.Option.{option_copied, option_map};
 ghost use Rattle.iol_types.specs.declared.data_set.TheConstants.{MOST_ENTRY_OCTETS, MOST_SET_OCTETS};
 
@@ -44,6 +44,49 @@ impl Model for DataSet {
     ghost view = { set_of };
 
     ghost invariant = { λ s. IsSet (set_of s) × (s.octets ≡ octets_of (set_of s).entries) };
+}
+
+/// Sets are equal where they say the same: the same entries in the same order, and equal numbers. It
+/// takes no memory.
+impl PartialEq for DataSet {
+    ghost use Rattle.std.specs.Cmp.{partial_equiv_from_equiv};
+    ghost use Rattle.iol_types.specs.Sameness.{same_set, same_set-laws};
+
+    ghost eq = { same_set };
+
+    ghost laws = { partial_equiv_from_equiv same_set-laws };
+
+    // What is soon compared comes first.
+    fn eq(&self, other: &DataSet) -> bool
+        ensures test { result ≡ same_set self.now other.now }
+        ensures exactly { IsTrue result ↔ (self.now ≡ other.now) }
+    {
+        self.vendor == other.vendor
+            && self.device == other.device
+            && self.checksum == other.checksum
+            && self.octets == other.octets
+            && self.len() == other.len()
+            && has_entries_of(self, other)
+    }
+}
+
+impl Eq for DataSet {
+    ghost use Rattle.iol_types.specs.Sameness.{same_set-laws};
+
+    ghost laws = { same_set-laws };
+}
+
+// Whether two sets of as many entries have the same ones in the same order.
+fn has_entries_of(set: &DataSet, other: &DataSet) -> bool
+    requires { length set.now.entries ≡ length other.now.entries }
+    ensures { IsTrue result ↔ (set.now.entries ≡ other.now.entries) }
+{
+    for place in 0..set.len() {
+        if set.entry(place) != other.entry(place) {
+            return false;
+        }
+    }
+    true
 }
 
 impl DataSet {

@@ -136,8 +136,11 @@ impl PortState {
         self.stored.as_ref()
     }
 
-    // An equal port; a set is shared with it.
-    pub(crate) fn copy(&self) -> Result<PortState, AllocError>
+    /// An equal port; a set is shared with it.
+    ///
+    /// # Errors
+    /// `AllocError` where it is out of memory.
+    pub fn copy(&self) -> Result<PortState, AllocError>
         ensures { IfOk result (λ port. port ≡ self.now) }
     {
         let stored = match &self.stored {

@@ -190,6 +190,110 @@ fn an_entry_that_finds_no_memory_leaves_the_set(rt: HostRuntime) -> Result<(), F
     Ok(())
 }
 
+// A set of vendor 500, device 43981 and checksum 591 with these entries: Index, Subindex and octets.
+fn set_with(alloc: Global, entries: &[(u16, u8, &[u8])]) -> Result<DataSet, Fail> {
+    let device = DeviceId::new(43981).ok_or("a DeviceID is below 2^24")?;
+    Ok(builder_with(alloc, entries)?.finish(500, device, 591))
+}
+
+fn builder_with(alloc: Global, entries: &[(u16, u8, &[u8])]) -> Result<SetBuilder, Fail> {
+    let mut set = SetBuilder::new(alloc);
+    for (index, subindex, octets) in entries {
+        let key = Key {
+            index: *index,
+            subindex: *subindex,
+        };
+        set.add(key, octets)?;
+    }
+    Ok(set)
+}
+
+#[test]
+fn sets_are_equal_where_they_have_the_same_entries_in_order(rt: HostRuntime) -> Result<(), Fail> {
+    let set = set_of_the_device(rt.alloc())?;
+    let same = set_with(rt.alloc(), &[(0x40, 0, &[0x0A, 0x64]), (0x41, 1, &[0x7F])])?;
+    assert!(rt; set == same && same == set);
+    let others: [&[(u16, u8, &[u8])]; 8] = [
+        &[(0x40, 0, &[0x0A, 0x65]), (0x41, 1, &[0x7F])],
+        &[(0x40, 0, &[0x0A, 0x64]), (0x41, 2, &[0x7F])],
+        &[(0x42, 0, &[0x0A, 0x64]), (0x41, 1, &[0x7F])],
+        &[(0x41, 1, &[0x7F]), (0x40, 0, &[0x0A, 0x64])],
+        &[(0x40, 0, &[0x0A]), (0x41, 1, &[0x64, 0x7F])],
+        &[(0x40, 0, &[0x0A, 0x64])],
+        &[(0x40, 0, &[0x0A, 0x64, 0, 0, 0, 0, 0x7F])],
+        &[],
+    ];
+    for entries in others {
+        let other = set_with(rt.alloc(), entries)?;
+        assert!(rt; set != other && other != set);
+    }
+    Ok(())
+}
+
+#[test]
+fn sets_of_other_numbers_are_not_equal(rt: HostRuntime) -> Result<(), Fail> {
+    let set = set_with(rt.alloc(), &[(0x40, 0, &[0x0A])])?;
+    // The vendor, the device and the checksum, and whether a set of the same entry is equal.
+    let cases = [
+        (500, 43981, 591, true),
+        (501, 43981, 591, false),
+        (500, 43982, 591, false),
+        (500, 43981, 592, false),
+    ];
+    for (vendor, device, checksum, equal) in cases {
+        let device = DeviceId::new(device).ok_or("a DeviceID is below 2^24")?;
+        let other = builder_with(rt.alloc(), &[(0x40, 0, &[0x0A])])?.finish(
+            vendor, device, checksum,
+        );
+        assert_eq!(rt; set == other, equal);
+    }
+    Ok(())
+}
+
+// A Store of port 1 at this revision, of a set with one entry that has this octet.
+fn store(alloc: Global, revision: u64, octet: u8) -> Result<Command, Fail> {
+    Ok(Command::Store {
+        port: port_number(1)?,
+        revision,
+        set: Arc::new(alloc, set_with(alloc, &[(0x40, 0, &[octet])])?)?,
+    })
+}
+
+// A Configure of this port.
+fn configure(number: u8, validation: Validation) -> Result<Command, Fail> {
+    Ok(Command::Configure {
+        port: port_number(number)?,
+        config: config_with(validation)?,
+    })
+}
+
+#[test]
+fn commands_are_equal_where_they_say_the_same(rt: HostRuntime) -> Result<(), Fail> {
+    let clear = Command::Clear {
+        port: port_number(1)?,
+    };
+    let other_clear = Command::Clear {
+        port: port_number(2)?,
+    };
+    let commands = [
+        configure(1, Validation::BackupAndRestore)?,
+        configure(1, Validation::Restore)?,
+        configure(2, Validation::Restore)?,
+        clear,
+        other_clear,
+        store(rt.alloc(), 1, 0x0A)?,
+        store(rt.alloc(), 2, 0x0A)?,
+        store(rt.alloc(), 2, 0x0B)?,
+    ];
+    for command in &commands {
+        let equal = commands.iter().filter(|other| *command == **other);
+        assert_eq!(rt; equal.count(), 1, "{command:?}");
+        assert!(rt; *command == command.copy()?, "{command:?}");
+    }
+    assert!(rt; commands[5] == store(rt.alloc(), 1, 0x0A)?);
+    Ok(())
+}
+
 #[test]
 fn a_parameter_may_have_no_octets(rt: HostRuntime) -> Result<(), Fail> {
     let mut set = SetBuilder::new(rt.alloc());

@@ -3,7 +3,7 @@
 use super::{
     CONFIGURE, CONFIGURE_GREATEST, DRAIN, answer_to, expect_answer, script_of, stop_that_keeps,
 };
-use crate::queue::QUEUE_COMMANDS;
+use iol_core::QUEUE_COMMANDS;
 use std::process::Abort;
 use std::test::Fail;
 
@@ -33,13 +33,11 @@ port 2 revision 0 mode 0 validation 0 vendor 0000 device 000000 set none
 ",
     ),
     (
-        "a drain acknowledges each command by itself",
+        "a drain writes what waits as one batch, and acknowledges it by its last number",
         &[CONFIGURE_GREATEST, CONFIGURE, CONFIGURE_GREATEST, DRAIN],
         "accepted 1
 accepted 2
 accepted 3
-acknowledged 1
-acknowledged 2
 acknowledged 3
 stopped
 recovered 3
@@ -109,7 +107,6 @@ port = 3
         "accepted 1
 accepted 2
 refused UnknownPort
-acknowledged 1
 acknowledged 2
 stopped
 recovered 2

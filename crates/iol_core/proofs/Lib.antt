@@ -1,0 +1,6 @@
+mod Places
+mod Queues
+mod Permits
+mod Standing
+mod Longest
+mod Keeping

@@ -1,0 +1,63 @@
+-- What becomes of a command that a client asks for.
+use Rattle.std.specs.Prelude.{◌≡◌, ℕ, ◌+◌, ◌≤◌, nat_le, Bool, if◌then◌else◌, true, false, List, [], ◌∷◌, ◌++◌, length, Option, Some, None, is_some, Result, Ok, Err}
+use Rattle.iol_types.specs.Command.{CommandValue}
+use Rattle.iol_types.specs.State.{check}
+use Rattle.iol_types.specs.declared.command.CommandFault.{CommandFault}
+use Rattle.iol_journal.specs.declared.header.TheConstants.{LAST_NUMBER}
+use Rattle.iol_core.specs.Core.{CoreView, live, live_number}
+use Rattle.iol_core.specs.declared.core_value.TheConstants.{QUEUE_COMMANDS}
+use Rattle.iol_core.specs.declared.stop.StopCause.{StopCause}
+use Rattle.iol_core.specs.declared.stop.StopCause.TheVariants.{Closed, DiskFailed}
+use Rattle.iol_core.specs.declared.ticket.SubmitFault.{SubmitFault}
+use Rattle.iol_core.specs.declared.ticket.SubmitFault.TheVariants.{Stopped, Command, QueueFull, Exhausted}
+use Rattle.iol_core.specs.declared.ticket.TicketState.{TicketState}
+use Rattle.iol_core.specs.declared.ticket.TicketState.TheVariants.{Waiting, Durable, Unsure}
+
+-- nothing more is taken (own)
+abbrev pub is_stopped : CoreView → Bool
+is_stopped core = is_some core.stopped
+
+-- why the queue takes no further command, by the first cause: it is full, or no number is left (own)
+abbrev pub queue_fault : CoreView → Option SubmitFault
+queue_fault core =
+    if nat_le QUEUE_COMMANDS (length core.queue) then Some QueueFull
+    else if nat_le LAST_NUMBER (live_number core) then Some Exhausted
+    else None
+
+-- the first of two causes (own)
+abbrev pub first_cause : Option CommandFault → Option SubmitFault → Option SubmitFault
+first_cause (Some fault) others = Some (Command fault)
+first_cause None others = others
+
+-- why a command is refused, by the first cause: nothing more is taken, it does not pass in the live state, or the queue
+-- does not take it; none where it is accepted (own)
+abbrev pub submit_fault : CoreView → CommandValue → Option SubmitFault
+submit_fault core command =
+    if is_stopped core then Some Stopped
+    else first_cause (check (live core) command) (queue_fault core)
+
+-- the core with one more command that waits (own)
+abbrev pub queued : CoreView → CommandValue → CoreView
+queued core command = record core { queue = core.queue ++ command ∷ [] }
+
+-- a command is accepted under the next number, and waits; or it is refused, and nothing changes (own)
+abbrev pub IsSubmit : CoreView → CommandValue → CoreView → Result ℕ SubmitFault → Type 0
+IsSubmit old command new (Ok ticket) = (submit_fault old command ≡ None) × (ticket ≡ live_number old + 1) × (new ≡ queued old command)
+IsSubmit old command new (Err fault) = (submit_fault old command ≡ Some fault) × (new ≡ old)
+
+-- the disk has failed (own)
+abbrev pub has_failed : Option StopCause → Bool
+has_failed (Some DiskFailed) = true
+has_failed _ = false
+
+-- why no more is taken once this cause has come too: a failed disk is the last word (own)
+abbrev pub stopped_by : Option StopCause → StopCause → StopCause
+stopped_by stopped cause = if has_failed stopped then DiskFailed else cause
+
+-- what is known of a command with this number: it is durable up to the durable number; above that nobody will know
+-- once the disk has failed (own)
+abbrev pub ticket_state : CoreView → ℕ → TicketState
+ticket_state core number =
+    if nat_le number core.number then Durable
+    else if has_failed core.stopped then Unsure
+    else Waiting

@@ -1,0 +1,211 @@
+//! The core, and what its calls share.
+
+ghost use Rattle.std.specs.Prelude.{◌≡◌, ◌≤◌, ◌+◌, nat_le, [], length, replicate, None, IfOk, OnOk, IfErr, Some};
+ghost use Rattle.iol_types.specs.Command.{value_of};
+ghost use Rattle.iol_types.specs.State.{after, check};
+ghost use Rattle.iol_core.specs.Core.{IsCore, FitsAt, live, live_number, permit_at, with_permit};
+ghost use Rattle.iol_core.specs.Submit.{is_stopped, has_failed, stopped_by, queue_fault, queued};
+
+use crate::permit::Grant;
+use crate::stop::StopCause;
+use crate::ticket::{SubmitFault, Ticket};
+use iol_front::{Name, Pass};
+use iol_journal::LAST_NUMBER;
+use iol_types::{Command, MasterState, PortId};
+use std::alloc::{AllocError, Global};
+use std::collections::VecDeque;
+use std::marker::Model;
+
+/// The most commands that wait, those in flight included.
+pub const QUEUE_COMMANDS: usize = 64;
+
+/// The durable state, the commands that wait for the disk, and the permits that are out. A contract sees the record
+/// `CoreView` of `specs/Core.antt`, and `IsCore` holds of it at all times.
+#[derive(Drop)]
+pub struct Core<F: Name> {
+    pub(crate) alloc: Global,
+    pub(crate) durable: MasterState,
+    // the durable state after the queue
+    live: MasterState,
+    pub(crate) number: u64,
+    pub(crate) queue: VecDeque<Command>,
+    pub(crate) flight: usize,
+    // a place for each port
+    permits: Vec<Option<Grant>>,
+    stopped: Option<StopCause>,
+    pub(crate) pass: Pass<F>,
+}
+
+impl<F: Name> Model for Core<F> {
+    ghost use Rattle.std.specs.Prelude.{◌≡◌, ◌≤◌};
+    ghost use Rattle.std.specs.VecDeque.{deque_capacity};
+    ghost use Rattle.iol_types.specs.State.{after};
+    ghost use Rattle.iol_journal.specs.Journals.{values};
+    ghost use Rattle.iol_core.specs.Core.{CoreView, IsCore};
+    ghost use Rattle.iol_core.specs.declared.core_value.TheConstants.{QUEUE_COMMANDS};
+
+    ghost Value = { CoreView };
+
+    ghost view = { λ c. record {
+      durable = c.durable;
+      number = c.number;
+      queue = values c.queue.items;
+      flight = c.flight;
+      permits = c.permits.items;
+      stopped = c.stopped;
+      seen = c.pass;
+    } };
+
+    ghost invariant = { λ c. IsCore F.front.start (record {
+      durable = c.durable;
+      number = c.number;
+      queue = values c.queue.items;
+      flight = c.flight;
+      permits = c.permits.items;
+      stopped = c.stopped;
+      seen = c.pass;
+    })
+        × (c.live ≡ after c.durable (values c.queue.items)) × (QUEUE_COMMANDS ≤ deque_capacity c.queue) };
+}
+
+impl<F: Name> Core<F> {
+    /// The core over a state that is durable: that of the start of the pass's front after the commands that the pass has seen.
+    /// Nothing waits and no permit is out.
+    ///
+    /// # Errors
+    /// `AllocError` where it is out of memory.
+    pub fn new(alloc: Global, state: MasterState, pass: Pass<F>) -> Result<Core<F>, AllocError>
+        requires { state ≡ after F.front.start.state pass }
+        ensures { IfOk result (λ core. core ≡ record {
+          durable = state;
+          number = F.front.start.number + length pass;
+          queue = [];
+          flight = 0;
+          permits = replicate (length state) None;
+          stopped = None;
+          seen = pass;
+        }) }
+    {
+        let live = state.copy()?;
+        let queue = VecDeque::with_capacity(alloc, QUEUE_COMMANDS)?;
+        let permits = vec![in alloc; None; usize::from(state.ports())]?;
+        let number = pass.count();
+        Ok(Core {
+            alloc,
+            durable: state,
+            live,
+            number,
+            queue,
+            flight: 0,
+            permits,
+            stopped: None,
+            pass,
+        })
+    }
+
+    /// The number of the last command that waits, or of the last durable one.
+    pub fn live_number(&self) -> u64
+        ensures number { result ≡ live_number self.now }
+        ensures bound { result ≤ LAST_NUMBER }
+    {
+        self.number + self.queue.len() as u64
+    }
+
+    /// A pass that has seen what the core's own has.
+    ///
+    /// # Errors
+    /// `AllocError` where it is out of memory; nothing changes.
+    pub fn pass(&mut self) -> Result<Pass<F>, AllocError>
+        ensures same { self.new ≡ self.old }
+        ensures pass { IfOk result (λ pass. pass ≡ self.old.seen) }
+    {
+        self.pass.another()
+    }
+
+    /// Takes no more commands and uploads, for this cause. Where the disk has failed that stays the cause.
+    pub fn stop(&mut self, cause: StopCause)
+        ensures { self.new ≡ record self.old { stopped = Some (stopped_by self.old.stopped cause) } }
+    {
+        if !self.has_failed() {
+            self.stopped = Some(cause);
+        }
+    }
+
+    /// The durable state.
+    pub fn end(self) -> MasterState
+        ensures { result ≡ self.durable }
+    {
+        let Core { durable, .. } = self;
+        durable
+    }
+
+    // The live state.
+    pub(crate) fn live(&self) -> &MasterState
+        ensures state { result.now ≡ live self.now }
+        ensures core { IsCore F.front.start self.now }
+    {
+        &self.live
+    }
+
+    // Whether no more is taken.
+    pub(crate) fn is_stopped(&self) -> bool
+        ensures { result ≡ is_stopped self.now }
+    {
+        self.stopped.is_some()
+    }
+
+    // Whether the disk has failed.
+    pub(crate) fn has_failed(&self) -> bool
+        ensures { result ≡ has_failed self.now.stopped }
+    {
+        matches!(self.stopped, Some(StopCause::DiskFailed))
+    }
+
+    // What the port's permit is for, if one is out.
+    pub(crate) fn permit(&self, port: PortId) -> Option<Grant>
+        ensures { result ≡ permit_at self.now port }
+    {
+        match self.permits.get(port.place()) {
+            Some(permit) => *permit,
+            None => None,
+        }
+    }
+
+    // The port's permit is out for this or, where it is none, not out.
+    pub(crate) fn set_permit(&mut self, port: PortId, permit: Option<Grant>)
+        requires { FitsAt (live self.old) port permit }
+        ensures { self.new ≡ with_permit self.old port permit }
+    {
+        if let Some(place) = self.permits.get_mut(port.place()) {
+            *place = permit;
+        }
+    }
+
+    // Whether the queue takes a further command.
+    pub(crate) fn queue_fault(&self) -> Option<SubmitFault>
+        ensures { result ≡ queue_fault self.now }
+    {
+        if QUEUE_COMMANDS <= self.queue.len() {
+            Some(SubmitFault::QueueFull)
+        } else if LAST_NUMBER <= self.live_number() {
+            Some(SubmitFault::Exhausted)
+        } else {
+            None
+        }
+    }
+
+    // Takes a command that passes, of which the queue and the live state get one each.
+    pub(crate) fn enqueue(&mut self, command: Command, same: Command) -> Ticket
+        requires same { value_of same ≡ value_of command }
+        requires passes { check (live self.old) (value_of command) ≡ None }
+        requires room { queue_fault self.old ≡ None }
+        ensures ticket { result ≡ live_number self.old + 1 }
+        ensures queued { self.new ≡ queued self.old (value_of command) }
+    {
+        let Ok(()) = self.queue.push_back(same) else {
+            unreachable!()
+        };
+        self.live.apply(command);
+        Ticket::of(self.number + self.queue.len() as u64)
+    }
+}

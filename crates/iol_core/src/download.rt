@@ -1,0 +1,130 @@
+//! Downloads: a permit, and the durable set.
+
+ghost use Rattle.std.specs.Prelude.{◌≡◌, ◌≢◌, Some, None, IfOk, IfErr, OnOk, IsSomeAnd};
+ghost use Rattle.iol_core.specs.Permits.{without_download};
+ghost use Rattle.iol_core.specs.Downloads.{IsBeginDownload, durable_set, download_fault};
+ghost use Rattle.iol_core.specs.declared.download.DownloadFault.TheVariants.{Memory};
+
+use crate::core_value::Core;
+use crate::permit::{DownloadPermit, Grant};
+use iol_front::Name;
+use iol_types::{DataSet, DeviceId, PortId};
+use std::alloc::AllocError;
+use std::sync::Arc;
+use thiserror::Error;
+
+/// Why a port gets no permit to download. The causes are judged in this order.
+#[derive(Clone, Copy, Debug, PartialEq, Eq, Error)]
+pub enum DownloadFault {
+    /// There is no such port, or it is not IOL_MANUAL with Backup and Restore or Restore.
+    #[error("the port has no parameter set to restore")]
+    NotAllowed,
+    /// No set is stored for the port, or what waits deletes it.
+    #[error("no parameter set is stored for the port")]
+    Empty,
+    /// The port's configuration or the set names another device.
+    #[error("the port is configured for another device")]
+    WrongDevice,
+    /// A permit of the port is out.
+    #[error("the port has a permit")]
+    Taken,
+    /// The device has the checksum of the set.
+    #[error("the device has the parameter set")]
+    Same,
+    /// Out of memory.
+    #[error("out of memory")]
+    Memory,
+}
+
+/// A permit to download, and the durable set of its port.
+#[derive(Debug)]
+pub struct DownloadBegun {
+    pub permit: DownloadPermit,
+    pub set: Arc<DataSet>,
+}
+
+impl From<AllocError> for DownloadFault {
+    ghost from_gives = { λ _ fault. fault ≡ Memory };
+
+    fn from(_error: AllocError) -> DownloadFault {
+        DownloadFault::Memory
+    }
+}
+
+impl<F: Name> Core<F> {
+    /// The permit to download to a device that the port is configured for, and the port's durable set, which is of that
+    /// device. The checksum is the device's. A later configuration does not end a download.
+    ///
+    /// # Errors
+    /// The first cause, in the order of [`DownloadFault`]; nothing changes.
+    pub fn begin_download(
+        &mut self,
+        port: PortId,
+        vendor: u16,
+        device: DeviceId,
+        checksum: u32,
+    ) -> Result<DownloadBegun, DownloadFault>
+        ensures begun { IsBeginDownload self.old port vendor device checksum self.new result }
+        ensures device { IfOk result (λ begun. (begun.set.value.vendor ≡ vendor) × (begun.set.value.device ≡ device)) }
+    {
+        let set = Arc::try_clone(self.durable_set(port, vendor, device, checksum)?)?;
+        self.set_permit(port, Some(Grant::Download));
+        Ok(DownloadBegun {
+            permit: DownloadPermit::of(port),
+            set,
+        })
+    }
+
+    /// Gives a permit to download back. One that is not out changes nothing.
+    pub fn end_download(&mut self, permit: DownloadPermit)
+        ensures { self.new ≡ without_download self.old permit }
+    {
+        let port = permit.spend();
+        if matches!(self.permit(port), Some(Grant::Download)) {
+            self.set_permit(port, None);
+        }
+    }
+
+    // The durable set of a port, for a device with these numbers and this checksum.
+    fn durable_set(
+        &self,
+        port: PortId,
+        vendor: u16,
+        device: DeviceId,
+        checksum: u32,
+    ) -> Result<&Arc<DataSet>, DownloadFault>
+        ensures given { OnOk result (download_fault self.now port vendor device checksum ≡ None) }
+        ensures set { IfOk result (λ set. IsSomeAnd (durable_set self.now port) (λ stored. set.now.value ≡ stored.set)) }
+        ensures device { IfOk result (λ set. (set.now.value.vendor ≡ vendor) × (set.now.value.device ≡ device)) }
+        ensures fault { IfErr result (λ fault. download_fault self.now port vendor device checksum ≡ Some fault) }
+        ensures memory { IfErr result (λ fault. fault ≢ Memory) }
+    {
+        let Some(live) = self.live().port(port) else {
+            return Err(DownloadFault::NotAllowed);
+        };
+        let config = live.config();
+        if !config.may_keep_set() {
+            return Err(DownloadFault::NotAllowed);
+        }
+        if live.stored().is_none() {
+            return Err(DownloadFault::Empty);
+        }
+        let Some(stored) = self.stored(port) else {
+            return Err(DownloadFault::Empty);
+        };
+        let set = &stored.set;
+        if !(config.vendor == vendor
+            && config.device == device
+            && set.vendor() == vendor
+            && set.device() == device)
+        {
+            Err(DownloadFault::WrongDevice)
+        } else if self.permit(port).is_some() {
+            Err(DownloadFault::Taken)
+        } else if set.checksum() == checksum {
+            Err(DownloadFault::Same)
+        } else {
+            Ok(set)
+        }
+    }
+}

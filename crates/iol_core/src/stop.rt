@@ -1,0 +1,10 @@
+//! Why a core takes no more.
+
+/// Why no more commands and no more uploads are taken.
+#[derive(Clone, Copy, Debug, PartialEq, Eq)]
+pub enum StopCause {
+    /// The master is shut down: what waits is still written.
+    Closed,
+    /// A call of the disk failed: nothing more is written.
+    DiskFailed,
+}

@@ -1,0 +1,7 @@
+//! Cores over a journal in memory: what each call answers, in its order.
+
+mod batches;
+mod commands;
+mod downloads;
+mod scene;
+mod uploads;
