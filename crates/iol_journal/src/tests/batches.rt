@@ -1,9 +1,10 @@
 //! Which batches a journal takes.
 
-use super::{batch, begun, configure, finished, formatted, journal_of, octets_at, put, recovered};
+use super::{batch, begun, configure, finished, formatted, journal_of, journal_on, put_octet};
 use crate::{Batch, BeginCause, Journal};
 use iol_disk::MemoryDisk;
-use std::test::Fail;
+use std::alloc::Global;
+use std::process::Abort;
 
 /// Why the batch is not begun.
 pub fn batch_refusal(journal: Journal<MemoryDisk>, batch: Batch) -> Option<BeginCause> {
@@ -14,19 +15,39 @@ pub fn batch_refusal(journal: Journal<MemoryDisk>, batch: Batch) -> Option<Begin
 }
 
 #[test]
-fn a_batch_of_several_commands_is_one_slot(rt: HostRuntime) -> Result<(), Fail> {
-    let (journal, _) = recovered(rt.alloc(), formatted(rt.alloc())?)?;
-    let (journal, calls) = finished(begun(journal, batch(rt.alloc(), 1, 64)?)?)?;
+fn a_batch_of_several_commands_is_one_slot(rt: HostRuntime) {
+    let journal = journal_of(&rt, rt.alloc(), 0);
+    let batch = batch(&rt, rt.alloc(), 1, 64);
+    let (journal, calls) = finished(&rt, begun(&rt, journal, batch));
     // 22 octets and 64 records of 10 reach two sectors.
-    assert_eq!(rt; calls, 5);
-    let (journal, _) = recovered(rt.alloc(), journal.disk())?;
-    assert_eq!(rt; journal.number(), 64);
-    Ok(())
+    assert!(rt; calls == 5);
+    let journal = journal_on(&rt, rt.alloc(), journal.disk());
+    assert!(rt; journal.number() == 64);
+}
+
+// Why so many commands from this number on are refused behind so many batches.
+fn refusal_behind<R: Abort>(
+    rt: &R,
+    alloc: Global,
+    batches: u8,
+    first: u64,
+    count: usize,
+) -> Option<BeginCause> {
+    batch_refusal(
+        journal_of(rt, alloc, batches),
+        batch(rt, alloc, first, count),
+    )
+}
+
+// Why a Configure of a third port is refused behind one of the first.
+fn refusal_of_port_three<R: Abort>(rt: &R, alloc: Global) -> Option<BeginCause> {
+    let mut unknown = batch(rt, alloc, 1, 1);
+    unknown.commands.push(configure(3)).expect(rt, "memory");
+    batch_refusal(journal_of(rt, alloc, 0), unknown)
 }
 
 #[test]
-fn a_batch_is_refused_for_its_first_cause(rt: HostRuntime) -> Result<(), Fail> {
-    let alloc = rt.alloc();
+fn a_batch_is_refused_for_its_first_cause(rt: HostRuntime) {
     let table = [
         (0, 1, 65, BeginCause::TooLarge),
         (4, 5, 65, BeginCause::TooLarge),
@@ -37,35 +58,23 @@ fn a_batch_is_refused_for_its_first_cause(rt: HostRuntime) -> Result<(), Fail> {
         (1, 3, 1, BeginCause::Misfit),
     ];
     for (batches, first, count, cause) in table {
-        let refused = batch_refusal(journal_of(alloc, batches)?, batch(alloc, first, count)?);
-        assert_eq!(rt;
-            refused,
-            Some(cause),
+        let refused = refusal_behind(&rt, rt.alloc(), batches, first, count);
+        assert!(rt;
+            refused == Some(cause),
             "{count} commands from {first} after {batches}"
         );
     }
-    let mut unknown = batch(alloc, 1, 1)?;
-    unknown.commands.push(configure(3)?)?;
-    assert_eq!(rt;
-        batch_refusal(journal_of(alloc, 0)?, unknown),
-        Some(BeginCause::Misfit)
-    );
-    Ok(())
+    assert!(rt; refusal_of_port_three(&rt, rt.alloc()) == Some(BeginCause::Misfit));
 }
 
 #[test]
-fn a_batch_past_the_last_number_is_a_misfit(rt: HostRuntime) -> Result<(), Fail> {
+fn a_batch_past_the_last_number_is_a_misfit(rt: HostRuntime) {
     const LAST: u64 = 1 << 62;
     // The header of area A: epoch 1, and as base the last number.
-    let mut disk = formatted(rt.alloc())?;
-    let mut header = octets_at(&mut disk, 3)?;
-    if let Some(base) = header.get_mut(8) {
-        *base = 0x40;
-    }
-    put(&mut disk, 3, &header)?;
-    let (journal, _) = recovered(rt.alloc(), disk)?;
-    assert_eq!(rt; journal.number(), LAST);
-    let refused = batch_refusal(journal, batch(rt.alloc(), LAST + 1, 1)?);
-    assert_eq!(rt; refused, Some(BeginCause::Misfit));
-    Ok(())
+    let mut disk = formatted(&rt, rt.alloc());
+    put_octet(&rt, &mut disk, 3, 8, 0x40);
+    let journal = journal_on(&rt, rt.alloc(), disk);
+    assert!(rt; journal.number() == LAST);
+    let refused = batch_refusal(journal, batch(&rt, rt.alloc(), LAST + 1, 1));
+    assert!(rt; refused == Some(BeginCause::Misfit));
 }

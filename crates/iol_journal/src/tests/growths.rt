@@ -3,139 +3,170 @@
 //! By itself the run meets no refusal. With `rt try --test --fail-alloc N` it meets one, at the Nth growth.
 
 use super::checkpoints::{checkpoint_of, steps};
-use super::{begun, configure, recovered, stepped, two_ports_four_slots};
+use super::{begun, blank, configure, journal_on, stepped, two_ports_four_slots};
 use crate::{
     Batch, BeginCause, CheckpointProgress, FormatFault, Journal, Progress, RecoverCause, Writing,
     format,
 };
 use iol_disk::{DiskFault, MemoryDisk};
 use std::alloc::Global;
-use std::test::Fail;
+use std::process::Abort;
 
-// Formats a fresh disk. A format that found no memory wrote nothing, and one whose last sync found none was done.
-fn formatted_twice(alloc: Global) -> Result<MemoryDisk, Fail> {
-    let geometry = two_ports_four_slots()?;
-    let mut disk = match MemoryDisk::new(alloc, 178) {
+// A fresh disk.
+fn blank_twice<R: Abort>(rt: &R, alloc: Global) -> MemoryDisk {
+    match MemoryDisk::new(alloc, 178) {
         Ok(disk) => disk,
-        Err(_) => MemoryDisk::new(alloc, 178)?,
-    };
-    match format(alloc, &mut disk, geometry) {
-        Ok(()) => Ok(disk),
-        Err(FormatFault::Memory) => {
-            format(alloc, &mut disk, geometry)?;
-            Ok(disk)
-        }
-        Err(FormatFault::Disk(DiskFault::Sync)) => {
-            match format(alloc, &mut disk, geometry) {
-                Ok(()) | Err(FormatFault::AlreadyFormatted) => Ok(disk),
-                Err(fault) => Err(Fail::from(fault)),
-            }
-        }
-        Err(fault) => Err(Fail::from(fault)),
+        Err(_) => blank(rt, alloc, 178),
     }
 }
 
+// Formats a fresh disk. A format that found no memory wrote nothing, and one whose last sync found none was done.
+fn formatted_twice<R: Abort>(rt: &R, alloc: Global) -> MemoryDisk {
+    let geometry = two_ports_four_slots();
+    let mut disk = blank_twice(rt, alloc);
+    match format(alloc, &mut disk, geometry) {
+        Ok(()) => {}
+        Err(FormatFault::Memory) => format(alloc, &mut disk, geometry).expect(rt, "a format"),
+        Err(FormatFault::Disk(DiskFault::Sync)) => {
+            let again = format(alloc, &mut disk, geometry);
+            assert!(rt; matches!(again, Ok(()) | Err(FormatFault::AlreadyFormatted)));
+        }
+        Err(_) => panic!(rt; "no format"),
+    }
+    disk
+}
+
 // A sync of a disk in memory takes some too.
-fn recovered_twice(alloc: Global, disk: MemoryDisk) -> Result<Journal<MemoryDisk>, Fail> {
+fn recovered_twice<R: Abort>(rt: &R, alloc: Global, disk: MemoryDisk) -> Journal<MemoryDisk> {
     match Journal::recover(alloc, disk) {
-        Ok((journal, _)) => Ok(journal),
-        Err(fault) => match fault.cause {
-            RecoverCause::Memory | RecoverCause::Disk(DiskFault::Sync) => {
-                let (journal, _) = recovered(alloc, fault.disk)?;
-                Ok(journal)
-            }
-            cause => Err(Fail::from(cause)),
-        },
+        Ok((journal, _)) => journal,
+        Err(fault) => {
+            let for_memory = matches!(
+                fault.cause,
+                RecoverCause::Memory | RecoverCause::Disk(DiskFault::Sync)
+            );
+            assert!(rt; for_memory);
+            journal_on(rt, alloc, fault.disk)
+        }
     }
 }
 
 // One Configure of port 1, behind those that the journal has.
-fn next_batch(alloc: Global, journal: &Journal<MemoryDisk>) -> Result<Batch, Fail> {
+fn next_batch<R: Abort>(rt: &R, alloc: Global, first: u64) -> Batch {
     let mut commands = Vec::new(alloc);
-    if let Err(refused) = commands.push(configure(1)?) {
-        commands.push(refused.value)?;
+    if let Err(refused) = commands.push(configure(1)) {
+        commands.push(refused.value).expect(rt, "memory");
     }
-    let first = journal.number() + 1;
-    Ok(Batch { first, commands })
+    Batch { first, commands }
 }
 
-fn begun_twice(journal: Journal<MemoryDisk>, batch: Batch) -> Result<Writing<MemoryDisk>, Fail> {
+fn begun_twice<R: Abort>(
+    rt: &R,
+    journal: Journal<MemoryDisk>,
+    batch: Batch,
+) -> Writing<MemoryDisk> {
     match journal.begin(batch) {
-        Ok(writing) => Ok(writing),
-        Err(fault) => match fault.cause {
-            BeginCause::Memory => begun(fault.journal, fault.batch),
-            cause => Err(Fail::from(cause)),
-        },
+        Ok(writing) => writing,
+        Err(fault) => {
+            assert!(rt; fault.cause == BeginCause::Memory);
+            begun(rt, fault.journal, fault.batch)
+        }
     }
 }
 
 // The journal behind the batch, or the one that is recovered where a sync found no memory.
-fn written(alloc: Global, writing: Writing<MemoryDisk>) -> Result<Journal<MemoryDisk>, Fail> {
+fn written<R: Abort>(rt: &R, alloc: Global, writing: Writing<MemoryDisk>) -> Journal<MemoryDisk> {
     match stepped(writing, 19).0 {
         Progress::Done(journal, written) => {
             written.into_batch();
-            Ok(journal)
+            journal
         }
-        Progress::Failed(disk, DiskFault::Sync) => recovered_twice(alloc, disk),
-        Progress::Failed(_, fault) => Err(Fail::from(fault)),
-        Progress::More(_) => Err(Fail::new("the batch is not done")),
+        Progress::Failed(disk, DiskFault::Sync) => recovered_twice(rt, alloc, disk),
+        Progress::Failed(_, _) => panic!(rt; "a disk call failed"),
+        Progress::More(_) => panic!(rt; "the batch is not done"),
     }
+}
+
+// The journal behind one more batch.
+fn with_next_batch<R: Abort>(
+    rt: &R,
+    alloc: Global,
+    journal: Journal<MemoryDisk>,
+) -> Journal<MemoryDisk> {
+    let batch = next_batch(rt, alloc, journal.number() + 1);
+    written(rt, alloc, begun_twice(rt, journal, batch))
 }
 
 // The journal with a free slot. A checkpoint whose sync found no memory left the journal as it was, or is done.
-fn with_free_slot(
+fn with_free_slot<R: Abort>(
+    rt: &R,
     alloc: Global,
     journal: Journal<MemoryDisk>,
-) -> Result<Journal<MemoryDisk>, Fail> {
+) -> Journal<MemoryDisk> {
     if journal.has_free_slot() {
-        return Ok(journal);
+        return journal;
     }
     let checkpointing = match journal.checkpoint() {
         Ok(checkpointing) => checkpointing,
-        Err(fault) => checkpoint_of(fault.journal)?,
+        Err(fault) => checkpoint_of(rt, fault.journal),
     };
     match steps(checkpointing, 64) {
-        CheckpointProgress::Done(journal) => Ok(journal),
-        CheckpointProgress::Failed(disk, DiskFault::Sync) => recovered_twice(alloc, disk),
-        CheckpointProgress::Failed(_, fault) => Err(Fail::from(fault)),
-        CheckpointProgress::More(_) => Err(Fail::new("the checkpoint is not done")),
+        CheckpointProgress::Done(journal) => journal,
+        CheckpointProgress::Failed(disk, DiskFault::Sync) => recovered_twice(rt, alloc, disk),
+        CheckpointProgress::Failed(_, _) => panic!(rt; "a disk call failed"),
+        CheckpointProgress::More(_) => panic!(rt; "the checkpoint is not done"),
     }
 }
 
+// The journal one step nearer to six commands: with a free slot, and then behind one more batch.
+fn nearer_to_six<R: Abort>(
+    rt: &R,
+    alloc: Global,
+    journal: Journal<MemoryDisk>,
+) -> Journal<MemoryDisk> {
+    if 6 <= journal.number() {
+        return journal;
+    }
+    let journal = with_free_slot(rt, alloc, journal);
+    if 6 <= journal.number() || !journal.has_free_slot() {
+        return journal;
+    }
+    with_next_batch(rt, alloc, journal)
+}
+
 #[test]
-fn a_refused_growth_of_a_checkpoint_is_answered_and_loses_nothing(
-    rt: HostRuntime,
-) -> Result<(), Fail> {
-    let mut journal = recovered_twice(rt.alloc(), formatted_twice(rt.alloc())?)?;
+fn a_refused_growth_of_a_checkpoint_is_answered_and_loses_nothing(rt: HostRuntime) {
+    let mut journal = recovered_twice(&rt, rt.alloc(), formatted_twice(&rt, rt.alloc()));
     for _ in 0..8 {
-        if journal.number() < 6 {
-            journal = with_free_slot(rt.alloc(), journal)?;
-        }
-        if journal.number() < 6 && journal.has_free_slot() {
-            let batch = next_batch(rt.alloc(), &journal)?;
-            journal = written(rt.alloc(), begun_twice(journal, batch)?)?;
-        }
+        journal = nearer_to_six(&rt, rt.alloc(), journal);
     }
-    let journal = recovered_twice(rt.alloc(), journal.disk())?;
-    assert_eq!(rt; journal.number(), 6);
-    Ok(())
+    let journal = recovered_twice(&rt, rt.alloc(), journal.disk());
+    assert!(rt; journal.number() == 6);
+}
+
+// The journal one batch nearer to three commands, which has one more at most.
+fn nearer_to_three<R: Abort>(
+    rt: &R,
+    alloc: Global,
+    journal: Journal<MemoryDisk>,
+) -> Journal<MemoryDisk> {
+    let before = journal.number();
+    if 3 <= before {
+        return journal;
+    }
+    let journal = with_next_batch(rt, alloc, journal);
+    let number = journal.number();
+    assert!(rt; before <= number && number - before <= 1);
+    journal
 }
 
 #[test]
-fn a_refused_growth_is_answered_and_loses_nothing(rt: HostRuntime) -> Result<(), Fail> {
-    let mut journal = recovered_twice(rt.alloc(), formatted_twice(rt.alloc())?)?;
-    assert_eq!(rt; journal.number(), 0);
-    let mut before = 0;
+fn a_refused_growth_is_answered_and_loses_nothing(rt: HostRuntime) {
+    let mut journal = recovered_twice(&rt, rt.alloc(), formatted_twice(&rt, rt.alloc()));
+    assert!(rt; journal.number() == 0);
     for _ in 0..4 {
-        if journal.number() < 3 {
-            let batch = next_batch(rt.alloc(), &journal)?;
-            journal = written(rt.alloc(), begun_twice(journal, batch)?)?;
-            let number = journal.number();
-            assert!(rt; before <= number && number - before <= 1);
-            before = number;
-        }
+        journal = nearer_to_three(&rt, rt.alloc(), journal);
     }
-    let journal = recovered_twice(rt.alloc(), journal.disk())?;
-    assert_eq!(rt; journal.number(), 3);
-    Ok(())
+    let journal = recovered_twice(&rt, rt.alloc(), journal.disk());
+    assert!(rt; journal.number() == 3);
 }

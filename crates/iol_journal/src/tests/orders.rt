@@ -3,12 +3,12 @@
 use super::recorded::Call::{self, Read, Sync, Write};
 use super::recorded::Recorded;
 use super::{
-    batch, begun, finished, formatted, journal_of, octets_at, put, recovered, two_ports_four_slots,
+    batch, behind, blank, formatted, journal_of, journal_on, octets_at, put, two_ports_four_slots,
 };
 use crate::format;
 use iol_disk::{MemoryDisk, SECTOR_OCTETS};
 use std::alloc::Global;
-use std::test::Fail;
+use std::process::Abort;
 
 // What a recovery reads before the slots, where area A is in use and area B is closed.
 const BEFORE_SLOTS: [Call; 9] = [
@@ -24,25 +24,33 @@ const BEFORE_SLOTS: [Call; 9] = [
 ];
 
 // The calls of a recovery.
-fn of_recovery(alloc: Global, disk: MemoryDisk) -> Result<Vec<Call>, Fail> {
-    let (journal, _) = recovered(alloc, Recorded::new(alloc, disk))?;
-    Ok(journal.disk().calls())
+fn of_recovery<R: Abort>(rt: &R, alloc: Global, disk: MemoryDisk) -> Vec<Call> {
+    journal_on(rt, alloc, Recorded::new(alloc, disk))
+        .disk()
+        .calls()
+}
+
+// The calls of a recovery that reads this of the slots.
+fn with_slots<R: Abort>(rt: &R, alloc: Global, slots: &[Call]) -> Vec<Call> {
+    let mut calls = Vec::from_slice(alloc, &BEFORE_SLOTS).expect(rt, "memory");
+    calls.extend_from_slice(slots).expect(rt, "memory");
+    calls
 }
 
 // The calls of a batch of so many commands behind so many batches of one, and of the recovery before it.
-fn of_batch(alloc: Global, batches: u8, count: usize) -> Result<Vec<Call>, Fail> {
-    let disk = Recorded::new(alloc, journal_of(alloc, batches)?.disk());
-    let (journal, _) = recovered(alloc, disk)?;
+fn of_batch<R: Abort>(rt: &R, alloc: Global, batches: u8, count: usize) -> Vec<Call> {
+    let disk = Recorded::new(alloc, journal_of(rt, alloc, batches).disk());
+    let journal = journal_on(rt, alloc, disk);
     let first = journal.number() + 1;
-    let (journal, _) = finished(begun(journal, batch(alloc, first, count)?)?)?;
-    Ok(journal.disk().calls())
+    behind(rt, journal, batch(rt, alloc, first, count))
+        .disk()
+        .calls()
 }
 
 #[test]
-fn a_format_makes_its_calls_in_order(rt: HostRuntime) -> Result<(), Fail> {
-    let geometry = two_ports_four_slots()?;
-    let mut disk = Recorded::new(rt.alloc(), MemoryDisk::new(rt.alloc(), 178)?);
-    format(rt.alloc(), &mut disk, geometry)?;
+fn a_format_makes_its_calls_in_order(rt: HostRuntime) {
+    let mut disk = Recorded::new(rt.alloc(), blank(&rt, rt.alloc(), 178));
+    format(rt.alloc(), &mut disk, two_ports_four_slots()).expect(&rt, "a format");
     let wanted = [
         Sync,
         Read(1),
@@ -61,12 +69,11 @@ fn a_format_makes_its_calls_in_order(rt: HostRuntime) -> Result<(), Fail> {
         Write(1),
         Sync,
     ];
-    assert_eq!(rt; disk.calls().as_slice(), wanted.as_slice());
-    Ok(())
+    assert!(rt; disk.calls().as_slice() == wanted.as_slice());
 }
 
 #[test]
-fn a_recovery_reads_in_order_up_to_the_first_closed_gate(rt: HostRuntime) -> Result<(), Fail> {
+fn a_recovery_reads_in_order_up_to_the_first_closed_gate(rt: HostRuntime) {
     // How many batches there are, and what is read of the slots.
     let table: [(u8, &[Call]); 3] = [
         (0, &[Read(22)]),
@@ -86,35 +93,38 @@ fn a_recovery_reads_in_order_up_to_the_first_closed_gate(rt: HostRuntime) -> Res
         ),
     ];
     for (batches, slots) in table {
-        let calls = of_recovery(rt.alloc(), journal_of(rt.alloc(), batches)?.disk())?;
-        let mut wanted = Vec::from_slice(rt.alloc(), &BEFORE_SLOTS)?;
-        wanted.extend_from_slice(slots)?;
-        assert_eq!(rt; calls, wanted, "after {batches} batches");
+        let disk = journal_of(&rt, rt.alloc(), batches).disk();
+        let calls = of_recovery(&rt, rt.alloc(), disk);
+        assert!(rt;
+            calls == with_slots(&rt, rt.alloc(), slots),
+            "after {batches} batches"
+        );
     }
-    Ok(())
 }
 
 #[test]
-fn a_recovery_reads_each_sector_that_records_reach(rt: HostRuntime) -> Result<(), Fail> {
-    let (journal, _) = recovered(rt.alloc(), formatted(rt.alloc())?)?;
-    let (journal, _) = finished(begun(journal, batch(rt.alloc(), 1, 64)?)?)?;
-    let calls = of_recovery(rt.alloc(), journal.disk())?;
-    let mut wanted = Vec::from_slice(rt.alloc(), &BEFORE_SLOTS)?;
-    wanted.extend_from_slice(&[Read(22), Read(23), Read(24), Read(39)])?;
-    assert_eq!(rt; calls, wanted);
-    Ok(())
+fn a_recovery_reads_each_sector_that_records_reach(rt: HostRuntime) {
+    let journal = journal_of(&rt, rt.alloc(), 0);
+    let journal = behind(&rt, journal, batch(&rt, rt.alloc(), 1, 64));
+    let calls = of_recovery(&rt, rt.alloc(), journal.disk());
+    let slots = [Read(22), Read(23), Read(24), Read(39)];
+    assert!(rt; calls == with_slots(&rt, rt.alloc(), &slots));
 }
 
-#[test]
-fn a_recovery_reads_the_header_of_an_open_area_first(rt: HostRuntime) -> Result<(), Fail> {
-    // All that area A has of an empty journal is moved to area B.
-    let mut disk = formatted(rt.alloc())?;
+// All that area A has of an empty journal is moved to area B.
+fn moved<R: Abort>(rt: &R, alloc: Global) -> MemoryDisk {
+    let mut disk = formatted(rt, alloc);
     for (from, to) in [(2, 90), (3, 91), (4, 92), (13, 101), (22, 110)] {
-        let octets = octets_at(&mut disk, from)?;
-        put(&mut disk, to, &octets)?;
+        let octets = octets_at(rt, &mut disk, from);
+        put(rt, &mut disk, to, &octets);
     }
-    put(&mut disk, 2, &[0; SECTOR_OCTETS])?;
-    let calls = of_recovery(rt.alloc(), disk)?;
+    put(rt, &mut disk, 2, &[0; SECTOR_OCTETS]);
+    disk
+}
+
+#[test]
+fn a_recovery_reads_the_header_of_an_open_area_first(rt: HostRuntime) {
+    let calls = of_recovery(&rt, rt.alloc(), moved(&rt, rt.alloc()));
     let wanted = [
         Sync,
         Read(1),
@@ -127,12 +137,11 @@ fn a_recovery_reads_the_header_of_an_open_area_first(rt: HostRuntime) -> Result<
         Read(101),
         Read(110),
     ];
-    assert_eq!(rt; calls.as_slice(), wanted.as_slice());
-    Ok(())
+    assert!(rt; calls.as_slice() == wanted.as_slice());
 }
 
 #[test]
-fn a_batch_makes_its_calls_in_order(rt: HostRuntime) -> Result<(), Fail> {
+fn a_batch_makes_its_calls_in_order(rt: HostRuntime) {
     // How many batches stand before it, how many commands it has, the calls of the recovery, and its own.
     let table: [(u8, usize, usize, &[Call]); 3] = [
         (0, 1, 10, &[Write(23), Sync, Write(22), Sync]),
@@ -140,12 +149,10 @@ fn a_batch_makes_its_calls_in_order(rt: HostRuntime) -> Result<(), Fail> {
         (3, 1, 16, &[Write(74), Sync, Write(73), Sync]),
     ];
     for (batches, count, recovery, wanted) in table {
-        let calls = of_batch(rt.alloc(), batches, count)?;
-        assert_eq!(rt;
-            calls.get(recovery..),
-            Some(wanted),
+        let calls = of_batch(&rt, rt.alloc(), batches, count);
+        assert!(rt;
+            calls.get(recovery..) == Some(wanted),
             "{count} commands after {batches} batches"
         );
     }
-    Ok(())
 }
