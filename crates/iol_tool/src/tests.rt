@@ -9,10 +9,9 @@ mod words;
 mod writers;
 
 use crate::commands::run_text;
-use std::alloc::{AllocError, Global};
+use std::alloc::Global;
 use std::process::Abort;
 use std::str;
-use std::test::Fail;
 
 // A step that configures port 1.
 const CONFIGURE: &str = r#"
@@ -55,28 +54,42 @@ fn answer_to(alloc: Global, script: &[u8]) -> Answer {
 }
 
 // Sees that a command ended with this status, and wrote this as its output and this as its fault.
-fn expect_answer(
-    rt: &impl Abort,
+fn expect_answer<R: Abort>(
+    rt: &R,
     answer: &Answer,
     (status, out, err): (u8, &str, &str),
     why: &str,
-) -> Result<(), Fail> {
-    assert_eq!(rt; str::from_utf8(&answer.err)?, err, "{why}");
-    assert_eq!(rt; str::from_utf8(&answer.out)?, out, "{why}");
-    assert_eq!(rt; answer.status, status, "{why}");
-    Ok(())
+) {
+    expect_text(rt, answer.err.as_slice(), err, why);
+    expect_text(rt, answer.out.as_slice(), out, why);
+    assert!(rt;
+        answer.status == status,
+        "{why}: the status is {}",
+        answer.status
+    );
+}
+
+// Sees that these octets are this text.
+fn expect_text<R: Abort>(rt: &R, octets: &[u8], wanted: &str, why: &str) {
+    let text = str::from_utf8(octets).expect(rt, why);
+    assert!(rt; text == wanted, "{why}: {text:?} is not {wanted:?}");
 }
 
 // A script of two ports and four slots with these steps.
-fn script_of(alloc: Global, steps: &[&str]) -> Result<String, AllocError> {
-    let mut script = String::from_str(alloc, "ports = 2\nslots = 4\n")?;
+fn script_of<R: Abort>(rt: &R, alloc: Global, steps: &[&str]) -> String {
+    let mut script = String::from_str(alloc, "ports = 2\nslots = 4\n").expect(rt, "memory");
     for step in steps {
-        script.push_str(step)?;
+        script.push_str(step).expect(rt, "memory");
     }
-    Ok(script)
+    script
+}
+
+// These steps, so many times.
+fn repeated<'a, R: Abort>(rt: &R, alloc: Global, steps: &[&'a str], count: usize) -> Vec<&'a str> {
+    steps.repeat(alloc, count).expect(rt, "memory")
 }
 
 // A stop that keeps this.
-fn stop_that_keeps(alloc: Global, keep: &str) -> Result<String, AllocError> {
-    format!(in alloc; "[[step]]\ndo = \"stop\"\nkeep = \"{keep}\"\n")
+fn stop_that_keeps<R: Abort>(rt: &R, alloc: Global, keep: &str) -> String {
+    format!(in alloc; "[[step]]\ndo = \"stop\"\nkeep = \"{keep}\"\n").expect(rt, "memory")
 }

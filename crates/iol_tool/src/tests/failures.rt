@@ -1,15 +1,15 @@
 //! Runs, formats and recoveries on a disk of which one call fails.
 
 use super::{
-    Answer, CONFIGURE, CONFIGURE_GREATEST, DRAIN, answer_to, expect_answer, script_of,
+    CONFIGURE, CONFIGURE_GREATEST, DRAIN, answer_to, expect_answer, repeated, script_of,
     stop_that_keeps,
 };
 use crate::fault::Fault;
 use crate::geometry::geometry_of;
 use crate::image::{format_disk, show_disk};
 use iol_disk::{DiskFault, FaultDisk, MemoryDisk};
-use std::alloc::{AllocError, Global};
-use std::test::Fail;
+use std::alloc::Global;
+use std::process::Abort;
 
 const KEEPS: [&str; 4] = ["old", "new", "zero", "pattern"];
 
@@ -72,68 +72,8 @@ const TWO_BATCHES: [(&str, &str); 7] = [
     ("read 10", WHOLE),
 ];
 
-// The kinds of call, and how many a format makes, one behind an erasure, and a recovery, with one port and one slot.
-const CALLS: [(DiskFault, u64, u64, u64); 3] = [
-    (DiskFault::Read, 1, 2, 8),
-    (DiskFault::Write, 8, 8, 0),
-    (DiskFault::Sync, 3, 4, 1),
-];
-
-// What a run answers of which this call fails.
-fn answer_with(
-    alloc: Global,
-    fail: &str,
-    steps: &[&str],
-    keep: &str,
-) -> Result<Answer, AllocError> {
-    let mut script = format!(in alloc; "fail = \"{fail}\"\n")?;
-    script.push_str(script_of(alloc, steps)?.as_str())?;
-    script.push_str(stop_that_keeps(alloc, keep)?.as_str())?;
-    Ok(answer_to(alloc, script.as_bytes()))
-}
-
-#[test]
-fn a_call_that_fails_in_a_batch_ends_the_writing(rt: HostRuntime) -> Result<(), Fail> {
-    for (fail, durable, newest) in ONE_BATCH {
-        for (keep, lines) in [
-            ("old", durable),
-            ("zero", durable),
-            ("new", newest),
-            ("pattern", newest),
-        ] {
-            let answer = answer_with(rt.alloc(), fail, &[CONFIGURE, DRAIN], keep)?;
-            expect_answer(&rt, &answer, (0, lines, ""), fail)?;
-        }
-    }
-    Ok(())
-}
-
-#[test]
-fn a_batch_before_the_call_that_fails_is_acknowledged(rt: HostRuntime) -> Result<(), Fail> {
-    let steps = [CONFIGURE, DRAIN, CONFIGURE_GREATEST, DRAIN, CONFIGURE];
-    for (fail, lines) in TWO_BATCHES {
-        let answer = answer_with(rt.alloc(), fail, &steps, "old")?;
-        expect_answer(&rt, &answer, (0, lines, ""), fail)?;
-    }
-    Ok(())
-}
-
-#[test]
-fn a_call_that_fails_in_the_first_recovery_fails_the_run(rt: HostRuntime) -> Result<(), Fail> {
-    for fail in ["read 1", "read 9", "sync 1"] {
-        for keep in KEEPS {
-            let answer = answer_with(rt.alloc(), fail, &[CONFIGURE, DRAIN], keep)?;
-            expect_answer(&rt, &answer, (1, "", "error: the disk failed\n"), fail)?;
-        }
-    }
-    Ok(())
-}
-
-// The fifth batch on four slots comes behind a checkpoint, which writes the gates of the area and of its slots, then the
-// header and the records, and then the gate.
-#[test]
-fn a_call_that_fails_in_a_checkpoint_is_that_of_the_batch(rt: HostRuntime) -> Result<(), Fail> {
-    let lines = "accepted 1
+// What five batches print where the checkpoint before the fifth fails.
+const CHECKPOINT_LOST: &str = "accepted 1
 acknowledged 1
 accepted 2
 acknowledged 2
@@ -148,40 +88,128 @@ recovered 4
 port 1 revision 4 mode 1 validation 3 vendor 01F4 device 00ABCD set none
 port 2 revision 0 mode 0 validation 0 vendor 0000 device 000000 set none
 ";
-    let steps = [CONFIGURE, DRAIN].repeat(rt.alloc(), 5)?;
-    for fail in ["write 9", "sync 10", "write 14", "write 17", "sync 13"] {
-        for keep in KEEPS {
-            let answer = answer_with(rt.alloc(), fail, steps.as_slice(), keep)?;
-            expect_answer(&rt, &answer, (0, lines, ""), fail)?;
-        }
-    }
-    Ok(())
+
+// The kinds of call, and how many a format makes, one behind an erasure, and a recovery, with one port and one slot.
+const CALLS: [(DiskFault, u64, u64, u64); 3] = [
+    (DiskFault::Read, 1, 2, 8),
+    (DiskFault::Write, 8, 8, 0),
+    (DiskFault::Sync, 3, 4, 1),
+];
+
+// Sees that a run of which this call fails ends with this status, and writes this as its output and this as its fault,
+// where its stop keeps this.
+fn expect_with<R: Abort>(
+    rt: &R,
+    alloc: Global,
+    (fail, steps, keep): (&str, &[&str], &str),
+    wanted: (u8, &str, &str),
+) {
+    let steps = script_of(rt, alloc, steps);
+    let stop = stop_that_keeps(rt, alloc, keep);
+    let script = format!(in alloc; "fail = \"{fail}\"\n{steps}{stop}").expect(rt, "memory");
+    expect_answer(rt, &answer_to(alloc, script.as_bytes()), wanted, fail);
 }
 
-// What a format answers, and then a recovery, on a disk of which the n-th call of a kind fails.
-fn formatted_and_shown(
+// Sees that such a run does so whatever the stop keeps.
+fn expect_with_each_keep<R: Abort>(
+    rt: &R,
     alloc: Global,
-    (kind, n): (DiskFault, u64),
-    force: bool,
-) -> Result<(Option<Fault<'static>>, Option<Fault<'static>>), Fail> {
-    let geometry = geometry_of(1, 1).ok_or("a geometry")?;
-    let mut disk = FaultDisk::new(MemoryDisk::new(alloc, geometry.sectors())?, kind, n);
-    let formatted = format_disk(alloc, &mut disk, geometry, force).err();
-    Ok((formatted, show_disk(alloc, disk).err()))
+    (fail, steps): (&str, &[&str]),
+    wanted: (u8, &str, &str),
+) {
+    for keep in KEEPS {
+        expect_with(rt, alloc, (fail, steps, keep), wanted);
+    }
+}
+
+// Sees that a run of one batch of which this call fails prints these lines, where its stop keeps this.
+fn expect_batch<R: Abort>(rt: &R, alloc: Global, (fail, keep): (&str, &str), lines: &str) {
+    expect_with(rt, alloc, (fail, &[CONFIGURE, DRAIN], keep), (0, lines, ""));
+}
+
+// Sees what such a run prints as its stop keeps what is old or zero, and what is new or a pattern.
+fn expect_one_batch<R: Abort>(rt: &R, alloc: Global, fail: &str, durable: &str, newest: &str) {
+    expect_batch(rt, alloc, (fail, "old"), durable);
+    expect_batch(rt, alloc, (fail, "zero"), durable);
+    expect_batch(rt, alloc, (fail, "new"), newest);
+    expect_batch(rt, alloc, (fail, "pattern"), newest);
 }
 
 #[test]
-fn a_call_that_fails_in_a_format_or_a_recovery_is_told(rt: HostRuntime) -> Result<(), Fail> {
-    for (kind, unforced, forced, recovery) in CALLS {
-        for (force, calls) in [(false, unforced), (true, forced)] {
-            for n in 1..13 {
-                let (formatted, shown) = formatted_and_shown(rt.alloc(), (kind, n), force)?;
-                let in_format = n <= calls;
-                assert_eq!(rt; formatted == Some(Fault::Disk), in_format, "{kind:?} {n}");
-                let later = !in_format && n <= calls.saturating_add(recovery);
-                assert_eq!(rt; shown == Some(Fault::Disk), later, "{kind:?} {n} {force}");
-            }
-        }
+fn a_call_that_fails_in_a_batch_ends_the_writing(rt: HostRuntime) {
+    for (fail, durable, newest) in ONE_BATCH {
+        expect_one_batch(&rt, rt.alloc(), fail, durable, newest);
     }
-    Ok(())
+}
+
+#[test]
+fn a_batch_before_the_call_that_fails_is_acknowledged(rt: HostRuntime) {
+    let steps = &[CONFIGURE, DRAIN, CONFIGURE_GREATEST, DRAIN, CONFIGURE];
+    for (fail, lines) in TWO_BATCHES {
+        expect_with(&rt, rt.alloc(), (fail, steps, "old"), (0, lines, ""));
+    }
+}
+
+#[test]
+fn a_call_that_fails_in_the_first_recovery_fails_the_run(rt: HostRuntime) {
+    let wanted = (1, "", "error: the disk failed\n");
+    for fail in ["read 1", "read 9", "sync 1"] {
+        expect_with_each_keep(&rt, rt.alloc(), (fail, &[CONFIGURE, DRAIN]), wanted);
+    }
+}
+
+// The fifth batch on four slots comes behind a checkpoint, which writes the gates of the area and of its slots, then the
+// header and the records, and then the gate.
+#[test]
+fn a_call_that_fails_in_a_checkpoint_is_that_of_the_batch(rt: HostRuntime) {
+    let steps = repeated(&rt, rt.alloc(), &[CONFIGURE, DRAIN], 5);
+    let wanted = (0, CHECKPOINT_LOST, "");
+    for fail in ["write 9", "sync 10", "write 14", "write 17", "sync 13"] {
+        expect_with_each_keep(&rt, rt.alloc(), (fail, steps.as_slice()), wanted);
+    }
+}
+
+// Whether a format tells that the disk failed, and then whether a recovery does, where the n-th call of a kind fails.
+fn formatted_and_shown<R: Abort>(
+    rt: &R,
+    alloc: Global,
+    (kind, n): (DiskFault, u64),
+    force: bool,
+) -> (bool, bool) {
+    let geometry = geometry_of(1, 1).expect(rt, "a geometry");
+    let memory = MemoryDisk::new(alloc, geometry.sectors()).expect(rt, "memory");
+    let mut disk = FaultDisk::new(memory, kind, n);
+    let formatted = matches!(
+        format_disk(alloc, &mut disk, geometry, force),
+        Err(Fault::Disk)
+    );
+    (
+        formatted,
+        matches!(show_disk(alloc, disk), Err(Fault::Disk)),
+    )
+}
+
+// Sees that the first calls of a kind are those of a format, the next ones those of a recovery, and that there are none
+// behind them.
+fn expect_told<R: Abort>(
+    rt: &R,
+    alloc: Global,
+    (kind, force): (DiskFault, bool),
+    (calls, recovery): (u64, u64),
+) {
+    for n in 1..13 {
+        let (formatted, shown) = formatted_and_shown(rt, alloc, (kind, n), force);
+        let in_format = n <= calls;
+        assert!(rt; formatted == in_format, "a format, {kind:?} {n} {force}");
+        let later = !in_format && n <= calls.saturating_add(recovery);
+        assert!(rt; shown == later, "a recovery, {kind:?} {n} {force}");
+    }
+}
+
+#[test]
+fn a_call_that_fails_in_a_format_or_a_recovery_is_told(rt: HostRuntime) {
+    for (kind, unforced, forced, recovery) in CALLS {
+        expect_told(&rt, rt.alloc(), (kind, false), (unforced, recovery));
+        expect_told(&rt, rt.alloc(), (kind, true), (forced, recovery));
+    }
 }

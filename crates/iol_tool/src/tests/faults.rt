@@ -1,9 +1,9 @@
 //! The line and the status of each fault.
 
+use super::{Answer, expect_answer};
 use crate::commands::report;
 use crate::fault::Fault;
-use std::str;
-use std::test::Fail;
+use std::alloc::Global;
 
 const FAULTS: [(Fault<'_>, &str, u8); 11] = [
     (Fault::NotFormatted, "error: the disk is not formatted\n", 1),
@@ -31,12 +31,21 @@ const FAULTS: [(Fault<'_>, &str, u8); 11] = [
     (Fault::Geometry, "error: the geometry is not valid\n", 2),
 ];
 
-#[test]
-fn each_fault_has_its_line_and_its_status(rt: HostRuntime) -> Result<(), Fail> {
-    for (fault, line, status) in FAULTS {
-        let mut err = Vec::new(rt.alloc());
-        assert_eq!(rt; report(&mut err, &fault), status, "{line}");
-        assert_eq!(rt; str::from_utf8(&err)?, line);
+// What is answered for a fault.
+fn answer_for(alloc: Global, fault: &Fault<'_>) -> Answer {
+    let mut err = Vec::new(alloc);
+    let status = report(&mut err, fault);
+    Answer {
+        status,
+        out: Vec::new(alloc),
+        err,
     }
-    Ok(())
+}
+
+#[test]
+fn each_fault_has_its_line_and_its_status(rt: HostRuntime) {
+    for (fault, line, status) in FAULTS {
+        let answer = answer_for(rt.alloc(), &fault);
+        expect_answer(&rt, &answer, (status, "", line), line);
+    }
 }

@@ -3,8 +3,10 @@
 use super::{Answer, expect_answer};
 use crate::image_commands::{format_image, show_image};
 use iol_disk::SECTOR_OCTETS;
-use std::fs;
-use std::test::Fail;
+use std::fs::{self, OpenFile};
+use std::os::unix::fs::FileExt;
+use std::process::Abort;
+use std::rt::Files;
 
 const FORMATTED: &str = "formatted 178 sectors\n";
 
@@ -14,21 +16,76 @@ port 1 revision 0 mode 0 validation 0 vendor 0000 device 000000 set none
 port 2 revision 0 mode 0 validation 0 vendor 0000 device 000000 set none
 ";
 
-// A path at which there is no file.
-fn free_path(rt: &HostRuntime, name: &str) -> Result<String, Fail> {
-    let path = format!(in rt.alloc(); "iol_tool_test_{name}.img")?;
-    let _ = fs::remove_file(rt, path.as_str());
-    Ok(path)
+const SMALL: (u8, &str, &str) = (1, "", "error: the disk is too small\n");
+
+// How many octets a file has, and what a format for two ports and four slots then answers.
+const SIZES: [(usize, (u8, &str, &str)); 7] = [
+    (0, SMALL),
+    (1, SMALL),
+    (177 * SECTOR_OCTETS, SMALL),
+    (178 * SECTOR_OCTETS - 1, SMALL),
+    (178 * SECTOR_OCTETS, (0, FORMATTED, "")),
+    (178 * SECTOR_OCTETS + 511, (0, FORMATTED, "")),
+    (200 * SECTOR_OCTETS, (0, FORMATTED, "")),
+];
+
+// The forced formats of one file, one after the other: for how many ports and slots, and the answer.
+const FORCED: [((u16, u16), (u8, &str, &str)); 4] = [
+    ((2, 4), (0, FORMATTED, "")),
+    ((2, 4), (0, FORMATTED, "")),
+    ((1, 1), (0, "formatted 58 sectors\n", "")),
+    ((1, 256), SMALL),
+];
+
+// How many octets files have that are no journal.
+const LENGTHS: [usize; 5] = [0, 512, 1023, 1024, 178 * SECTOR_OCTETS];
+
+// A sector that is damaged, and why the image is then not shown.
+const DAMAGES: [(usize, &str); 4] = [
+    (0, "error: damaged at sector 0\n"),
+    (1, "error: the disk is not formatted\n"),
+    (2, "error: damaged at sector 2\n"),
+    (3, "error: damaged at sector 3\n"),
+];
+
+// Sees to it that no file is at a path.
+fn free<R: Files>(rt: &R, path: &str) {
+    let _ = fs::remove_file(rt, path);
+}
+
+fn remove<R: Abort + Files>(rt: &R, path: &str) {
+    fs::remove_file(rt, path).expect(rt, "a file to remove");
+}
+
+// Sees that no file is at a path.
+fn expect_free<R: Abort + Files>(rt: &R, path: &str) {
+    let exists = fs::exists(rt, path).expect(rt, "whether there is a file");
+    assert!(rt; !exists, "there is a file at {path}");
+}
+
+// Sees how many octets a file has.
+fn expect_octets<R: Abort + Files>(rt: &R, path: &str, octets: u64) {
+    let metadata = fs::metadata(rt, path).expect(rt, "a file");
+    assert!(rt;
+        metadata.len() == octets,
+        "{} octets, not {octets}",
+        metadata.len()
+    );
 }
 
 // Writes a file of so many octets 33.
-fn write_file(rt: &HostRuntime, path: &str, octets: usize) -> Result<(), Fail> {
-    fs::write(rt, path, vec![in rt.alloc(); 0x33u8; octets]?)?;
-    Ok(())
+fn write_file<R: Abort + Files + AllocGlobal>(rt: &R, path: &str, octets: usize) {
+    let all = vec![in rt.alloc(); 0x33u8; octets].expect(rt, "memory");
+    fs::write(rt, path, all).expect(rt, "a file to write");
 }
 
 // The answer to a format for these ports and slots.
-fn answer_to_format(rt: &HostRuntime, path: &str, numbers: (u16, u16), force: bool) -> Answer {
+fn answer_to_format<F: FileExt + OpenFile + Drop, R: Files<File = F> + AllocGlobal>(
+    rt: &R,
+    path: &str,
+    numbers: (u16, u16),
+    force: bool,
+) -> Answer {
     let mut out = Vec::new(rt.alloc());
     let mut err = Vec::new(rt.alloc());
     let (ports, slots) = numbers;
@@ -36,167 +93,183 @@ fn answer_to_format(rt: &HostRuntime, path: &str, numbers: (u16, u16), force: bo
     Answer { status, out, err }
 }
 
-fn answer_to_show(rt: &HostRuntime, path: &str) -> Answer {
+fn answer_to_show<F: FileExt + OpenFile + Drop, R: Files<File = F> + AllocGlobal>(
+    rt: &R,
+    path: &str,
+) -> Answer {
     let mut out = Vec::new(rt.alloc());
     let mut err = Vec::new(rt.alloc());
     let status = show_image(rt, path, &mut out, &mut err);
     Answer { status, out, err }
 }
 
-#[test]
-fn a_file_that_is_not_there_is_made_and_formatted_once(rt: HostRuntime) -> Result<(), Fail> {
-    let path = free_path(&rt, "made")?;
-    let path = path.as_str();
-    let formatted = answer_to_format(&rt, path, (2, 4), false);
-    expect_answer(&rt, &formatted, (0, FORMATTED, ""), "a new file")?;
-    assert_eq!(rt; fs::metadata(&rt, path)?.len(), 91_136);
-    expect_answer(
-        &rt,
-        &answer_to_show(&rt, path),
-        (0, EMPTY, ""),
-        "an empty state",
-    )?;
-    let already = (1, "", "error: the disk is already formatted\n");
-    let formatted = answer_to_format(&rt, path, (2, 4), false);
-    expect_answer(&rt, &formatted, already, "a second format")?;
-    fs::remove_file(&rt, path)?;
-    Ok(())
+// Sees what a format for these ports and slots answers.
+fn expect_format<F: FileExt + OpenFile + Drop, R: Abort + Files<File = F> + AllocGlobal>(
+    rt: &R,
+    path: &str,
+    (numbers, force): ((u16, u16), bool),
+    wanted: (u8, &str, &str),
+    why: &str,
+) {
+    expect_answer(rt, &answer_to_format(rt, path, numbers, force), wanted, why);
+}
+
+fn expect_show<F: FileExt + OpenFile + Drop, R: Abort + Files<File = F> + AllocGlobal>(
+    rt: &R,
+    path: &str,
+    wanted: (u8, &str, &str),
+    why: &str,
+) {
+    expect_answer(rt, &answer_to_show(rt, path), wanted, why);
+}
+
+fn expect_unformatted<F: FileExt + OpenFile + Drop, R: Abort + Files<File = F> + AllocGlobal>(
+    rt: &R,
+    path: &str,
+    why: &str,
+) {
+    let line = "error: the disk is not formatted\n";
+    expect_show(rt, path, (1, "", line), why);
+}
+
+// Sees that a file is made, formatted and shown as empty.
+fn expect_made<F: FileExt + OpenFile + Drop, R: Abort + Files<File = F> + AllocGlobal>(
+    rt: &R,
+    path: &str,
+) {
+    expect_format(rt, path, ((2, 4), false), (0, FORMATTED, ""), "a new file");
+    expect_octets(rt, path, 91_136);
+    expect_show(rt, path, (0, EMPTY, ""), "an empty state");
+}
+
+// Sees that a file is not formatted again.
+fn expect_already<F: FileExt + OpenFile + Drop, R: Abort + Files<File = F> + AllocGlobal>(
+    rt: &R,
+    path: &str,
+) {
+    let line = "error: the disk is already formatted\n";
+    expect_format(rt, path, ((2, 4), false), (1, "", line), "a second format");
 }
 
 #[test]
-fn a_file_that_is_there_is_formatted_where_it_is_large_enough(rt: HostRuntime) -> Result<(), Fail> {
-    let path = free_path(&rt, "there")?;
-    let small = (1, "", "error: the disk is too small\n");
-    for (octets, answer) in [
-        (0, small),
-        (1, small),
-        (177 * SECTOR_OCTETS, small),
-        (178 * SECTOR_OCTETS - 1, small),
-        (178 * SECTOR_OCTETS, (0, FORMATTED, "")),
-        (178 * SECTOR_OCTETS + 511, (0, FORMATTED, "")),
-        (200 * SECTOR_OCTETS, (0, FORMATTED, "")),
-    ] {
-        for force in [false, true] {
-            write_file(&rt, path.as_str(), octets)?;
-            let formatted = answer_to_format(&rt, path.as_str(), (2, 4), force);
-            let why = format!(in rt.alloc(); "{octets} octets, {force}")?;
-            expect_answer(&rt, &formatted, answer, why.as_str())?;
-            assert_eq!(rt; fs::metadata(&rt, path.as_str())?.len(), octets as u64);
-        }
+fn a_file_that_is_not_there_is_made_and_formatted_once(rt: HostRuntime) {
+    let path = "iol_tool_test_made.img";
+    free(&rt, path);
+    expect_made(&rt, path);
+    expect_already(&rt, path);
+    remove(&rt, path);
+}
+
+// Sees what a format of a file of so many octets answers, and that the file then has as many.
+fn expect_format_over<F: FileExt + OpenFile + Drop, R: Abort + Files<File = F> + AllocGlobal>(
+    rt: &R,
+    path: &str,
+    octets: usize,
+    force: bool,
+    wanted: (u8, &str, &str),
+) {
+    write_file(rt, path, octets);
+    let why = format!(in rt.alloc(); "{octets} octets, {force}").expect(rt, "memory");
+    expect_format(rt, path, ((2, 4), force), wanted, why.as_str());
+    expect_octets(rt, path, octets as u64);
+}
+
+#[test]
+fn a_file_that_is_there_is_formatted_where_it_is_large_enough(rt: HostRuntime) {
+    let path = "iol_tool_test_there.img";
+    for (octets, wanted) in SIZES {
+        expect_format_over(&rt, path, octets, false, wanted);
+        expect_format_over(&rt, path, octets, true, wanted);
     }
-    fs::remove_file(&rt, path)?;
-    Ok(())
+    remove(&rt, path);
 }
 
 #[test]
-fn a_forced_format_erases_a_journal(rt: HostRuntime) -> Result<(), Fail> {
-    let path = free_path(&rt, "forced")?;
-    let path = path.as_str();
-    for (numbers, answer) in [
-        ((2, 4), (0, FORMATTED, "")),
-        ((2, 4), (0, FORMATTED, "")),
-        ((1, 1), (0, "formatted 58 sectors\n", "")),
-        ((1, 256), (1, "", "error: the disk is too small\n")),
-    ] {
-        let formatted = answer_to_format(&rt, path, numbers, true);
-        expect_answer(&rt, &formatted, answer, "a forced format")?;
+fn a_forced_format_erases_a_journal(rt: HostRuntime) {
+    let path = "iol_tool_test_forced.img";
+    free(&rt, path);
+    for (numbers, wanted) in FORCED {
+        expect_format(&rt, path, (numbers, true), wanted, "a forced format");
     }
-    let unformatted = (1, "", "error: the disk is not formatted\n");
-    expect_answer(
-        &rt,
-        &answer_to_show(&rt, path),
-        unformatted,
-        "it was erased first",
-    )?;
-    fs::remove_file(&rt, path)?;
-    Ok(())
+    expect_unformatted(&rt, path, "it was erased first");
+    remove(&rt, path);
 }
 
 #[test]
-fn a_geometry_is_judged_before_the_file(rt: HostRuntime) -> Result<(), Fail> {
-    let path = free_path(&rt, "geometry")?;
+fn a_geometry_is_judged_before_the_file(rt: HostRuntime) {
+    let path = "iol_tool_test_geometry.img";
+    free(&rt, path);
+    let line = "error: the geometry is not valid\n";
     for numbers in [(0, 4), (33, 4), (2, 0), (2, 257), (65_535, 65_535)] {
-        let formatted = answer_to_format(&rt, path.as_str(), numbers, true);
-        let line = "error: the geometry is not valid\n";
-        expect_answer(&rt, &formatted, (2, "", line), line)?;
+        expect_format(&rt, path, (numbers, true), (2, "", line), line);
     }
-    assert!(rt; !fs::exists(&rt, path)?);
-    Ok(())
+    expect_free(&rt, path);
+}
+
+// What is said of a file that cannot be opened.
+fn closed<R: Abort + AllocGlobal>(rt: &R, path: &str) -> String {
+    format!(in rt.alloc(); "error: cannot open {path}\n").expect(rt, "memory")
 }
 
 #[test]
-fn a_file_that_cannot_be_opened_or_made_is_told(rt: HostRuntime) -> Result<(), Fail> {
+fn a_file_that_cannot_be_opened_or_made_is_told(rt: HostRuntime) {
     for path in [".", "iol_tool_test_no_folder/a.img"] {
-        let line = format!(in rt.alloc(); "error: cannot open {path}\n")?;
-        let formatted = answer_to_format(&rt, path, (2, 4), false);
-        expect_answer(&rt, &formatted, (1, "", line.as_str()), path)?;
+        let line = closed(&rt, path);
+        let wanted = (1, "", line.as_str());
+        expect_format(&rt, path, ((2, 4), false), wanted, path);
     }
-    let path = free_path(&rt, "missing")?;
-    let line = format!(in rt.alloc(); "error: cannot open {path}\n")?;
-    let shown = answer_to_show(&rt, path.as_str());
-    expect_answer(
-        &rt,
-        &shown,
-        (1, "", line.as_str()),
-        "no file is made to be shown",
-    )?;
-    assert!(rt; !fs::exists(&rt, path)?);
-    Ok(())
+    let path = "iol_tool_test_missing.img";
+    free(&rt, path);
+    let line = closed(&rt, path);
+    let wanted = (1, "", line.as_str());
+    expect_show(&rt, path, wanted, "no file is made to be shown");
+    expect_free(&rt, path);
+}
+
+// Sees that a file of so many octets 33 is not shown.
+fn expect_no_journal<F: FileExt + OpenFile + Drop, R: Abort + Files<File = F> + AllocGlobal>(
+    rt: &R,
+    path: &str,
+    octets: usize,
+) {
+    write_file(rt, path, octets);
+    expect_unformatted(rt, path, "33s");
 }
 
 #[test]
-fn an_image_that_is_no_journal_is_not_shown(rt: HostRuntime) -> Result<(), Fail> {
-    let path = free_path(&rt, "shown")?;
-    for octets in [0, 512, 1023, 1024, 178 * SECTOR_OCTETS] {
-        write_file(&rt, path.as_str(), octets)?;
-        let unformatted = (1, "", "error: the disk is not formatted\n");
-        expect_answer(&rt, &answer_to_show(&rt, path.as_str()), unformatted, "33s")?;
+fn an_image_that_is_no_journal_is_not_shown(rt: HostRuntime) {
+    let path = "iol_tool_test_shown.img";
+    for octets in LENGTHS {
+        expect_no_journal(&rt, path, octets);
     }
-    fs::remove_file(&rt, path)?;
-    Ok(())
+    remove(&rt, path);
 }
 
 // The image of an empty journal of two ports and four slots, with this sector of zeros.
-fn write_damaged(rt: &HostRuntime, path: &str, sector: usize) -> Result<(), Fail> {
+fn write_damaged<F: FileExt + OpenFile + Drop, R: Abort + Files<File = F> + AllocGlobal>(
+    rt: &R,
+    path: &str,
+    sector: usize,
+) {
     let _ = answer_to_format(rt, path, (2, 4), true);
-    let mut octets = fs::read(rt, path)?;
-    for octet in octets
-        .iter_mut()
-        .skip(sector.wrapping_mul(SECTOR_OCTETS))
-        .take(SECTOR_OCTETS)
-    {
+    let mut octets = fs::read(rt, path).expect(rt, "a file to read");
+    let start = sector.wrapping_mul(SECTOR_OCTETS);
+    for octet in octets.iter_mut().skip(start).take(SECTOR_OCTETS) {
         *octet = 0;
     }
-    fs::write(rt, path, octets)?;
-    Ok(())
+    fs::write(rt, path, octets).expect(rt, "a file to write");
 }
 
 #[test]
-fn a_damaged_image_names_its_sector(rt: HostRuntime) -> Result<(), Fail> {
-    let path = free_path(&rt, "damaged")?;
-    for (sector, line) in [
-        (0, "error: damaged at sector 0\n"),
-        (1, "error: the disk is not formatted\n"),
-        (2, "error: damaged at sector 2\n"),
-        (3, "error: damaged at sector 3\n"),
-    ] {
-        write_damaged(&rt, path.as_str(), sector)?;
-        expect_answer(
-            &rt,
-            &answer_to_show(&rt, path.as_str()),
-            (1, "", line),
-            line,
-        )?;
+fn a_damaged_image_names_its_sector(rt: HostRuntime) {
+    let path = "iol_tool_test_damaged.img";
+    for (sector, line) in DAMAGES {
+        write_damaged(&rt, path, sector);
+        expect_show(&rt, path, (1, "", line), line);
     }
     for sector in [4, 22, 90, 91, 177] {
-        write_damaged(&rt, path.as_str(), sector)?;
-        expect_answer(
-            &rt,
-            &answer_to_show(&rt, path.as_str()),
-            (0, EMPTY, ""),
-            "harmless",
-        )?;
+        write_damaged(&rt, path, sector);
+        expect_show(&rt, path, (0, EMPTY, ""), "harmless");
     }
-    fs::remove_file(&rt, path)?;
-    Ok(())
+    remove(&rt, path);
 }

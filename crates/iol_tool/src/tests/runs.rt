@@ -1,11 +1,12 @@
 //! What a run prints.
 
 use super::{
-    CONFIGURE, CONFIGURE_GREATEST, DRAIN, answer_to, expect_answer, script_of, stop_that_keeps,
+    CONFIGURE, CONFIGURE_GREATEST, DRAIN, answer_to, expect_answer, repeated, script_of,
+    stop_that_keeps,
 };
 use iol_core::QUEUE_COMMANDS;
+use std::alloc::Global;
 use std::process::Abort;
-use std::test::Fail;
 
 // Why a run is made, its steps, and what it prints, whatever the stop keeps.
 const RUNS: [(&str, &[&str], &str); 6] = [
@@ -116,76 +117,124 @@ port 2 revision 0 mode 0 validation 0 vendor 0000 device 000000 set none
     ),
 ];
 
-// Sees that the runs print what they should, with this text behind their steps.
-fn expect_runs(rt: &(impl Abort + AllocGlobal), stop: &str) -> Result<(), Fail> {
-    for (why, steps, lines) in RUNS {
-        let mut script = script_of(rt.alloc(), steps)?;
-        script.push_str(stop)?;
-        let answer = answer_to(rt.alloc(), script.as_bytes());
-        expect_answer(rt, &answer, (0, lines, ""), why)?;
-    }
-    Ok(())
-}
+const KEEPS: [&str; 4] = ["old", "new", "zero", "pattern"];
 
-#[test]
-fn what_is_acknowledged_is_recovered_whatever_a_stop_keeps(rt: HostRuntime) -> Result<(), Fail> {
-    expect_runs(&rt, "")?;
-    for keep in ["old", "new", "zero", "pattern"] {
-        expect_runs(&rt, stop_that_keeps(rt.alloc(), keep)?.as_str())?;
-    }
-    Ok(())
-}
-
-// Sees that so many Configures of port 1, each written by itself, are acknowledged and recovered, whatever the stop keeps.
-fn expect_each_recovered(
-    rt: &(impl Abort + AllocGlobal),
-    (geometry, other_ports): (&str, &str),
-    count: usize,
-) -> Result<(), Fail> {
-    let mut lines = String::new(rt.alloc());
-    let mut steps = String::new(rt.alloc());
-    for number in 1..=count {
-        writeln!(lines, "accepted {number}\nacknowledged {number}")?;
-        writeln!(steps, "{CONFIGURE}{DRAIN}")?;
-    }
-    let port = "mode 1 validation 3 vendor 01F4 device 00ABCD set none";
-    writeln!(
-        lines,
-        "stopped\nrecovered {count}\nport 1 revision {count} {port}"
-    )?;
-    lines.push_str(other_ports)?;
-    for keep in ["old", "new", "zero", "pattern"] {
-        let stop = stop_that_keeps(rt.alloc(), keep)?;
-        let script = format!(in rt.alloc(); "{geometry}\n{steps}{stop}")?;
-        let answer = answer_to(rt.alloc(), script.as_bytes());
-        expect_answer(rt, &answer, (0, lines.as_str(), ""), keep)?;
-    }
-    Ok(())
-}
-
-#[test]
-fn a_checkpoint_comes_before_a_batch_that_finds_no_slot_free(rt: HostRuntime) -> Result<(), Fail> {
-    let port = "port 2 revision 0 mode 0 validation 0 vendor 0000 device 000000 set none\n";
-    expect_each_recovered(&rt, ("ports = 2\nslots = 4", port), 5)?;
-    expect_each_recovered(&rt, ("ports = 1\nslots = 1", ""), 20)
-}
-
-#[test]
-fn the_65th_command_finds_the_queue_full(rt: HostRuntime) -> Result<(), Fail> {
-    assert_eq!(rt; QUEUE_COMMANDS, 64);
-    let script = script_of(rt.alloc(), &[CONFIGURE_GREATEST].repeat(rt.alloc(), 65)?)?;
-    let mut lines = String::new(rt.alloc());
-    for number in 1..65 {
-        writeln!(lines, "accepted {number}")?;
-    }
-    lines.push_str(
-        "refused QueueFull
+// What the run of the full queue prints behind its 64 commands.
+const FULL: &str = "refused QueueFull
 stopped
 recovered 0
 port 1 revision 0 mode 0 validation 0 vendor 0000 device 000000 set none
 port 2 revision 0 mode 0 validation 0 vendor 0000 device 000000 set none
-",
-    )?;
-    let answer = answer_to(rt.alloc(), script.as_bytes());
-    expect_answer(&rt, &answer, (0, lines.as_str(), ""), "the queue is full")
+";
+
+// Sees that a run of these steps prints these lines, with this text behind its steps.
+fn expect_run<R: Abort>(
+    rt: &R,
+    alloc: Global,
+    (steps, stop): (&[&str], &str),
+    lines: &str,
+    why: &str,
+) {
+    let mut script = script_of(rt, alloc, steps);
+    script.push_str(stop).expect(rt, "memory");
+    expect_answer(
+        rt,
+        &answer_to(alloc, script.as_bytes()),
+        (0, lines, ""),
+        why,
+    );
+}
+
+// Sees that the runs print what they should, with this text behind their steps.
+fn expect_runs<R: Abort>(rt: &R, alloc: Global, stop: &str) {
+    for (why, steps, lines) in RUNS {
+        expect_run(rt, alloc, (steps, stop), lines, why);
+    }
+}
+
+#[test]
+fn what_is_acknowledged_is_recovered_whatever_a_stop_keeps(rt: HostRuntime) {
+    expect_runs(&rt, rt.alloc(), "");
+    for keep in KEEPS {
+        let stop = stop_that_keeps(&rt, rt.alloc(), keep);
+        expect_runs(&rt, rt.alloc(), stop.as_str());
+    }
+}
+
+// The steps of so many Configures of port 1, each written by itself.
+fn configures<R: Abort>(rt: &R, alloc: Global, count: usize) -> String {
+    let mut steps = String::new(alloc);
+    for _ in 0..count {
+        writeln!(steps, "{CONFIGURE}{DRAIN}").expect(rt, "memory");
+    }
+    steps
+}
+
+// What they print, and then the recovery of port 1, and of the others as said.
+fn lines_of_configures<R: Abort>(rt: &R, alloc: Global, count: usize, other_ports: &str) -> String {
+    let mut lines = String::new(alloc);
+    for number in 1..=count {
+        writeln!(lines, "accepted {number}\nacknowledged {number}").expect(rt, "memory");
+    }
+    let port = "mode 1 validation 3 vendor 01F4 device 00ABCD set none";
+    format!(in alloc;
+        "{lines}stopped\nrecovered {count}\nport 1 revision {count} {port}\n{other_ports}"
+    ).expect(rt, "memory")
+}
+
+// Sees that a run of these steps prints these lines, where its stop keeps this.
+fn expect_kept<R: Abort>(
+    rt: &R,
+    alloc: Global,
+    (geometry, steps, keep): (&str, &str, &str),
+    lines: &str,
+) {
+    let stop = stop_that_keeps(rt, alloc, keep);
+    let script = format!(in alloc; "{geometry}\n{steps}{stop}").expect(rt, "memory");
+    expect_answer(
+        rt,
+        &answer_to(alloc, script.as_bytes()),
+        (0, lines, ""),
+        keep,
+    );
+}
+
+// Sees that so many Configures of port 1, each written by itself, are acknowledged and recovered, whatever the stop keeps.
+fn expect_each_recovered<R: Abort>(
+    rt: &R,
+    alloc: Global,
+    (geometry, other_ports): (&str, &str),
+    count: usize,
+) {
+    let steps = configures(rt, alloc, count);
+    let lines = lines_of_configures(rt, alloc, count, other_ports);
+    for keep in KEEPS {
+        expect_kept(rt, alloc, (geometry, steps.as_str(), keep), lines.as_str());
+    }
+}
+
+#[test]
+fn a_checkpoint_comes_before_a_batch_that_finds_no_slot_free(rt: HostRuntime) {
+    let port = "port 2 revision 0 mode 0 validation 0 vendor 0000 device 000000 set none\n";
+    expect_each_recovered(&rt, rt.alloc(), ("ports = 2\nslots = 4", port), 5);
+    expect_each_recovered(&rt, rt.alloc(), ("ports = 1\nslots = 1", ""), 20);
+}
+
+// What the 64 commands print that find the queue not full, and then the one that finds it full.
+fn lines_of_full_queue<R: Abort>(rt: &R, alloc: Global) -> String {
+    let mut lines = String::new(alloc);
+    for number in 1..65 {
+        writeln!(lines, "accepted {number}").expect(rt, "memory");
+    }
+    lines.push_str(FULL).expect(rt, "memory");
+    lines
+}
+
+#[test]
+fn the_65th_command_finds_the_queue_full(rt: HostRuntime) {
+    assert_eq!(rt; QUEUE_COMMANDS, 64);
+    let steps = repeated(&rt, rt.alloc(), &[CONFIGURE_GREATEST], 65);
+    let lines = lines_of_full_queue(&rt, rt.alloc());
+    let run = (steps.as_slice(), "");
+    expect_run(&rt, rt.alloc(), run, lines.as_str(), "the queue is full");
 }

@@ -1,8 +1,8 @@
 //! Scripts that are not run, and why.
 
 use super::{answer_to, expect_answer};
+use std::alloc::Global;
 use std::process::Abort;
-use std::test::Fail;
 
 // Numbers of ports and slots that are no geometry.
 const GEOMETRIES: [(&str, &str); 7] = [
@@ -15,26 +15,31 @@ const GEOMETRIES: [(&str, &str); 7] = [
     ("2", "9223372036854775807"),
 ];
 
-fn expect_error(rt: &(impl Abort + AllocGlobal), script: &[u8], line: &str) -> Result<(), Fail> {
-    expect_answer(rt, &answer_to(rt.alloc(), script), (2, "", line), line)
+const NO_GEOMETRY: &str = "error: the geometry is not valid\n";
+
+const NO_SCRIPT: &str = "error: the script is not valid\n";
+
+fn expect_error<R: Abort>(rt: &R, alloc: Global, script: &[u8], line: &str) {
+    expect_answer(rt, &answer_to(alloc, script), (2, "", line), line);
+}
+
+// Sees that numbers are judged once the text is seen to be a script.
+fn expect_judged<R: Abort>(rt: &R, alloc: Global, ports: &str, slots: &str) {
+    let script = format!(in alloc; "ports = {ports}\nslots = {slots}\n").expect(rt, "memory");
+    expect_error(rt, alloc, script.as_bytes(), NO_GEOMETRY);
+    let wrong = format!(in alloc; "{script}step = [{{ do = \"jump\" }}]\n").expect(rt, "memory");
+    expect_error(rt, alloc, wrong.as_bytes(), NO_SCRIPT);
 }
 
 #[test]
-fn a_geometry_is_judged_after_the_text(rt: HostRuntime) -> Result<(), Fail> {
+fn a_geometry_is_judged_after_the_text(rt: HostRuntime) {
     for (ports, slots) in GEOMETRIES {
-        let script = format!(in rt.alloc(); "ports = {ports}\nslots = {slots}\n")?;
-        expect_error(&rt, script.as_bytes(), "error: the geometry is not valid\n")?;
-        let wrong = format!(in rt.alloc(); "{script}step = [{{ do = \"jump\" }}]\n")?;
-        expect_error(&rt, wrong.as_bytes(), "error: the script is not valid\n")?;
+        expect_judged(&rt, rt.alloc(), ports, slots);
     }
-    Ok(())
 }
 
 #[test]
-fn what_is_no_text_is_no_script(rt: HostRuntime) -> Result<(), Fail> {
-    expect_error(
-        &rt,
-        b"ports = 0\nslots = 4\n# \xFF\n",
-        "error: the script is not valid\n",
-    )
+fn what_is_no_text_is_no_script(rt: HostRuntime) {
+    let script = b"ports = 0\nslots = 4\n# \xFF\n";
+    expect_error(&rt, rt.alloc(), script, NO_SCRIPT);
 }
