@@ -6,3 +6,4 @@ pub mod Permits
 pub mod Uploads
 pub mod Downloads
 pub mod Ports
+pub mod Examples

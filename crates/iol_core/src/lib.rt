@@ -8,7 +8,7 @@
 //! one state can run out of memory.
 //!
 //! Modules in reading order: `stop`, `ticket` and `permit`, the words of the calls; `core_value`, the core itself;
-//! then its calls: `submit`, `batches`, `port`, `upload`, `download`. What a core holds is said in `specs/Core.antt`, and
+//! then its calls: `submit`, `batches`, `port`, `upload`, `download`; and `examples`, values worked out. What a core holds is said in `specs/Core.antt`, and
 //! what each call does, as a list of refusals, in `specs/Submit.antt`, `specs/Batches.antt`, `specs/Uploads.antt` and
 //! `specs/Downloads.antt`.
 #![tactic(auto)]
@@ -16,6 +16,7 @@
 mod batches;
 mod core_value;
 mod download;
+pub mod examples;
 mod permit;
 mod port;
 mod stop;
