@@ -3,11 +3,10 @@
 use crate::clock::nanoseconds_since;
 use crate::largest::configure;
 use crate::plain::{made_file, make_calls};
-use crate::recorded::{Call, Recorded};
 use crate::statistics::{Medians, Pair};
 use crate::stretches::{Kind, Made, checkpoint, commit, new_journal, next_kind};
 use anyhow::Context;
-use iol_disk::{ImageFile, MemoryDisk, SectorDisk};
+use iol_disk::{DiskCall, ImageFile, MemoryDisk, RecordedDisk, SectorDisk};
 use iol_journal::{Geometry, Journal};
 use std::alloc::{AllocError, Global};
 use std::fs::{self, File};
@@ -23,7 +22,7 @@ const STRETCHES: usize = 170;
 #[derive(Debug, Drop)]
 pub(crate) struct Stretch {
     pub kind: Kind,
-    pub calls: Vec<Call>,
+    pub calls: Vec<DiskCall>,
 }
 
 // What the commits of a round took, and what its checkpoints took.
@@ -68,7 +67,7 @@ fn geometry() -> anyhow::Result<Geometry> {
 // The stretches of a round, recorded on a disk in memory: their calls are the same on every disk.
 pub(crate) fn planned(alloc: Global) -> anyhow::Result<Vec<Stretch>> {
     let disk = MemoryDisk::new(alloc, geometry()?.sectors())?;
-    let mut journal = new_journal(alloc, Recorded::new(alloc, disk), geometry()?)?;
+    let mut journal = new_journal(alloc, RecordedDisk::new(alloc, disk), geometry()?)?;
     let mut parts = Vec::new(alloc);
     let mut all: usize = 0;
     for _ in 0..STRETCHES {
@@ -86,7 +85,7 @@ pub(crate) fn planned(alloc: Global) -> anyhow::Result<Vec<Stretch>> {
 // Divides recorded calls into stretches, behind so many that are none.
 fn stretches_of(
     alloc: Global,
-    calls: &[Call],
+    calls: &[DiskCall],
     before: usize,
     parts: &[(Kind, usize)],
 ) -> Result<Vec<Stretch>, AllocError> {

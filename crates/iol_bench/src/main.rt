@@ -3,7 +3,7 @@
 //!
 //! In come a folder and a number of rounds; out go medians and ratios, a line each. Without words it says how it is called.
 //!
-//! Modules in reading order: `recorded`, a disk that records its calls; `stretches`, the commits and checkpoints that are
+//! Modules in reading order: `stretches`, the commits and checkpoints that are
 //! timed, and `plain`, the same calls of a plain file; `commits` and `recovery`, the two measurements, with `largest`, the
 //! journal that is recovered; `clock` and `statistics`; `words` has what it is called with. Nothing is promised of times.
 #![tactic(auto)]
@@ -12,7 +12,6 @@ mod clock;
 mod commits;
 mod largest;
 mod plain;
-mod recorded;
 mod recovery;
 mod statistics;
 mod stretches;

@@ -1,7 +1,6 @@
 //! Calls of a plain file: the same sectors as those of a journal, in the same order.
 
-use crate::recorded::Call;
-use iol_disk::{ImageFile, SECTOR_OCTETS};
+use iol_disk::{DiskCall, ImageFile, SECTOR_OCTETS};
 use std::fs::File;
 use std::io;
 use std::os::unix::fs::FileExt;
@@ -18,13 +17,13 @@ pub(crate) fn opened_file(rt: &HostRuntime, path: &str) -> io::Result<File> {
 }
 
 // Makes these calls of a file. What is written does not matter.
-pub(crate) fn make_calls(file: &File, calls: &[Call]) -> io::Result<()> {
+pub(crate) fn make_calls(file: &File, calls: &[DiskCall]) -> io::Result<()> {
     let mut octets = [0x5A; SECTOR_OCTETS];
     for call in calls {
         match *call {
-            Call::Read(n) => file.read_exact_at(&mut octets, first_octet(n))?,
-            Call::Write(n) => file.write_all_at(&octets, first_octet(n))?,
-            Call::Sync => file.sync_all()?,
+            DiskCall::Read(n) => file.read_exact_at(&mut octets, first_octet(n))?,
+            DiskCall::Write(n) => file.write_all_at(&octets, first_octet(n))?,
+            DiskCall::Sync => file.sync_all()?,
         }
     }
     Ok(())

@@ -3,11 +3,10 @@
 use crate::clock::nanoseconds_since;
 use crate::largest::{geometry, write_largest};
 use crate::plain::{make_calls, opened_file};
-use crate::recorded::{Call, Recorded};
 use crate::statistics::{Medians, Pair};
 use crate::stretches::recovered;
 use anyhow::Context;
-use iol_disk::ImageFile;
+use iol_disk::{DiskCall, ImageFile, RecordedDisk};
 use std::alloc::{AllocError, Global};
 use std::fs;
 use std::time::Instant;
@@ -33,22 +32,27 @@ pub(crate) fn measure(rt: &HostRuntime, folder: &str, rounds: usize) -> anyhow::
 }
 
 // The disk calls that a recovery makes.
-fn calls_of_recovery(rt: &HostRuntime, path: &str) -> anyhow::Result<Vec<Call>> {
-    let disk = Recorded::new(rt.alloc(), ImageFile::open(rt, path)?);
+fn calls_of_recovery(rt: &HostRuntime, path: &str) -> anyhow::Result<Vec<DiskCall>> {
+    let disk = RecordedDisk::new(rt.alloc(), ImageFile::open(rt, path)?);
     Ok(recovered(rt.alloc(), disk)?.disk().calls())
 }
 
 // A sync, and a read of each sector.
-fn all_sectors(alloc: Global, sectors: usize) -> Result<Vec<Call>, AllocError> {
-    let mut calls = Vec::from_array(alloc, [Call::Sync])?;
+fn all_sectors(alloc: Global, sectors: usize) -> Result<Vec<DiskCall>, AllocError> {
+    let mut calls = Vec::from_array(alloc, [DiskCall::Sync])?;
     for n in 0..sectors {
-        calls.push(Call::Read(n))?;
+        calls.push(DiskCall::Read(n))?;
     }
     Ok(calls)
 }
 
 // Times so many recoveries, a plain file's calls behind each.
-fn timed(rt: &HostRuntime, path: &str, calls: &[Call], rounds: usize) -> anyhow::Result<Medians> {
+fn timed(
+    rt: &HostRuntime,
+    path: &str,
+    calls: &[DiskCall],
+    rounds: usize,
+) -> anyhow::Result<Medians> {
     let file = opened_file(rt, path)?;
     let mut pairs = Vec::new(rt.alloc());
     for _ in 0..rounds {

@@ -1,10 +1,10 @@
 //! What is timed, and what is said of it.
 
 use crate::commits::planned;
-use crate::recorded::Call::{Sync, Write};
 use crate::statistics::{Medians, Pair};
 use crate::stretches::Kind;
 use crate::words::{Asked, read_words};
+use iol_disk::DiskCall::{Sync, Write};
 use std::test::Fail;
 
 #[test]

@@ -9,3 +9,4 @@ pub mod Memory
 pub mod Fresh
 pub mod FaultDisk
 pub mod ImageFile
+pub mod RecordedDisk

@@ -3,10 +3,10 @@
 //! In comes a caller that reads, writes and syncs whole sectors through [`SectorDisk`]; out goes, in each
 //! contract, what a read gives and what a stop at any moment may leave. [`MemoryDisk`] is such a disk, and can
 //! be stopped: a [`Pick`] says what the stop leaves of the sectors that no sync has settled. [`FaultDisk`] is another
-//! disk of which one call fails. [`ImageFile`] is a file of sectors, of which nothing is promised but its size and its
+//! disk of which one call fails, and [`RecordedDisk`] one whose calls are recorded. [`ImageFile`] is a file of sectors, of which nothing is promised but its size and its
 //! faults.
 //!
-//! Read `disk` first, then `memory`, `fault_disk` and `image_file`; `specs/Content.antt` has the words.
+//! Read `disk` first, then `memory`, `fault_disk`, `recorded_disk` and `image_file`; `specs/Content.antt` has the words.
 //!
 //! Proofs of other crates cite the laws of `proofs/DiskLaws.antt`.
 #![tactic(auto)]
@@ -22,6 +22,7 @@ mod image_file;
 mod memory;
 mod new_file;
 mod pick;
+mod recorded_disk;
 #[cfg(test)]
 mod tests;
 mod undo;
@@ -33,3 +34,4 @@ pub use image_fault::ImageFault;
 pub use image_file::ImageFile;
 pub use memory::MemoryDisk;
 pub use pick::Pick;
+pub use recorded_disk::{DiskCall, RecordedDisk};

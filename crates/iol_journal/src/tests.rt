@@ -12,7 +12,6 @@ mod layout;
 mod orders;
 mod plain;
 mod power_stops;
-mod recorded;
 mod sets;
 
 use crate::{Batch, Geometry, Journal, Progress, RecoverCause, Writing, format};

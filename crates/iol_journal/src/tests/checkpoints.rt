@@ -1,18 +1,17 @@
 //! Checkpoints: their disk calls, a power stop after each, and one after another.
 
-use super::recorded::Call::{self, Read, Sync, Write};
-use super::recorded::Recorded;
 use super::{
     PICKS, answer_of, batch, behind, formatted, formatted_as, journal_of, journal_on, recovered,
     revision,
 };
 use crate::{CheckpointProgress, Checkpointing, Geometry, Journal};
-use iol_disk::{DiskFault, FaultDisk, MemoryDisk, Pick, SectorDisk};
+use iol_disk::DiskCall::{self, Read, Sync, Write};
+use iol_disk::{DiskFault, FaultDisk, MemoryDisk, Pick, RecordedDisk, SectorDisk};
 use std::alloc::Global;
 use std::process::Abort;
 
 // What a checkpoint of two ports that fit a sector each and four slots calls, into area B.
-const INTO_B: [Call; 13] = [
+const INTO_B: [DiskCall; 13] = [
     Write(90),
     Sync,
     Write(110),
@@ -29,7 +28,7 @@ const INTO_B: [Call; 13] = [
 ];
 
 // And into area A.
-const INTO_A: [Call; 13] = [
+const INTO_A: [DiskCall; 13] = [
     Write(2),
     Sync,
     Write(22),
@@ -108,8 +107,8 @@ fn found<R: Abort>(rt: &R, alloc: Global, disk: MemoryDisk) -> (u64, u64) {
 }
 
 // The calls of so many checkpoints, each of which four batches come before.
-fn calls_of<R: Abort>(rt: &R, alloc: Global, checkpoints: u8) -> Vec<Call> {
-    let disk = Recorded::new(alloc, formatted(rt, alloc));
+fn calls_of<R: Abort>(rt: &R, alloc: Global, checkpoints: u8) -> Vec<DiskCall> {
+    let disk = RecordedDisk::new(alloc, formatted(rt, alloc));
     let mut journal = journal_on(rt, alloc, disk);
     for _ in 0..checkpoints {
         journal = checkpointed(rt, written(rt, alloc, journal, 4));
@@ -120,7 +119,7 @@ fn calls_of<R: Abort>(rt: &R, alloc: Global, checkpoints: u8) -> Vec<Call> {
 #[test]
 fn checkpoints_make_their_calls_in_order(rt: HostRuntime) {
     // A recovery has ten calls, four batches have 16.
-    let table: [(usize, &[Call]); 3] = [(26, &INTO_B), (55, &INTO_A), (84, &INTO_B)];
+    let table: [(usize, &[DiskCall]); 3] = [(26, &INTO_B), (55, &INTO_A), (84, &INTO_B)];
     let calls = calls_of(&rt, rt.alloc(), 3);
     for (first, wanted) in table {
         assert!(rt;
@@ -133,7 +132,7 @@ fn checkpoints_make_their_calls_in_order(rt: HostRuntime) {
 #[test]
 fn a_recovery_reads_both_headers_of_two_open_areas_first(rt: HostRuntime) {
     let journal = checkpointed(&rt, journal_of(&rt, rt.alloc(), 4));
-    let disk = Recorded::new(rt.alloc(), journal.disk());
+    let disk = RecordedDisk::new(rt.alloc(), journal.disk());
     let calls = journal_on(&rt, rt.alloc(), disk).disk().calls();
     let wanted = [
         Sync,
@@ -228,7 +227,7 @@ fn batches_go_on_behind_a_checkpoint(rt: HostRuntime) {
 
 #[test]
 fn a_header_that_is_not_older_is_cleared_first(rt: HostRuntime) {
-    let disk = Recorded::new(rt.alloc(), stopped(&rt, rt.alloc()));
+    let disk = RecordedDisk::new(rt.alloc(), stopped(&rt, rt.alloc()));
     let journal = checkpointed(&rt, journal_on(&rt, rt.alloc(), disk));
     let calls = journal.disk().calls();
     // The recovery reads four slots: 17 calls.

@@ -1,18 +1,17 @@
 //! Disks that are erased: the calls, a power stop after each, and each failing once.
 
-use super::recorded::Call::{self, Read, Sync, Write};
-use super::recorded::Recorded;
 use super::{
     PICKS, answer, answer_of, blank, formatted, journal_of, journal_on, two_ports_four_slots,
 };
 use crate::{RecoverCause, erase, format};
-use iol_disk::{DiskFault, FaultDisk, MemoryDisk};
+use iol_disk::DiskCall::{self, Read, Sync, Write};
+use iol_disk::{DiskFault, FaultDisk, MemoryDisk, RecordedDisk};
 use std::alloc::Global;
 use std::process::Abort;
 
 // The calls of an erasure.
-fn calls_of<R: Abort>(rt: &R, alloc: Global, disk: MemoryDisk) -> Vec<Call> {
-    let mut disk = Recorded::new(alloc, disk);
+fn calls_of<R: Abort>(rt: &R, alloc: Global, disk: MemoryDisk) -> Vec<DiskCall> {
+    let mut disk = RecordedDisk::new(alloc, disk);
     erase(&mut disk).expect(rt, "an erasure");
     disk.calls()
 }
@@ -22,7 +21,7 @@ fn an_erasure_closes_the_gate_of_the_disk_where_it_is_open(rt: HostRuntime) {
     let calls = calls_of(&rt, rt.alloc(), formatted(&rt, rt.alloc()));
     assert!(rt; calls.as_slice() == [Sync, Read(1), Write(1), Sync].as_slice());
     // How many sectors a blank disk has, and the calls.
-    let table: [(usize, &[Call]); 3] = [(178, &[Sync, Read(1)]), (1, &[Sync]), (0, &[Sync])];
+    let table: [(usize, &[DiskCall]); 3] = [(178, &[Sync, Read(1)]), (1, &[Sync]), (0, &[Sync])];
     for (sectors, wanted) in table {
         let calls = calls_of(&rt, rt.alloc(), blank(&rt, rt.alloc(), sectors));
         assert!(rt; calls.as_slice() == wanted, "{sectors} sectors");

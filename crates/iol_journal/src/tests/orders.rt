@@ -1,17 +1,16 @@
 //! The disk calls of a format, a recovery and a batch, as docs/FORMATS.md has them: two ports, four slots.
 
-use super::recorded::Call::{self, Read, Sync, Write};
-use super::recorded::Recorded;
 use super::{
     batch, behind, blank, formatted, journal_of, journal_on, octets_at, put, two_ports_four_slots,
 };
 use crate::format;
-use iol_disk::{MemoryDisk, SECTOR_OCTETS};
+use iol_disk::DiskCall::{self, Read, Sync, Write};
+use iol_disk::{MemoryDisk, RecordedDisk, SECTOR_OCTETS};
 use std::alloc::Global;
 use std::process::Abort;
 
 // What a recovery reads before the slots, where area A is in use and area B is closed.
-const BEFORE_SLOTS: [Call; 9] = [
+const BEFORE_SLOTS: [DiskCall; 9] = [
     Sync,
     Read(1),
     Read(0),
@@ -24,22 +23,22 @@ const BEFORE_SLOTS: [Call; 9] = [
 ];
 
 // The calls of a recovery.
-fn of_recovery<R: Abort>(rt: &R, alloc: Global, disk: MemoryDisk) -> Vec<Call> {
-    journal_on(rt, alloc, Recorded::new(alloc, disk))
+fn of_recovery<R: Abort>(rt: &R, alloc: Global, disk: MemoryDisk) -> Vec<DiskCall> {
+    journal_on(rt, alloc, RecordedDisk::new(alloc, disk))
         .disk()
         .calls()
 }
 
 // The calls of a recovery that reads this of the slots.
-fn with_slots<R: Abort>(rt: &R, alloc: Global, slots: &[Call]) -> Vec<Call> {
+fn with_slots<R: Abort>(rt: &R, alloc: Global, slots: &[DiskCall]) -> Vec<DiskCall> {
     let mut calls = Vec::from_slice(alloc, &BEFORE_SLOTS).expect(rt, "memory");
     calls.extend_from_slice(slots).expect(rt, "memory");
     calls
 }
 
 // The calls of a batch of so many commands behind so many batches of one, and of the recovery before it.
-fn of_batch<R: Abort>(rt: &R, alloc: Global, batches: u8, count: usize) -> Vec<Call> {
-    let disk = Recorded::new(alloc, journal_of(rt, alloc, batches).disk());
+fn of_batch<R: Abort>(rt: &R, alloc: Global, batches: u8, count: usize) -> Vec<DiskCall> {
+    let disk = RecordedDisk::new(alloc, journal_of(rt, alloc, batches).disk());
     let journal = journal_on(rt, alloc, disk);
     let first = journal.number() + 1;
     behind(rt, journal, batch(rt, alloc, first, count))
@@ -49,7 +48,7 @@ fn of_batch<R: Abort>(rt: &R, alloc: Global, batches: u8, count: usize) -> Vec<C
 
 #[test]
 fn a_format_makes_its_calls_in_order(rt: HostRuntime) {
-    let mut disk = Recorded::new(rt.alloc(), blank(&rt, rt.alloc(), 178));
+    let mut disk = RecordedDisk::new(rt.alloc(), blank(&rt, rt.alloc(), 178));
     format(rt.alloc(), &mut disk, two_ports_four_slots()).expect(&rt, "a format");
     let wanted = [
         Sync,
@@ -75,7 +74,7 @@ fn a_format_makes_its_calls_in_order(rt: HostRuntime) {
 #[test]
 fn a_recovery_reads_in_order_up_to_the_first_closed_gate(rt: HostRuntime) {
     // How many batches there are, and what is read of the slots.
-    let table: [(u8, &[Call]); 3] = [
+    let table: [(u8, &[DiskCall]); 3] = [
         (0, &[Read(22)]),
         (1, &[Read(22), Read(23), Read(39)]),
         (
@@ -143,7 +142,7 @@ fn a_recovery_reads_the_header_of_an_open_area_first(rt: HostRuntime) {
 #[test]
 fn a_batch_makes_its_calls_in_order(rt: HostRuntime) {
     // How many batches stand before it, how many commands it has, the calls of the recovery, and its own.
-    let table: [(u8, usize, usize, &[Call]); 3] = [
+    let table: [(u8, usize, usize, &[DiskCall]); 3] = [
         (0, 1, 10, &[Write(23), Sync, Write(22), Sync]),
         (0, 64, 10, &[Write(23), Write(24), Sync, Write(22), Sync]),
         (3, 1, 16, &[Write(74), Sync, Write(73), Sync]),

@@ -3,15 +3,14 @@
 use super::batches::batch_refusal;
 use super::checkpoints::checkpointed;
 use super::power_stops::{disk_after, is_left};
-use super::recorded::Call::{Read, Sync, Write};
-use super::recorded::Recorded;
 use super::{
     PICKS, answer_of, begun, behind, config, configure, device, formatted, journal_of, journal_on,
     port, put, recovered,
 };
 use crate::numbers::array_at;
 use crate::{Batch, BeginCause, Journal, RecoverCause};
-use iol_disk::{MemoryDisk, Pick};
+use iol_disk::DiskCall::{Read, Sync, Write};
+use iol_disk::{MemoryDisk, Pick, RecordedDisk};
 use iol_record::encode_port;
 use iol_types::{Command, DataSet, Key, MasterState, PortState, SetBuilder};
 use std::alloc::Global;
@@ -161,7 +160,7 @@ fn a_set_in_a_port_record_of_nine_sectors_is_recovered(rt: HostRuntime) {
     let record = port_record(&rt, rt.alloc());
     assert!(rt; record.len() == 4133);
     let disk = disk_with_port_one(&rt, rt.alloc(), record);
-    let (journal, state) = recovered(&rt, rt.alloc(), Recorded::new(rt.alloc(), disk));
+    let (journal, state) = recovered(&rt, rt.alloc(), RecordedDisk::new(rt.alloc(), disk));
     assert!(rt; journal.number() == 0);
     assert_port(&rt, rt.alloc(), &state, true);
     // What is read behind the headers: the nine sectors of port 1, one of port 2, and the gate of the first slot.
@@ -257,7 +256,7 @@ fn full_journal_with_the_set<R: Abort>(rt: &R, alloc: Global) -> Journal<MemoryD
 #[test]
 fn a_checkpoint_writes_each_sector_that_a_record_reaches(rt: HostRuntime) {
     let disk = full_journal_with_the_set(&rt, rt.alloc()).disk();
-    let journal = journal_on(&rt, rt.alloc(), Recorded::new(rt.alloc(), disk));
+    let journal = journal_on(&rt, rt.alloc(), RecordedDisk::new(rt.alloc(), disk));
     let calls = checkpointed(&rt, journal).disk().calls();
     let wanted = [
         Write(90),
