@@ -36,12 +36,18 @@ values_more queue i command within is =
     ∙ ap (λ (front : List CommandValue). front ++ value_of command ∷ []) (sym (take-map value_of i queue)))
 
 -- what the records of commands have, and of one more
-pub records_more : (commands : List CommandValue) (command : CommandValue)
+records_more : (commands : List CommandValue) (command : CommandValue)
     → length (records_of (commands ++ command ∷ [])) ≡ length (records_of commands) + length (command_octets command)
 records_more commands command =
     ap length (flat_map-append command_octets commands (command ∷ []))
     ∙ (length-append (flat_map command_octets commands) (flat_map command_octets (command ∷ []))
     ∙ ap (λ (octets : List ℕ). length (flat_map command_octets commands) + length octets) (append-nil (command_octets command)))
+
+-- what the records of the first commands of a queue have, and of one more
+pub records_next : (queue : List Command) (i : ℕ) (command : Command) → i < length queue → get_or queue i command ≡ command
+    → length (records_of (take (i + 1) (values queue))) ≡ length (records_of (take i (values queue))) + length (command_octets (value_of command))
+records_next queue i command within is =
+    ap (λ (commands : List CommandValue). length (records_of commands)) (values_more queue i command within is) ∙ records_more (take i (values queue)) (value_of command)
 
 -- the first commands of a queue pass, and the others behind them
 pub legal_parts : (state : State) (queue : List CommandValue) (count : ℕ) → legal state queue ≡ true

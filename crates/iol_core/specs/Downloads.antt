@@ -24,9 +24,9 @@ durable_set core port = stored_at (port_numbered core.durable port)
 abbrev pub is_of_device : SetValue → ℕ → ℕ → Bool
 is_of_device set vendor device = (set.vendor == vendor) && (set.device == device)
 
--- why the durable set is not downloaded to a device with these numbers and this checksum, by the first cause: there is none, or
--- none in the live state; the port or the set names another device; a permit of the port is out; the device has
--- the set's checksum (own)
+-- why the durable set is not downloaded to a device with these numbers and this checksum, by the first cause: there is
+-- none, or none in the live state; the port or the set names another device; a permit of the port is out; the device
+-- has the set's checksum (own)
 abbrev pub set_fault : PortConfig → Option Stored → Option Stored → ℕ → ℕ → ℕ → Bool → Option DownloadFault
 set_fault config (Some waiting) (Some stored) vendor device checksum taken =
     if not (names_device config vendor device && is_of_device stored.set vendor device) then Some WrongDevice

@@ -63,8 +63,8 @@ pub record HasChanged (core : CoreView) (grant : UploadGrant) : Type 0 where
 abbrev pub store_of : UploadGrant → SetValue → CommandValue
 store_of grant set = Store grant.port grant.revision set
 
--- an upload that is finished: its Store waits under the next number, and the permit is spent. Where nothing more is taken,
--- or the permit is not current, it is spent too. Where the queue does not take the Store, or memory runs out,
+-- an upload that is finished: its Store waits under the next number, and the permit is spent. Where nothing more is
+-- taken, or the permit is not current, it is spent too. Where the queue does not take the Store, or memory runs out,
 -- permit and set come back, and nothing changes (own)
 abbrev pub IsFinish : CoreView → UploadGrant → SetValue → CoreView → Result ℕ FinishFault → Type 0
 IsFinish old grant set new (Ok ticket) =

@@ -68,8 +68,8 @@ impl<F: Name> Core<F> {
             && is_front(committed, &self.queue, self.flight)
     }
 
-    /// Takes the batch in flight out of the queue, once it is published, and applies it to the durable state; the core's own pass
-    /// has then seen it. The answer is the number of its last command. It takes no memory.
+    /// Takes the batch in flight out of the queue, once it is published, and applies it to the durable state; the
+    /// core's own pass has then seen it. The answer is the number of its last command. It takes no memory.
     ///
     /// # Errors
     /// `Stranger` with the batch where it is not the one in flight; nothing changes.

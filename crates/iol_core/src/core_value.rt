@@ -69,8 +69,8 @@ impl<F: Name> Model for Core<F> {
 }
 
 impl<F: Name> Core<F> {
-    /// The core over a state that is durable: that of the start of the pass's front after the commands that the pass has seen.
-    /// Nothing waits and no permit is out.
+    /// The core over a state that is durable: that of the start of the pass's front after the commands that the pass
+    /// has seen. Nothing waits and no permit is out.
     ///
     /// # Errors
     /// `AllocError` where it is out of memory.

@@ -33,8 +33,8 @@ pub fn a_submit()
     ensures waiting { ticket_state (blank_core (configure_one ∷ [])) 8 ≡ Waiting }
 {}
 
-/// A port that was never configured gives no permit to upload; behind a Configure that waits it does, to its device alone
-/// and one at a time.
+/// A port that was never configured gives no permit to upload; behind a Configure that waits it does, to its device
+/// alone and one at a time.
 pub fn a_permit_to_upload()
     ensures blank { upload_fault (blank_core []) 1 500 43981 ≡ Some permit.NotAllowed }
     ensures waits { upload_fault (blank_core (configure_one ∷ [])) 1 500 43981 ≡ None }

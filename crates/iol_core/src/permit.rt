@@ -75,8 +75,8 @@ impl UploadPermit {
     }
 }
 
-/// The permit to download a set to the device of a port. It cannot be copied, and must be spent, by `Core::end_download`.
-/// A contract sees the port's number.
+/// The permit to download a set to the device of a port. It cannot be copied, and must be spent, by
+/// `Core::end_download`. A contract sees the port's number.
 #[derive(Debug)]
 pub struct DownloadPermit {
     port: PortId,

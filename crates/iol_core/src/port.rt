@@ -13,7 +13,8 @@ use iol_front::{Name, Pass};
 use iol_types::{PortConfig, PortId, PortState, StoredSet};
 use std::alloc::AllocError;
 
-/// What a port is to work with: its live configuration and revision, and the checksum of its durable set, if there is one.
+/// What a port is to work with: its live configuration and revision, and the checksum of its durable set, if there is
+/// one.
 #[derive(Clone, Copy, Debug, PartialEq, Eq)]
 pub struct Work {
     pub config: PortConfig,
@@ -50,8 +51,8 @@ impl<F: Name> Core<F> {
         self.durable.port(port)?.stored()
     }
 
-    /// The durable state of a port, its set shared, or `None` where there is no such port. The given pass meets the core's own, so that it
-    /// has then seen each durable command.
+    /// The durable state of a port, its set shared, or `None` where there is no such port. The given pass meets the
+    /// core's own, so that it has then seen each durable command.
     ///
     /// # Errors
     /// `AllocError` where it is out of memory; nothing changes.

@@ -13,8 +13,8 @@ impl<F: Name> Core<F> {
     /// Takes a change behind those that wait, under the next number. It takes no memory.
     ///
     /// # Errors
-    /// The first cause, in the order of [`SubmitFault`]: `Stopped`; `Command` where the change does not pass in the live
-    /// state; `QueueFull` where 64 commands wait; `Exhausted` where the last number is 2^62. Nothing changes.
+    /// The first cause, in the order of [`SubmitFault`]: `Stopped`; `Command` where the change does not pass in the
+    /// live state; `QueueFull` where 64 commands wait; `Exhausted` where the last number is 2^62. Nothing changes.
     pub fn submit(&mut self, change: Change) -> Result<Ticket, SubmitFault>
         ensures { IsSubmit self.old (command_of change) self.new result }
     {

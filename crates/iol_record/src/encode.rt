@@ -42,14 +42,14 @@ fn push_config(octets: &mut Vec<u8>, config: &PortConfig) -> Result<(), AllocErr
     Ok(())
 }
 
-fn push_entry(octets: &mut Vec<u8>, key: Key, data: &[u8]) -> Result<(), AllocError>
-    requires short { length data.now < 256 }
-    ensures { OnOk result (octets.new.items ≡ octets.old.items ++ entry_octets (key, data.now)) }
+fn push_entry(octets: &mut Vec<u8>, key: Key, value: &[u8]) -> Result<(), AllocError>
+    requires short { length value.now < 256 }
+    ensures { OnOk result (octets.new.items ≡ octets.old.items ++ entry_octets (key, value.now)) }
 {
     octets.extend_from_slice(&key.index.to_be_bytes())?;
     octets.push(key.subindex)?;
-    octets.push(data.len() as u8)?;
-    octets.extend_from_slice(data)
+    octets.push(value.len() as u8)?;
+    octets.extend_from_slice(value)
 }
 
 fn push_entries(octets: &mut Vec<u8>, set: &DataSet) -> Result<(), AllocError>
