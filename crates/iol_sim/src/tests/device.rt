@@ -1,12 +1,11 @@
 //! What a simulated device answers, octet by octet.
 
-use super::{FIRST, SECOND, bare_device, device_s, fault_of};
+use super::{FIRST, SECOND, fault_of, new_device, new_s};
 use crate::{
     DS_UPLOAD_REQUEST, DeviceFault, MOST_PARAMETERS, Refusal, SimDevice, a_device_lists_its_keys,
 };
 use iol_dsindex::State;
 use iol_types::{DeviceId, Key};
-use std::test::Fail;
 
 // Requests and their answers.
 type Exchanges<'a> = &'a [(&'a [u8], &'a [u8])];
@@ -59,15 +58,15 @@ fn first_other(device: &mut SimDevice, exchanges: Exchanges) -> Option<usize> {
 }
 
 #[test]
-fn a_page_says_who_the_device_is(rt: HostRuntime) -> Result<(), Fail> {
+fn a_page_says_who_the_device_is(rt: HostRuntime) {
     assert_eq!(rt;
-        device_s(rt.alloc())?.page(),
+        new_s(&rt, rt.alloc()).page(),
         [
             0x00, 0x00, 0x17, 0x01, 0x11, 0x00, 0x00, 0x01, 0xF4, 0x00, 0xAB, 0xCD, 0x00, 0x00,
             0x00, 0x00
         ]
     );
-    let device = DeviceId::new(0x123456).ok_or("a DeviceID is below 2^24")?;
+    let device = DeviceId::new(0x123456).expect(&rt, "a DeviceID is below 2^24");
     let silent = SimDevice::new(rt.alloc(), 0x789A, device, 0x10, false);
     assert_eq!(rt;
         silent.page(),
@@ -76,11 +75,10 @@ fn a_page_says_who_the_device_is(rt: HostRuntime) -> Result<(), Fail> {
             0x00, 0x00
         ]
     );
-    Ok(())
 }
 
 #[test]
-fn what_is_read(rt: HostRuntime) -> Result<(), Fail> {
+fn what_is_read(rt: HostRuntime) {
     let exchanges: Exchanges = &[
         (&READ_PROPERTY, &[0xD3, 0x00, 0xD3]),
         (
@@ -101,15 +99,14 @@ fn what_is_read(rt: HostRuntime) -> Result<(), Fail> {
         (&[0x93, 0x00, 0x93], &NO_INDEX_READ),
         (&[0xB5, 0x12, 0x34, 0x05, 0x96], &NO_INDEX_READ),
     ];
-    let mut device = device_s(rt.alloc())?;
+    let mut device = new_s(&rt, rt.alloc());
     assert_eq!(rt; first_other(&mut device, exchanges), None);
     assert_eq!(rt; device.count(), 2);
     a_device_lists_its_keys();
-    Ok(())
 }
 
 #[test]
-fn what_is_written(rt: HostRuntime) -> Result<(), Fail> {
+fn what_is_written(rt: HostRuntime) {
     let exchanges: Exchanges = &[
         (&[0x15, 0x40, 0x0B, 0x65, 0x3B], &WRITE_DONE),
         (&READ_FIRST, &[0xD4, 0x0B, 0x65, 0xBA]),
@@ -132,12 +129,11 @@ fn what_is_written(rt: HostRuntime) -> Result<(), Fail> {
         (&[0x25, 0x03, 0x05, 0x00, 0x23], &DENIED_WRITE),
         (&READ_FIRST, &[0xD4, 0x0A, 0x64, 0xBA]),
     ];
-    assert_eq!(rt; first_other(&mut device_s(rt.alloc())?, exchanges), None);
-    Ok(())
+    assert_eq!(rt; first_other(&mut new_s(&rt, rt.alloc()), exchanges), None);
 }
 
 #[test]
-fn commands_are_followed(rt: HostRuntime) -> Result<(), Fail> {
+fn commands_are_followed(rt: HostRuntime) {
     let exchanges: Exchanges = &[
         (&READ_PROPERTY, &[0xD3, 0x80, 0x53]),
         (&UPLOAD_START, &WRITE_DONE),
@@ -156,15 +152,14 @@ fn commands_are_followed(rt: HostRuntime) -> Result<(), Fail> {
         (&DOWNLOAD_END, &WRITE_DONE),
         (&READ_PROPERTY, &[0xD3, 0x00, 0xD3]),
     ];
-    let mut device = device_s(rt.alloc())?.with_flag();
+    let mut device = new_s(&rt, rt.alloc()).with_flag();
     assert_eq!(rt; first_other(&mut device, exchanges), None);
     assert_eq!(rt; device.state(), State::Inactive);
     assert!(rt; !device.flag());
-    Ok(())
 }
 
 #[test]
-fn a_locked_device_follows_no_command(rt: HostRuntime) -> Result<(), Fail> {
+fn a_locked_device_follows_no_command(rt: HostRuntime) {
     let exchanges: Exchanges = &[
         (&READ_PROPERTY, &[0xD3, 0x86, 0x55]),
         (&UPLOAD_START, &DENIED_WRITE),
@@ -177,16 +172,15 @@ fn a_locked_device_follows_no_command(rt: HostRuntime) -> Result<(), Fail> {
         (&READ_PROPERTY, &[0xD3, 0x86, 0x55]),
         (&[0x15, 0x40, 0x0B, 0x65, 0x3B], &WRITE_DONE),
     ];
-    let mut device = device_s(rt.alloc())?.with_flag().locked();
+    let mut device = new_s(&rt, rt.alloc()).with_flag().locked();
     assert_eq!(rt; first_other(&mut device, exchanges), None);
     device.lose();
     assert_eq!(rt; device.state(), State::Locked);
     assert!(rt; device.flag());
-    Ok(())
 }
 
 #[test]
-fn what_is_no_request_has_the_octet_00(rt: HostRuntime) -> Result<(), Fail> {
+fn what_is_no_request_has_the_octet_00(rt: HostRuntime) {
     let exchanges: Exchanges = &[
         (&[], &[0x00]),
         (&[0x00], &[0x00]),
@@ -195,13 +189,12 @@ fn what_is_no_request_has_the_octet_00(rt: HostRuntime) -> Result<(), Fail> {
         (&[0x93, 0x40, 0xD2], &[0x00]),
         (&[0x93, 0x40, 0xD3, 0x00], &[0x00]),
     ];
-    assert_eq!(rt; first_other(&mut device_s(rt.alloc())?, exchanges), None);
-    Ok(())
+    assert_eq!(rt; first_other(&mut new_s(&rt, rt.alloc()), exchanges), None);
 }
 
 #[test]
-fn a_changed_device_wants_an_upload(rt: HostRuntime) -> Result<(), Fail> {
-    let mut device = device_s(rt.alloc())?;
+fn a_changed_device_wants_an_upload(rt: HostRuntime) {
+    let mut device = new_s(&rt, rt.alloc());
     assert_eq!(rt; device.take_event(), None);
     let other = Key {
         index: 0x0041,
@@ -217,13 +210,12 @@ fn a_changed_device_wants_an_upload(rt: HostRuntime) -> Result<(), Fail> {
     assert_eq!(rt; device.take_event(), Some(DS_UPLOAD_REQUEST));
     assert_eq!(rt; device.take_event(), None);
     assert!(rt; device.flag());
-    Ok(())
 }
 
 #[test]
-fn a_lost_device_is_inactive(rt: HostRuntime) -> Result<(), Fail> {
+fn a_lost_device_is_inactive(rt: HostRuntime) {
     for start in [UPLOAD_START, DOWNLOAD_START] {
-        let mut device = device_s(rt.alloc())?;
+        let mut device = new_s(&rt, rt.alloc());
         assert_eq!(rt; device.answer(&start).as_slice(), WRITE_DONE.as_slice());
         device.raise();
         device.lose();
@@ -232,12 +224,11 @@ fn a_lost_device_is_inactive(rt: HostRuntime) -> Result<(), Fail> {
         assert_eq!(rt; device.take_event(), None);
         assert_eq!(rt; device.parameter(FIRST), Some([0x0A, 0x64].as_slice()));
     }
-    Ok(())
 }
 
 #[test]
-fn parameters_are_refused_in_this_order(rt: HostRuntime) -> Result<(), Fail> {
-    let mut device = bare_device(rt.alloc(), 1)?;
+fn parameters_are_refused_in_this_order(rt: HostRuntime) {
+    let mut device = new_device(&rt, rt.alloc(), 1);
     for index in [0x0000, 0x0002, 0x0003] {
         let reserved = Key { index, subindex: 9 };
         assert_eq!(rt;
@@ -273,23 +264,21 @@ fn parameters_are_refused_in_this_order(rt: HostRuntime) -> Result<(), Fail> {
         device.answer(&READ_CHECKSUM).as_slice(),
         [0xD6, 0xD4, 0x6B, 0xEF, 0xC8, 0x4E].as_slice()
     );
-    Ok(())
 }
 
 #[test]
-fn a_parameter_has_0_to_232_octets(rt: HostRuntime) -> Result<(), Fail> {
-    let mut device = bare_device(rt.alloc(), 0x00ABCD)?;
+fn a_parameter_has_0_to_232_octets(rt: HostRuntime) {
+    let mut device = new_device(&rt, rt.alloc(), 0x00ABCD);
     for index in 0..=232 {
         let key = Key {
             index: 0x0100 + index / 4,
             subindex: 0,
         };
         let octets = [0x55; 232];
-        let octets = octets.get(..usize::from(index)).ok_or("232 octets")?;
+        let octets = octets.get(..usize::from(index)).expect(&rt, "232 octets");
         if index % 4 == 0 {
-            device.add(key, octets)?;
+            device.add(key, octets).expect(&rt, "a parameter");
         }
     }
     assert_eq!(rt; device.count(), 59);
-    Ok(())
 }

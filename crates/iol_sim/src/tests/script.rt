@@ -4,7 +4,6 @@ use crate::{DeviceLink, Lost, PAGE_OCTETS, ScriptLink, a_script_answers_in_order
 use arrayvec::ArrayVec;
 use iol_isdu::{Answer, ISDU_OCTETS, Request, write_answer, write_request};
 use iol_link::runs_join;
-use std::test::Fail;
 
 const WRITE_DONE: [u8; 2] = [0x52, 0x52];
 
@@ -17,12 +16,12 @@ fn ask<L: DeviceLink>(
 }
 
 #[test]
-fn one_answer_is_given_once_then_the_device_is_lost(rt: HostRuntime) -> Result<(), Fail> {
+fn one_answer_is_given_once_then_the_device_is_lost(rt: HostRuntime) {
     let done = write_answer(&Answer::WriteOk);
     assert_eq!(rt; done.as_slice(), WRITE_DONE.as_slice());
     let mut answers = Vec::new(rt.alloc());
-    answers.push(done)?;
-    let mut link = ScriptLink::new(rt.alloc(), answers)?;
+    answers.push(done).expect(&rt, "an answer");
+    let mut link = ScriptLink::new(rt.alloc(), answers).expect(&rt, "a script");
     let first = link.connection();
     let request = write_request(&Request::Read {
         index: 0x10,
@@ -46,28 +45,27 @@ fn one_answer_is_given_once_then_the_device_is_lost(rt: HostRuntime) -> Result<(
         link.requests()[0].as_slice(),
         [0x93, 0x10, 0x83].as_slice()
     );
-    Ok(())
 }
 
 #[test]
-fn a_script_without_a_page_is_lost(rt: HostRuntime) -> Result<(), Fail> {
-    let mut link = ScriptLink::new(rt.alloc(), Vec::new(rt.alloc()))?;
+fn a_script_without_a_page_is_lost(rt: HostRuntime) {
+    let mut link = ScriptLink::new(rt.alloc(), Vec::new(rt.alloc())).expect(&rt, "a script");
     assert_eq!(rt; link.take_event(), None);
     assert_eq!(rt; link.connection(), 0);
     assert_eq!(rt; link.read_page(), Err(Lost));
     assert_eq!(rt; link.connection(), 1);
     runs_join::<ScriptLink>();
     a_script_answers_in_order();
-    Ok(())
 }
 
 #[test]
-fn a_page_and_events_are_there_until_the_device_is_lost(rt: HostRuntime) -> Result<(), Fail> {
+fn a_page_and_events_are_there_until_the_device_is_lost(rt: HostRuntime) {
     let mut events = Vec::new(rt.alloc());
     for code in [0x0000, 0xFF91, 0x8CA0] {
-        events.push(code)?;
+        events.push(code).expect(&rt, "an event");
     }
-    let mut link = ScriptLink::new(rt.alloc(), Vec::new(rt.alloc()))?
+    let mut link = ScriptLink::new(rt.alloc(), Vec::new(rt.alloc()))
+        .expect(&rt, "a script")
         .with_page([0xA5; PAGE_OCTETS])
         .with_events(events);
     assert_eq!(rt; link.read_page(), Ok([0xA5; PAGE_OCTETS]));
@@ -78,19 +76,17 @@ fn a_page_and_events_are_there_until_the_device_is_lost(rt: HostRuntime) -> Resu
     assert_eq!(rt; ask(&mut link, &[0x93, 0x10, 0x83]), (1, Err(Lost)));
     assert_eq!(rt; link.take_event(), None);
     assert_eq!(rt; link.read_page(), Err(Lost));
-    Ok(())
 }
 
 #[test]
-fn a_long_script_is_answered_to_its_end(rt: HostRuntime) -> Result<(), Fail> {
+fn a_long_script_is_answered_to_its_end(rt: HostRuntime) {
     let mut answers = Vec::new(rt.alloc());
     for _ in 0..300 {
-        answers.push(Default::default())?;
+        answers.push(Default::default()).expect(&rt, "an answer");
     }
-    let mut link = ScriptLink::new(rt.alloc(), answers)?;
+    let mut link = ScriptLink::new(rt.alloc(), answers).expect(&rt, "a script");
     for _ in 0..301 {
         let _ = link.exchange(&[0x93, 0x10, 0x83]);
     }
     assert_eq!(rt; link.requests().len(), 300);
-    Ok(())
 }

@@ -1,11 +1,11 @@
 //! Transfers that are fed octets, with the requests that they send.
 
 use crate::{Download, DownloadStep, TransferFault, Upload, UploadStep};
-use iol_isdu::{read_answer, write_request};
+use iol_isdu::{IsduFault, read_answer, write_request};
 use iol_types::{DataSet, DeviceId, Key, SetBuilder};
 use std::alloc::Global;
+use std::process::Abort;
 use std::sync::Arc;
-use std::test::Fail;
 
 /// The numbers of the device that the tests speak with.
 pub const VENDOR: u16 = 0x01F4;
@@ -29,24 +29,31 @@ pub enum End {
 }
 
 /// An upload from that device.
-pub fn upload(alloc: Global) -> Result<Upload, Fail> {
-    let device = DeviceId::new(DEVICE).ok_or("a DeviceID has three octets")?;
-    Ok(Upload::begin(alloc, VENDOR, device))
+pub fn upload(alloc: Global) -> Result<Upload, &'static str> {
+    match DeviceId::new(DEVICE) {
+        Some(device) => Ok(Upload::begin(alloc, VENDOR, device)),
+        None => Err("a DeviceID has three octets"),
+    }
 }
 
-/// Feeds an upload an answer.
-pub fn feed(upload: &mut Upload, answer: &[u8]) -> Result<End, Fail> {
-    Ok(match upload.feed(read_answer(answer)?) {
+// What a step of an upload is.
+fn end_of_step(step: UploadStep) -> End {
+    match step {
         UploadStep::More => End::None,
         UploadStep::Whole(_) => End::Whole,
         UploadStep::Fault(fault) => End::Fault(fault),
-    })
+    }
+}
+
+/// Feeds an upload an answer.
+pub fn feed(rt: &impl Abort, upload: &mut Upload, answer: &[u8]) -> End {
+    end_of_step(upload.feed(read_answer(answer).expect(rt, "an answer")))
 }
 
 /// Feeds an upload answers in order, up to its end.
-pub fn feed_all(upload: &mut Upload, answers: &[&[u8]]) -> Result<End, Fail> {
+pub fn feed_all(upload: &mut Upload, answers: &[&[u8]]) -> Result<End, IsduFault> {
     for answer in answers {
-        let end = feed(upload, answer)?;
+        let end = end_of_step(upload.feed(read_answer(answer)?));
         if end != End::None {
             return Ok(end);
         }
@@ -55,49 +62,50 @@ pub fn feed_all(upload: &mut Upload, answers: &[&[u8]]) -> Result<End, Fail> {
 }
 
 /// Feeds an upload the answers of exchanges, where it asks for them.
-pub fn converse(upload: &mut Upload, exchanges: &[Octets<'_>]) -> Result<End, Fail> {
+pub fn converse(rt: &impl Abort, upload: &mut Upload, exchanges: &[Octets<'_>]) -> End {
     for (request, answer) in exchanges {
         if write_request(&upload.next()).as_slice() != *request {
-            return Ok(End::OtherRequest);
+            return End::OtherRequest;
         }
-        let end = feed(upload, answer)?;
+        let end = feed(rt, upload, answer);
         if end != End::None {
-            return Ok(end);
+            return end;
         }
     }
-    Ok(End::None)
+    End::None
 }
 
 /// The parameter set of the device.
-pub fn set_of_device(alloc: Global) -> Result<DataSet, Fail> {
-    let device = DeviceId::new(DEVICE).ok_or("a DeviceID has three octets")?;
+pub fn set_of_device(rt: &impl Abort, alloc: Global) -> DataSet {
+    let device = DeviceId::new(DEVICE).expect(rt, "a DeviceID has three octets");
     let mut set = SetBuilder::new(alloc);
     let keys = [(0x0040, 0, [0x0A, 0x64].as_slice()), (0x0041, 1, &[0x7F])];
     for (index, subindex, octets) in keys {
-        set.add(Key { index, subindex }, octets)?;
+        set.add(Key { index, subindex }, octets)
+            .expect(rt, "an entry");
     }
-    Ok(set.finish(VENDOR, device, 0x024F))
+    set.finish(VENDOR, device, 0x024F)
 }
 
 /// A download of that set.
-pub fn download(alloc: Global) -> Result<Download, Fail> {
-    Ok(Download::begin(Arc::new(alloc, set_of_device(alloc)?)?))
+pub fn download(rt: &impl Abort, alloc: Global) -> Download {
+    Download::begin(Arc::new(alloc, set_of_device(rt, alloc)).expect(rt, "a set"))
 }
 
 /// Feeds a download the answers of exchanges, where it sends their requests.
-pub fn write_all(download: &mut Download, exchanges: &[Octets<'_>]) -> Result<End, Fail> {
+pub fn write_all(rt: &impl Abort, download: &mut Download, exchanges: &[Octets<'_>]) -> End {
     for (request, answer) in exchanges {
         if write_request(&download.next()).as_slice() != *request {
-            return Ok(End::OtherRequest);
+            return End::OtherRequest;
         }
-        let end = match download.feed(read_answer(answer)?) {
+        let end = match download.feed(read_answer(answer).expect(rt, "an answer")) {
             DownloadStep::More => End::None,
             DownloadStep::Whole => End::Whole,
             DownloadStep::Fault(fault) => End::Fault(fault),
         };
         if end != End::None {
-            return Ok(end);
+            return end;
         }
     }
-    Ok(End::None)
+    End::None
 }

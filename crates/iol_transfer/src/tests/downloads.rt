@@ -2,7 +2,6 @@
 
 use super::conversations::{End, Octets, download, write_all};
 use crate::TransferFault;
-use std::test::Fail;
 
 const START: &[u8] = &[0x25, 0x03, 0x01, 0x03, 0x24];
 
@@ -15,7 +14,7 @@ const END: &[u8] = &[0x25, 0x03, 0x01, 0x04, 0x23];
 const WRITE_DONE: &[u8] = &[0x52, 0x52];
 
 #[test]
-fn each_answer_leads_to_its_end(rt: HostRuntime) -> Result<(), Fail> {
+fn each_answer_leads_to_its_end(rt: HostRuntime) {
     let refused = End::Fault(TransferFault::Refused {
         error: 0x80,
         additional: 0x30,
@@ -50,22 +49,27 @@ fn each_answer_leads_to_its_end(rt: HostRuntime) -> Result<(), Fail> {
         ),
     ];
     for (exchanges, end) in rows {
-        let mut download = download(rt.alloc())?;
-        assert_eq!(rt; write_all(&mut download, exchanges)?, end, "{exchanges:?}");
+        let mut download = download(&rt, rt.alloc());
+        assert_eq!(rt;
+            write_all(&rt, &mut download, exchanges),
+            end,
+            "{exchanges:?}"
+        );
     }
-    Ok(())
 }
 
 #[test]
-fn a_device_may_be_busy_fifteen_times(rt: HostRuntime) -> Result<(), Fail> {
+fn a_device_may_be_busy_fifteen_times(rt: HostRuntime) {
     let busy: Octets<'_> = (START, &[0x01]);
-    let mut waits = download(rt.alloc())?;
-    write_all(&mut waits, &[busy; 15])?;
-    assert_eq!(rt; write_all(&mut waits, &[(START, WRITE_DONE)])?, End::None);
-    let mut ends = download(rt.alloc())?;
+    let mut waits = download(&rt, rt.alloc());
+    write_all(&rt, &mut waits, &[busy; 15]);
     assert_eq!(rt;
-        write_all(&mut ends, &[busy; 16])?,
+        write_all(&rt, &mut waits, &[(START, WRITE_DONE)]),
+        End::None
+    );
+    let mut ends = download(&rt, rt.alloc());
+    assert_eq!(rt;
+        write_all(&rt, &mut ends, &[busy; 16]),
         End::Fault(TransferFault::Busy)
     );
-    Ok(())
 }

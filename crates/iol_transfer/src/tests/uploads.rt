@@ -7,7 +7,7 @@ use iol_dsindex::{Next, write_index_list};
 use iol_isdu::{Answer, ISDU_OCTETS, IsduFault, read_answer, write_answer};
 use iol_types::{DataSet, Key};
 use std::alloc::Global;
-use std::test::Fail;
+use std::process::Abort;
 
 // The exchanges of an upload: DS_UploadStart, the size, the list, two values, and the checksum.
 const UPLOAD: [Octets<'static>; 6] = [
@@ -44,6 +44,11 @@ const REFUSED: End = End::Fault(TransferFault::Refused {
 
 const UNEXPECTED: End = End::Fault(TransferFault::Unexpected);
 
+// An upload from the device.
+fn begun(rt: &impl Abort, alloc: Global) -> Upload {
+    upload(alloc).expect(rt, "an upload")
+}
+
 // Whether this is the set of the device.
 fn is_set_of_device(set: &DataSet) -> bool {
     set.vendor() == VENDOR
@@ -69,30 +74,29 @@ fn is_set_of_device(set: &DataSet) -> bool {
 }
 
 // Whether an upload that has read all values is whole at the checksum, with the set of the device.
-fn gives_its_set(upload: &mut Upload) -> Result<bool, Fail> {
-    Ok(match upload.feed(read_answer(&CHECKSUM)?) {
+fn gives_its_set(rt: &impl Abort, upload: &mut Upload) -> bool {
+    match upload.feed(read_answer(&CHECKSUM).expect(rt, "an answer")) {
         UploadStep::Whole(set) => is_set_of_device(&set),
         _ => false,
-    })
+    }
 }
 
 #[test]
-fn an_upload_makes_its_exchanges_and_gives_its_set(rt: HostRuntime) -> Result<(), Fail> {
-    let mut whole = upload(rt.alloc())?;
-    assert_eq!(rt; converse(&mut whole, &UPLOAD)?, End::Whole);
-    let mut given = upload(rt.alloc())?;
-    converse(&mut given, &UPLOAD[..5])?;
-    assert!(rt; gives_its_set(&mut given)?);
-    Ok(())
+fn an_upload_makes_its_exchanges_and_gives_its_set(rt: HostRuntime) {
+    let mut whole = begun(&rt, rt.alloc());
+    assert_eq!(rt; converse(&rt, &mut whole, &UPLOAD), End::Whole);
+    let mut given = begun(&rt, rt.alloc());
+    converse(&rt, &mut given, &UPLOAD[..5]);
+    assert!(rt; gives_its_set(&rt, &mut given));
 }
 
 // What answers lead to, from the beginning.
-fn end_of(alloc: Global, answers: &[&[u8]]) -> Result<End, Fail> {
-    feed_all(&mut upload(alloc)?, answers)
+fn end_of(rt: &impl Abort, alloc: Global, answers: &[&[u8]]) -> End {
+    feed_all(&mut begun(rt, alloc), answers).expect(rt, "answers")
 }
 
 #[test]
-fn each_answer_leads_to_its_end(rt: HostRuntime) -> Result<(), Fail> {
+fn each_answer_leads_to_its_end(rt: HostRuntime) {
     let rows: [(&[&[u8]], End); 14] = [
         (&[&WRITE_REFUSED], REFUSED),
         (&[&READ_REFUSED], UNEXPECTED),
@@ -142,9 +146,8 @@ fn each_answer_leads_to_its_end(rt: HostRuntime) -> Result<(), Fail> {
         ),
     ];
     for (answers, end) in rows {
-        assert_eq!(rt; end_of(rt.alloc(), answers)?, end, "{answers:?}");
+        assert_eq!(rt; end_of(&rt, rt.alloc(), answers), end, "{answers:?}");
     }
-    Ok(())
 }
 
 #[test]
@@ -156,40 +159,39 @@ fn a_wrong_checksum_of_an_answer_is_told_before(rt: HostRuntime) {
 }
 
 // Feeds an upload an answer so many times.
-fn feed_times(upload: &mut Upload, times: usize, answer: &[u8]) -> Result<End, Fail> {
+fn feed_times(rt: &impl Abort, upload: &mut Upload, times: usize, answer: &[u8]) -> End {
     let mut end = End::None;
     for _ in 0..times {
-        end = feed(upload, answer)?;
+        end = feed(rt, upload, answer);
     }
-    Ok(end)
+    end
 }
 
 // What so many Device busy lead to, and the start behind them.
-fn busy_before(alloc: Global, times: usize) -> Result<(End, End), Fail> {
-    let mut upload = upload(alloc)?;
-    let busy = feed_times(&mut upload, times, &BUSY)?;
-    Ok((busy, feed(&mut upload, &WRITE_DONE)?))
+fn busy_before(rt: &impl Abort, alloc: Global, times: usize) -> (End, End) {
+    let mut upload = begun(rt, alloc);
+    let busy = feed_times(rt, &mut upload, times, &BUSY);
+    (busy, feed(rt, &mut upload, &WRITE_DONE))
 }
 
 #[test]
-fn a_device_may_be_busy_fifteen_times(rt: HostRuntime) -> Result<(), Fail> {
-    assert_eq!(rt; busy_before(rt.alloc(), 15)?, (End::None, End::None));
-    let sixteenth = busy_before(rt.alloc(), 16)?.0;
+fn a_device_may_be_busy_fifteen_times(rt: HostRuntime) {
+    assert_eq!(rt; busy_before(&rt, rt.alloc(), 15), (End::None, End::None));
+    let sixteenth = busy_before(&rt, rt.alloc(), 16).0;
     assert_eq!(rt; sixteenth, End::Fault(TransferFault::Busy));
-    Ok(())
 }
 
 // What a list leads to behind so many that name 0x1200.
-fn list_behind(alloc: Global, times: usize, list: &[u8]) -> Result<End, Fail> {
-    let mut upload = upload(alloc)?;
-    feed_all(&mut upload, &[&WRITE_DONE, &SIZE])?;
+fn list_behind(rt: &impl Abort, alloc: Global, times: usize, list: &[u8]) -> End {
+    let mut upload = begun(rt, alloc);
+    feed_all(&mut upload, &[&WRITE_DONE, &SIZE]).expect(rt, "answers");
     let another = write_answer(&Answer::ReadOk(write_index_list(&[], Next::List(0x1200))));
-    feed_times(&mut upload, times, another.as_slice())?;
-    feed(&mut upload, list)
+    feed_times(rt, &mut upload, times, another.as_slice());
+    feed(rt, &mut upload, list)
 }
 
 #[test]
-fn a_sixteenth_list_ends_or_is_a_fault(rt: HostRuntime) -> Result<(), Fail> {
+fn a_sixteenth_list_ends_or_is_a_fault(rt: HostRuntime) {
     let another = [0xD4, 0x12, 0x00, 0xC6];
     let rows = [
         (14, another, End::None),
@@ -198,16 +200,15 @@ fn a_sixteenth_list_ends_or_is_a_fault(rt: HostRuntime) -> Result<(), Fail> {
     ];
     for (times, list, end) in rows {
         assert_eq!(rt;
-            list_behind(rt.alloc(), times, &list)?,
+            list_behind(&rt, rt.alloc(), times, &list),
             end,
             "behind {times}"
         );
     }
-    Ok(())
 }
 
 #[test]
-fn a_key_of_two_lists_is_read_once(rt: HostRuntime) -> Result<(), Fail> {
+fn a_key_of_two_lists_is_read_once(rt: HostRuntime) {
     let exchanges: [Octets<'_>; 6] = [
         UPLOAD[0],
         UPLOAD[1],
@@ -219,65 +220,68 @@ fn a_key_of_two_lists_is_read_once(rt: HostRuntime) -> Result<(), Fail> {
         UPLOAD[3],
         UPLOAD[5],
     ];
-    let mut upload = upload(rt.alloc())?;
-    assert_eq!(rt; converse(&mut upload, &exchanges)?, End::Whole);
-    Ok(())
+    let mut upload = begun(&rt, rt.alloc());
+    assert_eq!(rt; converse(&rt, &mut upload, &exchanges), End::Whole);
 }
 
 // An answer with the octets of a list: so many keys from an Index on, and behind them what is next, if that is said.
-fn list_of(count: u16, first: u16, next: &[u8]) -> Result<ArrayVec<u8, ISDU_OCTETS>, Fail> {
+fn list_of(rt: &impl Abort, count: u16, first: u16, next: &[u8]) -> ArrayVec<u8, ISDU_OCTETS> {
     let mut octets = ArrayVec::new();
     for index in first..first.saturating_add(count) {
-        octets.try_extend_from_slice(&index.to_be_bytes())?;
-        octets.try_extend_from_slice(&[0x00])?;
+        octets
+            .try_extend_from_slice(&index.to_be_bytes())
+            .expect(rt, "room");
+        octets.try_extend_from_slice(&[0x00]).expect(rt, "room");
     }
-    octets.try_extend_from_slice(next)?;
-    Ok(write_answer(&Answer::ReadOk(octets)))
+    octets.try_extend_from_slice(next).expect(rt, "room");
+    write_answer(&Answer::ReadOk(octets))
 }
 
 // An upload that has read a list of so many keys behind one of 76.
-fn listed(alloc: Global, count: u16) -> Result<Upload, Fail> {
-    let mut upload = upload(alloc)?;
-    feed_all(&mut upload, &[&WRITE_DONE, &SIZE])?;
-    feed(&mut upload, list_of(76, 0x0100, &[0x12, 0x00])?.as_slice())?;
-    feed(&mut upload, list_of(count, 0x0200, &[])?.as_slice())?;
-    Ok(upload)
+fn listed(rt: &impl Abort, alloc: Global, count: u16) -> Upload {
+    let mut upload = begun(rt, alloc);
+    feed_all(&mut upload, &[&WRITE_DONE, &SIZE]).expect(rt, "answers");
+    feed(
+        rt,
+        &mut upload,
+        list_of(rt, 76, 0x0100, &[0x12, 0x00]).as_slice(),
+    );
+    feed(rt, &mut upload, list_of(rt, count, 0x0200, &[]).as_slice());
+    upload
 }
 
 #[test]
-fn the_longest_lists_are_read_to_their_end(rt: HostRuntime) -> Result<(), Fail> {
+fn the_longest_lists_are_read_to_their_end(rt: HostRuntime) {
     for count in [0, 1, 76, 77] {
-        let mut upload = listed(rt.alloc(), count)?;
-        feed_times(&mut upload, 76 + usize::from(count), &[0xD2, 0xD2])?;
-        assert_eq!(rt; feed(&mut upload, &CHECKSUM)?, End::Whole, "{count}");
+        let mut upload = listed(&rt, rt.alloc(), count);
+        feed_times(&rt, &mut upload, 76 + usize::from(count), &[0xD2, 0xD2]);
+        assert_eq!(rt; feed(&rt, &mut upload, &CHECKSUM), End::Whole, "{count}");
     }
-    Ok(())
 }
 
 // An answer with a value of so many octets.
-fn value_of(octets: usize) -> Result<ArrayVec<u8, ISDU_OCTETS>, Fail> {
+fn value_of(rt: &impl Abort, octets: usize) -> ArrayVec<u8, ISDU_OCTETS> {
     let mut value = ArrayVec::new();
     for _ in 0..octets {
-        value.try_extend_from_slice(&[0x55])?;
+        value.try_extend_from_slice(&[0x55]).expect(rt, "room");
     }
-    Ok(write_answer(&Answer::ReadOk(value)))
+    write_answer(&Answer::ReadOk(value))
 }
 
 // What a value of so many octets leads to behind seventeen of 232.
-fn last_value(alloc: Global, octets: usize) -> Result<End, Fail> {
-    let mut upload = upload(alloc)?;
-    let list = list_of(18, 0x0100, &[])?;
-    feed_all(&mut upload, &[&WRITE_DONE, &SIZE, list.as_slice()])?;
-    feed_times(&mut upload, 17, value_of(232)?.as_slice())?;
-    feed(&mut upload, value_of(octets)?.as_slice())
+fn last_value(rt: &impl Abort, alloc: Global, octets: usize) -> End {
+    let mut upload = begun(rt, alloc);
+    let list = list_of(rt, 18, 0x0100, &[]);
+    feed_all(&mut upload, &[&WRITE_DONE, &SIZE, list.as_slice()]).expect(rt, "answers");
+    feed_times(rt, &mut upload, 17, value_of(rt, 232).as_slice());
+    feed(rt, &mut upload, value_of(rt, octets).as_slice())
 }
 
 #[test]
-fn values_may_count_4096_octets(rt: HostRuntime) -> Result<(), Fail> {
-    assert_eq!(rt; last_value(rt.alloc(), 80)?, End::None);
+fn values_may_count_4096_octets(rt: HostRuntime) {
+    assert_eq!(rt; last_value(&rt, rt.alloc(), 80), End::None);
     for octets in [81, 232] {
-        let end = last_value(rt.alloc(), octets)?;
+        let end = last_value(&rt, rt.alloc(), octets);
         assert_eq!(rt; end, End::Fault(TransferFault::Size), "{octets}");
     }
-    Ok(())
 }
