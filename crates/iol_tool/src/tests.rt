@@ -13,6 +13,9 @@ use std::alloc::Global;
 use std::process::Abort;
 use std::str;
 
+// What a stop may keep.
+const KEEPS: [&str; 4] = ["old", "new", "zero", "pattern"];
+
 // A step that configures port 1.
 const CONFIGURE: &str = r#"
 [[step]]

@@ -1,7 +1,7 @@
 //! Runs, formats and recoveries on a disk of which one call fails.
 
 use super::{
-    CONFIGURE, CONFIGURE_GREATEST, DRAIN, answer_to, expect_answer, repeated, script_of,
+    CONFIGURE, CONFIGURE_GREATEST, DRAIN, KEEPS, answer_to, expect_answer, repeated, script_of,
     stop_that_keeps,
 };
 use crate::fault::Fault;
@@ -10,8 +10,6 @@ use crate::image::{format_disk, show_disk};
 use iol_disk::{DiskFault, FaultDisk, MemoryDisk};
 use std::alloc::Global;
 use std::process::Abort;
-
-const KEEPS: [&str; 4] = ["old", "new", "zero", "pattern"];
 
 // What one batch of one command prints where it is lost, and where it is recovered and not acknowledged.
 const LOST: &str = "accepted 1

@@ -1,7 +1,7 @@
 //! What a run prints.
 
 use super::{
-    CONFIGURE, CONFIGURE_GREATEST, DRAIN, answer_to, expect_answer, repeated, script_of,
+    CONFIGURE, CONFIGURE_GREATEST, DRAIN, KEEPS, answer_to, expect_answer, repeated, script_of,
     stop_that_keeps,
 };
 use iol_core::QUEUE_COMMANDS;
@@ -116,8 +116,6 @@ port 2 revision 0 mode 0 validation 0 vendor 0000 device 000000 set none
 ",
     ),
 ];
-
-const KEEPS: [&str; 4] = ["old", "new", "zero", "pattern"];
 
 // What the run of the full queue prints behind its 64 commands.
 const FULL: &str = "refused QueueFull
