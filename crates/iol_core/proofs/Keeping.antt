@@ -10,7 +10,7 @@ use Rattle.iol_types.proofs.StateLemmas.{length-after}
 use Rattle.iol_journal.specs.declared.header.TheConstants.{LAST_NUMBER}
 use Rattle.iol_front.specs.Fronts.{Start, CommittedView}
 use Rattle.iol_core.specs.Batches.{IsInFlight, acknowledged}
-use Rattle.iol_core.specs.Core.{CoreView, IsCore, FitsAt, live, live_number, permit_at, out_at, with_permit}
+use Rattle.iol_core.specs.Core.{CoreView, IsCore, FitsAt, live, live_number, permit_at}
 use Rattle.iol_core.specs.Standing.{Stands}
 use Rattle.iol_core.specs.Submit.{queue_fault, queued}
 use Rattle.iol_core.specs.declared.core_value.TheConstants.{QUEUE_COMMANDS}

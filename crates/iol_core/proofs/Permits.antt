@@ -1,13 +1,11 @@
 -- What a permit to upload is for still fits its port once commands were applied, and whether one is current.
-use Rattle.std.proofs.Common.{◌≡◌, ◌≢◌, ◌⊎◌, inl, inr, ⊎_elim, ◌<◌, ◌≤◌, ℕ, zero, suc, ◌+◌, ◌-◌, ◌==◌, ◌&&◌, true, not, if◌then◌else◌, nat_le, List, Option, Some, None, IsSomeAnd, slice_get, slice_set, refl, sym, ap, ◌∙◌, subst, arith}
+use Rattle.std.proofs.Common.{◌≡◌, ◌≢◌, ◌⊎◌, inl, inr, ⊎_elim, ◌<◌, ◌≤◌, ℕ, zero, suc, ◌-◌, ◌==◌, ◌&&◌, true, not, if◌then◌else◌, List, Option, Some, None, IsSomeAnd, slice_get, slice_set, refl, sym, ap, ◌∙◌, subst, arith}
 use Rattle.std.proofs.lemmas.Bool.{cases_eq, and_parts, and_from, eqb-true, eq-eqb, le-leb}
 use Rattle.iol_types.specs.Command.{CommandValue, Configure, Clear, Store}
 use Rattle.iol_types.specs.Config.{may_store_set}
 use Rattle.iol_types.specs.DataSet.{SetValue}
 use Rattle.iol_types.specs.State.{State, Port, port_numbered, changed_at, configured, cleared, with_set, with_port, apply, check, fault_at, store_fault}
 use Rattle.iol_types.specs.declared.config.PortConfig.{PortConfig}
-use Rattle.iol_types.specs.declared.command.CommandFault.{CommandFault}
-use Rattle.iol_types.specs.declared.command.CommandFault.TheVariants.{NotAllowed, StaleRevision, WrongDevice}
 use Rattle.iol_core.specs.Core.{FitsPort, FitsAt, names_device, out_at}
 use Rattle.iol_core.specs.Permits.{same_grant}
 use Rattle.iol_core.specs.Uploads.{revision_of, revision_at, store_of}

@@ -1,5 +1,5 @@
 -- What stands at a place of a list, where one place was written.
-use Rattle.std.proofs.Common.{◌≡◌, ◌≢◌, ℕ, zero, suc, List, [], ◌∷◌, Option, Some, None, slice_get, slice_set, refl, ap}
+use Rattle.std.proofs.Common.{◌≡◌, ◌≢◌, ℕ, zero, suc, List, [], ◌∷◌, Some, None, slice_get, slice_set, refl, ap}
 
 module _ {A : Type 0} where
   pub get_written : (l : List A) (i : ℕ) (x y : A) → slice_get l i ≡ Some y → slice_get (slice_set l i x) i ≡ Some x

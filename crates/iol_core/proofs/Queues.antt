@@ -1,5 +1,5 @@
 -- Queues of commands: one more behind them, their first ones, and those that are left.
-use Rattle.std.proofs.Common.{◌≡◌, ◌<◌, ◌&&◌, ℕ, zero, suc, ◌+◌, true, List, [], ◌∷◌, ◌++◌, length, map, take, drop, None, Some, Option, is_none, get_or, replicate, slice_get, refl, sym, ap, ◌∙◌, length-append, append-nil, add-one}
+use Rattle.std.proofs.Common.{◌≡◌, ◌<◌, ◌&&◌, ℕ, zero, suc, ◌+◌, true, List, [], ◌∷◌, ◌++◌, length, map, take, drop, None, Some, is_none, get_or, replicate, slice_get, refl, sym, ap, ◌∙◌, length-append, append-nil, add-one}
 use Rattle.std.proofs.lemmas.Bool.{and_parts}
 use Rattle.std.proofs.lemmas.List.{length-map, map_more, take_more, take-map, take-append-drop}
 use Rattle.std.proofs.lemmas.Option.{slice_get_within, get_or_from_slice_get}
@@ -11,7 +11,6 @@ use Rattle.iol_record.specs.Record.{command_octets}
 use Rattle.iol_journal.specs.Body.{records_of}
 use Rattle.iol_journal.specs.Journals.{values}
 use Rattle.iol_core.specs.Core.{out_at}
-use Rattle.iol_core.specs.declared.permit.Grant.{Grant}
 use Rattle.iol_types.specs.Command.{CommandValue, value_of}
 use Rattle.iol_types.specs.State.{State, check, apply, after, legal}
 use Rattle.iol_types.proofs.StateLemmas.{legal-append}

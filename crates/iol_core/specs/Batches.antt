@@ -1,5 +1,5 @@
 -- Batches between a core and the disk.
-use Rattle.std.specs.Prelude.{◌≡◌, ◌<◌, ◌≤◌, ℕ, ◌+◌, ◌==◌, false, true, Bool, ◌&&◌, not, List, length, take, drop, Option, Some, None, Result, Ok, Err, nat_eq}
+use Rattle.std.specs.Prelude.{◌≡◌, ◌<◌, ◌≤◌, ℕ, ◌+◌, false, true, Bool, ◌&&◌, not, List, length, take, drop, Option, Some, None, nat_eq}
 use Rattle.iol_types.specs.Command.{CommandValue}
 use Rattle.iol_types.specs.State.{after}
 use Rattle.iol_journal.specs.Body.{records_of}

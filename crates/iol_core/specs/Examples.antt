@@ -1,5 +1,5 @@
 -- The cores that examples speak of.
-use Rattle.std.specs.Prelude.{ℕ, List, [], ◌∷◌, Option, Some, None}
+use Rattle.std.specs.Prelude.{ℕ, List, [], ◌∷◌, Option, None}
 use Rattle.iol_types.specs.Command.{CommandValue, Configure}
 use Rattle.iol_types.specs.Examples.{example_config, example_port}
 use Rattle.iol_types.specs.State.{State, empty_state}

@@ -1,5 +1,5 @@
 -- What a core tells of a port.
-use Rattle.std.specs.Prelude.{ℕ, Option, Some, None}
+use Rattle.std.specs.Prelude.{ℕ, Option}
 use Rattle.std.specs.Option.{option_map}
 use Rattle.iol_types.specs.State.{Port, Stored, port_numbered}
 use Rattle.iol_core.specs.Core.{CoreView, live}

@@ -1,5 +1,5 @@
 -- What becomes of a command that a client asks for.
-use Rattle.std.specs.Prelude.{◌≡◌, ℕ, ◌+◌, ◌≤◌, nat_le, Bool, if◌then◌else◌, true, false, List, [], ◌∷◌, ◌++◌, length, Option, Some, None, is_some, Result, Ok, Err}
+use Rattle.std.specs.Prelude.{◌≡◌, ℕ, ◌+◌, nat_le, Bool, if◌then◌else◌, true, false, [], ◌∷◌, ◌++◌, length, Option, Some, None, is_some, Result, Ok, Err}
 use Rattle.iol_types.specs.Command.{CommandValue}
 use Rattle.iol_types.specs.State.{check}
 use Rattle.iol_types.specs.declared.command.CommandFault.{CommandFault}
@@ -7,7 +7,7 @@ use Rattle.iol_journal.specs.declared.header.TheConstants.{LAST_NUMBER}
 use Rattle.iol_core.specs.Core.{CoreView, live, live_number}
 use Rattle.iol_core.specs.declared.core_value.TheConstants.{QUEUE_COMMANDS}
 use Rattle.iol_core.specs.declared.stop.StopCause.{StopCause}
-use Rattle.iol_core.specs.declared.stop.StopCause.TheVariants.{Closed, DiskFailed}
+use Rattle.iol_core.specs.declared.stop.StopCause.TheVariants.{DiskFailed}
 use Rattle.iol_core.specs.declared.ticket.SubmitFault.{SubmitFault}
 use Rattle.iol_core.specs.declared.ticket.SubmitFault.TheVariants.{Stopped, Command, QueueFull, Exhausted}
 use Rattle.iol_core.specs.declared.ticket.TicketState.{TicketState}

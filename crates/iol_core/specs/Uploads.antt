@@ -1,5 +1,5 @@
 -- Permits to upload, and what becomes of a set that was uploaded.
-use Rattle.std.specs.Prelude.{◌≡◌, ℕ, ◌+◌, ◌==◌, Bool, true, false, not, if◌then◌else◌, Option, Some, None, Result, Ok, Err}
+use Rattle.std.specs.Prelude.{◌≡◌, ℕ, ◌+◌, Bool, true, false, not, if◌then◌else◌, Option, Some, None, Result, Ok, Err}
 use Rattle.iol_types.specs.Command.{CommandValue, Store}
 use Rattle.iol_types.specs.Config.{may_store_set}
 use Rattle.iol_types.specs.DataSet.{SetValue}

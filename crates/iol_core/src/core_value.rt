@@ -1,6 +1,6 @@
 //! The core, and what its calls share.
 
-ghost use Rattle.std.specs.Prelude.{◌≡◌, ◌≤◌, ◌+◌, nat_le, [], length, replicate, None, IfOk, OnOk, IfErr, Some};
+ghost use Rattle.std.specs.Prelude.{◌≡◌, ◌≤◌, ◌+◌, [], length, replicate, None, IfOk, Some};
 ghost use Rattle.iol_types.specs.Command.{value_of};
 ghost use Rattle.iol_types.specs.State.{after, check};
 ghost use Rattle.iol_core.specs.Core.{IsCore, FitsAt, live, live_number, permit_at, with_permit};

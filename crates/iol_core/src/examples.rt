@@ -2,15 +2,14 @@
 
 ghost use Rattle.std.specs.Prelude.{◌≡◌, ◌^◌, [], ◌∷◌, true, false, Some, None};
 ghost use Rattle.iol_types.specs.Command.{Configure, Clear};
-ghost use Rattle.iol_types.specs.Examples.{example_config};
 ghost use Rattle.iol_types.specs.declared.command.CommandFault.TheVariants.{UnknownPort};
 ghost use Rattle.iol_journal.specs.declared.header.TheConstants.{LAST_NUMBER};
 ghost use Rattle.iol_core.specs.Core.{with_permit, live_number};
 ghost use Rattle.iol_core.specs.Downloads.{download_fault};
 ghost use Rattle.iol_core.specs.Examples.{blank_core, core_with_set, configure_one, grant_at};
-ghost use Rattle.iol_core.specs.Permits.{is_out, without_download};
+ghost use Rattle.iol_core.specs.Permits.{is_out};
 ghost use Rattle.iol_core.specs.Submit.{submit_fault, ticket_state};
-ghost use Rattle.iol_core.specs.Uploads.{upload_fault, revision_at};
+ghost use Rattle.iol_core.specs.Uploads.{upload_fault};
 ghost use Rattle.iol_core.specs.declared.core_value.TheConstants.{QUEUE_COMMANDS};
 ghost use Rattle.iol_core.specs.declared.download.DownloadFault.TheVariants as download;
 ghost use Rattle.iol_core.specs.declared.permit.Grant.TheVariants.{Upload};

@@ -1,5 +1,5 @@
 -- The disk of a run, and the master over it.
-use Rattle.std.specs.Prelude.{◌≡◌, ℕ, ◌+◌, nat_lt, true, if◌then◌else◌, List, length, Ok, Err}
+use Rattle.std.specs.Prelude.{◌≡◌, ◌+◌, nat_lt, true, if◌then◌else◌, List, length, Ok, Err}
 use Rattle.iol_types.specs.Command.{CommandValue}
 use Rattle.iol_types.specs.State.{after}
 use Rattle.iol_journal.specs.Checkpoints.{checkpointed}

@@ -1,6 +1,6 @@
-use Rattle.std.proofs.Common.{◌≡◌, ◌+◌, ◌∷◌, [], ◌++◌, ℕ, List, true, is_none, take, drop, refl, sym, ap, ◌∙◌, arith, rules}
+use Rattle.std.proofs.Common.{◌≡◌, ◌∷◌, is_none, take, sym, ap, ◌∙◌, rules}
 use Rattle.std.proofs.lemmas.Bool.{and_parts}
-use Rattle.iol_types.specs.Command.{CommandValue, value_of}
+use Rattle.iol_types.specs.Command.{value_of}
 use Rattle.iol_types.specs.State.{State, apply, after, check, legal}
 use Rattle.iol_journal.specs.Journals.{values}
 use Rattle.iol_core.proofs.Queues.{first_left, after_push}

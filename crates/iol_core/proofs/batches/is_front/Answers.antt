@@ -1,4 +1,4 @@
-use Rattle.std.proofs.Common.{◌≡◌, ◌<◌, ◌≤◌, ◌+◌, ◌∷◌, [], ◌++◌, ℕ, List, Some, length, take, slice_get, refl, sym, ap, ◌∙◌, arith, rules}
+use Rattle.std.proofs.Common.{◌≡◌, ◌+◌, ◌∷◌, [], ◌++◌, List, take, sym, ap, ◌∙◌, arith, rules}
 use Rattle.iol_types.specs.Command.{CommandValue, value_of}
 use Rattle.iol_journal.specs.Journals.{values}
 use Rattle.iol_core.proofs.Queues.{values_more, take_found}

@@ -1,7 +1,4 @@
-use Rattle.std.proofs.Common.{◌≡◌, ◌<◌, ◌≤◌, ◌+◌, length, take, sym, arith}
-use Rattle.iol_types.specs.Command.{value_of}
-use Rattle.iol_record.specs.Record.{command_octets}
-use Rattle.iol_journal.specs.Body.{records_of}
+use Rattle.std.proofs.Common.{◌≡◌, ◌≤◌, length, sym, arith}
 use Rattle.iol_journal.specs.Journals.{values}
 use Rattle.iol_core.proofs.Longest.{stops_here}
 use Rattle.iol_core.proofs.Queues.{records_next, length-values}

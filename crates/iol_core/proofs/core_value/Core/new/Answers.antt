@@ -1,9 +1,8 @@
-use Rattle.std.proofs.Common.{◌≡◌, ◌≤◌, ◌+◌, ℕ, List, [], length, None, Option, replicate, sym, ap, ◌∙◌, subst, arith, rules}
+use Rattle.std.proofs.Common.{◌≡◌, ◌≤◌, ◌+◌, ℕ, List, [], length, None, replicate, sym, ap, subst, rules}
 use Rattle.iol_types.specs.Command.{CommandValue}
 use Rattle.iol_journal.specs.Journals.{values}
 use Rattle.iol_journal.specs.declared.header.TheConstants.{LAST_NUMBER}
 use Rattle.iol_core.specs.Core.{IsCore}
-use Rattle.iol_core.specs.declared.permit.Grant.{Grant}
 use Rattle.iol_core.proofs.Keeping.{new_core}
 use Rattle.iol_core.proofs.core_value.Core.new.Goals as goal
 

@@ -1,5 +1,4 @@
-use Rattle.std.proofs.Common.{◌≡◌, true, List, take, sym, ap, ◌∙◌, subst}
-use Rattle.iol_types.specs.Command.{CommandValue}
+use Rattle.std.proofs.Common.{◌≡◌, true, ap, ◌∙◌, subst}
 use Rattle.iol_types.specs.State.{legal}
 use Rattle.iol_journal.specs.Journals.{values}
 use Rattle.iol_core.specs.Core.{CoreView}
