@@ -126,6 +126,8 @@ impl<D: SectorDisk> Journal<D> {
     pub fn number(&self) -> u64
         ensures number { result ≡ self.now.standing.number }
         ensures bound { result ≤ LAST_NUMBER }
+        // What it has done since its recovery leads to where it stands.
+        ensures leads { LeadsTo self.now.standing self.now.history }
     {
         self.number
     }
@@ -170,6 +172,8 @@ impl<D: SectorDisk> Journal<D> {
             → IsRunAtRest D.disk r self → IsRunWriting D.disk (with_batch_begun r (values batch.commands.items) behind) w) }
         ensures follows { OnOk result (batch_refusal self.standing batch.first (values batch.commands.items) ≡ None) }
         ensures cause { IfErr result (λ fault. IsBatchRefusal self.standing batch.first (values batch.commands.items) fault.cause) }
+        // Where no slot is free, a checkpoint can be made.
+        ensures used { IfErr result (λ fault. fault.cause ≡ BeginCause.NeedsCheckpoint → 0 < self.standing.used) }
         ensures back { IfErr result (λ fault. (fault.journal ≡ self) × (fault.batch ≡ batch)) }
     {
         match self.plan(&batch) {
@@ -199,6 +203,7 @@ impl<D: SectorDisk> Journal<D> {
             × (batch.now.first ≡ self.now.standing.number + 1)) }
         ensures follows { OnOk result (batch_refusal self.now.standing batch.now.first (values batch.now.commands.items) ≡ None) }
         ensures cause { IfErr result (IsBatchRefusal self.now.standing batch.now.first (values batch.now.commands.items)) }
+        ensures used { IfErr result (λ cause. cause ≡ BeginCause.NeedsCheckpoint → 0 < self.now.standing.used) }
     {
         if is_too_large(&batch.commands) {
             return Err(BeginCause::TooLarge);

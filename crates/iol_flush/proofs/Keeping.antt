@@ -1,0 +1,103 @@
+-- A run of a journal goes on with each disk call.
+use Rattle.std.proofs.Common.{◌≡◌, refl, List, [], ◌++◌, sym, ◌∙◌, ap, subst}
+use Rattle.iol_types.specs.Command.{CommandValue}
+use Rattle.iol_disk.specs.Disk.{Disk}
+use Rattle.iol_disk.specs.declared.fault.DiskFault.{DiskFault}
+use Rattle.iol_journal.specs.CheckpointRuns.{IsRunCheckpointing}
+use Rattle.iol_journal.specs.CheckpointViews.{CheckpointingView}
+use Rattle.iol_journal.specs.Journals.{JournalView, WritingView, values}
+use Rattle.iol_journal.specs.Runs.{Run, IsRun, with_batch_begun, with_batch_written}
+use Rattle.iol_journal.specs.Running.{IsRunAtRest, IsRunWriting}
+use Rattle.iol_journal.specs.Written.{WrittenView}
+use Rattle.iol_journal.specs.declared.batch.Batch.{Batch}
+use Rattle.iol_flush.specs.Flushing.{run_of, KeepsRun}
+use Rattle.iol_flush.specs.declared.stage.Stage.{Stage}
+use Rattle.iol_flush.specs.declared.stage.Stage.TheVariants.{Given, Checkpointing, Writing, Publishing, Failed}
+
+pub keeps_self : {D : Type 0} (disk : D → Disk) (stage : Stage D) → KeepsRun disk stage stage
+keeps_self disk stage = record { goes_on = λ number state published waiting marks was. was }
+
+-- a batch is still on its way
+pub still_written : {D : Type 0} (disk : D → Disk) (w v : WritingView D) → v.commands ≡ w.commands
+    → ((r : Run) → IsRunWriting disk r w → IsRunWriting disk r v) → KeepsRun disk (Writing w) (Writing v)
+still_written disk w v same goes = record {
+  goes_on = λ number state published waiting marks was. (
+    was.0,
+    was.1 ∙ ap (λ (cs : List CommandValue). cs ++ was.0) (sym same),
+    subst (λ (cs : List CommandValue). IsRunWriting disk (run_of number state published cs was.0 marks) v) (sym same)
+        (goes (run_of number state published w.commands was.0 marks) was.2),
+  );
+}
+
+-- it is durable
+pub is_written : {D : Type 0} (disk : D → Disk) (w : WritingView D) (j : JournalView D) (written : WrittenView) → written.commands ≡ w.commands
+    → ((r : Run) → IsRunWriting disk r w → IsRunAtRest disk (with_batch_written r) j) → KeepsRun disk (Writing w) (Publishing j written)
+is_written disk w j written same goes = record {
+  goes_on = λ number state published waiting marks was. (
+    was.0,
+    was.1 ∙ ap (λ (cs : List CommandValue). cs ++ was.0) (sym same),
+    subst (λ (cs : List CommandValue). IsRunAtRest disk (run_of number state (published ++ cs) [] was.0 marks) j) (sym same)
+        (goes (run_of number state published w.commands was.0 marks) was.2),
+  );
+}
+
+-- a call of it failed
+pub not_written : {D : Type 0} (disk : D → Disk) (w : WritingView D) (left : D) (fault : DiskFault)
+    → ((r : Run) → IsRunWriting disk r w → IsRun (disk left) r) → KeepsRun disk (Writing w) (Failed left fault)
+not_written disk w left fault goes = record {
+  goes_on = λ number state published waiting marks was.
+      (w.commands, was.0, was.1, goes (run_of number state published w.commands was.0 marks) was.2);
+}
+
+-- a checkpoint is still on its way
+pub still_checkpointed : {D : Type 0} (disk : D → Disk) (c d : CheckpointingView D) (batch : Batch)
+    → ((r : Run) → IsRunCheckpointing disk r c → IsRunCheckpointing disk r d) → KeepsRun disk (Checkpointing c batch) (Checkpointing d batch)
+still_checkpointed disk c d batch goes = record {
+  goes_on = λ number state published waiting marks was.
+      (was.0, goes (run_of number state published [] waiting marks) was.1);
+}
+
+-- it is done
+pub is_checkpointed : {D : Type 0} (disk : D → Disk) (c : CheckpointingView D) (j : JournalView D) (batch : Batch)
+    → ((r : Run) → IsRunCheckpointing disk r c → IsRunAtRest disk r j) → KeepsRun disk (Checkpointing c batch) (Given j batch)
+is_checkpointed disk c j batch goes = record {
+  goes_on = λ number state published waiting marks was.
+      (was.0, goes (run_of number state published [] waiting marks) was.1);
+}
+
+-- a call of it failed
+pub not_checkpointed : {D : Type 0} (disk : D → Disk) (c : CheckpointingView D) (left : D) (batch : Batch) (fault : DiskFault)
+    → ((r : Run) → IsRunCheckpointing disk r c → IsRun (disk left) r) → KeepsRun disk (Checkpointing c batch) (Failed left fault)
+not_checkpointed disk c left batch fault goes = record {
+  goes_on = λ number state published waiting marks was.
+      ([], waiting, refl, goes (run_of number state published [] waiting marks) was.1);
+}
+
+-- a checkpoint is begun, for which a batch waits
+pub begins_checkpoint : {D : Type 0} (disk : D → Disk) (j : JournalView D) (c : CheckpointingView D) (batch : Batch) (new : Stage D)
+    → ((r : Run) → IsRunAtRest disk r j → IsRunCheckpointing disk r c) → KeepsRun disk (Checkpointing c batch) new → KeepsRun disk (Given j batch) new
+begins_checkpoint disk j c batch new goes keeps = record {
+  goes_on = λ number state published waiting marks was.
+      keeps.goes_on number state published waiting marks (was.0, goes (run_of number state published [] waiting marks) was.1);
+}
+
+-- a batch is begun
+pub begins_batch : {D : Type 0} (disk : D → Disk) (j : JournalView D) (w : WritingView D) (batch : Batch) (new : Stage D) → w.commands ≡ values batch.commands.items
+    → ((r : Run) (behind : List CommandValue) → r.queued ≡ values batch.commands.items ++ behind → IsRunAtRest disk r j
+    → IsRunWriting disk (with_batch_begun r (values batch.commands.items) behind) w)
+    → KeepsRun disk (Writing w) new → KeepsRun disk (Given j batch) new
+begins_batch disk j w batch new same goes keeps = record {
+  goes_on = λ number state published waiting marks was.
+      keeps.goes_on number state published waiting marks (
+        was.0.0,
+        was.0.1 ∙ ap (λ (cs : List CommandValue). cs ++ was.0.0) (sym same),
+        subst (λ (cs : List CommandValue). IsRunWriting disk (run_of number state published cs was.0.0 marks) w) (sym same)
+            (goes (run_of number state published [] waiting marks) was.0.0 was.0.1 was.1),
+      );
+}
+
+-- nothing changes
+pub keeps_given : {D : Type 0} (disk : D → Disk) (j k : JournalView D) (batch same : Batch) → k ≡ j → same ≡ batch → KeepsRun disk (Given j batch) (Given k same)
+keeps_given {D} disk j k batch same journal_is batch_is =
+    subst (λ (l : JournalView D). KeepsRun disk (Given j batch) (Given l same)) (sym journal_is)
+    (subst (λ (b : Batch). KeepsRun disk (Given j batch) (Given j b)) (sym batch_is) (keeps_self disk (Given j batch)))

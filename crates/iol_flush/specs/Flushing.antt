@@ -1,0 +1,71 @@
+-- A run of a journal while the flusher has it.
+use Rattle.std.specs.Prelude.{◌≡◌, ℕ, true, false, IsTrue, List, [], ◌++◌, All}
+use Rattle.iol_types.specs.Command.{CommandValue}
+use Rattle.iol_types.specs.State.{State, legal}
+use Rattle.iol_disk.specs.Content.{Image, IsImageSince}
+use Rattle.iol_disk.specs.Disk.{Disk}
+use Rattle.iol_journal.specs.Begin.{is_too_large, follows}
+use Rattle.iol_journal.specs.CheckpointRuns.{IsRunCheckpointing}
+use Rattle.iol_journal.specs.Journals.{values}
+use Rattle.iol_journal.specs.Meaning.{Standing}
+use Rattle.iol_journal.specs.Runs.{Run, Mark, HasPrefix, IsRun}
+use Rattle.iol_journal.specs.Running.{IsRunAtRest, IsRunWriting}
+use Rattle.iol_journal.specs.declared.batch.Batch.{Batch}
+use Rattle.iol_flush.specs.declared.stage.Stage.{Stage}
+use Rattle.iol_flush.specs.declared.stage.Stage.TheVariants.{Resting, Given, Checkpointing, Writing, Publishing, Failed}
+
+-- a run that began with a number and a state: the commands that are written, those of the batch that is underway, those
+-- that wait behind it, and moments (own)
+abbrev pub run_of : ℕ → State → List CommandValue → List CommandValue → List CommandValue → List Mark → Run
+run_of number state written underway queued marks = record {
+  first = number;
+  start = state;
+  written = written;
+  underway = underway;
+  queued = queued;
+  marks = marks;
+}
+
+-- commands are the first of those that wait (own)
+abbrev pub AreFirst : List CommandValue → List CommandValue → Type 0
+AreFirst commands waiting = (behind : List CommandValue) × (waiting ≡ commands ++ behind)
+
+-- a flusher has a run of its journal, which began with a number and a state: of the commands that were accepted, these are
+-- published and those wait; a batch that is given, underway or not yet published is the first of those that wait (own)
+abbrev pub IsFlushing : {D : Type 0} → (D → Disk) → ℕ → State → List CommandValue → List CommandValue → List Mark → Stage D → Type 0
+IsFlushing disk number state published waiting marks (Resting journal) = IsRunAtRest disk (run_of number state published [] waiting marks) journal
+IsFlushing disk number state published waiting marks (Given journal batch) =
+    AreFirst (values batch.commands.items) waiting × IsRunAtRest disk (run_of number state published [] waiting marks) journal
+IsFlushing disk number state published waiting marks (Checkpointing checkpoint batch) =
+    AreFirst (values batch.commands.items) waiting × IsRunCheckpointing disk (run_of number state published [] waiting marks) checkpoint
+IsFlushing disk number state published waiting marks (Writing writing) =
+    (behind : List CommandValue) × (waiting ≡ writing.commands ++ behind)
+    × IsRunWriting disk (run_of number state published writing.commands behind marks) writing
+IsFlushing disk number state published waiting marks (Publishing journal written) =
+    (behind : List CommandValue) × (waiting ≡ written.commands ++ behind)
+    × IsRunAtRest disk (run_of number state (published ++ written.commands) [] behind marks) journal
+IsFlushing disk number state published waiting marks (Failed left fault) =
+    (underway behind : List CommandValue) × (waiting ≡ underway ++ behind) × IsRun (disk left) (run_of number state published underway behind marks)
+
+-- a batch goes on where a journal stands: it fits a slot, and follows (own)
+pub record FitsBatch (standing : Standing) (batch : Batch) : Type 0 where
+  pub small : is_too_large (values batch.commands.items) ≡ false
+  pub next : follows standing batch.first (values batch.commands.items) ≡ true
+
+-- the batch that was given, if one is still to be begun, goes on where the journal stands (own)
+abbrev pub GoesOn : {D : Type 0} → Stage D → Type 0
+GoesOn (Given journal batch) = FitsBatch journal.standing batch
+GoesOn (Checkpointing checkpoint batch) = FitsBatch checkpoint.standing batch
+GoesOn stage = Unit {0}
+
+-- whatever run a flusher has of its journal, it has it still (own)
+pub record KeepsRun {D : Type 0} (disk : D → Disk) (old new : Stage D) : Type 0 where
+  pub goes_on : (number : ℕ) (state : State) (published waiting : List CommandValue) (marks : List Mark)
+      → IsFlushing disk number state published waiting marks old → IsFlushing disk number state published waiting marks new
+
+-- of commands that were accepted from a number and a state on, each passes in the state that it meets; and each image since
+-- a moment has what was acknowledged by then, and behind it none but the next of them, in their order (own)
+pub record HoldsBy (d : Disk) (number : ℕ) (state : State) (commands : List CommandValue) (marks : List Mark) : Type 0 where
+  pub passes : legal state commands ≡ true
+  pub images : All (λ mark. IsTrue d.honest → (image : Image) → IsImageSince mark.clock d.content image
+      → HasPrefix d.sectors number state commands mark.acknowledged image) marks

@@ -1,0 +1,96 @@
+-- How far a flusher is: what it needs, its disk, and the disk calls that are owed.
+use Rattle.std.specs.Prelude.{◌≡◌, ◌≤◌, ℕ, ◌+◌, ◌*◌, ◌==◌, Bool, if◌then◌else◌, List, [], ◌++◌, length, Option, Some, None}
+use Rattle.iol_types.specs.Command.{CommandValue}
+use Rattle.iol_types.specs.State.{after}
+use Rattle.iol_disk.specs.Calls.{Call}
+use Rattle.iol_disk.specs.declared.fault.DiskFault.{DiskFault}
+use Rattle.iol_front.specs.Fronts.{Start}
+use Rattle.iol_journal.specs.Batches.{batch_calls}
+use Rattle.iol_journal.specs.Checkpoints.{checkpoint_calls}
+use Rattle.iol_journal.specs.CheckpointViews.{stages_left}
+use Rattle.iol_journal.specs.Layout.{Layout}
+use Rattle.iol_journal.specs.Meaning.{Standing}
+use Rattle.iol_journal.specs.Journals.{JournalView, calls_left, values}
+use Rattle.iol_journal.specs.declared.history.History.{History}
+use Rattle.iol_flush.specs.declared.need.Need.{Need}
+use Rattle.iol_flush.specs.declared.need.Need.TheVariants as need
+use Rattle.iol_flush.specs.declared.stage.Stage.{Stage}
+use Rattle.iol_flush.specs.declared.stage.Stage.TheVariants.{Resting, Given, Checkpointing, Writing, Publishing, Failed}
+
+-- the call that comes next (own)
+abbrev pub need_of : {D : Type 0} → Stage D → Need
+need_of (Resting journal) = need.Batch
+need_of (Given journal batch) = need.Disk
+need_of (Checkpointing checkpoint batch) = need.Disk
+need_of (Writing writing) = need.Disk
+need_of (Publishing journal written) = need.Publish
+need_of (Failed disk fault) = need.Stopped
+
+-- how the disk has failed, if it has (own)
+abbrev pub failure_of : {D : Type 0} → Stage D → Option DiskFault
+failure_of (Failed disk fault) = Some fault
+failure_of stage = None
+
+-- the disk of a flusher (own)
+abbrev pub disk_of : {D : Type 0} → Stage D → D
+disk_of (Resting journal) = journal.disk
+disk_of (Given journal batch) = journal.disk
+disk_of (Checkpointing checkpoint batch) = checkpoint.disk
+disk_of (Writing writing) = writing.disk
+disk_of (Publishing journal written) = journal.disk
+disk_of (Failed disk fault) = disk
+
+-- the disk calls of what is on its way that are still owed (own)
+abbrev pub calls_owed : {D : Type 0} → Stage D → List Call
+calls_owed (Checkpointing checkpoint batch) = stages_left checkpoint
+calls_owed (Writing writing) = calls_left writing
+calls_owed stage = []
+
+-- no slot of a journal is free (own)
+abbrev pub is_full : {D : Type 0} → JournalView D → Bool
+is_full journal = journal.standing.used == journal.standing.layout.slots
+
+-- the disk calls that come next: those of a batch that was given or, where no slot is free for it, of a checkpoint (own)
+abbrev pub next_calls : {D : Type 0} → Stage D → List Call
+next_calls (Given journal batch) =
+    if is_full journal then checkpoint_calls journal.standing journal.idle
+    else batch_calls journal.standing (values batch.commands.items)
+next_calls stage = calls_owed stage
+
+-- what a journal has written since its recovery, from the front's start on (own)
+pub record HasHistory (start : Start) (commands : List CommandValue) (history : History) : Type 0 where
+  pub first : history.first ≡ start.number
+  pub start_is : history.start ≡ start.state
+  pub list : history.commands ≡ commands
+
+-- a journal has written this list from the front's start on, and stands behind it (own)
+pub record StandsBehind (start : Start) (commands : List CommandValue) (standing : Standing) (history : History) : Type 0 where
+  pub history_is : HasHistory start commands history
+  pub number : standing.number ≡ start.number + length commands
+  pub state : standing.state ≡ after start.state commands
+
+-- the journal's list is the list that is published, followed by the batch that is durable and not yet published (own)
+abbrev pub IsInStep : {D : Type 0} → Start → Stage D → List CommandValue → Type 0
+IsInStep start (Resting journal) published = StandsBehind start published journal.standing journal.history
+IsInStep start (Given journal batch) published = StandsBehind start published journal.standing journal.history
+IsInStep start (Checkpointing checkpoint batch) published = StandsBehind start published checkpoint.standing checkpoint.history
+IsInStep start (Writing writing) published = StandsBehind start published writing.standing writing.history
+IsInStep start (Publishing journal written) published =
+    StandsBehind start (published ++ written.commands) journal.standing journal.history × (written.first ≡ start.number + length published + 1)
+IsInStep start (Failed disk fault) published = Unit {0}
+
+-- the most disk calls of a checkpoint: one for each slot, nine for each port, and nine more (own)
+abbrev pub most_checkpoint_calls : Layout → ℕ
+most_checkpoint_calls layout = layout.slots + 9 * layout.ports + 9
+
+-- what is on its way has few disk calls: 19 of a batch, and those of a checkpoint into an area that has a slot (own)
+abbrev pub HasFewCalls : {D : Type 0} → Stage D → Type 0
+HasFewCalls (Checkpointing checkpoint batch) =
+    (1 ≤ checkpoint.standing.layout.slots) × (length (stages_left checkpoint) ≤ most_checkpoint_calls checkpoint.standing.layout)
+HasFewCalls (Writing writing) = length (calls_left writing) ≤ 19
+HasFewCalls stage = Unit {0}
+
+-- a flusher as contracts see it: how far it is, and the list that is published (own)
+pub record FlusherView (D : Type 0) : Type 0 where
+  pub stage : Stage D
+  pub published : List CommandValue

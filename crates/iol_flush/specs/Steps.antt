@@ -1,0 +1,127 @@
+-- What a disk call of the flusher does.
+use Rattle.std.specs.Prelude.{◌≡◌, ◌+◌, ◌⊎◌, Bool, true, false, List, ◌++◌, Option, Some, None, Result, Ok, Err}
+use Rattle.iol_types.specs.Command.{CommandValue}
+use Rattle.iol_disk.specs.Disk.{Disk}
+use Rattle.iol_front.specs.Fronts.{CommittedView}
+use Rattle.iol_journal.specs.Begin.{batch_refusal}
+use Rattle.iol_journal.specs.Checkpoints.{checkpointed, first_stage}
+use Rattle.iol_journal.specs.CheckpointViews.{CheckpointingView}
+use Rattle.iol_journal.specs.Journals.{JournalView, WritingView, values, with_batch, written_behind}
+use Rattle.iol_journal.specs.Progress.{MakesFirst, FailsFirst}
+use Rattle.iol_journal.specs.declared.batch.Batch.{Batch}
+use Rattle.iol_journal.specs.declared.journal.BeginCause.TheVariants.{TooLarge, Misfit}
+use Rattle.iol_journal.specs.declared.phase.Phase.TheVariants.{Body}
+use Rattle.iol_journal.specs.Written.{WrittenView}
+use Rattle.iol_flush.specs.Stages.{FlusherView, is_full, disk_of, next_calls, calls_owed, need_of, failure_of}
+use Rattle.iol_flush.specs.declared.need.Need.TheVariants as need
+use Rattle.iol_flush.specs.declared.fault.FlushFault.{FlushFault}
+use Rattle.iol_flush.specs.declared.fault.FlushFault.TheVariants as fault
+use Rattle.iol_flush.specs.declared.fault.GiveFault.{GiveFault}
+use Rattle.iol_flush.specs.declared.fault.GiveFault.TheVariants as give
+use Rattle.iol_flush.specs.declared.flusher.FlushEnd.{FlushEnd}
+use Rattle.iol_flush.specs.declared.flusher.FlushEnd.TheVariants as end
+use Rattle.iol_flush.specs.declared.stage.Stage.{Stage}
+use Rattle.iol_flush.specs.declared.stage.Stage.TheVariants.{Resting, Given, Checkpointing, Writing, Publishing, Failed}
+
+-- a journal with a batch before its first disk call (own)
+abbrev pub writing_of : {D : Type 0} → JournalView D → List CommandValue → WritingView D
+writing_of journal commands = record {
+  disk = journal.disk;
+  standing = journal.standing;
+  idle = journal.idle;
+  history = journal.history;
+  commands = commands;
+  phase = Body 0;
+}
+
+-- a journal with a checkpoint before its first disk call (own)
+abbrev pub checkpoint_of : {D : Type 0} → JournalView D → CheckpointingView D
+checkpoint_of journal = record { disk = journal.disk; standing = journal.standing; history = journal.history; stage = first_stage journal.idle }
+
+-- a disk call of a batch is made: the batch is still on its way, or it is durable (own)
+abbrev pub HasWritten : {D : Type 0} → WritingView D → Stage D → Type 0
+HasWritten w (Writing v) = (v.standing ≡ w.standing) × (v.idle ≡ w.idle) × (v.history ≡ w.history) × (v.commands ≡ w.commands)
+HasWritten w (Publishing j written) =
+    (j.standing ≡ with_batch w.standing w.commands) × (j.idle ≡ w.idle) × (j.history ≡ written_behind w.history w.commands)
+    × (written.first ≡ w.standing.number + 1) × (written.commands ≡ w.commands)
+HasWritten w stage = ⊥
+
+-- a disk call of a checkpoint is made: the checkpoint is still on its way, or done. The batch waits meanwhile (own)
+abbrev pub HasCheckpointed : {D : Type 0} → CheckpointingView D → Batch → Stage D → Type 0
+HasCheckpointed c batch (Checkpointing d kept) = (d.standing ≡ c.standing) × (d.history ≡ c.history) × (kept ≡ batch)
+HasCheckpointed c batch (Given j kept) = (j.standing ≡ checkpointed c.standing) × (j.history ≡ c.history) × (kept ≡ batch)
+HasCheckpointed c batch stage = ⊥
+
+-- the first disk call is made after a batch was given: its own or, where no slot is free for it, of a checkpoint (own)
+abbrev pub HasBegun : {D : Type 0} → Bool → JournalView D → Batch → Stage D → Type 0
+HasBegun true journal batch new = HasCheckpointed (checkpoint_of journal) batch new
+HasBegun false journal batch new =
+    (batch_refusal journal.standing batch.first (values batch.commands.items) ≡ None) × HasWritten (writing_of journal (values batch.commands.items)) new
+
+-- a disk call is made, and where the flusher is then (own)
+abbrev pub HasMade : {D : Type 0} → Stage D → Stage D → Type 0
+HasMade (Given journal batch) new = HasBegun (is_full journal) journal batch new
+HasMade (Checkpointing checkpoint batch) new = HasCheckpointed checkpoint batch new
+HasMade (Writing writing) new = HasWritten writing new
+HasMade stage new = ⊥
+
+-- a batch was given that the journal does not take, for what it is (own)
+abbrev pub IsUnfit : {D : Type 0} → Stage D → Type 0
+IsUnfit (Given journal batch) =
+    (batch_refusal journal.standing batch.first (values batch.commands.items) ≡ Some TooLarge)
+    ⊎ (batch_refusal journal.standing batch.first (values batch.commands.items) ≡ Some Misfit)
+IsUnfit stage = ⊥
+
+-- a batch was given and no disk call of it is made yet (own)
+abbrev pub IsGiven : {D : Type 0} → Stage D → Type 0
+IsGiven (Given journal batch) = Unit {0}
+IsGiven stage = ⊥
+
+-- the first of the disk calls that come next is made, or fails; or none is made and nothing changes: a call failed before,
+-- memory runs out where a batch or a checkpoint is begun, or the batch does not fit (own)
+abbrev pub IsDiskStep : {D : Type 0} → (D → Disk) → Stage D → Stage D → Result Unit FlushFault → Type 0
+IsDiskStep disk old new (Ok done) = HasMade old new × MakesFirst (next_calls old) (calls_owed new) (disk (disk_of old)) (disk (disk_of new))
+IsDiskStep disk old new (Err (fault.Disk cause)) =
+    (failure_of new ≡ Some cause) × FailsFirst (next_calls old) cause (disk (disk_of old)) (disk (disk_of new))
+IsDiskStep disk old new (Err fault.Stopped) = (need_of old ≡ need.Stopped) × (new ≡ old)
+IsDiskStep disk old new (Err fault.Memory) = IsGiven old × (new ≡ old)
+IsDiskStep disk old new (Err fault.Misfit) = IsUnfit old × (new ≡ old)
+
+-- a batch is taken; or it comes back, as a disk call has failed, and nothing changes (own)
+abbrev pub HasTaken : {D : Type 0} → Stage D → Batch → Stage D → Type 0
+HasTaken (Resting journal) batch new = new ≡ Given journal batch
+HasTaken stage batch new = ⊥
+
+abbrev pub IsGift : {D : Type 0} → Stage D → Batch → Stage D → Result Unit GiveFault → Type 0
+IsGift old batch new (Ok done) = HasTaken old batch new
+IsGift old batch new (Err (give.Stopped back)) = (need_of old ≡ need.Stopped) × (new ≡ old) × (back ≡ batch)
+
+-- the batch that is durable is taken out of the stage; none is, as a disk call has failed (own)
+abbrev pub HasGivenUp : {D : Type 0} → Stage D → Stage D → Option WrittenView → Type 0
+HasGivenUp (Publishing journal written) new (Some out) = (new ≡ Resting journal) × (out ≡ written)
+HasGivenUp (Failed disk fault) new None = new ≡ Failed disk fault
+HasGivenUp stage new out = ⊥
+
+-- the batch that is durable is put behind the published list, and the journal is at rest (own)
+abbrev pub HasPublished : {D : Type 0} → Stage D → List CommandValue → FlusherView D → CommittedView → Type 0
+HasPublished (Publishing journal written) published new committed =
+    (new ≡ record { stage = Resting journal; published = published ++ written.commands })
+    × (committed.before ≡ published) × (committed.commands ≡ written.commands)
+HasPublished stage published new committed = ⊥
+
+-- it is published; or nothing changes, as a disk call has failed (own)
+abbrev pub IsPublished : {D : Type 0} → FlusherView D → FlusherView D → Result CommittedView FlushFault → Type 0
+IsPublished old new (Ok committed) = HasPublished old.stage old.published new committed
+IsPublished old new (Err why) = (why ≡ fault.Stopped) × (need_of old.stage ≡ need.Stopped) × (new ≡ old)
+
+-- the journal is at rest: all that was given is published, or is durable and still to be published (own)
+abbrev pub HasJournal : {D : Type 0} → Stage D → JournalView D → Type 0
+HasJournal (Resting journal) back = back ≡ journal
+HasJournal (Publishing journal written) back = back ≡ journal
+HasJournal stage back = ⊥
+
+-- what is handed back: the journal and the publisher where no batch is on its way, and else the disk (own)
+abbrev pub IsEnd : {D F : Type 0} → FlusherView D → FlushEnd D F → Type 0
+IsEnd flusher (end.Closed journal publisher) = HasJournal flusher.stage journal × (publisher ≡ flusher.published)
+IsEnd flusher (end.Midway disk) = (need_of flusher.stage ≡ need.Disk) × (disk ≡ disk_of flusher.stage)
+IsEnd flusher (end.Faulted disk cause) = (failure_of flusher.stage ≡ Some cause) × (disk ≡ disk_of flusher.stage)

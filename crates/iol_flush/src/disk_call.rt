@@ -1,0 +1,115 @@
+//! One disk call of the journal that a flusher has.
+
+ghost use Rattle.std.specs.Prelude.{◌≡◌, ◌<◌, ◌⊎◌, true};
+ghost use Rattle.iol_flush.specs.Stages.{HasFewCalls, is_full, need_of};
+ghost use Rattle.iol_flush.specs.Steps.{IsDiskStep};
+ghost use Rattle.iol_flush.specs.Flushing.{KeepsRun};
+ghost use Rattle.iol_flush.specs.declared.need.Need.TheVariants as need;
+ghost use Rattle.iol_flush.specs.declared.stage.Stage.TheVariants as stage;
+
+use crate::fault::FlushFault;
+use crate::stage::Stage;
+use iol_disk::SectorDisk;
+use iol_journal::{
+    Batch, BeginCause, BeginFault, CheckpointFault, CheckpointProgress, Checkpointing, Journal,
+    Progress, Writing,
+};
+
+// Makes the next disk call, unless one has failed before.
+pub(crate) fn make_call<D: SectorDisk>(
+    stage: Stage<D>,
+    _call: (),
+) -> (Stage<D>, Result<(), FlushFault>)
+    requires needs { (need_of stage ≡ need.Disk) ⊎ (need_of stage ≡ need.Stopped) }
+    requires few { HasFewCalls stage }
+    ensures step { IsDiskStep D.disk stage result.0 result.1 }
+    ensures few { HasFewCalls result.0 }
+    ensures run { KeepsRun D.disk stage result.0 }
+{
+    match stage {
+        Stage::Given(journal, batch) => begin(journal, batch),
+        Stage::Checkpointing(checkpointing, batch) => checkpoint(checkpointing, batch),
+        Stage::Writing(writing) => write(writing),
+        Stage::Failed(disk, fault) => (Stage::Failed(disk, fault), Err(FlushFault::Stopped)),
+        Stage::Resting(_) | Stage::Publishing(..) => unreachable!(),
+    }
+}
+
+// Makes the first disk call of a batch or, where no slot is free, of a checkpoint before it.
+fn begin<D: SectorDisk>(journal: Journal<D>, batch: Batch) -> (Stage<D>, Result<(), FlushFault>)
+    ensures step { IsDiskStep D.disk (stage.Given journal batch) result.0 result.1 }
+    ensures few { HasFewCalls result.0 }
+    ensures run { KeepsRun D.disk (stage.Given journal batch) result.0 }
+{
+    match journal.begin(batch) {
+        Ok(writing) => write(writing),
+        Err(fault) => {
+            let BeginFault {
+                cause,
+                journal,
+                batch,
+            } = fault;
+            match cause {
+                BeginCause::NeedsCheckpoint => begin_checkpoint(journal, batch),
+                BeginCause::Memory => (Stage::Given(journal, batch), Err(FlushFault::Memory)),
+                BeginCause::TooLarge => (Stage::Given(journal, batch), Err(FlushFault::Misfit)),
+                BeginCause::Misfit => (Stage::Given(journal, batch), Err(FlushFault::Misfit)),
+            }
+        }
+    }
+}
+
+// Makes the first disk call of a checkpoint, as no slot is free.
+fn begin_checkpoint<D: SectorDisk>(
+    journal: Journal<D>,
+    batch: Batch,
+) -> (Stage<D>, Result<(), FlushFault>)
+    requires full { is_full journal ≡ true }
+    requires used { 0 < journal.standing.used }
+    ensures step { IsDiskStep D.disk (stage.Given journal batch) result.0 result.1 }
+    ensures few { HasFewCalls result.0 }
+    ensures run { KeepsRun D.disk (stage.Given journal batch) result.0 }
+{
+    match journal.checkpoint() {
+        Ok(checkpointing) => checkpoint(checkpointing, batch),
+        Err(fault) => {
+            let CheckpointFault { cause: _, journal } = fault;
+            (Stage::Given(journal, batch), Err(FlushFault::Memory))
+        }
+    }
+}
+
+// Makes the next disk call of a checkpoint, for which a batch waits.
+fn checkpoint<D: SectorDisk>(
+    checkpointing: Checkpointing<D>,
+    batch: Batch,
+) -> (Stage<D>, Result<(), FlushFault>)
+    requires few { HasFewCalls (stage.Checkpointing checkpointing batch) }
+    ensures step { IsDiskStep D.disk (stage.Checkpointing checkpointing batch) result.0 result.1 }
+    ensures few { HasFewCalls result.0 }
+    ensures run { KeepsRun D.disk (stage.Checkpointing checkpointing batch) result.0 }
+{
+    match checkpointing.step() {
+        CheckpointProgress::More(more) => (Stage::Checkpointing(more, batch), Ok(())),
+        CheckpointProgress::Done(journal) => (Stage::Given(journal, batch), Ok(())),
+        CheckpointProgress::Failed(disk, fault) => {
+            (Stage::Failed(disk, fault), Err(FlushFault::Disk(fault)))
+        }
+    }
+}
+
+// Makes the next disk call of a batch.
+fn write<D: SectorDisk>(writing: Writing<D>) -> (Stage<D>, Result<(), FlushFault>)
+    requires few { HasFewCalls (stage.Writing writing) }
+    ensures step { IsDiskStep D.disk (stage.Writing writing) result.0 result.1 }
+    ensures few { HasFewCalls result.0 }
+    ensures run { KeepsRun D.disk (stage.Writing writing) result.0 }
+{
+    match writing.step() {
+        Progress::More(more) => (Stage::Writing(more), Ok(())),
+        Progress::Done(journal, written) => (Stage::Publishing(journal, written), Ok(())),
+        Progress::Failed(disk, fault) => {
+            (Stage::Failed(disk, fault), Err(FlushFault::Disk(fault)))
+        }
+    }
+}

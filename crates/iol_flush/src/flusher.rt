@@ -1,0 +1,170 @@
+//! The flusher, and its calls.
+
+ghost use Rattle.std.specs.Prelude.{◌≡◌, ◌⊎◌};
+ghost use Rattle.iol_flush.specs.Stages.{need_of, failure_of, HasHistory, HasFewCalls, IsInStep};
+ghost use Rattle.iol_flush.specs.Steps.{IsDiskStep, IsGift, HasGivenUp, IsPublished, IsEnd};
+ghost use Rattle.iol_flush.specs.Flushing.{KeepsRun};
+ghost use Rattle.iol_flush.specs.declared.need.Need.TheVariants as need;
+ghost use Rattle.iol_flush.specs.declared.stage.Stage.TheVariants as stage;
+
+use crate::disk_call::make_call;
+use crate::fault::{FlushFault, GiveFault};
+use crate::need::Need;
+use crate::stage::Stage;
+use core::mem::replace_with;
+use iol_disk::{DiskFault, SectorDisk};
+use iol_front::{Committed, Name, Publisher};
+use iol_journal::{Batch, Journal, MOST_RECORD_OCTETS, Written};
+use std::marker::Model;
+
+/// What brings batches to the disk and publishes them. A contract sees the record `FlusherView` of `specs/Stages.antt`:
+/// how far it is, and the list that is published.
+pub struct Flusher<D: SectorDisk, F: Name> {
+    stage: Stage<D>,
+    publisher: Publisher<F>,
+}
+
+impl<D: SectorDisk, F: Name> Model for Flusher<D, F> {
+    ghost use Rattle.iol_flush.specs.Stages.{FlusherView, IsInStep, HasFewCalls};
+
+    ghost Value = { FlusherView D };
+
+    ghost view = { λ f. record { stage = f.stage; published = f.publisher } };
+
+    ghost invariant = { λ f. IsInStep F.front.start f.stage f.publisher × HasFewCalls f.stage };
+}
+
+/// What a flusher had at its end.
+#[derive(Drop)]
+pub enum FlushEnd<D: SectorDisk, F: Name> {
+    /// The journal at rest, and the publisher, which lacks the last batch where that was still to be published.
+    Closed(Journal<D>, Publisher<F>),
+    /// A batch was given and is not yet durable. The disk may be recovered again.
+    Midway(D),
+    /// A disk call had failed. The disk may be recovered again.
+    Faulted(D, DiskFault),
+}
+
+impl<D: SectorDisk, F: Name> Flusher<D, F> {
+    /// The flusher of a journal and of the publisher of its list.
+    pub fn new(journal: Journal<D>, publisher: Publisher<F>) -> Flusher<D, F>
+        requires list { HasHistory F.front.start publisher journal.history }
+        ensures { result ≡ record { stage = stage.Resting journal; published = publisher } }
+    {
+        let _number = journal.number();
+        Flusher {
+            stage: Stage::Resting(journal),
+            publisher,
+        }
+    }
+
+    /// The call that it needs next.
+    pub fn needs(&self) -> Need
+        ensures need { result ≡ need_of self.now.stage }
+        // The journal's list is the published one, and behind it the batch that is still to be published.
+        ensures in_step { IsInStep F.front.start self.now.stage self.now.published }
+        ensures few { HasFewCalls self.now.stage }
+    {
+        self.stage.needs()
+    }
+
+    /// The octets of records that a batch may have: 8,170.
+    pub fn room(&self) -> usize
+        ensures { result ≡ MOST_RECORD_OCTETS }
+    {
+        MOST_RECORD_OCTETS
+    }
+
+    /// How the disk has failed, if it has.
+    pub fn failed(&self) -> Option<DiskFault>
+        ensures { result ≡ failure_of self.now.stage }
+    {
+        self.stage.failed()
+    }
+
+    /// Takes a batch to the disk. No disk call is made yet.
+    ///
+    /// # Errors
+    /// `Stopped` with the batch where a disk call has failed; nothing changes.
+    pub fn give(&mut self, batch: Batch) -> Result<(), GiveFault>
+        requires { (need_of self.old.stage ≡ need.Batch) ⊎ (need_of self.old.stage ≡ need.Stopped) }
+        ensures gift { IsGift self.old.stage batch self.new.stage result }
+        ensures published { self.new.published ≡ self.old.published }
+    {
+        replace_with(&mut self.stage, batch, with_batch)
+    }
+
+    /// Makes the journal's next disk call: of the batch that was given or, where no slot is free for it, of a checkpoint.
+    ///
+    /// # Errors
+    /// `Stopped` where a disk call has failed before; `Memory` where it is out of memory, and `Misfit` where the batch does
+    /// not follow the journal or is too large: nothing changes. `Disk` where this call fails.
+    pub fn disk_step(&mut self) -> Result<(), FlushFault>
+        requires { (need_of self.old.stage ≡ need.Disk) ⊎ (need_of self.old.stage ≡ need.Stopped) }
+        ensures step { IsDiskStep D.disk self.old.stage self.new.stage result }
+        ensures published { self.new.published ≡ self.old.published }
+        // Each run of the journal goes on: each image since a moment of it has all that was acknowledged by then.
+        ensures run { KeepsRun D.disk self.old.stage self.new.stage }
+    {
+        replace_with(&mut self.stage, (), make_call)
+    }
+
+    /// Publishes the batch that is durable. It takes no memory.
+    ///
+    /// # Errors
+    /// `Stopped` where a disk call has failed; nothing changes.
+    pub fn publish(&mut self) -> Result<Committed<F>, FlushFault>
+        requires { (need_of self.old.stage ≡ need.Publish) ⊎ (need_of self.old.stage ≡ need.Stopped) }
+        ensures { IsPublished self.old self.new result }
+    {
+        match replace_with(&mut self.stage, (), take_written) {
+            Some(written) => Ok(self.publisher.publish(written)),
+            None => Err(FlushFault::Stopped),
+        }
+    }
+
+    /// Hands back what it holds.
+    pub fn end(self) -> FlushEnd<D, F>
+        ensures end { IsEnd self result }
+        ensures in_step { IsInStep F.front.start self.stage self.published }
+    {
+        let Flusher { stage, publisher } = self;
+        match stage {
+            Stage::Resting(journal) => FlushEnd::Closed(journal, publisher),
+            Stage::Publishing(journal, written) => {
+                let _batch = written.into_batch();
+                FlushEnd::Closed(journal, publisher)
+            }
+            Stage::Given(journal, _batch) => FlushEnd::Midway(journal.disk()),
+            Stage::Checkpointing(checkpointing, _batch) => FlushEnd::Midway(checkpointing.disk()),
+            Stage::Writing(writing) => FlushEnd::Midway(writing.disk()),
+            Stage::Failed(disk, fault) => FlushEnd::Faulted(disk, fault),
+        }
+    }
+}
+
+// The stage after a batch is given.
+fn with_batch<D: SectorDisk>(stage: Stage<D>, batch: Batch) -> (Stage<D>, Result<(), GiveFault>)
+    requires { (need_of stage ≡ need.Batch) ⊎ (need_of stage ≡ need.Stopped) }
+    ensures { IsGift stage batch result.0 result.1 }
+{
+    match stage {
+        Stage::Resting(journal) => (Stage::Given(journal, batch), Ok(())),
+        Stage::Failed(disk, fault) => {
+            (Stage::Failed(disk, fault), Err(GiveFault::Stopped(batch)))
+        }
+        _ => unreachable!(),
+    }
+}
+
+// The stage without the batch that is durable, and that batch.
+fn take_written<D: SectorDisk>(stage: Stage<D>, _call: ()) -> (Stage<D>, Option<Written>)
+    requires { (need_of stage ≡ need.Publish) ⊎ (need_of stage ≡ need.Stopped) }
+    ensures { HasGivenUp stage result.0 result.1 }
+{
+    match stage {
+        Stage::Publishing(journal, written) => (Stage::Resting(journal), Some(written)),
+        Stage::Failed(disk, fault) => (Stage::Failed(disk, fault), None),
+        _ => unreachable!(),
+    }
+}

@@ -1,0 +1,14 @@
+//! What the flusher needs next.
+
+/// The call that a flusher needs next.
+#[derive(Clone, Copy, Debug, PartialEq, Eq)]
+pub enum Need {
+    /// A batch: [`give`](crate::Flusher::give).
+    Batch,
+    /// A disk call: [`disk_step`](crate::Flusher::disk_step).
+    Disk,
+    /// The batch is durable, and is to be published: [`publish`](crate::Flusher::publish).
+    Publish,
+    /// None: a disk call has failed.
+    Stopped,
+}
