@@ -7,3 +7,4 @@ pub mod Uploads
 pub mod Downloads
 pub mod Ports
 pub mod Examples
+pub mod Telling

@@ -1,5 +1,5 @@
 -- What a run of a flusher's journal goes through beside its disk calls.
-use Rattle.std.proofs.Common.{◌≡◌, refl, ◌≤◌, ◌⊎◌, inl, inr, ⊎_elim, ℕ, zero, suc, ◌+◌, ◌-◌, true, IsTrue, List, [], ◌∷◌, ◌++◌, length, drop, slice_index_or, All, sym, ◌∙◌, ap, subst, arith, append_assoc}
+use Rattle.std.proofs.Common.{◌≡◌, refl, ◌≤◌, inl, inr, ℕ, zero, suc, ◌+◌, ◌-◌, true, List, [], ◌∷◌, ◌++◌, length, drop, slice_index_or, All, sym, ◌∙◌, ap, subst, arith, append_assoc}
 use Rattle.iol_types.specs.Command.{CommandValue}
 use Rattle.iol_types.specs.State.{State, after, legal}
 use Rattle.iol_disk.specs.Content.{Image, Content, Interval, IsImageOfSome, IsImageSince, clock}
@@ -8,7 +8,7 @@ use Rattle.iol_front.specs.Fronts.{CommittedView}
 use Rattle.iol_journal.proofs.RunLaws.{accepts}
 use Rattle.iol_journal.proofs.RunSteps.{marked_at_rest}
 use Rattle.iol_journal.specs.Journals.{JournalView, values}
-use Rattle.iol_journal.specs.Runs.{Run, Mark, HasPrefix, IsMarked, IsRun, accepted, number_of, with_mark, with_commands}
+use Rattle.iol_journal.specs.Runs.{Run, Mark, IsMarked, IsRun, with_mark}
 use Rattle.iol_journal.specs.Running.{IsRunAtRest}
 use Rattle.iol_journal.specs.declared.batch.Batch.{Batch}
 use Rattle.iol_flush.specs.Flushing.{run_of, AreFirst, IsFlushing, HoldsBy}

@@ -1,5 +1,5 @@
 -- The first disk call of a batch that was given, and the published list beside each disk call.
-use Rattle.std.proofs.Common.{◌≡◌, refl, ◌+◌, ◌==◌, ◌++◌, ℕ, Bool, true, false, if◌then◌else◌, List, length, Option, Some, None, Result, Ok, Err, sym, ◌∙◌, ap, subst, arith, length-append, rules}
+use Rattle.std.proofs.Common.{◌≡◌, refl, ◌+◌, ◌++◌, ℕ, Bool, true, false, if◌then◌else◌, List, length, Option, Some, None, Result, Ok, Err, sym, ◌∙◌, ap, subst, arith, length-append, rules}
 use Rattle.std.proofs.lemmas.List.Sums.{fold-append}
 use Rattle.iol_types.specs.Command.{CommandValue}
 use Rattle.iol_types.specs.State.{State, apply, after}

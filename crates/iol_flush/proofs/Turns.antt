@@ -1,12 +1,12 @@
 -- Each disk call leaves fewer calls to make, and a batch of the queue is never refused for what it is.
-use Rattle.std.proofs.Common.{◌≡◌, refl, ◌≤◌, ◌<◌, ◌⊎◌, inl, inr, ◌+◌, ◌==◌, ℕ, zero, suc, Bool, true, false, if◌then◌else◌, List, [], ◌∷◌, length, Option, Some, None, Result, Ok, Err, sym, ◌∙◌, ap, subst, arith, rules}
+use Rattle.std.proofs.Common.{◌≡◌, ◌≤◌, ◌⊎◌, inl, inr, ◌+◌, ◌==◌, ℕ, Bool, true, false, if◌then◌else◌, List, [], length, Option, Some, None, Result, Ok, Err, sym, ◌∙◌, ap, subst, arith, rules}
 use Rattle.std.proofs.lemmas.Bool.Decides.{nat_tests}
 use Rattle.iol_disk.specs.Calls.{Call}
 use Rattle.iol_disk.specs.Disk.{Disk}
 use Rattle.iol_journal.specs.Batches.{batch_calls}
-use Rattle.iol_journal.specs.Begin.{batch_refusal, is_too_large, follows}
+use Rattle.iol_journal.specs.Begin.{is_too_large, follows}
 use Rattle.iol_journal.specs.CheckpointViews.{CheckpointingView, stages_left}
-use Rattle.iol_journal.specs.Checkpoints.{checkpointed, checkpoint_calls}
+use Rattle.iol_journal.specs.Checkpoints.{checkpoint_calls}
 use Rattle.iol_journal.specs.Journals.{JournalView, WritingView, values, calls_left}
 use Rattle.iol_journal.specs.Meaning.{Standing}
 use Rattle.iol_journal.specs.Progress.{MakesFirst}
@@ -17,7 +17,7 @@ use Rattle.iol_journal.specs.declared.journal.BeginCause.{BeginCause}
 use Rattle.iol_journal.specs.declared.journal.BeginCause.TheVariants.{TooLarge, NeedsCheckpoint, Misfit}
 use Rattle.iol_disk.specs.declared.fault.DiskFault.{DiskFault}
 use Rattle.iol_flush.specs.Flushing.{FitsBatch, GoesOn}
-use Rattle.iol_flush.specs.Stages.{failure_of, is_full, disk_of, next_calls, calls_owed, HasFewCalls, most_checkpoint_calls}
+use Rattle.iol_flush.specs.Stages.{failure_of, is_full, disk_of, calls_owed, HasFewCalls, most_checkpoint_calls}
 use Rattle.iol_flush.specs.Steps.{HasWritten, HasCheckpointed, HasBegun, HasMade, IsDiskStep, IsUnfit, writing_of, checkpoint_of}
 use Rattle.iol_flush.specs.Turns.{calls_needed}
 use Rattle.iol_flush.specs.declared.fault.FlushFault.{FlushFault}

@@ -1,10 +1,10 @@
 -- The moments of a run, and what a power stop leaves.
-use Rattle.std.proofs.Common.{◌≡◌, refl, ◌<◌, ◌+◌, ℕ, zero, suc, true, IsTrue, List, [], ◌∷◌, ◌++◌, length, take, slice_index_or, All, ap, sym, ◌∙◌, subst, arith}
+use Rattle.std.proofs.Common.{◌≡◌, refl, ℕ, zero, suc, true, IsTrue, List, [], ◌∷◌, ◌++◌, take, All, arith}
 use Rattle.iol_types.specs.State.{State, legal}
 use Rattle.iol_disk.specs.Content.{Image, IsImageSince}
 use Rattle.iol_disk.specs.Disk.{Disk}
 use Rattle.iol_journal.specs.Runs.{HasPrefix, Mark}
-use Rattle.iol_trace.specs.Events.{Event, Stamp}
+use Rattle.iol_trace.specs.Events.{Stamp}
 use Rattle.iol_trace.specs.Words.{accepted, numbers, acked, acked_by, clock_after, RiseByOne}
 use Rattle.iol_trace.specs.CrashPrefix.{CrashPrefix, marks_from, marks_of}
 

@@ -1,9 +1,9 @@
 -- More events behind those of a run.
-use Rattle.std.proofs.Common.{◌≡◌, refl, ◌≤◌, ◌+◌, ◌⊎◌, inl, inr, ⊎_elim, ℕ, zero, suc, List, [], ◌∷◌, ◌++◌, length, fold, ap, sym, ◌∙◌, subst, arith, append_assoc}
+use Rattle.std.proofs.Common.{◌≡◌, refl, ◌+◌, ◌⊎◌, inl, inr, ⊎_elim, ℕ, List, [], ◌∷◌, ◌++◌, length, ap, sym, ◌∙◌, subst, arith, append_assoc}
 use Rattle.std.proofs.lemmas.List.Sums.{fold-append}
 use Rattle.iol_types.specs.Command.{CommandValue}
-use Rattle.iol_trace.specs.Events.{Event, Stamp}
-use Rattle.iol_trace.specs.Words.{command_in, number_in, accepted, numbers, acked, acked_by, clock_after, IsFailure, HasFailure, RiseByOne}
+use Rattle.iol_trace.specs.Events.{Stamp}
+use Rattle.iol_trace.specs.Words.{command_in, number_in, accepted, numbers, acked, acked_by, clock_after, HasFailure, RiseByOne}
 
 pub accepted-append : (events more : List Stamp) → accepted (events ++ more) ≡ accepted events ++ accepted more
 accepted-append [] more = refl

@@ -1,4 +1,4 @@
-use Rattle.iol_flush.proofs.Keeping.{begins_checkpoint, keeps_self}
+use Rattle.iol_flush.proofs.Keeping.{begins_checkpoint}
 use Rattle.iol_flush.proofs.disk_call.begin_checkpoint.Goals as goal
 
 pub returns-in-Ok-clause-run : goal.returns-in-Ok-clause-run

@@ -1,0 +1,7 @@
+pub mod InStep
+pub mod Serving
+pub mod Batches
+pub mod Telling
+pub mod Marking
+pub mod Making
+pub mod Crash

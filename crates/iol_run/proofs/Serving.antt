@@ -1,0 +1,94 @@
+-- A core stays in step with its flusher in each turn, and the run of its journal goes on.
+use Rattle.std.proofs.Common.{◌≡◌, refl, Bool, true, false, if◌then◌else◌, List, Some, None, Ok, Err, sym, subst, rules}
+use Rattle.iol_types.specs.Command.{CommandValue}
+use Rattle.iol_types.specs.State.{after}
+use Rattle.iol_disk.specs.Disk.{Disk}
+use Rattle.iol_disk.specs.declared.fault.DiskFault.{DiskFault}
+use Rattle.iol_core.specs.Core.{CoreView}
+use Rattle.iol_core.specs.Submit.{has_failed}
+use Rattle.iol_core.specs.declared.stop.StopCause.TheVariants as cause
+use Rattle.iol_flush.proofs.Turns.{goes_on}
+use Rattle.iol_flush.specs.Flushing.{IsFlushing, KeepsRun}
+use Rattle.iol_flush.specs.Stages.{FlusherView, is_full, failure_of}
+use Rattle.iol_flush.specs.Steps.{HasWritten, HasCheckpointed, HasBegun, HasMade, IsDiskStep, writing_of, checkpoint_of}
+use Rattle.iol_flush.specs.declared.fault.FlushFault.TheVariants as fault
+use Rattle.iol_flush.specs.declared.stage.Stage.{Stage}
+use Rattle.iol_flush.specs.declared.stage.Stage.TheVariants.{Resting, Given, Checkpointing, Writing, Publishing, Failed}
+use Rattle.iol_front.specs.Fronts.{Start}
+use Rattle.iol_journal.specs.CheckpointViews.{CheckpointingView}
+use Rattle.iol_journal.specs.Journals.{JournalView, WritingView, values}
+use Rattle.iol_journal.specs.declared.batch.Batch.{Batch}
+use Rattle.iol_run.specs.CoreOnDisk.{IsInFlight, IsDurable, HasFlight, IsInStep, KeepsRunning}
+use Rattle.iol_run.specs.Turns.{failed_core}
+
+module _ {D : Type 0} (disk : D → Disk) (start : Start) where
+  -- what a flusher has in flight after a disk call is what it had before
+  written_flight : (core : CoreView) (w : WritingView D) (new : Stage D) → HasWritten w new → IsInFlight core w.commands → HasFlight core new
+  written_flight core w (Writing v) has is = subst (λ (cs : List CommandValue). IsInFlight core cs) (sym has.3) is
+  written_flight core w (Publishing j written) has is = subst (λ (cs : List CommandValue). IsInFlight core cs) (sym has.4) is
+  written_flight core w (Resting j) has is = absurd has
+  written_flight core w (Given j b) has is = absurd has
+  written_flight core w (Checkpointing c b) has is = absurd has
+  written_flight core w (Failed d f) has is = absurd has
+
+  checkpointed_flight : (core : CoreView) (c : CheckpointingView D) (batch : Batch) (new : Stage D) → HasCheckpointed c batch new
+      → IsInFlight core (values batch.commands.items) → HasFlight core new
+  checkpointed_flight core c batch (Checkpointing d kept) has is = subst (λ (b : Batch). IsInFlight core (values b.commands.items)) (sym has.2) is
+  checkpointed_flight core c batch (Given j kept) has is = subst (λ (b : Batch). IsInFlight core (values b.commands.items)) (sym has.2) is
+  checkpointed_flight core c batch (Resting j) has is = absurd has
+  checkpointed_flight core c batch (Writing w) has is = absurd has
+  checkpointed_flight core c batch (Publishing j written) has is = absurd has
+  checkpointed_flight core c batch (Failed d f) has is = absurd has
+
+  begun_flight : (core : CoreView) (full : Bool) (j : JournalView D) (batch : Batch) (new : Stage D) → HasBegun full j batch new
+      → IsInFlight core (values batch.commands.items) → HasFlight core new
+  begun_flight core true j batch new has is = checkpointed_flight core (checkpoint_of j) batch new has is
+  begun_flight core false j batch new has is = written_flight core (writing_of j (values batch.commands.items)) new has.1 is
+
+  made_flight : (core : CoreView) (old new : Stage D) → HasMade old new → HasFlight core old → HasFlight core new
+  made_flight core (Given j batch) new has is = begun_flight core (is_full j) j batch new has is
+  made_flight core (Checkpointing c batch) new has is = checkpointed_flight core c batch new has is
+  made_flight core (Writing w) new has is = written_flight core w new has is
+  made_flight core (Resting j) new has is = absurd has
+  made_flight core (Publishing j written) new has is = absurd has
+  made_flight core (Failed d f) new has is = absurd has
+
+  pub called_in_step : (core : CoreView) (old new : FlusherView D) → new.published ≡ old.published → IsDiskStep disk old.stage new.stage (Ok tt)
+      → IsInStep start core old None → IsInStep start core new None
+  called_in_step core old new same step is = (
+    subst (λ (cs : List CommandValue). IsDurable start core cs) (sym same) is.0,
+    made_flight core old.stage new.stage step.0 is.1,
+    goes_on disk old.stage new.stage (Ok tt) step is.2,
+  )
+
+  -- a disk call has failed, and the core knows it
+  knows : (stopped : Bool) → has_failed (Some (if stopped then cause.DiskFailed else cause.DiskFailed)) ≡ true
+  knows true = refl
+  knows false = refl
+
+  failed_flight : (core : CoreView) (new : Stage D) (why : DiskFault) → failure_of new ≡ Some why → HasFlight (failed_core core) new
+  failed_flight core (Failed d f) why is = knows (has_failed core.stopped)
+  failed_flight core (Resting j) why is = search rules
+  failed_flight core (Given j b) why is = search rules
+  failed_flight core (Checkpointing c b) why is = search rules
+  failed_flight core (Writing w) why is = search rules
+  failed_flight core (Publishing j written) why is = search rules
+
+  pub failed_in_step : (core : CoreView) (old new : FlusherView D) (why : DiskFault) → new.published ≡ old.published
+      → IsDiskStep disk old.stage new.stage (Err (fault.Disk why)) → IsInStep start core old None → IsInStep start (failed_core core) new None
+  failed_in_step core old new why same step is = (
+    subst (λ (cs : List CommandValue). IsDurable start (failed_core core) cs) (sym same) (record { number = is.0.number; state = is.0.state }),
+    failed_flight core new.stage why step.0,
+    goes_on disk old.stage new.stage (Err (fault.Disk why)) step is.2,
+  )
+
+  -- the run goes on with a disk call
+  pub called_running : (core after : CoreView) (old new : FlusherView D) → new.published ≡ old.published → after.queue ≡ core.queue
+      → KeepsRun disk old.stage new.stage
+      → KeepsRunning disk start (record { core = core; flusher = old; committed = None }) (record { core = after; flusher = new; committed = None })
+  called_running core after old new same queue keeps = record {
+    goes_on = λ marks was.
+        subst (λ (cs : List CommandValue). IsFlushing disk start.number start.state cs after.queue marks new.stage) (sym same)
+        (subst (λ (cs : List CommandValue). IsFlushing disk start.number start.state old.published cs marks new.stage) (sym queue)
+        (keeps.goes_on start.number start.state old.published core.queue marks was));
+  }

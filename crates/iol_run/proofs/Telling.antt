@@ -1,0 +1,178 @@
+-- What is told is what happened, and the moments of a run.
+use Rattle.std.proofs.Common.{◌≡◌, refl, ◌+◌, ℕ, List, [], ◌∷◌, ◌++◌, length, drop, Option, Some, None, Result, Ok, Err, ap, sym, ◌∙◌, subst, arith, append-nil, append_assoc, length-append}
+use Rattle.iol_types.specs.Command.{CommandValue, command_of}
+use Rattle.iol_disk.specs.Disk.{Disk}
+use Rattle.iol_core.specs.Core.{CoreView, live_number}
+use Rattle.iol_core.specs.Submit.{IsSubmit, queued}
+use Rattle.iol_core.specs.Telling.{refusal_of}
+use Rattle.iol_core.specs.declared.ticket.SubmitFault.{SubmitFault}
+use Rattle.iol_flush.specs.Stages.{FlusherView, need_of}
+use Rattle.iol_flush.specs.declared.need.Need.{Need}
+use Rattle.iol_flush.specs.declared.need.Need.TheVariants as need
+use Rattle.iol_front.specs.Fronts.{Start, CommittedView}
+use Rattle.iol_trace.proofs.Words.{accepted-append, numbers-append, acked-append, rise-append}
+use Rattle.iol_trace.specs.Events.{Event, Accepted, Refused, Acknowledged, DiskFailed, Stamp, stamped}
+use Rattle.iol_trace.specs.Words.{accepted, numbers, acked, RiseByOne}
+use Rattle.iol_run.specs.CoreOnDisk.{CoreOnDiskView, IsInFlight, IsInStep, waiting_of, accepted_in}
+use Rattle.iol_run.specs.Runs.{IsTold}
+use Rattle.iol_run.specs.Steps.{Does, submit_told}
+use Rattle.iol_run.specs.Turns.{Acknowledges, Takes, HasCalled, Publishes, Serves, IsTurn}
+use Rattle.iol_run.specs.declared.core_on_disk.Turned.{Turned}
+use Rattle.iol_run.specs.declared.core_on_disk.Turned.TheVariants.{Made, Idle, Waited}
+use Rattle.iol_run.specs.declared.step.Step.{Step}
+use Rattle.iol_run.specs.declared.step.Step.TheVariants.{Client, Flush}
+use Rattle.iol_run.proofs.Batches.{published_in_step, before_is}
+use Rattle.iol_run.proofs.InStep.{waits_more, count_is, all_of}
+
+module _ {D : Type 0} (start : Start) (t : ℕ) where
+  -- a command is accepted
+  accepted_told : (old new : CoreOnDiskView D) (command : CommandValue) (events : List Stamp) → IsInStep start old.core old.flusher old.committed
+      → new.core ≡ queued old.core command → new.flusher ≡ old.flusher → new.committed ≡ old.committed → IsTold start old events
+      → IsTold start new (events ++ stamped t (Accepted (live_number old.core + 1) command ∷ []))
+  accepted_told old new command events step core flusher committed was = record {
+    accepted_is =
+        accepted-append events more
+        ∙ (ap (λ (cs : List CommandValue). cs ++ command ∷ []) was.accepted_is
+        ∙ (append_assoc old.flusher.published (waiting_of old.committed old.core) (command ∷ [])
+        ∙ sym (ap (λ (f : FlusherView D). f.published ++ waiting_of new.committed new.core) flusher
+        ∙ (ap (λ (c : Option CommittedView). old.flusher.published ++ waiting_of c new.core) committed
+        ∙ (ap (λ (c : CoreView). old.flusher.published ++ waiting_of old.committed c) core
+        ∙ ap (λ (cs : List CommandValue). old.flusher.published ++ cs) (waits_more start old.core old.flusher old.committed command step))))));
+    rise =
+        subst (λ (ns : List ℕ). RiseByOne start.number ns) (sym (numbers-append events more))
+        (rise-append start.number (numbers events) ((live_number old.core + 1) ∷ []) was.rise (omega (arith, counted), tt));
+    count =
+        ap length (numbers-append events more)
+        ∙ (omega (arith, was.count, length-append (numbers events) ((live_number old.core + 1) ∷ []), length-append (accepted events) (command ∷ []))
+        ∙ ap length (sym (accepted-append events more)));
+    acked_is = acked-append start.number events more ∙ (was.acked_is ∙ ap (λ (c : CoreView). c.number) (sym core));
+  }
+    where
+      more : List Stamp
+      more = stamped t (Accepted (live_number old.core + 1) command ∷ [])
+
+      counted : start.number + length (numbers events) ≡ live_number old.core
+      counted =
+          ap (λ (n : ℕ). start.number + n) (was.count ∙ ap length was.accepted_is)
+          ∙ count_is start old.core old.flusher old.committed step
+
+  -- an event that accepts and acknowledges nothing, where the master has the same commands and number
+  quiet_told : (old new : CoreOnDiskView D) (events : List Stamp) (more : List Stamp) → accepted more ≡ [] → numbers more ≡ []
+      → acked (acked start.number events) more ≡ new.core.number → accepted_in new ≡ accepted_in old → IsTold start old events → IsTold start new (events ++ more)
+  quiet_told old new events more none no_number ack same was = record {
+    accepted_is = accepted_same ∙ (was.accepted_is ∙ sym same);
+    rise = subst (λ (ns : List ℕ). RiseByOne start.number ns) (sym numbers_same) was.rise;
+    count = ap length numbers_same ∙ (was.count ∙ ap length (sym accepted_same));
+    acked_is = acked-append start.number events more ∙ ack;
+  }
+    where
+      accepted_same : accepted (events ++ more) ≡ accepted events
+      accepted_same = accepted-append events more ∙ (ap (λ (cs : List CommandValue). accepted events ++ cs) none ∙ append-nil (accepted events))
+
+      numbers_same : numbers (events ++ more) ≡ numbers events
+      numbers_same = numbers-append events more ∙ (ap (λ (ns : List ℕ). numbers events ++ ns) no_number ∙ append-nil (numbers events))
+
+  -- nothing is told
+  silent_told : (old new : CoreOnDiskView D) (events : List Stamp) → new.core.number ≡ old.core.number → accepted_in new ≡ accepted_in old
+      → IsTold start old events → IsTold start new (events ++ [])
+  silent_told old new events number same was = quiet_told old new events [] refl refl (was.acked_is ∙ sym number) same was
+
+  -- a client's command
+  submit_is_told : (old new : CoreOnDiskView D) (command : CommandValue) (events : List Stamp) (answer : Result ℕ SubmitFault)
+      → IsInStep start old.core old.flusher old.committed → IsSubmit old.core command new.core answer → new.flusher ≡ old.flusher
+      → new.committed ≡ old.committed → IsTold start old events → IsTold start new (events ++ stamped t (submit_told command answer))
+  submit_is_told old new command events (Ok n) step is flusher committed was =
+      subst (λ (m : ℕ). IsTold start new (events ++ stamped t (Accepted m command ∷ []))) (sym is.1)
+      (accepted_told old new command events step is.2 flusher committed was)
+  submit_is_told old new command events (Err f) step is flusher committed was =
+      quiet_told old new events (stamped t (Refused (refusal_of f) ∷ [])) refl refl
+      (was.acked_is ∙ ap (λ (c : CoreView). c.number) (sym is.1))
+      (ap (λ (f : FlusherView D). f.published ++ waiting_of new.committed new.core) flusher
+      ∙ (ap (λ (c : Option CommittedView). old.flusher.published ++ waiting_of c new.core) committed
+      ∙ ap (λ (c : CoreView). old.flusher.published ++ waiting_of old.committed c) is.1))
+      was
+
+  -- a batch that is acknowledged
+  acknowledged_told : (old new : CoreOnDiskView D) (committed : CommittedView) (events : List Stamp) (told : List Event) → old.committed ≡ Some committed
+      → IsInFlight old.core committed.commands → Acknowledges old new told → IsTold start old events → IsTold start new (events ++ stamped t told)
+  acknowledged_told old new committed events told there flight is was =
+      subst (λ (es : List Event). IsTold start new (events ++ stamped t es)) (sym is.3)
+      (quiet_told old new events (stamped t (Acknowledged new.core.number ∷ [])) refl refl refl
+      (ap (λ (f : FlusherView D). f.published ++ waiting_of new.committed new.core) is.1
+      ∙ (ap (λ (c : Option CommittedView). old.flusher.published ++ waiting_of c new.core) is.2
+      ∙ (ap (λ (c : CoreView). old.flusher.published ++ c.queue) is.0
+      ∙ (ap (λ (n : ℕ). old.flusher.published ++ drop n old.core.queue) flight.flight
+      ∙ ap (λ (c : Option CommittedView). old.flusher.published ++ waiting_of c old.core) (sym there)))))
+      was)
+
+  -- where no batch is to be acknowledged, and the queue and the published list stay
+  stays_told : (old new : CoreOnDiskView D) → old.committed ≡ None → new.committed ≡ None → new.flusher.published ≡ old.flusher.published
+      → new.core.queue ≡ old.core.queue → accepted_in new ≡ accepted_in old
+  stays_told old new before after published queue =
+      ap (λ (c : Option CommittedView). new.flusher.published ++ waiting_of c new.core) after
+      ∙ (ap (λ (cs : List CommandValue). cs ++ new.core.queue) published
+      ∙ (ap (λ (cs : List CommandValue). old.flusher.published ++ cs) queue
+      ∙ ap (λ (c : Option CommittedView). old.flusher.published ++ waiting_of c old.core) (sym before)))
+
+  same_told : (old new : CoreOnDiskView D) (events : List Stamp) (told : List Event) → new ≡ old → told ≡ [] → IsTold start old events
+      → IsTold start new (events ++ stamped t told)
+  same_told old new events told same none was =
+      subst (λ (es : List Event). IsTold start new (events ++ stamped t es)) (sym none)
+      (silent_told old new events (ap (λ (m : CoreOnDiskView D). m.core.number) same) (ap accepted_in same) was)
+
+  takes_told : (old new : CoreOnDiskView D) (events : List Stamp) (told : List Event) (turned : Turned) → old.committed ≡ None → Takes old new told turned
+      → IsTold start old events → IsTold start new (events ++ stamped t told)
+  takes_told old new events told Made none is was =
+      subst (λ (es : List Event). IsTold start new (events ++ stamped t es)) (sym is.5)
+      (silent_told old new events (ap (λ (c : CoreView). c.number) is.1.others)
+      (stays_told old new none is.4 is.3 (ap (λ (c : CoreView). c.queue) is.1.others)) was)
+  takes_told old new events told Idle none is was = same_told old new events told is.1 is.2 was
+  takes_told old new events told Waited none is was = same_told old new events told is.1 is.2 was
+
+  called_told : (disk : D → Disk) (old new : CoreOnDiskView D) (events : List Stamp) (told : List Event) → old.committed ≡ None → new.committed ≡ None
+      → new.flusher.published ≡ old.flusher.published → HasCalled disk old new told → IsTold start old events → IsTold start new (events ++ stamped t told)
+  called_told disk old new events [] none after published is was =
+      silent_told old new events (ap (λ (c : CoreView). c.number) is.0)
+      (stays_told old new none after published (ap (λ (c : CoreView). c.queue) is.0)) was
+  called_told disk old new events (e ∷ told) none after published is was =
+      subst (λ (es : List Event). IsTold start new (events ++ stamped t es)) (sym is.1)
+      (quiet_told old new events (stamped t (DiskFailed ∷ [])) refl refl (was.acked_is ∙ sym (ap (λ (c : CoreView). c.number) is.2))
+      (stays_told old new none after published (ap (λ (c : CoreView). c.queue) is.2)) was)
+
+  publishes_told : (old new : CoreOnDiskView D) (events : List Stamp) (told : List Event) → old.committed ≡ None
+      → IsInStep start old.core old.flusher None → Publishes old new told → IsTold start old events → IsTold start new (events ++ stamped t told)
+  publishes_told old new events told none step is was =
+      let committed = is.0 in
+      let then_ = published_in_step start old.core old.flusher new.flusher committed is.1 step in
+      subst (λ (es : List Event). IsTold start new (events ++ stamped t es)) (sym is.4)
+      (silent_told old new events (ap (λ (c : CoreView). c.number) is.2)
+      (ap (λ (c : Option CommittedView). new.flusher.published ++ waiting_of c new.core) is.3
+      ∙ (ap (λ (c : CoreView). new.flusher.published ++ drop (length committed.commands) c.queue) is.2
+      ∙ (all_of old.core new.flusher.published committed.before committed.commands then_.1 then_.2
+      ∙ (ap (λ (cs : List CommandValue). cs ++ old.core.queue) (before_is old.flusher.stage old.flusher.published new.flusher committed is.1)
+      ∙ ap (λ (c : Option CommittedView). old.flusher.published ++ waiting_of c old.core) (sym none)))))
+      was)
+
+  serves_told : (disk : D → Disk) (need : Need) (old new : CoreOnDiskView D) (events : List Stamp) (told : List Event) (turned : Turned) → old.committed ≡ None
+      → IsInStep start old.core old.flusher None → Serves disk need old new told turned → IsTold start old events → IsTold start new (events ++ stamped t told)
+  serves_told disk need.Batch old new events told turned none step is was = takes_told old new events told turned none is was
+  serves_told disk need.Disk old new events told Made none step is was = called_told disk old new events told none is.1 is.0 is.2 was
+  serves_told disk need.Disk old new events told Idle none step is was = absurd is
+  serves_told disk need.Disk old new events told Waited none step is was = same_told old new events told is.1 is.2 was
+  serves_told disk need.Publish old new events told turned none step is was = publishes_told old new events told none step is.1 was
+  serves_told disk need.Stopped old new events told turned none step is was = same_told old new events told is.1 is.2 was
+
+  turn_told : (disk : D → Disk) (committed : Option CommittedView) (old new : CoreOnDiskView D) (events : List Stamp) (told : List Event) (turned : Turned)
+      → old.committed ≡ committed → IsInStep start old.core old.flusher committed → IsTurn disk committed old new told turned
+      → IsTold start old events → IsTold start new (events ++ stamped t told)
+  turn_told disk (Some committed) old new events told turned there step is was = acknowledged_told old new committed events told there step.2 is.1 was
+  turn_told disk None old new events told turned there step is was = serves_told disk (need_of old.flusher.stage) old new events told turned there step is was
+
+  -- what a step tells is what happened
+  pub step_told : (disk : D → Disk) (step : Step) (old new : CoreOnDiskView D) (events : List Stamp) (told : List Event) (turned : Turned)
+      → IsInStep start old.core old.flusher old.committed → Does disk step old new told turned → IsTold start old events
+      → IsTold start new (events ++ stamped t told)
+  step_told disk (Client change) old new events told turned step is was =
+      subst (λ (es : List Event). IsTold start new (events ++ stamped t es)) (sym is.1.4)
+      (submit_is_told old new (command_of change) events is.1.0 step is.1.1 is.1.2 is.1.3 was)
+  step_told disk Flush old new events told turned step is was = turn_told disk old.committed old new events told turned refl step is was

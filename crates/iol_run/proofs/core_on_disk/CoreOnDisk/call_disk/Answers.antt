@@ -1,0 +1,23 @@
+use Rattle.std.proofs.Common.{◌≡◌, refl, None, ap, ◌∙◌}
+use Rattle.iol_core.specs.Core.{CoreView}
+use Rattle.iol_run.specs.CoreOnDisk.{CoreOnDiskView}
+use Rattle.iol_run.proofs.InStep.{from_none, to_none}
+use Rattle.iol_run.proofs.Serving.{called_running}
+use Rattle.iol_run.proofs.core_on_disk.CoreOnDisk.call_disk.Goals as goal
+
+pub returns-in-Ok-clause-run : goal.returns-in-Ok-clause-run
+returns-in-Ok-clause-run g c =
+    let i = c.self.inside in
+    let none : i.committed ≡ None = ap (λ (m : CoreOnDiskView g.row.D.Denot). m.committed) c.self.view_is ∙ c.requires.0 in
+    to_none g.D.SectorDisk.disk g.F.Name.front.start c.args.self.now i.core c.disk_step.new.self i.committed none
+    (from_none g.D.SectorDisk.disk g.F.Name.front.start c.args.self.now _ i.core i.flusher i.committed c.self.view_is none
+    (called_running g.D.SectorDisk.disk g.F.Name.front.start i.core i.core i.flusher c.disk_step.new.self c.disk_step.ensures.published refl c.disk_step.ensures.run))
+
+pub returns-in-Err-Disk-clause-run : goal.returns-in-Err-Disk-clause-run
+returns-in-Err-Disk-clause-run g c =
+    let i = c.self.inside in
+    let none : i.committed ≡ None = ap (λ (m : CoreOnDiskView g.row.D.Denot). m.committed) c.self.view_is ∙ c.requires.0 in
+    to_none g.D.SectorDisk.disk g.F.Name.front.start c.args.self.now c.stop.new.self c.disk_step.new.self i.committed none
+    (from_none g.D.SectorDisk.disk g.F.Name.front.start c.args.self.now _ i.core i.flusher i.committed c.self.view_is none
+    (called_running g.D.SectorDisk.disk g.F.Name.front.start i.core c.stop.new.self i.flusher c.disk_step.new.self c.disk_step.ensures.published
+    (ap (λ (core : CoreView). core.queue) c.stop.ensures) c.disk_step.ensures.run))

@@ -1,0 +1,38 @@
+use Rattle.std.proofs.Common.{ℕ, map, sym, subst}
+use Rattle.iol_disk.specs.Content.{clock}
+use Rattle.iol_front.specs.Fronts.{FrontId}
+use Rattle.iol_journal.specs.Runs.{begun}
+use Rattle.iol_journal.specs.Running.{IsRunAtRest}
+use Rattle.iol_trace.specs.CrashPrefix.{CrashPrefix}
+use Rattle.iol_run.specs.Events.{stamp_of}
+use Rattle.iol_run.specs.Schedules.{HasRun}
+use Rattle.iol_run.specs.declared.schedule.Ended.{Ended}
+use Rattle.iol_run.proofs.Crash.{begins, leaves}
+use Rattle.iol_run.proofs.schedule.carry_out.Goals as goal
+
+pub returns-in-Ok-clause-trace : goal.returns-in-Ok-clause-trace
+returns-in-Ok-clause-trace g c =
+    let d = g.D.SectorDisk.disk in
+    let old = c.in-Ok.run' in
+    let new = c.make_steps-ended.new.run in (
+      c.args.journal,
+      old,
+      new,
+      c.in-Ok.ensures.fresh,
+      subst (λ (e : Ended). HasRun d c.args.steps.now e c.end.result.waits old new) (sym c.end.ensures.counted.0)
+          (subst (λ (n : ℕ). HasRun d c.args.steps.now c.make_steps-ended.result.0 n old new) (sym c.end.ensures.counted.1) c.make_steps-ended.ensures.made),
+      c.end.ensures.told.0,
+      c.end.ensures.told.1,
+      c.end.ensures.state,
+      c.end.ensures.disk,
+    )
+
+pub returns-in-Ok-clause-crash_prefix : goal.returns-in-Ok-clause-crash_prefix
+returns-in-Ok-clause-crash_prefix g c = λ resting.
+    let d = g.D.SectorDisk.disk in
+    let start = g.F.Name.front.start in
+    let new = c.make_steps-ended.new.run in
+    let named = subst (λ (f : FrontId). IsRunAtRest d (begun (clock (d c.args.journal.disk).content) f.start.number f.start.state) c.args.journal) c.requires.name resting in
+    let left = leaves d start new c.end.ensures.happened (c.make_steps-ended.ensures.kept.goes_on (begins d start c.args.journal c.in-Ok.run' c.in-Ok.ensures.fresh named)) in
+    subst (λ (f : FrontId). CrashPrefix (d c.end.result.disk) c.end.result.begun f.start.number f.start.state (map stamp_of c.end.result.events.items)) (sym c.requires.name)
+    (rw (c.end.ensures.disk, c.end.ensures.told.0, c.end.ensures.told.1) left)

@@ -1,0 +1,28 @@
+use Rattle.std.proofs.Common.{◌≡◌, ℕ, map, IfOk, sym, ap, ◌∙◌, subst}
+use Rattle.iol_types.specs.State.{State}
+use Rattle.iol_disk.specs.Content.{clock, reads}
+use Rattle.iol_front.specs.Fronts.{Start}
+use Rattle.iol_journal.specs.Runs.{begun}
+use Rattle.iol_journal.specs.Running.{IsRunAtRest}
+use Rattle.iol_trace.specs.CrashPrefix.{CrashPrefix}
+use Rattle.iol_run.specs.Events.{stamp_of}
+use Rattle.iol_run.proofs.Crash.{means_is, of_trace}
+use Rattle.iol_run.proofs.schedule.run_schedule.Goals as goal
+
+pub returns-in-Ok-new-clause-crash_prefix : goal.returns-in-Ok-new-clause-crash_prefix
+returns-in-Ok-new-clause-crash_prefix g c =
+    let disk = g.D.SectorDisk.disk in
+    let d = disk c.args.disk in
+    let journal = c.in-Ok.journal in
+    let front = c.in-Ok-new.front in
+    of_trace c.carry_out.result d (λ first start trace. CrashPrefix (disk trace.disk) trace.begun first start (map stamp_of trace.events.items))
+    (λ h kept first start means.
+    let is = means_is d.sectors (reads d.content) journal.standing first start (c.in-Ok.ensures.found h) means in
+    let number : front.start.number ≡ journal.standing.number = ap (λ (s : Start). s.number) c.in-Ok-new.ensures ∙ c.number.ensures.number in
+    let state : front.start.state ≡ journal.standing.state = ap (λ (s : Start). s.state) c.in-Ok-new.ensures ∙ c.in-Ok.ensures.state in
+    let resting : IsRunAtRest disk (begun (clock (disk journal.disk).content) front.start.number front.start.state) journal =
+    subst (λ (n : ℕ). IsRunAtRest disk (begun (clock (disk journal.disk).content) n front.start.state) journal) (sym number)
+    (subst (λ (s : State). IsRunAtRest disk (begun (clock (disk journal.disk).content) journal.standing.number s) journal) (sym state) (c.in-Ok.ensures.begins (λ h. kept))) in
+    subst (λ (n : ℕ). IfOk c.carry_out.result (λ trace. CrashPrefix (disk trace.disk) trace.begun n start (map stamp_of trace.events.items))) (number ∙ is.0)
+    (subst (λ (s : State). IfOk c.carry_out.result (λ trace. CrashPrefix (disk trace.disk) trace.begun front.start.number s (map stamp_of trace.events.items))) (state ∙ is.1)
+    (c.carry_out.ensures.crash_prefix resting)))

@@ -1,0 +1,23 @@
+-- Events of a run as data.
+use Rattle.std.specs.Prelude.{List, [], ◌∷◌, Option, Some, None}
+use Rattle.iol_core.specs.Telling.{refusal_of}
+use Rattle.iol_trace.specs.Events as trace
+use Rattle.iol_run.specs.declared.event.Event.{Event}
+use Rattle.iol_run.specs.declared.run.Stamped.{Stamped}
+use Rattle.iol_run.specs.declared.event.Event.TheVariants.{Accepted, Refused, Acknowledged, DiskFailed}
+
+-- an event as data (own)
+abbrev pub event_of : Event → trace.Event
+event_of (Accepted number said) = trace.Accepted number said.command
+event_of (Refused fault) = trace.Refused (refusal_of fault)
+event_of (Acknowledged number) = trace.Acknowledged number
+event_of DiskFailed = trace.DiskFailed
+
+-- what is told, if anything is (own)
+abbrev pub told_of : Option Event → List trace.Event
+told_of None = []
+told_of (Some event) = event_of event ∷ []
+
+-- an event with its moment, as data (own)
+abbrev pub stamp_of : Stamped → trace.Stamp
+stamp_of stamped = record { event = event_of stamped.event; clock = stamped.moment }

@@ -1,0 +1,230 @@
+//! A core, and the flusher that brings its batches to the disk, on one thread.
+
+ghost use Rattle.std.specs.Prelude.{◌≡◌, true, [], ◌∷◌, None, is_some, IfOk, IfErr};
+ghost use Rattle.iol_types.specs.Command.{command_of};
+ghost use Rattle.iol_core.specs.Submit.{IsSubmit};
+ghost use Rattle.iol_flush.specs.declared.stage.Stage.TheVariants as stage;
+ghost use Rattle.iol_flush.specs.Stages as flush;
+ghost use Rattle.iol_flush.specs.Stages.{need_of, disk_of};
+ghost use Rattle.iol_flush.specs.declared.need.Need.TheVariants as need;
+ghost use Rattle.iol_run.specs.CoreOnDisk.{IsInStep, KeepsRunning};
+ghost use Rattle.iol_run.specs.Events.{event_of, told_of};
+ghost use Rattle.iol_run.specs.Turns.{IsTurn, Takes, CallsDisk, Publishes};
+
+use crate::event::Event;
+use iol_core::{Core, StopCause, SubmitFault, Ticket};
+use iol_disk::SectorDisk;
+use iol_flush::{FlushEnd, FlushFault, Flusher, Need};
+use iol_front::{Committed, Front, Name};
+use iol_journal::Journal;
+use iol_types::{Change, MasterState};
+use std::alloc::Global;
+use std::marker::Model;
+
+/// A core and its flusher. A contract sees the record `CoreOnDiskView` of `specs/CoreOnDisk.antt`.
+pub struct CoreOnDisk<D: SectorDisk, F: Name> {
+    core: Core<F>,
+    flusher: Flusher<D, F>,
+    // published, and not yet acknowledged
+    committed: Option<Committed<F>>,
+}
+
+impl<D: SectorDisk, F: Name> Model for CoreOnDisk<D, F> {
+    ghost use Rattle.iol_run.specs.CoreOnDisk.{CoreOnDiskView, IsInStep};
+
+    ghost Value = { CoreOnDiskView D };
+
+    ghost view = { λ m. record { core = m.core; flusher = m.flusher; committed = m.committed } };
+
+    ghost invariant = { λ m. IsInStep F.front.start m.core m.flusher m.committed };
+}
+
+/// What a turn of the flusher came to.
+#[derive(Clone, Copy, Debug, PartialEq, Eq)]
+pub enum Turned {
+    /// It took a batch, made a disk call, published or acknowledged.
+    Made,
+    /// Nothing was to be done, or a disk call had failed before.
+    Idle,
+    /// It wanted memory; nothing changed, and the next turn tries again.
+    Waited,
+}
+
+/// A turn of the flusher: what it came to, and what it tells.
+#[derive(Drop)]
+pub struct Turn {
+    pub turned: Turned,
+    pub event: Option<Event>,
+}
+
+impl Turn {
+    // It tells nothing.
+    fn silent(turned: Turned) -> Turn
+        ensures { (result.turned ≡ turned) × (told_of result.event ≡ []) }
+    {
+        Turn {
+            turned,
+            event: None,
+        }
+    }
+
+    // Something is made, and told.
+    fn telling(event: Event) -> Turn
+        ensures { (result.turned ≡ Turned.Made) × (told_of result.event ≡ event_of event ∷ []) }
+    {
+        Turn {
+            turned: Turned::Made,
+            event: Some(event),
+        }
+    }
+}
+
+impl<D: SectorDisk, F: Name> CoreOnDisk<D, F> {
+    /// The core and the flusher of a journal that was just recovered, with its state, over a front of that number and
+    /// state.
+    ///
+    /// # Errors
+    /// Out of memory; the disk is handed back.
+    pub fn new(
+        alloc: Global,
+        front: Front,
+        journal: Journal<D>,
+        state: MasterState,
+    ) -> Result<CoreOnDisk<D, F>, D>
+        requires name { front ≡ F.front }
+        requires number { front.start.number ≡ journal.history.first }
+        requires state { (front.start.state ≡ journal.history.start) × (state ≡ journal.history.start) }
+        requires list { journal.history.commands ≡ [] }
+        ensures flusher { IfOk result (λ master. master.flusher ≡ record { stage = stage.Resting journal; published = [] }) }
+        ensures committed { IfOk result (λ master. master.committed ≡ None) }
+        ensures queue { IfOk result (λ master. master.core.queue ≡ []) }
+        ensures core { IfOk result (λ master. (master.core.number ≡ journal.standing.number) × (master.core.durable ≡ journal.standing.state)) }
+        ensures disk { IfErr result (λ disk. disk ≡ journal.disk) }
+    {
+        let mut publisher = front.publisher::<F>();
+        let Ok(pass) = publisher.pass() else {
+            return Err(journal.disk());
+        };
+        match Core::new(alloc, state, pass) {
+            Ok(core) => Ok(CoreOnDisk {
+                core,
+                flusher: Flusher::new(journal, publisher),
+                committed: None,
+            }),
+            Err(_) => Err(journal.disk()),
+        }
+    }
+
+    /// The disk and the durable state.
+    pub fn end(self) -> (D, MasterState)
+        ensures disk { result.0 ≡ disk_of self.flusher.stage }
+        ensures state { result.1 ≡ self.core.durable }
+    {
+        let CoreOnDisk {
+            core,
+            flusher,
+            committed: _,
+        } = self;
+        let disk = match flusher.end() {
+            FlushEnd::Closed(journal, _publisher) => journal.disk(),
+            FlushEnd::Midway(disk) => disk,
+            FlushEnd::Faulted(disk, _fault) => disk,
+        };
+        (disk, core.end())
+    }
+
+    /// Takes a change that a client asks for.
+    ///
+    /// # Errors
+    /// As `Core::submit`.
+    pub fn submit(&mut self, change: Change) -> Result<Ticket, SubmitFault>
+        ensures submit { IsSubmit self.old.core (command_of change) self.new.core result }
+        ensures others { (self.new.flusher ≡ self.old.flusher) × (self.new.committed ≡ self.old.committed) }
+        ensures in_step { IsInStep F.front.start self.old.core self.old.flusher self.old.committed }
+        ensures run { KeepsRunning D.disk F.front.start self.old self.new }
+    {
+        self.core.submit(change)
+    }
+
+    /// One turn of the flusher. A batch that is published is acknowledged; where there is none the flusher's next need is
+    /// met: a batch of the core is taken, one disk call made, or the batch that is durable published.
+    pub fn turn(&mut self) -> Turn
+        ensures turn { IsTurn D.disk self.old.committed self.old self.new (told_of result.event) result.turned }
+        ensures in_step { IsInStep F.front.start self.old.core self.old.flusher self.old.committed }
+        ensures run { KeepsRunning D.disk F.front.start self.old self.new }
+    {
+        if self.committed.is_some() {
+            return self.acknowledge();
+        }
+        match self.flusher.needs() {
+            Need::Batch => self.take(),
+            Need::Disk => self.call_disk(),
+            Need::Publish => self.publish(),
+            Need::Stopped => Turn::silent(Turned::Idle),
+        }
+    }
+
+    // Acknowledges the batch that is published.
+    fn acknowledge(&mut self) -> Turn
+        requires { is_some self.old.committed ≡ true }
+        ensures turn { IsTurn D.disk self.old.committed self.old self.new (told_of result.event) result.turned }
+        ensures run { KeepsRunning D.disk F.front.start self.old self.new }
+    {
+        let Some(committed) = self.committed.take() else {
+            unreachable!()
+        };
+        let Ok(number) = self.core.acknowledge(committed) else {
+            unreachable!()
+        };
+        Turn::telling(Event::Acknowledged { number })
+    }
+
+    // Takes a batch of the core, and gives it to the flusher.
+    fn take(&mut self) -> Turn
+        requires needs { (self.old.committed ≡ None) × (need_of self.old.flusher.stage ≡ need.Batch) }
+        requires stands { flush.IsInStep F.front.start self.old.flusher.stage self.old.flusher.published }
+        ensures turn { Takes self.old self.new (told_of result.event) result.turned }
+        ensures run { KeepsRunning D.disk F.front.start self.old self.new }
+    {
+        match self.core.take_batch(self.flusher.room()) {
+            Ok(Some(batch)) => {
+                let Ok(()) = self.flusher.give(batch) else {
+                    unreachable!()
+                };
+                Turn::silent(Turned::Made)
+            }
+            Ok(None) => Turn::silent(Turned::Idle),
+            Err(_) => Turn::silent(Turned::Waited),
+        }
+    }
+
+    // Makes the next disk call.
+    fn call_disk(&mut self) -> Turn
+        requires { (self.old.committed ≡ None) × (need_of self.old.flusher.stage ≡ need.Disk) }
+        ensures turn { CallsDisk D.disk self.old self.new (told_of result.event) result.turned }
+        ensures run { KeepsRunning D.disk F.front.start self.old self.new }
+    {
+        match self.flusher.disk_step() {
+            Ok(()) => Turn::silent(Turned::Made),
+            Err(FlushFault::Disk(_)) => {
+                self.core.stop(StopCause::DiskFailed);
+                Turn::telling(Event::DiskFailed)
+            }
+            Err(FlushFault::Memory) => Turn::silent(Turned::Waited),
+            Err(FlushFault::Stopped | FlushFault::Misfit) => unreachable!(),
+        }
+    }
+
+    // Publishes the batch that is durable.
+    fn publish(&mut self) -> Turn
+        requires { (self.old.committed ≡ None) × (need_of self.old.flusher.stage ≡ need.Publish) }
+        ensures turn { (result.turned ≡ Turned.Made) × Publishes self.old self.new (told_of result.event) }
+        ensures run { KeepsRunning D.disk F.front.start self.old self.new }
+    {
+        let Ok(committed) = self.flusher.publish() else {
+            unreachable!()
+        };
+        self.committed = Some(committed);
+        Turn::silent(Turned::Made)
+    }
+}

@@ -1,0 +1,44 @@
+//! What a command says, as a value without octets.
+
+ghost use Rattle.std.specs.Prelude.{◌≡◌};
+ghost use Rattle.std.specs.Borrow.{ftrue};
+ghost use Rattle.iol_types.specs.Command.{CommandValue};
+
+use iol_types::Change;
+use std::marker::Model;
+
+/// What a command says. It has no octets: contracts alone see it, so that a trace needs no memory for a set.
+#[derive(Drop)]
+pub struct Said {
+    pub ghost command: { CommandValue },
+}
+
+impl Model for Said {
+    ghost also_owns = { λ _. ftrue };
+}
+
+// What it is read off.
+#[derive(Clone, Copy, Drop)]
+enum Source<'a> {
+    // a change that a client asks for
+    Change(&'a Change),
+}
+
+impl Said {
+    ghost use Rattle.iol_types.specs.Command.{command_of};
+    ghost use Rattle.iol_run.specs.Said.{said_of};
+
+    // What a client's change says.
+    pub(crate) fn by_client(change: &Change) -> Said
+        ensures { result.command ≡ command_of change.now }
+    {
+        Said::read_off(&Source::Change(change))
+    }
+
+    // Proved by hand, as no code can set what contracts alone see.
+    fn read_off(_source: &Source<'_>) -> Said
+        ensures { result ≡ said_of _source.now }
+    {
+        Said {}
+    }
+}

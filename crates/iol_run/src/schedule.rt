@@ -1,0 +1,136 @@
+//! A schedule run from a disk to a trace.
+
+ghost use Rattle.std.specs.Prelude.{◌≡◌, ℕ, [], map, Ok, IfOk, IfErr, OnErr};
+ghost use Rattle.iol_types.specs.State.{State};
+ghost use Rattle.iol_disk.specs.Content.{IsImage, clock};
+ghost use Rattle.iol_disk.specs.Disk.{Disk};
+ghost use Rattle.iol_disk.specs.Moments.{LeavesOnly};
+ghost use Rattle.iol_journal.specs.Kept.{IsKept};
+ghost use Rattle.iol_journal.specs.Meaning.{meaning};
+ghost use Rattle.iol_journal.specs.Reading.{Shows};
+ghost use Rattle.iol_journal.specs.Runs.{begun};
+ghost use Rattle.iol_journal.specs.Running.{IsRunAtRest};
+ghost use Rattle.iol_trace.specs.CrashPrefix.{CrashPrefix};
+ghost use Rattle.iol_run.specs.Events.{stamp_of};
+ghost use Rattle.iol_run.specs.Runs.{KeepsRun};
+ghost use Rattle.iol_run.specs.Schedules.{HasRun, IsTraceOf, fault_disk, waits_of};
+
+use crate::core_on_disk::Turned;
+use crate::moment::Moment;
+use crate::run::{Run, Stamped};
+use crate::step::Step;
+use iol_disk::SectorDisk;
+use iol_front::{Front, Name};
+use iol_journal::{Journal, RecoverFault};
+use iol_types::MasterState;
+use std::alloc::Global;
+use std::marker::Brand;
+
+/// Why no schedule is run.
+pub enum RunFault<D: SectorDisk> {
+    /// The disk is not recovered.
+    Recover(RecoverFault<D>),
+    /// Out of memory; the disk is handed back.
+    Memory(D),
+}
+
+/// How a schedule ended.
+#[derive(Clone, Copy, Debug, PartialEq, Eq)]
+pub enum Ended {
+    /// All steps were made.
+    Whole,
+    /// Memory ran out before a step.
+    Memory,
+}
+
+/// What a schedule did.
+pub struct Trace<D: SectorDisk> {
+    pub events: Vec<Stamped>,
+    /// When recovery had ended.
+    pub begun: Moment,
+    /// How many turns of the flusher met want of memory.
+    pub waits: u64,
+    pub ended: Ended,
+    /// The durable state at the end.
+    pub state: MasterState,
+    pub disk: D,
+}
+
+/// Recovers a disk, and runs a schedule over it.
+///
+/// # Errors
+/// `Recover` where the disk is not recovered, and `Memory`, in this order.
+pub fn run_schedule<D: SectorDisk>(
+    alloc: Global,
+    disk: D,
+    steps: &[Step],
+) -> Result<Trace<D>, RunFault<D>>
+    // On a disk that is kept: a stop after any count of events leaves the state after a prefix of the accepted commands, with
+    // all that were acknowledged.
+    ensures crash_prefix { IfOk result (λ trace. Shows (D.disk disk) (λ image. IsKept (D.disk disk).sectors image → (first : ℕ) (start : State)
+        → meaning (D.disk disk).sectors image ≡ Ok (record { number = first; state = start })
+        → CrashPrefix (D.disk trace.disk) trace.begun first start (map stamp_of trace.events.items))) }
+    // Each step did what its own clause says, and they are the given ones up to the end.
+    ensures steps { IfOk result (λ trace. IsTraceOf D.disk steps.now trace.ended trace.waits (map stamp_of trace.events.items) trace.begun trace.state trace.disk) }
+    // Where no run began, a stop leaves what it might have left before.
+    ensures fault { IfErr result (λ fault. LeavesOnly (D.disk disk) (D.disk (fault_disk fault)) (IsImage (D.disk disk).content)) }
+{
+    match Journal::recover(alloc, disk) {
+        Ok((journal, state)) => match Front::new(alloc, journal.number(), &state) {
+            Ok(front) => carry_out::<D, Brand>(alloc, front, journal, state, steps),
+            Err(_) => Err(RunFault::Memory(journal.disk())),
+        },
+        Err(fault) => Err(RunFault::Recover(fault)),
+    }
+}
+
+// Runs a schedule over a journal that was just recovered.
+fn carry_out<D: SectorDisk, F: Name>(
+    alloc: Global,
+    front: Front,
+    journal: Journal<D>,
+    state: MasterState,
+    steps: &[Step],
+) -> Result<Trace<D>, RunFault<D>>
+    requires name { front ≡ F.front }
+    requires number { front.start.number ≡ journal.history.first }
+    requires start { (front.start.state ≡ journal.history.start) × (state ≡ journal.history.start) }
+    requires list { journal.history.commands ≡ [] }
+    ensures trace { IfOk result (λ trace. IsTraceOf D.disk steps.now trace.ended trace.waits (map stamp_of trace.events.items) trace.begun trace.state trace.disk) }
+    ensures crash_prefix { IsRunAtRest D.disk (begun (clock (D.disk journal.disk).content) front.start.number front.start.state) journal
+        → IfOk result (λ trace. CrashPrefix (D.disk trace.disk) trace.begun front.start.number front.start.state (map stamp_of trace.events.items)) }
+    ensures fault { IfErr result (λ fault. fault_disk fault ≡ journal.disk) }
+{
+    match Run::<D, F>::begin(alloc, front, journal, state) {
+        Ok(mut run) => {
+            let (ended, waits) = make_steps(&mut run, steps);
+            Ok(run.end(ended, waits))
+        }
+        Err(disk) => Err(RunFault::Memory(disk)),
+    }
+}
+
+// Makes steps, up to one for which memory runs out, and counts those that had to wait.
+fn make_steps<D: SectorDisk, F: Name>(run: &mut Run<D, F>, steps: &[Step]) -> (Ended, u64)
+    ensures made { HasRun D.disk steps.now result.0 result.1 run.old run.new }
+    ensures kept { KeepsRun D.disk F.front.start run.old run.new }
+{
+    let mut waits = 0;
+    for step in steps {
+        match run.step(step) {
+            Ok(turned) => waits += waits_of(turned),
+            Err(_) => return (Ended::Memory, waits),
+        }
+    }
+    (Ended::Whole, waits)
+}
+
+// Whether a turn counts as a wait.
+fn waits_of(turned: Turned) -> u64
+    ensures { result ≡ waits_of turned }
+{
+    match turned {
+        Turned::Waited => 1,
+        Turned::Made | Turned::Idle => 0,
+    }
+}
