@@ -73,6 +73,10 @@ pub record Sender : Type 0 where
   pub sends : Sends
   pub busy : ℕ
 
+-- a download of a set that has sent nothing yet (own)
+abbrev pub begun_download : SetValue → Sender
+begun_download set = record { set = set; sends = Opening; busy = 0 }
+
 -- the first of these entries is written, and DS_DownloadEnd where there is none (own)
 abbrev pub writing : List Entry → Sends
 writing [] = Closing

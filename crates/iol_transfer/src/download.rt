@@ -55,11 +55,12 @@ impl Model for Download {
 }
 
 impl Download {
-    ghost use Rattle.iol_transfer.specs.Download.{IsDownload, IsSending, DownloadEndsIn, sent_by, writing, answered_to, IsDownloading, IsDownloadStep, IfGoesOn, IfDone, IfEnds};
+    ghost use Rattle.iol_transfer.specs.Download.{IsDownload, IsSending, DownloadEndsIn, begun_download, sent_by, writing, answered_to, IsDownloading, IsDownloadStep, IfGoesOn, IfDone, IfEnds};
 
     /// A download of this set.
     pub fn begin(set: Arc<DataSet>) -> Download
-        ensures { IsDownloading set.value [] result }
+        ensures begun { result ≡ begun_download set.value }
+        ensures since { IsDownloading set.value [] result }
     {
         Download {
             set,

@@ -1,0 +1,13 @@
+pub mod Reading
+pub mod Fitting
+pub mod Keeping
+pub mod Stages
+pub mod Telling
+pub mod Leading
+pub mod Holding
+pub mod Releasing
+pub mod Knowing
+pub mod Settling
+pub mod SettlingLaws
+pub mod UploadEnds
+pub mod PortLaws

@@ -1,0 +1,196 @@
+-- What the history of a port's machine tells of its transfers.
+use Rattle.std.specs.Prelude.{◌≡◌, ◌⊎◌, ℕ, false, true, List, [], ◌∷◌, ◌++◌, length, slice_index, Option, Some, None, Ok, Err}
+use Rattle.iol_types.specs.Config.{is_manual}
+use Rattle.iol_types.specs.DataSet.{SetValue, IsSet}
+use Rattle.iol_types.specs.declared.key.TheConstants.{DATA_STORAGE}
+use Rattle.iol_isdu.specs.Reading.{answer_of}
+use Rattle.iol_isdu.specs.declared.messages.Answer.{Answer}
+use Rattle.iol_isdu.specs.declared.messages.Answer.TheVariants.{Busy}
+use Rattle.iol_isdu.specs.declared.messages.Request.{Request}
+use Rattle.iol_ident.specs.Page.{PageValue, page_of}
+use Rattle.iol_ident.specs.Validation.{ident_fault}
+use Rattle.iol_ident.specs.declared.validation.IdentFault.{IdentFault}
+use Rattle.iol_dsindex.specs.Property.{PropertyValue, property_of}
+use Rattle.iol_dsindex.specs.declared.command.DsCommand.TheVariants as command
+use Rattle.iol_dsindex.specs.declared.object.TheConstants.{STATE_PROPERTY, PARAMETER_CHECKSUM}
+use Rattle.iol_transfer.specs.Exchanges.{Exchange, commanded, read_of, Follows}
+use Rattle.iol_transfer.specs.Upload.{IsFinished, number_of}
+use Rattle.iol_core.specs.declared.permit.UploadGrant.{UploadGrant}
+use Rattle.iol_core.specs.declared.port.Work.{Work}
+use Rattle.iol_core.specs.declared.ticket.TicketState.TheVariants as ticket
+use Rattle.iol_core.specs.declared.upload.FinishFault.TheVariants as finish
+use Rattle.iol_port.specs.Calls.{BeginUpload, FinishUpload, AskTicket, BeginDownload}
+use Rattle.iol_port.specs.Decision.{decide}
+use Rattle.iol_port.specs.History.{Happening, Raised, Did}
+use Rattle.iol_port.specs.Stage.{Stage, Settled, Uploading, Filing, Downloading, Breaking, Returning}
+use Rattle.iol_port.specs.Wanted.{AnswerTo, ReplyTo}
+use Rattle.iol_port.specs.declared.action.Input.TheVariants as input
+use Rattle.iol_port.specs.declared.call.Reply.TheVariants as reply
+use Rattle.iol_port.specs.declared.decision.Decision.{Decision}
+use Rattle.iol_port.specs.declared.stage.Found.{Found}
+use Rattle.iol_port.specs.declared.stage.Held.{Held}
+use Rattle.iol_port.specs.declared.stage.Held.TheVariants as held
+use Rattle.iol_port.specs.declared.stage.Rest.{Rest}
+use Rattle.iol_port.specs.declared.stage.Rest.TheVariants as rest
+
+-- these exchanges are some earlier ones, of which this holds, and one more, whose octets are an answer (own)
+abbrev pub AndThen : (List Exchange → Type 0) → Request → List ℕ → List Exchange → Type 0
+AndThen Earlier request octets conversation =
+    (earlier : List Exchange) × (answer : Answer) × Earlier earlier × (answer_of octets ≡ Ok answer)
+    × (conversation ≡ earlier ++ record { request = request; answer = answer } ∷ [])
+
+-- what the core has last said is to be done (own)
+abbrev pub last_work : List Happening → Option Work
+last_work [] = None
+last_work (Did wants (input.Reply (reply.Attended work)) ∷ before) = work
+last_work (latest ∷ before) = last_work before
+
+-- the last page that was read is this one, on this connection; since then the device was not lost, and these are the
+-- exchanges with it (own)
+abbrev pub HasShown : ℕ → PageValue → List Exchange → List Happening → Type 0
+HasShown connection page conversation [] = ⊥
+HasShown connection page conversation (Raised code ∷ before) = HasShown connection page conversation before
+HasShown connection page conversation (Did wants (input.Page on octets) ∷ before) = (on ≡ connection) × (page ≡ page_of octets) × (conversation ≡ [])
+HasShown connection page conversation (Did (AnswerTo request) (input.Octets octets) ∷ before) =
+    AndThen (λ earlier. HasShown connection page earlier before) request octets.items conversation
+HasShown connection page conversation (Did wants (input.Reply heard) ∷ before) = HasShown connection page conversation before
+HasShown connection page conversation (Did wants heard ∷ before) = ⊥
+
+-- the last permit to upload that was given is this one, for what was asked; since then the device was not lost, nothing
+-- else was asked of the core but whether the queue has room, and these are the exchanges with the device (own)
+abbrev pub HasUploaded : ℕ → UploadGrant → List Exchange → List Happening → Type 0
+HasUploaded port grant conversation [] = ⊥
+HasUploaded port grant conversation (Raised code ∷ before) = HasUploaded port grant conversation before
+HasUploaded port grant conversation (Did wants (input.Reply (reply.BegunUpload (Ok given))) ∷ before) =
+    (given ≡ grant) × (wants ≡ ReplyTo (BeginUpload port grant.vendor grant.device grant.connection)) × (conversation ≡ [])
+HasUploaded port grant conversation (Did (AnswerTo request) (input.Octets octets) ∷ before) =
+    AndThen (λ earlier. HasUploaded port grant earlier before) request octets.items conversation
+HasUploaded port grant conversation (Did wants (input.Reply (reply.FinishedUpload (Err (finish.QueueFull permit set)))) ∷ before) =
+    HasUploaded port grant conversation before
+HasUploaded port grant conversation (Did wants heard ∷ before) = ⊥
+
+-- the last permit to download came with this parameter set, for a device with its numbers; since then the device was not lost,
+-- nothing else was asked of the core, and these are the exchanges with the device (own)
+abbrev pub HasDownloaded : ℕ → SetValue → List Exchange → List Happening → Type 0
+HasDownloaded port set conversation [] = ⊥
+HasDownloaded port set conversation (Raised code ∷ before) = HasDownloaded port set conversation before
+HasDownloaded port set conversation (Did wants (input.Reply (reply.BegunDownload (Ok begun))) ∷ before) =
+    IsSet set × (begun.set.value ≡ set) × ((checksum : ℕ) × (wants ≡ ReplyTo (BeginDownload port set.vendor set.device checksum))) × (conversation ≡ [])
+HasDownloaded port set conversation (Did (AnswerTo request) (input.Octets octets) ∷ before) =
+    AndThen (λ earlier. HasDownloaded port set earlier before) request octets.items conversation
+HasDownloaded port set conversation (Did wants heard ∷ before) = ⊥
+
+-- a finished upload was filed under this ticket, and the core has said since that it is not durable yet (own)
+abbrev pub HasFiled : ℕ → ℕ → List Happening → Type 0
+HasFiled port number [] = ⊥
+HasFiled port number (Raised code ∷ before) = HasFiled port number before
+HasFiled port number (Did wants (input.Reply (reply.Ticket ticket.Waiting)) ∷ before) = HasFiled port number before
+HasFiled port number (Did wants (input.Reply (reply.FinishedUpload (Ok given))) ∷ before) =
+    (given ≡ number)
+    × ((grant : UploadGrant) × (set : SetValue) × (conversation : List Exchange) × (wants ≡ ReplyTo (FinishUpload grant set))
+    × HasUploaded port grant conversation before × IsFinished grant.vendor grant.device conversation set)
+HasFiled port number (Did wants heard ∷ before) = ⊥
+
+-- the core has said that a finished upload which was filed is durable, and since then DS_UploadEnd alone was sent, and
+-- answered Device busy (own)
+abbrev pub IsDurable : ℕ → List Happening → Type 0
+IsDurable port [] = ⊥
+IsDurable port (Raised code ∷ before) = IsDurable port before
+IsDurable port (Did wants (input.Reply (reply.Ticket ticket.Durable)) ∷ before) = (number : ℕ) × (wants ≡ ReplyTo (AskTicket number)) × HasFiled port number before
+IsDurable port (Did wants (input.Octets octets) ∷ before) =
+    (wants ≡ AnswerTo (commanded command.UploadEnd)) × (answer_of octets.items ≡ Ok Busy) × IsDurable port before
+IsDurable port (Did wants heard ∷ before) = ⊥
+
+-- a device was found: its page is the last that was read, on its connection, with these exchanges since, and it is wanted
+-- by what the core has last said is to be done (own)
+pub record HasFound (found : Found) (conversation : List Exchange) (history : List Happening) : Type 0 where
+  pub shown : HasShown found.connection found.page conversation history
+  pub said : last_work history ≡ Some found.work
+  pub wanted : ident_fault found.work.config found.page ≡ None
+
+-- a device was found, and the exchanges since are one read of State_Property, one octet, and one of Parameter_Checksum, four
+-- octets, each sent again at Device busy (own)
+pub record HasExamined (found : Found) (property : PropertyValue) (checksum : ℕ) (history : List Happening) : Type 0 where
+  pub conversation : List Exchange
+  pub state : List ℕ
+  pub sum : List ℕ
+  pub found_is : HasFound found conversation history
+  pub reads : Follows conversation (read_of DATA_STORAGE STATE_PROPERTY state ∷ read_of DATA_STORAGE PARAMETER_CHECKSUM sum ∷ [])
+  pub one : length state ≡ 1
+  pub property_is : property ≡ property_of (slice_index state 0)
+  pub four : length sum ≡ 4
+  pub checksum_is : checksum ≡ number_of sum
+
+-- a device was found and examined, and then the core said that this is to be done, under the revision for which the device
+-- was found: from these it is decided so (own)
+pub record IsConfirmed (decision : Decision) (found : Found) (checksum : ℕ) (work : Work) (before : List Happening) : Type 0 where
+  pub property : PropertyValue
+  pub examined : HasExamined found property checksum before
+  pub revision : found.work.revision ≡ work.revision
+  pub decided : decide work.config.validation property.state property.flag checksum work.checksum ≡ decision
+
+-- the last that happened, events apart, is that the core said what is to be done with a device that was examined, and it was
+-- decided so (own)
+abbrev pub IsDecided : Decision → Found → ℕ → List Happening → Type 0
+IsDecided decision found checksum [] = ⊥
+IsDecided decision found checksum (Raised code ∷ before) = IsDecided decision found checksum before
+IsDecided decision found checksum (Did wants (input.Reply (reply.Attended (Some work))) ∷ before) = IsConfirmed decision found checksum work before
+IsDecided decision found checksum (Did wants heard ∷ before) = ⊥
+
+-- the permit that a stage holds, if it holds one (own)
+abbrev pub held_by : Stage → Option Held
+held_by (Uploading grant page upload) = Some (held.Upload grant)
+held_by (Filing grant page set) = Some (held.Upload grant)
+held_by (Downloading port page download) = Some (held.Download port)
+held_by (Breaking holder fault) = Some holder
+held_by (Returning holder own) = Some holder
+held_by _ = None
+
+-- after a loss a port is settled as lost, or it returns the permit that it held and is then; nothing else is kept (own)
+abbrev pub IsLostWith : Option Held → Stage → Type 0
+IsLostWith None stage = stage ≡ Settled rest.Lost
+IsLostWith (Some holder) stage = stage ≡ Returning holder rest.Lost
+
+-- the core has once said that this is to be done (own)
+abbrev pub HasSaid : Work → List Happening → Type 0
+HasSaid work [] = ⊥
+HasSaid work (Did wants (input.Reply (reply.Attended (Some own))) ∷ before) = (own ≡ work) ⊎ HasSaid work before
+HasSaid work (latest ∷ before) = HasSaid work before
+
+-- the device with this page is the one that the port wants, on its connection since: it was wanted by what the core had said
+-- then, and what it has last said is under the same revision (own)
+pub record IsKnown (page : PageValue) (history : List Happening) : Type 0 where
+  pub connection : ℕ
+  pub conversation : List Exchange
+  pub work : Work
+  pub last : Work
+  pub shown : HasShown connection page conversation history
+  pub earlier : HasSaid work history
+  pub manual : is_manual work.config.mode ≡ true
+  pub wanted : ident_fault work.config page ≡ None
+  pub said : last_work history ≡ Some last
+  pub revision : work.revision ≡ last.revision
+
+-- the device with this page is, for this cause, not the one that the port wants by what the core has last said (own)
+pub record IsMismatched (why : IdentFault) (page : PageValue) (history : List Happening) : Type 0 where
+  pub connection : ℕ
+  pub work : Work
+  pub shown : HasShown connection page [] history
+  pub manual : is_manual work.config.mode ≡ true
+  pub fault : ident_fault work.config page ≡ Some why
+  pub said : last_work history ≡ Some work
+
+-- the core has last said that the port is not there, or that it is not IOL_MANUAL (own)
+abbrev pub HasNoDevice : List Happening → Type 0
+HasNoDevice history = (last_work history ≡ None) ⊎ ((work : Work) × (last_work history ≡ Some work) × (is_manual work.config.mode ≡ false))
+
+-- a port settles so for its reason: off for what the core has said, mismatch for a fault of the page, ready for a page that
+-- is wanted (own)
+abbrev pub IsJudged : Rest → List Happening → Type 0
+IsJudged rest.Off history = HasNoDevice history
+IsJudged rest.Lost history = Unit {0}
+IsJudged (rest.Failed why) history = Unit {0}
+IsJudged (rest.Ready page) history = IsKnown page history
+IsJudged (rest.ReadyLocked page) history = IsKnown page history
+IsJudged (rest.ReadyEmpty page) history = IsKnown page history
+IsJudged (rest.Mismatch why page) history = IsMismatched why page history

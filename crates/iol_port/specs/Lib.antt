@@ -1,0 +1,14 @@
+pub mod Decision
+pub mod Faults
+pub mod Calls
+pub mod Stage
+pub mod Status
+pub mod Wanted
+pub mod Answers
+pub mod Heard
+pub mod History
+pub mod Permits
+pub mod Laws
+pub mod Ending
+pub mod View
+pub mod Examples

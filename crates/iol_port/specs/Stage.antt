@@ -1,0 +1,66 @@
+-- How far a port is.
+use Rattle.std.specs.Prelude.{ℕ, Bool, List, Option, None, false}
+use Rattle.iol_types.specs.DataSet.{SetValue}
+use Rattle.iol_ident.specs.Page.{PageValue}
+use Rattle.iol_transfer.specs.Exchanges.{Exchange}
+use Rattle.iol_transfer.specs.Machine.{Machine, IsSinceBegin}
+use Rattle.iol_transfer.specs.Download.{Sender}
+use Rattle.iol_core.specs.declared.permit.UploadGrant.{UploadGrant}
+use Rattle.iol_core.specs.declared.port.Work.{Work}
+use Rattle.iol_port.specs.Calls.{IsUnder}
+use Rattle.iol_port.specs.declared.fault.PortFault.{PortFault}
+use Rattle.iol_port.specs.declared.stage.Rest.{Rest}
+use Rattle.iol_port.specs.declared.stage.Rest.TheVariants.{Off}
+use Rattle.iol_port.specs.declared.stage.Found.{Found}
+use Rattle.iol_port.specs.declared.stage.PageFor.{PageFor}
+use Rattle.iol_port.specs.declared.stage.AttendFor.{AttendFor}
+use Rattle.iol_port.specs.declared.stage.ExchangeFor.{ExchangeFor}
+use Rattle.iol_port.specs.declared.stage.Held.{Held}
+use Rattle.iol_port.specs.declared.stage.Transfer.{Transfer}
+
+-- how far a port is: it is settled; it reads a page; it asks what is to be done; it begins an upload or a download; it
+-- exchanges messages with the device outside of a transfer; it uploads, files the set, has filed it, and waits until it is
+-- durable; it downloads; it breaks a transfer off; it returns a permit, and has returned it (own)
+pub data Stage : Type 0 where
+  Settled : (rest : Rest) → Stage
+  Paging : (page_for : PageFor) → Stage
+  Attending : (attend_for : AttendFor) → Stage
+  BeginningUpload : (found : Found) → Stage
+  BeginningDownload : (found : Found) (checksum : ℕ) → Stage
+  Exchanging : (exchange_for : ExchangeFor) → Stage
+  Uploading : (grant : UploadGrant) (page : PageValue) (upload : Machine) → Stage
+  Filing : (grant : UploadGrant) (page : PageValue) (set : SetValue) → Stage
+  Filed : (page : PageValue) → Stage
+  Storing : (ticket : ℕ) (page : PageValue) → Stage
+  Downloading : (port : ℕ) (page : PageValue) (download : Sender) → Stage
+  Breaking : (held : Held) (fault : PortFault) → Stage
+  Returning : (held : Held) (rest : Rest) → Stage
+  Returned : (transfer : Transfer) (rest : Rest) → Stage
+
+-- the machine of a port: its port; the revision of the configuration that it last started under, none where it is new;
+-- whether the device has asked for an upload since it started; and how far it is (own)
+pub record PortValue : Type 0 where
+  pub port : ℕ
+  pub under : Option ℕ
+  pub kept : Bool
+  pub stage : Stage
+
+-- a new machine is settled as off (own)
+abbrev pub new_machine : ℕ → PortValue
+new_machine port = record { port = port; under = None; kept = false; stage = Settled Off }
+
+-- what holds of a stage: an upload under way is one from the device of its permit, and so is the set that is filed (own)
+abbrev pub IsStage : Stage → Type 0
+IsStage (Uploading grant page upload) = (conversation : List Exchange) × IsSinceBegin grant.vendor grant.device conversation upload
+IsStage (Filing grant page set) = IsUnder grant set
+IsStage _ = Unit {0}
+
+-- where a machine goes: to a stage, or it starts with new work (own)
+pub data Next : Type 0 where
+  To : (stage : Stage) → Next
+  Start : (work : Work) → Next
+
+-- what holds of where a machine goes (own)
+abbrev pub IsNext : Next → Type 0
+IsNext (To stage) = IsStage stage
+IsNext (Start work) = Unit {0}

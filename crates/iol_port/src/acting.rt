@@ -1,0 +1,230 @@
+//! What a port does next, and how it is meanwhile.
+
+ghost use Rattle.std.specs.Prelude.{◌≡◌};
+ghost use Rattle.iol_port.specs.Calls.{BeginUpload, BeginDownload, MayBeMade, call_of};
+ghost use Rattle.iol_port.specs.Stage.{IsStage, Settled};
+ghost use Rattle.iol_port.specs.declared.stage.Rest.TheVariants.{Off};
+ghost use Rattle.iol_port.specs.Status.{status_of, status_at_rest, status_exchanging, status_returning, transfer_of};
+ghost use Rattle.iol_port.specs.View.{stage_of};
+ghost use Rattle.iol_port.specs.Wanted.{wanted, wanted_of, after_action, request_for, return_of, IfAsks};
+ghost use Rattle.iol_transfer.specs.Exchanges.{commanded};
+
+use crate::action::Action;
+use crate::call::CoreCall;
+use crate::stage::{AttendFor, ExchangeFor, Found, Held, PageFor, Rest, Stage, Transfer};
+use crate::status::PortStatus;
+use arrayvec::ArrayVec;
+use iol_dsindex::{DATA_STORAGE, DS_COMMAND, DsCommand, PARAMETER_CHECKSUM, STATE_PROPERTY};
+use iol_isdu::Request;
+use iol_types::PortId;
+
+// What is next, and how far the port is once it is asked.
+pub(crate) fn act(port: PortId, stage: Stage) -> (Action, Stage)
+    requires { IsStage (stage_of stage) }
+    ensures wanted { wanted_of result.0 ≡ wanted port (stage_of stage) }
+    ensures may_be_made { IfAsks result.0 MayBeMade }
+    ensures after { stage_of result.1 ≡ after_action (stage_of stage) }
+    ensures holds { IsStage (stage_of result.1) }
+{
+    match { stage } {
+        Stage::Settled(rest) => (Action::Idle, Stage::Settled(rest)),
+        Stage::Paging(what) => (Action::ReadPage, Stage::Paging(what)),
+        Stage::Attending(what) => (Action::Ask(CoreCall::Attend(port)), Stage::Attending(what)),
+        Stage::BeginningUpload(found) => (
+            Action::Ask(begin_upload(port, &found)),
+            Stage::BeginningUpload(found),
+        ),
+        Stage::BeginningDownload(found, checksum) => (
+            Action::Ask(begin_download(port, &found, checksum)),
+            Stage::BeginningDownload(found, checksum),
+        ),
+        Stage::Exchanging(what) => (
+            Action::Exchange(request_for(&what)),
+            Stage::Exchanging(what),
+        ),
+        Stage::Uploading(permit, page, upload) => (
+            Action::Exchange(upload.next()),
+            Stage::Uploading(permit, page, upload),
+        ),
+        Stage::Filing(permit, page, set) => (
+            Action::Ask(CoreCall::FinishUpload(permit, set)),
+            Stage::Filed(page),
+        ),
+        Stage::Filed(page) => (Action::Idle, Stage::Filed(page)),
+        Stage::Storing(ticket, page) => (
+            Action::Ask(CoreCall::AskTicket(ticket)),
+            Stage::Storing(ticket, page),
+        ),
+        Stage::Downloading(permit, page, download) => (
+            Action::Exchange(download.next()),
+            Stage::Downloading(permit, page, download),
+        ),
+        Stage::Breaking(held, fault) => (
+            Action::Exchange(command(DsCommand::Break)),
+            Stage::Breaking(held, fault),
+        ),
+        Stage::Returning(held, rest) => {
+            let transfer = transfer_of(&held);
+            (
+                Action::Ask(return_of(held)),
+                Stage::Returned(transfer, rest),
+            )
+        }
+        Stage::Returned(transfer, rest) => (Action::Idle, Stage::Returned(transfer, rest)),
+    }
+}
+
+// The call for a permit to upload from a device that was found.
+fn begin_upload(port: PortId, found: &Found) -> CoreCall
+    ensures { call_of result ≡ BeginUpload port found.now.page.vendor found.now.page.device found.now.connection }
+{
+    CoreCall::BeginUpload {
+        port,
+        vendor: found.page.vendor(),
+        device: found.page.device(),
+        connection: found.connection,
+    }
+}
+
+// The call for a permit to download to a device that was found, which has this checksum.
+fn begin_download(port: PortId, found: &Found, checksum: u32) -> CoreCall
+    ensures { call_of result ≡ BeginDownload port found.now.page.vendor found.now.page.device checksum }
+{
+    CoreCall::BeginDownload {
+        port,
+        vendor: found.page.vendor(),
+        device: found.page.device(),
+        checksum,
+    }
+}
+
+// The request of an exchange outside of a transfer.
+fn request_for(what: &ExchangeFor) -> Request
+    ensures { result ≡ request_for what.now }
+{
+    match what {
+        ExchangeFor::ReadingState { .. } => Request::Read {
+            index: DATA_STORAGE,
+            subindex: STATE_PROPERTY,
+        },
+        ExchangeFor::ReadingChecksum { .. } => Request::Read {
+            index: DATA_STORAGE,
+            subindex: PARAMETER_CHECKSUM,
+        },
+        ExchangeFor::EndingUpload { .. } => command(DsCommand::UploadEnd),
+        ExchangeFor::Stopping { .. } => command(DsCommand::Break),
+        ExchangeFor::Yielding => command(DsCommand::Break),
+    }
+}
+
+// The request to write a command to the Data Storage of the device.
+fn command(command: DsCommand) -> Request
+    ensures { result ≡ commanded command }
+{
+    let mut octets = ArrayVec::new();
+    octets.push(command.to_octet());
+    Request::Write {
+        index: DATA_STORAGE,
+        subindex: DS_COMMAND,
+        octets,
+    }
+}
+
+// What a permit is for.
+fn transfer_of(held: &Held) -> Transfer
+    ensures { result ≡ transfer_of held.now }
+{
+    match held {
+        Held::Upload(_) => Transfer::Upload,
+        Held::Download(_) => Transfer::Download,
+    }
+}
+
+// The call that returns a permit.
+fn return_of(held: Held) -> CoreCall
+    ensures { call_of result ≡ return_of held }
+{
+    match held {
+        Held::Upload(permit) => CoreCall::AbandonUpload(permit),
+        Held::Download(permit) => CoreCall::EndDownload(permit),
+    }
+}
+
+// How a port is that is so far.
+pub(crate) fn status(stage: &Stage) -> PortStatus
+    ensures { result ≡ status_of (stage_of stage.now) }
+{
+    match stage {
+        Stage::Settled(rest) => status_at_rest(rest),
+        Stage::Paging(PageFor::Comparing { work: _, rest }) => status_at_rest(rest),
+        Stage::Paging(PageFor::Identifying { .. }) => PortStatus::Starting,
+        Stage::Attending(AttendFor::Waking { rest }) => status_at_rest(rest),
+        Stage::Attending(AttendFor::Confirming { .. }) => PortStatus::Starting,
+        Stage::Attending(AttendFor::Restarting) => PortStatus::Uploading,
+        Stage::BeginningUpload(_) => PortStatus::Starting,
+        Stage::BeginningDownload(_, _) => PortStatus::Starting,
+        Stage::Exchanging(what) => status_exchanging(what),
+        Stage::Uploading(_, _, _) => PortStatus::Uploading,
+        Stage::Filing(_, _, _) => PortStatus::Uploading,
+        Stage::Filed(_) => PortStatus::Uploading,
+        Stage::Storing(_, _) => PortStatus::Storing,
+        Stage::Downloading(_, _, _) => PortStatus::Downloading,
+        Stage::Breaking(Held::Upload(_), _) => PortStatus::Uploading,
+        Stage::Breaking(Held::Download(_), _) => PortStatus::Downloading,
+        Stage::Returning(held, rest) => status_returning(transfer_of(held), rest),
+        Stage::Returned(transfer, rest) => status_returning(*transfer, rest),
+    }
+}
+
+// How a settled port is.
+fn status_at_rest(rest: &Rest) -> PortStatus
+    ensures { result ≡ status_at_rest rest.now }
+{
+    match rest {
+        Rest::Off => PortStatus::Off,
+        Rest::Lost => PortStatus::Lost,
+        Rest::Failed(fault) => PortStatus::Failed(*fault),
+        Rest::Ready(_) => PortStatus::Ready,
+        Rest::ReadyLocked(_) => PortStatus::ReadyLocked,
+        Rest::ReadyEmpty(_) => PortStatus::ReadyEmpty,
+        Rest::Mismatch(fault, _) => PortStatus::Mismatch(*fault),
+    }
+}
+
+// How a port is during an exchange outside of a transfer.
+fn status_exchanging(what: &ExchangeFor) -> PortStatus
+    ensures { result ≡ status_exchanging what.now }
+{
+    match what {
+        ExchangeFor::ReadingState { .. } => PortStatus::Starting,
+        ExchangeFor::ReadingChecksum { .. } => PortStatus::Starting,
+        ExchangeFor::EndingUpload { .. } => PortStatus::Storing,
+        ExchangeFor::Stopping { storing: true } => PortStatus::Storing,
+        ExchangeFor::Stopping { storing: false } => PortStatus::Uploading,
+        ExchangeFor::Yielding => PortStatus::Uploading,
+    }
+}
+
+// How a port is until its permit is returned.
+fn status_returning(transfer: Transfer, rest: &Rest) -> PortStatus
+    ensures { result ≡ status_returning transfer rest.now }
+{
+    if matches!(rest, Rest::Lost) {
+        return PortStatus::Lost;
+    }
+    match transfer {
+        Transfer::Upload => PortStatus::Uploading,
+        Transfer::Download => PortStatus::Downloading,
+    }
+}
+
+// Puts a stage where none is kept.
+pub(crate) fn put(slot: &mut Stage, stage: Stage)
+    requires { stage_of slot.old ≡ Settled Off }
+    ensures { slot.new ≡ stage }
+{
+    let old = std::mem::replace(slot, stage);
+    let Stage::Settled(_rest) = old else {
+        unreachable!()
+    };
+}

@@ -1,0 +1,107 @@
+//! What the core says is to be done.
+
+ghost use Rattle.std.specs.Prelude.{◌≡◌, true};
+ghost use Rattle.iol_port.specs.Stage.{IsStage, IsNext};
+ghost use Rattle.iol_port.specs.Heard.{attended, resumed, is_under, decided, confirmed, told, woken, is_attending, is_settled};
+ghost use Rattle.iol_port.specs.View.{stage_of, next_of};
+
+use crate::decision::{Decision, decide};
+use crate::stage::{AttendFor, Found, Next, PageFor, Rest, Stage};
+use iol_core::Work;
+use iol_dsindex::StateProperty;
+
+// A settled port is woken.
+pub(crate) fn wake(stage: Stage) -> Stage
+    requires { is_settled (stage_of stage) ≡ true }
+    ensures stage { stage_of result ≡ woken (stage_of stage) }
+    ensures holds { IsStage (stage_of result) }
+{
+    let Stage::Settled(rest) = stage else {
+        unreachable!()
+    };
+    Stage::Attending(AttendFor::Waking { rest })
+}
+
+// The core has said what is to be done.
+pub(crate) fn attend(under: Option<u64>, kept: bool, stage: Stage, work: Option<Work>) -> Next
+    requires { is_attending (stage_of stage) ≡ true }
+    ensures next { next_of result ≡ told under kept (stage_of stage) work }
+    ensures holds { IsNext (next_of result) }
+{
+    let Stage::Attending(what) = stage else {
+        unreachable!()
+    };
+    let Some(work) = work else {
+        return Next::To(Stage::Settled(Rest::Off));
+    };
+    match what {
+        AttendFor::Waking { rest } => {
+            if is_under(under, work.revision) && !kept {
+                resume(rest, work)
+            } else {
+                Next::Start(work)
+            }
+        }
+        AttendFor::Confirming {
+            found,
+            property,
+            checksum,
+        } => confirm(found, property, checksum, work),
+        AttendFor::Restarting => Next::Start(work),
+    }
+}
+
+fn is_under(under: Option<u64>, revision: u64) -> bool
+    ensures { result ≡ is_under under revision }
+{
+    match under {
+        Some(under) => under == revision,
+        None => false,
+    }
+}
+
+// A settled port is woken under the configuration that it settled under.
+fn resume(rest: Rest, work: Work) -> Next
+    ensures next { next_of result ≡ resumed rest work }
+    ensures holds { IsNext (next_of result) }
+{
+    match rest {
+        Rest::Off => Next::To(Stage::Settled(Rest::Off)),
+        Rest::Lost => Next::Start(work),
+        Rest::Failed(_) => Next::Start(work),
+        Rest::Ready(_) | Rest::ReadyLocked(_) | Rest::ReadyEmpty(_) | Rest::Mismatch(_, _) => {
+            Next::To(Stage::Paging(PageFor::Comparing { work, rest }))
+        }
+    }
+}
+
+// What was read of a device counts under the configuration that the port started under.
+fn confirm(found: Found, property: StateProperty, checksum: u32, work: Work) -> Next
+    ensures next { next_of result ≡ confirmed found property checksum work }
+    ensures holds { IsNext (next_of result) }
+{
+    if found.work.revision != work.revision {
+        return Next::Start(work);
+    }
+    let decision = decide(
+        work.config.validation,
+        property.state(),
+        property.flag(),
+        checksum,
+        work.checksum,
+    );
+    Next::To(stage_decided(found, checksum, decision))
+}
+
+fn stage_decided(found: Found, checksum: u32, decision: Decision) -> Stage
+    ensures stage { stage_of result ≡ decided found checksum decision }
+    ensures holds { IsStage (stage_of result) }
+{
+    match decision {
+        Decision::Ready => Stage::Settled(Rest::Ready(found.page)),
+        Decision::ReadyLocked => Stage::Settled(Rest::ReadyLocked(found.page)),
+        Decision::ReadyEmpty => Stage::Settled(Rest::ReadyEmpty(found.page)),
+        Decision::Upload => Stage::BeginningUpload(found),
+        Decision::Download => Stage::BeginningDownload(found, checksum),
+    }
+}

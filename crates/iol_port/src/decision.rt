@@ -1,0 +1,60 @@
+//! What is to be done with the parameters of a device.
+
+ghost use Rattle.std.specs.Prelude.{◌≡◌};
+ghost use Rattle.iol_port.specs.Decision.{decide};
+
+use iol_dsindex::State;
+use iol_types::Validation;
+
+/// What is to be done with the parameters of a device that a port wants.
+#[derive(Clone, Copy, Debug, PartialEq, Eq)]
+pub enum Decision {
+    /// Nothing: the device has them, or none are kept.
+    Ready,
+    /// Nothing: the device's Data Storage is locked.
+    ReadyLocked,
+    /// Nothing: there is no set to restore.
+    ReadyEmpty,
+    /// They are read and stored.
+    Upload,
+    /// The stored ones are written to the device.
+    Download,
+}
+
+/// Decides, from the port's validation, the state, flag and checksum of the device's Data Storage, and the checksum of the
+/// stored set, if there is one (IO-Link V1.1, Data Storage). It takes no memory.
+pub fn decide(
+    validation: Validation,
+    state: State,
+    flag: bool,
+    checksum: u32,
+    stored: Option<u32>,
+) -> Decision
+    ensures { result ≡ decide validation state flag checksum stored }
+{
+    let backs_up = matches!(validation, Validation::BackupAndRestore);
+    if !backs_up && !matches!(validation, Validation::Restore) {
+        return Decision::Ready;
+    }
+    if matches!(state, State::Locked) {
+        return Decision::ReadyLocked;
+    }
+    match stored {
+        None => {
+            if backs_up {
+                Decision::Upload
+            } else {
+                Decision::ReadyEmpty
+            }
+        }
+        Some(stored) => {
+            if backs_up && flag {
+                Decision::Upload
+            } else if stored == checksum {
+                Decision::Ready
+            } else {
+                Decision::Download
+            }
+        }
+    }
+}

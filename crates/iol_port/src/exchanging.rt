@@ -1,0 +1,133 @@
+//! Messages outside of a transfer.
+
+ghost use Rattle.std.specs.Prelude.{◌≡◌, ◌⊎◌, true};
+ghost use Rattle.iol_isdu.specs.Reading.{answer_of};
+ghost use Rattle.iol_port.specs.Answers.{exchanged, state_read, checksum_read, upload_ended, failed, again};
+ghost use Rattle.iol_port.specs.Stage.{IsStage};
+ghost use Rattle.iol_port.specs.View.{stage_of};
+
+use crate::fault::PortFault;
+use crate::stage::{AttendFor, ExchangeFor, Found, Rest, Stage};
+use iol_dsindex::StateProperty;
+use iol_ident::Page;
+use iol_isdu::{Answer, IsduFault, read_answer};
+use iol_transfer::MOST_REQUESTS;
+
+// What octets are as an answer.
+pub(crate) fn answer_in(octets: &[u8]) -> Result<Answer, IsduFault>
+    ensures { result ≡ answer_of octets.now }
+{
+    read_answer(octets)
+}
+
+// The port has failed.
+pub(crate) fn fail(fault: PortFault) -> Stage
+    ensures stage { stage_of result ≡ failed fault }
+    ensures holds { IsStage (stage_of result) }
+{
+    Stage::Settled(Rest::Failed(fault))
+}
+
+// The device is busy: a request that may still be sent is sent again.
+fn again(left: u8, next: ExchangeFor) -> Stage
+    ensures stage { stage_of result ≡ again left next }
+    ensures holds { IsStage (stage_of result) }
+{
+    if 1 < left {
+        Stage::Exchanging(next)
+    } else {
+        fail(PortFault::Busy)
+    }
+}
+
+// The device has answered a message outside of a transfer.
+pub(crate) fn exchange(what: ExchangeFor, answer: Result<Answer, IsduFault>) -> Stage
+    ensures stage { stage_of result ≡ exchanged what answer }
+    ensures holds { IsStage (stage_of result) }
+{
+    match what {
+        ExchangeFor::ReadingState { found, left } => read_state(found, left, answer),
+        ExchangeFor::ReadingChecksum {
+            found,
+            property,
+            left,
+        } => read_checksum(found, property, left, answer),
+        ExchangeFor::EndingUpload { page, left } => end_upload(page, left, answer),
+        ExchangeFor::Stopping { .. } => fail(PortFault::Stopped),
+        ExchangeFor::Yielding => Stage::Attending(AttendFor::Restarting),
+    }
+}
+
+// State_Property was read.
+fn read_state(found: Found, left: u8, answer: Result<Answer, IsduFault>) -> Stage
+    ensures stage { stage_of result ≡ state_read found left answer }
+    ensures holds { IsStage (stage_of result) }
+{
+    match answer {
+        Ok(Answer::ReadOk(octets)) => match octets.as_slice() {
+            [octet] => Stage::Exchanging(ExchangeFor::ReadingChecksum {
+                found,
+                property: StateProperty::read(*octet),
+                left: MOST_REQUESTS,
+            }),
+            _ => fail(PortFault::Unexpected),
+        },
+        Ok(Answer::Busy) => again(
+            left,
+            ExchangeFor::ReadingState {
+                found,
+                left: left.saturating_sub(1),
+            },
+        ),
+        other => fail(PortFault::of_read(other)),
+    }
+}
+
+// Parameter_Checksum was read.
+fn read_checksum(
+    found: Found,
+    property: StateProperty,
+    left: u8,
+    answer: Result<Answer, IsduFault>,
+) -> Stage
+    ensures stage { stage_of result ≡ checksum_read found property left answer }
+    ensures holds { IsStage (stage_of result) }
+{
+    match answer {
+        Ok(Answer::ReadOk(octets)) => match octets.as_slice() {
+            [first, second, third, fourth] => Stage::Attending(AttendFor::Confirming {
+                found,
+                property,
+                checksum: u32::from_be_bytes([*first, *second, *third, *fourth]),
+            }),
+            _ => fail(PortFault::Unexpected),
+        },
+        Ok(Answer::Busy) => again(
+            left,
+            ExchangeFor::ReadingChecksum {
+                found,
+                property,
+                left: left.saturating_sub(1),
+            },
+        ),
+        other => fail(PortFault::of_read(other)),
+    }
+}
+
+// DS_UploadEnd was answered.
+fn end_upload(page: Page, left: u8, answer: Result<Answer, IsduFault>) -> Stage
+    ensures stage { stage_of result ≡ upload_ended page left answer }
+    ensures holds { IsStage (stage_of result) }
+{
+    match answer {
+        Ok(Answer::WriteOk) => Stage::Settled(Rest::Ready(page)),
+        Ok(Answer::Busy) => again(
+            left,
+            ExchangeFor::EndingUpload {
+                page,
+                left: left.saturating_sub(1),
+            },
+        ),
+        other => fail(PortFault::of_write(other)),
+    }
+}

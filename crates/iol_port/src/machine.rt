@@ -1,0 +1,164 @@
+//! The machine of a port.
+
+ghost use Rattle.std.specs.Prelude.{◌≡◌, ◌||◌, ◌==◌};
+ghost use Rattle.iol_port.specs.Calls.{MayBeMade};
+ghost use Rattle.iol_port.specs.Ending.{ended};
+ghost use Rattle.iol_port.specs.Heard.{IsFed, Fits, moved, noted, at_stage};
+ghost use Rattle.iol_port.specs.Stage.{PortValue, Settled, IsStage, IsNext, new_machine};
+ghost use Rattle.iol_port.specs.Status.{status_of};
+ghost use Rattle.iol_port.specs.View.{stage_of, next_of};
+ghost use Rattle.iol_port.specs.Wanted.{wanted, wanted_of, after_action, IfAsks};
+ghost use Rattle.iol_port.specs.declared.stage.Rest.TheVariants.{Off};
+
+use crate::acting::{self, put};
+use crate::action::{Action, Input, UPLOAD_REQUEST};
+use crate::stage::{Next, Rest, Stage};
+use crate::status::PortStatus;
+use crate::{attending, hearing, losing, paging};
+use iol_core::Core;
+use iol_front::Name;
+use iol_types::PortId;
+use std::alloc::Global;
+use std::marker::Model;
+
+/// The machine of a port. It may hold a permit, and must be ended. A contract sees the record `PortValue` of
+/// `specs/Stage.antt`.
+pub struct PortMachine {
+    alloc: Global,
+    port: PortId,
+    under: Option<u64>,
+    kept: bool,
+    stage: Stage,
+}
+
+impl Model for PortMachine {
+    ghost use Rattle.iol_port.specs.Stage.{PortValue, IsStage};
+
+    ghost Value = { PortValue };
+
+    ghost use Rattle.iol_port.specs.View.{stage_of};
+
+    ghost view = { λ m. record { port = m.port; under = m.under; kept = m.kept; stage = stage_of m.stage } };
+
+    ghost invariant = { λ m. IsStage (stage_of m.stage) };
+}
+
+impl PortMachine {
+    /// A new machine of this port, settled as off.
+    pub fn new(alloc: Global, port: PortId) -> PortMachine
+        ensures { result ≡ new_machine port }
+    {
+        PortMachine {
+            alloc,
+            port,
+            under: None,
+            kept: false,
+            stage: Stage::Settled(Rest::Off),
+        }
+    }
+
+    /// The port.
+    pub fn port(&self) -> PortId
+        ensures { result ≡ self.now.port }
+    {
+        self.port
+    }
+
+    /// How the port is.
+    pub fn status(&self) -> PortStatus
+        ensures { result ≡ status_of self.now.stage }
+    {
+        acting::status(&self.stage)
+    }
+
+    /// What is next. A permit that a call of the core takes goes with it; until the reply is fed the machine is `Idle`.
+    pub fn action(&mut self) -> Action
+        ensures wanted { wanted_of result ≡ wanted self.old.port self.old.stage }
+        ensures may_be_made { IfAsks result MayBeMade }
+        ensures after { self.new ≡ at_stage self.old (after_action self.old.stage) }
+    {
+        let stage = self.take();
+        let (action, stage) = acting::act(self.port, stage);
+        self.go(Next::To(stage));
+        action
+    }
+
+    /// Takes what came of the action, an event, or that a settled port is woken. It takes memory for what an upload reads;
+    /// where there is none, the port fails.
+    pub fn feed(&mut self, input: Input)
+        requires { Fits self.old.stage input }
+        ensures fed { IsFed self.old input self.new }
+        ensures holds { IsStage self.new.stage }
+    {
+        match input {
+            Input::Wake => {
+                let stage = self.take();
+                self.go(Next::To(attending::wake(stage)));
+            }
+            Input::Event(code) => self.note(code),
+            Input::Page { connection, octets } => {
+                let stage = self.take();
+                self.go(paging::page(stage, connection, &octets));
+            }
+            Input::Octets(octets) => {
+                let stage = self.take();
+                self.go(Next::To(hearing::answer(self.alloc, stage, octets.as_slice())));
+            }
+            Input::Lost => {
+                let stage = self.take();
+                self.go(Next::To(losing::lose(stage)));
+            }
+            Input::Reply(reply) => {
+                let stage = self.take();
+                self.go(hearing::reply(self.alloc, self.under, self.kept, stage, reply));
+            }
+        }
+    }
+
+    /// Ends the machine: a permit that it holds is returned.
+    pub fn end<F: Name>(self, core: &mut Core<F>)
+        ensures { core.new ≡ ended core.old self.stage }
+    {
+        let PortMachine {
+            alloc: _,
+            port: _,
+            under: _,
+            kept: _,
+            stage,
+        } = self;
+        losing::release(stage, core);
+    }
+
+    // An event was raised.
+    fn note(&mut self, code: u16)
+        ensures noted { self.new ≡ noted self.old code }
+        ensures holds { IsStage self.new.stage }
+    {
+        self.kept = self.kept || code == UPLOAD_REQUEST;
+    }
+
+    // Takes the stage out; the machine is settled as off meanwhile.
+    fn take(&mut self) -> Stage
+        ensures stage { stage_of result ≡ self.old.stage }
+        ensures holds { IsStage (stage_of result) }
+        ensures out { self.new ≡ at_stage self.old (Settled Off) }
+    {
+        std::mem::replace(&mut self.stage, Stage::Settled(Rest::Off))
+    }
+
+    // Goes where it goes, from where the stage was taken out.
+    fn go(&mut self, next: Next)
+        requires out { self.old.stage ≡ Settled Off }
+        requires holds { IsNext (next_of next) }
+        ensures { self.new ≡ moved self.old (next_of next) }
+    {
+        match next {
+            Next::To(stage) => put(&mut self.stage, stage),
+            Next::Start(work) => {
+                self.under = Some(work.revision);
+                self.kept = false;
+                put(&mut self.stage, paging::start(work));
+            }
+        }
+    }
+}

@@ -1,0 +1,86 @@
+//! What the page of the device says.
+
+ghost use Rattle.std.specs.Prelude.{◌≡◌, true};
+ghost use Rattle.iol_ident.specs.Page.{page_of};
+ghost use Rattle.iol_port.specs.Heard.{paged, found_by, settled_with, first_stage, awaits_page};
+ghost use Rattle.iol_port.specs.Stage.{IsStage, IsNext};
+ghost use Rattle.iol_port.specs.View.{stage_of, next_of};
+
+use crate::stage::{ExchangeFor, Found, Next, PageFor, Rest, Stage};
+use iol_core::Work;
+use iol_ident::{PAGE_OCTETS, Page, validate};
+use iol_transfer::MOST_REQUESTS;
+use iol_types::{PortMode, Validation};
+
+// The page was read, on a connection.
+pub(crate) fn page(stage: Stage, connection: u64, octets: &[u8; PAGE_OCTETS]) -> Next
+    requires { awaits_page (stage_of stage) ≡ true }
+    ensures next { next_of result ≡ paged (stage_of stage) connection (page_of octets.now) }
+    ensures holds { IsNext (next_of result) }
+{
+    let Stage::Paging(what) = stage else {
+        unreachable!()
+    };
+    let page = Page::read(octets);
+    match what {
+        PageFor::Comparing { work, rest } => {
+            if is_settled_with(&rest, &page) {
+                Next::To(Stage::Settled(rest))
+            } else {
+                Next::Start(work)
+            }
+        }
+        PageFor::Identifying { work } => match validate(&work.config, &page) {
+            Ok(()) => Next::To(find(work, connection, page)),
+            Err(fault) => Next::To(Stage::Settled(Rest::Mismatch(fault, page))),
+        },
+    }
+}
+
+// A settled port has this page.
+fn is_settled_with(rest: &Rest, page: &Page) -> bool
+    ensures { result ≡ settled_with rest.now page.now }
+{
+    match rest {
+        Rest::Ready(own) => own == page,
+        Rest::ReadyLocked(own) => own == page,
+        Rest::ReadyEmpty(own) => own == page,
+        Rest::Mismatch(_, own) => own == page,
+        Rest::Off | Rest::Lost | Rest::Failed(_) => false,
+    }
+}
+
+// The device is the one that the port wants.
+fn find(work: Work, connection: u64, page: Page) -> Stage
+    ensures stage { stage_of result ≡ found_by work connection page }
+    ensures holds { IsStage (stage_of result) }
+{
+    if matches!(
+        work.config.validation,
+        Validation::BackupAndRestore | Validation::Restore
+    ) {
+        let found = Found {
+            work,
+            page,
+            connection,
+        };
+        Stage::Exchanging(ExchangeFor::ReadingState {
+            found,
+            left: MOST_REQUESTS,
+        })
+    } else {
+        Stage::Settled(Rest::Ready(page))
+    }
+}
+
+// The port starts.
+pub(crate) fn start(work: Work) -> Stage
+    ensures stage { stage_of result ≡ first_stage work }
+    ensures holds { IsStage (stage_of result) }
+{
+    if matches!(work.config.mode, PortMode::IolManual) {
+        Stage::Paging(PageFor::Identifying { work })
+    } else {
+        Stage::Settled(Rest::Off)
+    }
+}

@@ -1,0 +1,123 @@
+//! How far a port is.
+
+use crate::fault::PortFault;
+use iol_core::{DownloadPermit, Ticket, UploadPermit, Work};
+use iol_dsindex::StateProperty;
+use iol_ident::{IdentFault, Page};
+use iol_transfer::{Download, Upload};
+use iol_types::DataSet;
+use std::sync::Arc;
+
+// How a settled port is; where its device is there, with its page.
+#[derive(Clone, Copy, Debug)]
+pub(crate) enum Rest {
+    Off,
+    Lost,
+    Failed(PortFault),
+    Ready(Page),
+    ReadyLocked(Page),
+    ReadyEmpty(Page),
+    Mismatch(IdentFault, Page),
+}
+
+// A device that was found to be the one that the port wants: what the port was to work with, the device's page, and the
+// connection on which it was read.
+#[derive(Clone, Copy, Debug)]
+pub(crate) struct Found {
+    pub(crate) work: Work,
+    pub(crate) page: Page,
+    pub(crate) connection: u64,
+}
+
+// What a page is read for.
+#[derive(Clone, Copy, Debug)]
+pub(crate) enum PageFor {
+    // Whether the device of a settled port is still there.
+    Comparing { work: Work, rest: Rest },
+    // Whether the device is the one that the port wants.
+    Identifying { work: Work },
+}
+
+// What the core is asked for, where it says what is to be done.
+#[derive(Clone, Copy, Debug)]
+pub(crate) enum AttendFor {
+    // A settled port was woken.
+    Waking {
+        rest: Rest,
+    },
+    // Whether what was read of a device still counts.
+    Confirming {
+        found: Found,
+        property: StateProperty,
+        checksum: u32,
+    },
+    // An upload came to nothing, since the port was configured anew.
+    Restarting,
+}
+
+// What is sent to the device outside of a transfer; `left` says how often it may still be sent, where the device is busy.
+#[derive(Clone, Copy, Debug)]
+pub(crate) enum ExchangeFor {
+    ReadingState {
+        found: Found,
+        left: u8,
+    },
+    ReadingChecksum {
+        found: Found,
+        property: StateProperty,
+        left: u8,
+    },
+    // DS_UploadEnd: the set is durable.
+    EndingUpload {
+        page: Page,
+        left: u8,
+    },
+    // DS_Break: nothing more is stored. No permit is held.
+    Stopping {
+        storing: bool,
+    },
+    // DS_Break: the port was configured anew. No permit is held.
+    Yielding,
+}
+
+// What a transfer does.
+#[derive(Clone, Copy, Debug)]
+pub(crate) enum Transfer {
+    Upload,
+    Download,
+}
+
+// A permit that is held.
+#[derive(Debug)]
+pub(crate) enum Held {
+    Upload(UploadPermit),
+    Download(DownloadPermit),
+}
+
+// How far a port is. Permits stand in the stages that hold them, and are spent with these.
+pub(crate) enum Stage {
+    Settled(Rest),
+    Paging(PageFor),
+    Attending(AttendFor),
+    BeginningUpload(Found),
+    BeginningDownload(Found, u32),
+    Exchanging(ExchangeFor),
+    Uploading(UploadPermit, Page, Upload),
+    Filing(UploadPermit, Page, Arc<DataSet>),
+    // The set and its permit are with the core.
+    Filed(Page),
+    Storing(Ticket, Page),
+    Downloading(DownloadPermit, Page, Download),
+    // DS_Break, and then the permit is returned.
+    Breaking(Held, PortFault),
+    Returning(Held, Rest),
+    // The permit is with the core.
+    Returned(Transfer, Rest),
+}
+
+// Where a port goes.
+pub(crate) enum Next {
+    To(Stage),
+    // It starts with this work.
+    Start(Work),
+}

@@ -1,0 +1,6 @@
+mod decisions;
+mod driver;
+mod endings;
+mod rows;
+mod scene;
+mod transfers;

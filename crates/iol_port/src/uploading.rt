@@ -1,0 +1,109 @@
+//! An upload of a port, from its permit to its last message.
+
+ghost use Rattle.std.specs.Prelude.{◌≡◌, ◌⊎◌, true};
+ghost use Rattle.iol_port.specs.Answers.{upload_answered, RunsOut};
+ghost use Rattle.iol_port.specs.Calls.{HandsBack, IsUnder};
+ghost use Rattle.iol_port.specs.Heard.{upload_permitted, finished_upload, told_ticket, is_beginning_upload, is_filed, is_storing};
+ghost use Rattle.iol_port.specs.Stage.{IsStage, Uploading};
+ghost use Rattle.iol_port.specs.View.{stage_of};
+
+use crate::exchanging::fail;
+use crate::fault::PortFault;
+use crate::stage::{ExchangeFor, Held, Stage};
+use iol_core::{FinishFault, PermitFault, Ticket, TicketState, UploadPermit};
+use iol_ident::Page;
+use iol_isdu::{Answer, IsduFault};
+use iol_transfer::{MOST_REQUESTS, Upload, UploadStep};
+use iol_types::DataSet;
+use std::alloc::Global;
+use std::sync::Arc;
+
+// A permit is given or refused.
+pub(crate) fn begin(alloc: Global, stage: Stage, begun: Result<UploadPermit, PermitFault>) -> Stage
+    requires { is_beginning_upload (stage_of stage) ≡ true }
+    ensures stage { stage_of result ≡ upload_permitted (stage_of stage) begun }
+    ensures holds { IsStage (stage_of result) }
+{
+    let Stage::BeginningUpload(found) = stage else {
+        unreachable!()
+    };
+    match begun {
+        Ok(permit) => {
+            let grant = permit.grant();
+            let upload = Upload::begin(alloc, grant.vendor, grant.device);
+            Stage::Uploading(permit, found.page, upload)
+        }
+        Err(fault) => fail(PortFault::of_permit(fault)),
+    }
+}
+
+// The device has answered a request of the upload.
+pub(crate) fn answer(
+    alloc: Global,
+    permit: UploadPermit,
+    page: Page,
+    upload: Upload,
+    answer: Result<Answer, IsduFault>,
+) -> Stage
+    requires { IsStage (Uploading permit page upload) }
+    ensures stage { (stage_of result ≡ upload_answered permit page upload answer)
+        ⊎ RunsOut (Uploading permit page upload) answer (stage_of result) }
+    ensures holds { IsStage (stage_of result) }
+{
+    let mut upload = upload;
+    match answer {
+        Ok(answer) => match upload.feed(answer) {
+            UploadStep::More => Stage::Uploading(permit, page, upload),
+            UploadStep::Whole(set) => match Arc::new(alloc, set) {
+                Ok(set) => Stage::Filing(permit, page, set),
+                Err(_) => Stage::Breaking(Held::Upload(permit), PortFault::Memory),
+            },
+            UploadStep::Fault(fault) => {
+                Stage::Breaking(Held::Upload(permit), PortFault::of_transfer(fault))
+            }
+        },
+        Err(fault) => Stage::Breaking(Held::Upload(permit), PortFault::of_isdu(fault)),
+    }
+}
+
+// The core has taken the set, or not.
+pub(crate) fn finish(stage: Stage, finished: Result<Ticket, FinishFault>) -> Stage
+    requires { (is_filed (stage_of stage) ≡ true) × HandsBack finished }
+    ensures stage { stage_of result ≡ finished_upload (stage_of stage) finished }
+    ensures holds { IsStage (stage_of result) }
+{
+    let Stage::Filed(page) = stage else {
+        unreachable!()
+    };
+    match finished {
+        Ok(ticket) => Stage::Storing(ticket, page),
+        Err(FinishFault::Stopped) => { Stage::Exchanging(ExchangeFor::Stopping { storing: false }) }
+        Err(FinishFault::ConfigChanged) => Stage::Exchanging(ExchangeFor::Yielding),
+        Err(FinishFault::QueueFull(permit, set)) => Stage::Filing(permit, page, set),
+        Err(FinishFault::Exhausted(permit, _set)) => {
+            Stage::Breaking(Held::Upload(permit), PortFault::Exhausted)
+        }
+        Err(FinishFault::Memory(permit, _set)) => {
+            Stage::Breaking(Held::Upload(permit), PortFault::Memory)
+        }
+    }
+}
+
+// The core has said whether the set is durable.
+pub(crate) fn store(stage: Stage, state: TicketState) -> Stage
+    requires { is_storing (stage_of stage) ≡ true }
+    ensures stage { stage_of result ≡ told_ticket (stage_of stage) state }
+    ensures holds { IsStage (stage_of result) }
+{
+    let Stage::Storing(ticket, page) = stage else {
+        unreachable!()
+    };
+    match state {
+        TicketState::Waiting => Stage::Storing(ticket, page),
+        TicketState::Durable => Stage::Exchanging(ExchangeFor::EndingUpload {
+            page,
+            left: MOST_REQUESTS,
+        }),
+        TicketState::Unsure => Stage::Exchanging(ExchangeFor::Stopping { storing: true }),
+    }
+}
