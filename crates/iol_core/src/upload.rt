@@ -97,7 +97,9 @@ impl<F: Name> Core<F> {
         set: Arc<DataSet>,
     ) -> Result<Ticket, FinishFault>
         requires { (set.value.vendor ≡ permit.vendor) × (set.value.device ≡ permit.device) }
-        ensures { IsFinish self.old permit set.value self.new result }
+        ensures finish { IsFinish self.old permit set.value self.new result }
+        // A Store that waits passes in the live state.
+        ensures passes { OnOk result (check (live self.old) (store_of permit set.value) ≡ None) }
     {
         if self.is_stopped() {
             self.abandon_upload(permit);
@@ -174,7 +176,8 @@ impl<F: Name> Core<F> {
         requires may { MayFinish self.old permit }
         requires passes { check (live self.old) (store_of permit set.value) ≡ None }
         requires room { queue_fault self.old ≡ None }
-        ensures { IsFinish self.old permit set.value self.new result }
+        ensures finish { IsFinish self.old permit set.value self.new result }
+        ensures passes { OnOk result (check (live self.old) (store_of permit set.value) ≡ None) }
     {
         let same = match Arc::try_clone(&set) {
             Ok(same) => same,

@@ -1,11 +1,12 @@
 -- What a port asks of the core, and what the core answers.
-use Rattle.std.specs.Prelude.{◌≡◌, ℕ, Result, Ok, Err, IfOk}
+use Rattle.std.specs.Prelude.{◌≡◌, ℕ, None, Result, Ok, Err, IfOk}
+use Rattle.iol_types.specs.State.{check}
 use Rattle.iol_types.specs.DataSet.{SetValue, IsSet}
-use Rattle.iol_core.specs.Core.{CoreView}
+use Rattle.iol_core.specs.Core.{CoreView, live}
 use Rattle.iol_core.specs.Ports.{work_at}
 use Rattle.iol_core.specs.Permits.{without_upload, without_download}
 use Rattle.iol_core.specs.Submit.{ticket_state}
-use Rattle.iol_core.specs.Uploads.{IsBeginUpload, IsFinish}
+use Rattle.iol_core.specs.Uploads.{IsBeginUpload, IsFinish, store_of}
 use Rattle.iol_core.specs.Downloads.{IsBeginDownload}
 use Rattle.iol_core.specs.declared.permit.UploadGrant.{UploadGrant}
 use Rattle.iol_core.specs.declared.upload.FinishFault.{FinishFault}
@@ -98,3 +99,8 @@ IsReplyTo (AskTicket ticket) (reply.Ticket state) = Unit {0}
 IsReplyTo (BeginDownload port vendor device checksum) (reply.BegunDownload begun) = IfOk begun (IsBegunFor port vendor device)
 IsReplyTo (EndDownload port) reply.EndedDownload = Unit {0}
 IsReplyTo _ _ = ⊥
+
+-- the Store of a set that the core takes passes in its live state (own)
+abbrev pub Passes : Call → CoreView → Reply → Type 0
+Passes (FinishUpload grant set) old (reply.FinishedUpload (Ok ticket)) = check (live old) (store_of grant set) ≡ None
+Passes _ old _ = Unit {0}

@@ -29,49 +29,54 @@ pub(crate) fn act(port: PortId, stage: Stage) -> (Action, Stage)
     match { stage } {
         Stage::Settled(rest) => (Action::Idle, Stage::Settled(rest)),
         Stage::Paging(what) => (Action::ReadPage, Stage::Paging(what)),
-        Stage::Attending(what) => (Action::Ask(CoreCall::Attend(port)), Stage::Attending(what)),
-        Stage::BeginningUpload(found) => (
-            Action::Ask(begin_upload(port, &found)),
-            Stage::BeginningUpload(found),
-        ),
-        Stage::BeginningDownload(found, checksum) => (
-            Action::Ask(begin_download(port, &found, checksum)),
-            Stage::BeginningDownload(found, checksum),
-        ),
-        Stage::Exchanging(what) => (
-            Action::Exchange(request_for(&what)),
-            Stage::Exchanging(what),
-        ),
-        Stage::Uploading(permit, page, upload) => (
-            Action::Exchange(upload.next()),
-            Stage::Uploading(permit, page, upload),
-        ),
-        Stage::Filing(permit, page, set) => (
-            Action::Ask(CoreCall::FinishUpload(permit, set)),
-            Stage::Filed(page),
-        ),
+        Stage::Attending(what) => ask(CoreCall::Attend(port), Stage::Attending(what)),
+        Stage::BeginningUpload(found) => {
+            ask(begin_upload(port, &found), Stage::BeginningUpload(found))
+        }
+        Stage::BeginningDownload(found, checksum) => {
+            let call = begin_download(port, &found, checksum);
+            ask(call, Stage::BeginningDownload(found, checksum))
+        }
+        Stage::Exchanging(what) => send(request_for(&what), Stage::Exchanging(what)),
+        Stage::Uploading(permit, page, upload) => {
+            send(upload.next(), Stage::Uploading(permit, page, upload))
+        }
+        Stage::Filing(permit, page, set) => {
+            ask(CoreCall::FinishUpload(permit, set), Stage::Filed(page))
+        }
         Stage::Filed(page) => (Action::Idle, Stage::Filed(page)),
-        Stage::Storing(ticket, page) => (
-            Action::Ask(CoreCall::AskTicket(ticket)),
-            Stage::Storing(ticket, page),
-        ),
-        Stage::Downloading(permit, page, download) => (
-            Action::Exchange(download.next()),
-            Stage::Downloading(permit, page, download),
-        ),
-        Stage::Breaking(held, fault) => (
-            Action::Exchange(command(DsCommand::Break)),
-            Stage::Breaking(held, fault),
-        ),
+        Stage::Storing(ticket, page) => {
+            ask(CoreCall::AskTicket(ticket), Stage::Storing(ticket, page))
+        }
+        Stage::Downloading(permit, page, download) => {
+            let request = download.next();
+            send(request, Stage::Downloading(permit, page, download))
+        }
+        Stage::Breaking(held, fault) => {
+            send(command(DsCommand::Break), Stage::Breaking(held, fault))
+        }
         Stage::Returning(held, rest) => {
             let transfer = transfer_of(&held);
-            (
-                Action::Ask(return_of(held)),
-                Stage::Returned(transfer, rest),
-            )
+            ask(return_of(held), Stage::Returned(transfer, rest))
         }
         Stage::Returned(transfer, rest) => (Action::Idle, Stage::Returned(transfer, rest)),
     }
+}
+
+// A request is sent at a stage.
+fn send(request: Request, stage: Stage) -> (Action, Stage)
+    ensures action { result.0 ≡ Action.Exchange request }
+    ensures stage { result.1 ≡ stage }
+{
+    (Action::Exchange(request), stage)
+}
+
+// The core is asked at a stage.
+fn ask(call: CoreCall, stage: Stage) -> (Action, Stage)
+    ensures action { result.0 ≡ Action.Ask call }
+    ensures stage { result.1 ≡ stage }
+{
+    (Action::Ask(call), stage)
 }
 
 // The call for a permit to upload from a device that was found.

@@ -2,7 +2,7 @@
 
 ghost use Rattle.std.specs.Prelude.{◌≡◌, IfOk};
 ghost use Rattle.iol_types.specs.DataSet.{IsSet};
-ghost use Rattle.iol_port.specs.Calls.{Replies, IsReplyTo, MayBeMade, call_of};
+ghost use Rattle.iol_port.specs.Calls.{Replies, IsReplyTo, MayBeMade, Passes, call_of};
 
 use iol_core::{
     Core, DownloadBegun, DownloadFault, DownloadPermit, FinishFault, PermitFault, Ticket,
@@ -59,6 +59,8 @@ impl CoreCall {
         requires { MayBeMade (call_of self) }
         ensures replies { Replies (call_of self) core.old core.new result }
         ensures of_the_call { IsReplyTo (call_of self) result }
+        // A Store that waits passes in the live state.
+        ensures passes { Passes (call_of self) core.old result }
     {
         match self {
             CoreCall::Attend(port) => Reply::Attended(core.attend(port)),

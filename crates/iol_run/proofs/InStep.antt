@@ -49,7 +49,7 @@ module _ {D : Type 0} where
   flight_stays core command (Publishing j written) is = more_waits core command written.commands is
   flight_stays core command (Failed d f) is = is
 
-  queued_in_step : (start : Start) (core : CoreView) (command : CommandValue) (flusher : FlusherView D) (committed : Option CommittedView)
+  pub queued_in_step : (start : Start) (core : CoreView) (command : CommandValue) (flusher : FlusherView D) (committed : Option CommittedView)
       → IsInStep start core flusher committed → IsInStep start (queued core command) flusher committed
   queued_in_step start core command flusher None is =
       (record { number = is.0.number; state = is.0.state }, flight_stays core command flusher.stage is.1, is.2)

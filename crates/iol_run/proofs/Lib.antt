@@ -5,3 +5,4 @@ pub mod Telling
 pub mod Marking
 pub mod Making
 pub mod Crash
+pub mod Calls

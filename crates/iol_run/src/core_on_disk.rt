@@ -7,6 +7,7 @@ ghost use Rattle.iol_flush.specs.declared.stage.Stage.TheVariants as stage;
 ghost use Rattle.iol_flush.specs.Stages as flush;
 ghost use Rattle.iol_flush.specs.Stages.{need_of, disk_of};
 ghost use Rattle.iol_flush.specs.declared.need.Need.TheVariants as need;
+ghost use Rattle.iol_port.specs.Calls.{MayBeMade, Replies, IsReplyTo, call_of};
 ghost use Rattle.iol_run.specs.CoreOnDisk.{IsInStep, KeepsRunning};
 ghost use Rattle.iol_run.specs.Events.{event_of, told_of};
 ghost use Rattle.iol_run.specs.Turns.{IsTurn, Takes, CallsDisk, Publishes};
@@ -17,6 +18,7 @@ use iol_disk::SectorDisk;
 use iol_flush::{FlushEnd, FlushFault, Flusher, Need};
 use iol_front::{Committed, Front, Name};
 use iol_journal::Journal;
+use iol_port::{CoreCall, Reply};
 use iol_types::{Change, MasterState};
 use std::alloc::Global;
 use std::marker::Model;
@@ -144,6 +146,18 @@ impl<D: SectorDisk, F: Name> CoreOnDisk<D, F> {
         ensures run { KeepsRunning D.disk F.front.start self.old self.new }
     {
         self.core.submit(change)
+    }
+
+    /// Makes a call that a port asks of the core.
+    pub fn make(&mut self, call: CoreCall) -> Reply
+        requires { MayBeMade (call_of call) }
+        ensures replies { Replies (call_of call) self.old.core self.new.core result }
+        ensures of_the_call { IsReplyTo (call_of call) result }
+        ensures others { (self.new.flusher ≡ self.old.flusher) × (self.new.committed ≡ self.old.committed) }
+        ensures in_step { IsInStep F.front.start self.old.core self.old.flusher self.old.committed }
+        ensures run { KeepsRunning D.disk F.front.start self.old self.new }
+    {
+        call.make(&mut self.core)
     }
 
     /// One turn of the flusher. A batch that is published is acknowledged; where there is none the flusher's next need is

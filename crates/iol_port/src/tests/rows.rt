@@ -28,6 +28,71 @@ const UPLOAD_START: Next<'static> = Next::Answer(&[0x25, 0x03, 0x01, 0x01, 0x26]
 // A script, how many steps a port makes of it, and its statuses.
 type Row<'a> = (&'a [Next<'a>], u8, &'a [PortStatus]);
 
+// What a port makes of a device: another one, one that stays busy, one that is lost in an upload, one that a machine ends
+// beside, and one that is lost before and comes back as another.
+const ROWS: [Row<'static>; 5] = [
+    (
+        &[Next::Page(&OTHER_PAGE)],
+        3,
+        &[
+            PortStatus::Starting,
+            PortStatus::Mismatch(IdentFault::Device),
+        ],
+    ),
+    (
+        &[
+            Next::Page(&PAGE),
+            BUSY,
+            BUSY,
+            BUSY,
+            BUSY,
+            BUSY,
+            BUSY,
+            BUSY,
+            BUSY,
+            BUSY,
+            BUSY,
+            BUSY,
+            BUSY,
+            BUSY,
+            BUSY,
+            BUSY,
+            BUSY,
+        ],
+        19,
+        &[PortStatus::Starting, PortStatus::Failed(PortFault::Busy)],
+    ),
+    (
+        &[Next::Page(&PAGE), STATE, CHECKSUM, UPLOAD_START, Next::Lost],
+        10,
+        &[
+            PortStatus::Starting,
+            PortStatus::Uploading,
+            PortStatus::Lost,
+        ],
+    ),
+    (
+        &[Next::Page(&PAGE), STATE, CHECKSUM, UPLOAD_START],
+        8,
+        &[PortStatus::Starting, PortStatus::Uploading],
+    ),
+    (
+        &[
+            Next::Page(&PAGE),
+            STATE,
+            Next::Lost,
+            Next::Page(&OTHER_PAGE),
+        ],
+        8,
+        &[
+            PortStatus::Starting,
+            PortStatus::Lost,
+            PortStatus::Starting,
+            PortStatus::Mismatch(IdentFault::Device),
+        ],
+    ),
+];
+
 #[test]
 fn a_port_is_as_its_device_is(rt: HostRuntime) -> Result<(), Fail> {
     let state = MasterState::new(rt.alloc(), 2)?;
@@ -57,69 +122,7 @@ fn play_rows<F: Name, R: Abort>(rt: &R, alloc: Global, front: Front, state: Mast
         core.submit(configure(Validation::BackupAndRestore, DEVICE))
             .is_ok()
     );
-    let rows: [Row<'_>; 5] = [
-        (
-            &[Next::Page(&OTHER_PAGE)],
-            3,
-            &[
-                PortStatus::Starting,
-                PortStatus::Mismatch(IdentFault::Device),
-            ],
-        ),
-        (
-            &[
-                Next::Page(&PAGE),
-                BUSY,
-                BUSY,
-                BUSY,
-                BUSY,
-                BUSY,
-                BUSY,
-                BUSY,
-                BUSY,
-                BUSY,
-                BUSY,
-                BUSY,
-                BUSY,
-                BUSY,
-                BUSY,
-                BUSY,
-                BUSY,
-            ],
-            19,
-            &[PortStatus::Starting, PortStatus::Failed(PortFault::Busy)],
-        ),
-        (
-            &[Next::Page(&PAGE), STATE, CHECKSUM, UPLOAD_START, Next::Lost],
-            10,
-            &[
-                PortStatus::Starting,
-                PortStatus::Uploading,
-                PortStatus::Lost,
-            ],
-        ),
-        (
-            &[Next::Page(&PAGE), STATE, CHECKSUM, UPLOAD_START],
-            8,
-            &[PortStatus::Starting, PortStatus::Uploading],
-        ),
-        (
-            &[
-                Next::Page(&PAGE),
-                STATE,
-                Next::Lost,
-                Next::Page(&OTHER_PAGE),
-            ],
-            8,
-            &[
-                PortStatus::Starting,
-                PortStatus::Lost,
-                PortStatus::Starting,
-                PortStatus::Mismatch(IdentFault::Device),
-            ],
-        ),
-    ];
-    for row in &rows {
+    for row in &ROWS {
         assert!(rt; makes(alloc, &mut core, row));
     }
 }
