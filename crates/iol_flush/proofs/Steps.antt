@@ -123,7 +123,7 @@ checkpointed_in_step start published c batch (Failed d f) has was = absurd has
 
 begun_in_step : {D : Type 0} (start : Start) (published : List CommandValue) (full : Bool) (j : JournalView D) (batch : Batch) (new : Stage D)
     → HasBegun full j batch new → StandsBehind start published j.standing j.history → IsInStep start new published
-begun_in_step start published true j batch new has was = checkpointed_in_step start published (checkpoint_of j) batch new has was
+begun_in_step start published true j batch new has was = checkpointed_in_step start published (checkpoint_of j) batch new has.1 was
 begun_in_step start published false j batch new has was = written_in_step start published (writing_of j (values batch.commands.items)) new has.1 was
 
 made_in_step : {D : Type 0} (start : Start) (published : List CommandValue) (old new : Stage D) → HasMade old new → IsInStep start old published → IsInStep start new published

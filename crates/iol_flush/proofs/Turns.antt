@@ -67,13 +67,13 @@ module _ {D : Type 0} (disk : D → Disk) where
       → MakesFirst (if full then checkpoint_calls j.standing j.idle else batch_calls j.standing (values batch.commands.items)) (calls_owed new) old next
       → calls_needed new + 1 ≤ 21 + (if full then most_checkpoint_calls j.standing.layout + 1 else 0)
   begun_needs true j batch (Checkpointing c kept) old next has few made =
-      subst (λ (s : Standing). 21 + length (stages_left c) + 1 ≤ 21 + (most_checkpoint_calls s.layout + 1)) has.0 (omega (arith, few.1))
+      subst (λ (s : Standing). 21 + length (stages_left c) + 1 ≤ 21 + (most_checkpoint_calls s.layout + 1)) has.1.0 (omega (arith, few.1))
   begun_needs true j batch (Given k kept) old next has few made =
       absurd (omega (arith, two_calls j.standing j.idle, one_less (checkpoint_calls j.standing j.idle) [] old next made))
-  begun_needs true j batch (Resting k) old next has few made = absurd has
-  begun_needs true j batch (Writing w) old next has few made = absurd has
-  begun_needs true j batch (Publishing k written) old next has few made = absurd has
-  begun_needs true j batch (Failed d f) old next has few made = absurd has
+  begun_needs true j batch (Resting k) old next has few made = absurd has.1
+  begun_needs true j batch (Writing w) old next has few made = absurd has.1
+  begun_needs true j batch (Publishing k written) old next has few made = absurd has.1
+  begun_needs true j batch (Failed d f) old next has few made = absurd has.1
   begun_needs false j batch (Writing w) old next has few made = omega (arith, few)
   begun_needs false j batch (Publishing k written) old next has few made = omega arith
   begun_needs false j batch (Given k kept) old next has few made = absurd has.1
@@ -140,7 +140,7 @@ made_goes : {D : Type 0} (old new : Stage D) → HasMade old new → GoesOn old 
 made_goes (Given j batch) new has goes = begun_goes (is_full j) has
   where
     begun_goes : (full : Bool) → HasBegun full j batch new → GoesOn new
-    begun_goes true has = checkpointed_goes (checkpoint_of j) batch new has goes
+    begun_goes true has = checkpointed_goes (checkpoint_of j) batch new has.1 goes
     begun_goes false has = written_goes (writing_of j (values batch.commands.items)) new has.1
 made_goes (Checkpointing c batch) new has goes = checkpointed_goes c batch new has goes
 made_goes (Writing w) new has goes = written_goes w new has

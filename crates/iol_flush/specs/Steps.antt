@@ -3,7 +3,7 @@ use Rattle.std.specs.Prelude.{◌≡◌, ◌+◌, ◌⊎◌, Bool, true, false, 
 use Rattle.iol_types.specs.Command.{CommandValue}
 use Rattle.iol_disk.specs.Disk.{Disk}
 use Rattle.iol_front.specs.Fronts.{CommittedView}
-use Rattle.iol_journal.specs.Begin.{batch_refusal}
+use Rattle.iol_journal.specs.Begin.{batch_refusal, is_too_large}
 use Rattle.iol_journal.specs.Checkpoints.{checkpointed, first_stage}
 use Rattle.iol_journal.specs.CheckpointViews.{CheckpointingView}
 use Rattle.iol_journal.specs.Journals.{JournalView, WritingView, values, with_batch, written_behind}
@@ -54,7 +54,7 @@ HasCheckpointed c batch stage = ⊥
 
 -- the first disk call is made after a batch was given: its own or, where no slot is free for it, of a checkpoint (own)
 abbrev pub HasBegun : {D : Type 0} → Bool → JournalView D → Batch → Stage D → Type 0
-HasBegun true journal batch new = HasCheckpointed (checkpoint_of journal) batch new
+HasBegun true journal batch new = (is_too_large (values batch.commands.items) ≡ false) × HasCheckpointed (checkpoint_of journal) batch new
 HasBegun false journal batch new =
     (batch_refusal journal.standing batch.first (values batch.commands.items) ≡ None) × HasWritten (writing_of journal (values batch.commands.items)) new
 
@@ -74,7 +74,7 @@ IsUnfit stage = ⊥
 
 -- a batch was given and no disk call of it is made yet (own)
 abbrev pub IsGiven : {D : Type 0} → Stage D → Type 0
-IsGiven (Given journal batch) = Unit {0}
+IsGiven (Given journal batch) = is_too_large (values batch.commands.items) ≡ false
 IsGiven stage = ⊥
 
 -- the first of the disk calls that come next is made, or fails; or none is made and nothing changes: a call failed before,

@@ -1,6 +1,8 @@
 //! One disk call of the journal that a flusher has.
 
-ghost use Rattle.std.specs.Prelude.{◌≡◌, ◌<◌, ◌⊎◌, true};
+ghost use Rattle.std.specs.Prelude.{◌≡◌, ◌<◌, ◌⊎◌, true, false};
+ghost use Rattle.iol_journal.specs.Begin.{is_too_large};
+ghost use Rattle.iol_journal.specs.Journals.{values};
 ghost use Rattle.iol_flush.specs.Stages.{HasFewCalls, is_full, need_of};
 ghost use Rattle.iol_flush.specs.Steps.{IsDiskStep};
 ghost use Rattle.iol_flush.specs.Flushing.{KeepsRun};
@@ -65,6 +67,7 @@ fn begin_checkpoint<D: SectorDisk>(
     batch: Batch,
 ) -> (Stage<D>, Result<(), FlushFault>)
     requires full { is_full journal ≡ true }
+    requires small { is_too_large (values batch.commands.items) ≡ false }
     requires used { 0 < journal.standing.used }
     ensures step { IsDiskStep D.disk (stage.Given journal batch) result.0 result.1 }
     ensures few { HasFewCalls result.0 }

@@ -7,15 +7,18 @@
 //! list. After a disk call that fails it does nothing more. [`Flusher::end`] hands back what it holds.
 //!
 //! Modules in reading order: `fault`, `need` and `stage`, the words of the calls; `disk_call`, one call of the journal;
-//! and `flusher`, the flusher itself. What a step does is said in `specs/Steps.antt`, and what a run of a journal keeps
-//! meanwhile in `specs/Flushing.antt`.
+//! and `flusher`, the flusher itself; then `laws`, for proofs of other crates. What a step does is said in
+//! `specs/Steps.antt`, and what a run of a journal keeps meanwhile in `specs/Flushing.antt`.
 #![tactic(auto)]
 
 mod disk_call;
 mod fault;
 mod flusher;
+pub mod laws;
 mod need;
 mod stage;
+#[cfg(test)]
+mod tests;
 
 pub use fault::{FlushFault, GiveFault};
 pub use flusher::{FlushEnd, Flusher};

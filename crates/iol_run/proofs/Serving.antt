@@ -42,7 +42,7 @@ module _ {D : Type 0} (disk : D → Disk) (start : Start) where
 
   begun_flight : (core : CoreView) (full : Bool) (j : JournalView D) (batch : Batch) (new : Stage D) → HasBegun full j batch new
       → IsInFlight core (values batch.commands.items) → HasFlight core new
-  begun_flight core true j batch new has is = checkpointed_flight core (checkpoint_of j) batch new has is
+  begun_flight core true j batch new has is = checkpointed_flight core (checkpoint_of j) batch new has.1 is
   begun_flight core false j batch new has is = written_flight core (writing_of j (values batch.commands.items)) new has.1 is
 
   made_flight : (core : CoreView) (old new : Stage D) → HasMade old new → HasFlight core old → HasFlight core new

@@ -1,6 +1,6 @@
 //! A trace worked out: the prover computes each of these.
 
-ghost use Rattle.std.specs.Prelude.{◌≡◌, [], ◌∷◌, take};
+ghost use Rattle.std.specs.Prelude.{◌≡◌, [], ◌∷◌, ◌++◌, take};
 ghost use Rattle.iol_types.specs.Command.{Clear};
 ghost use Rattle.iol_trace.specs.Events.{Accepted, Acknowledged, Refused, DiskFailed, stamped};
 ghost use Rattle.iol_trace.specs.Statuses.{QueueFull};
@@ -17,4 +17,6 @@ pub fn two_commands()
     ensures acknowledged { acked 4 (stamped 9 (Accepted 5 (Clear 1) ∷ Acknowledged 5 ∷ DiskFailed ∷ [])) ≡ 5 }
     ensures clock { clock_after 3 (take 2 (stamped 7 (Accepted 5 (Clear 1) ∷ Acknowledged 5 ∷ DiskFailed ∷ []))) ≡ 7 }
     ensures begun { clock_after 3 [] ≡ 3 }
+    ensures last { acked 4 (stamped 7 (Acknowledged 5 ∷ []) ++ stamped 9 (Acknowledged 6 ∷ [])) ≡ 6 }
+    ensures latest { clock_after 3 (stamped 7 (Acknowledged 5 ∷ []) ++ stamped 9 (Acknowledged 6 ∷ [])) ≡ 9 }
 {}

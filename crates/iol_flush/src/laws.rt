@@ -1,0 +1,84 @@
+//! Laws of a flusher, which no code calls: what it does to a run of its journal beside its disk calls, and how soon a batch
+//! is through. Proofs of other crates cite them from `proofs/RunLaws.antt` and `proofs/Turns.antt`, under the same names.
+
+ghost use Rattle.std.specs.Prelude.{◌≡◌, ◌≤◌, ℕ, ◌+◌, true, List, ◌∷◌, ◌++◌, length, Result, Ok};
+ghost use Rattle.iol_types.specs.Command.{CommandValue};
+ghost use Rattle.iol_types.specs.State.{State, after, legal};
+ghost use Rattle.iol_disk.specs.Content.{clock};
+ghost use Rattle.iol_front.specs.Fronts.{CommittedView};
+ghost use Rattle.iol_journal.specs.Journals.{JournalView, values};
+ghost use Rattle.iol_journal.specs.Runs.{Mark};
+ghost use Rattle.iol_journal.specs.declared.batch.Batch.{Batch};
+ghost use Rattle.iol_flush.specs.Flushing.{AreFirst, IsFlushing, GoesOn, HoldsBy};
+ghost use Rattle.iol_flush.specs.Stages.{FlusherView, HasFewCalls, disk_of};
+ghost use Rattle.iol_flush.specs.Steps.{HasTaken, HasPublished, IsDiskStep, IsUnfit};
+ghost use Rattle.iol_flush.specs.Turns.{calls_needed};
+ghost use Rattle.iol_flush.specs.declared.fault.FlushFault.{FlushFault};
+ghost use Rattle.iol_flush.specs.declared.stage.Stage.{Stage};
+ghost use Rattle.iol_flush.specs.declared.stage.Stage.TheVariants.{Resting};
+
+use iol_disk::SectorDisk;
+
+/// At a moment at which nothing more is acknowledged than at the one before, a run goes on.
+pub fn marked_later<D: SectorDisk>()
+    ensures { (number : ℕ) (state : State) (published waiting : List CommandValue) (mark : Mark) (marks : List Mark) (stage : Stage D)
+        → IsFlushing D.disk number state published waiting (mark ∷ marks) stage
+        → IsFlushing D.disk number state published waiting
+        (record { clock = clock (D.disk (disk_of stage)).content; acknowledged = mark.acknowledged } ∷ mark ∷ marks) stage }
+{}
+
+/// A batch that is given is the first of the commands that wait.
+pub fn gives<D: SectorDisk>()
+    ensures { (number : ℕ) (state : State) (published waiting : List CommandValue) (marks : List Mark) (old new : Stage D) (batch : Batch)
+        → HasTaken old batch new → AreFirst (values batch.commands.items) waiting
+        → IsFlushing D.disk number state published waiting marks old → IsFlushing D.disk number state published waiting marks new }
+{}
+
+/// The batch that is published was the first of the commands that wait, and waits no more.
+pub fn publishes<D: SectorDisk>()
+    ensures { (number : ℕ) (state : State) (published waiting : List CommandValue) (marks : List Mark) (old : Stage D) (list : List CommandValue)
+        (new : FlusherView D) (committed : CommittedView)
+        → HasPublished old list new committed → IsFlushing D.disk number state published waiting marks old
+        → (behind : List CommandValue) × (waiting ≡ committed.commands ++ behind)
+        × IsFlushing D.disk number state (published ++ committed.commands) behind marks new.stage }
+{}
+
+/// Each image since a moment has what was acknowledged by then, and behind it none but the next commands, in their order.
+pub fn holds<D: SectorDisk>()
+    ensures { (number : ℕ) (state : State) (published waiting : List CommandValue) (marks : List Mark) (stage : Stage D)
+        → IsFlushing D.disk number state published waiting marks stage
+        → HoldsBy (D.disk (disk_of stage)) number state (published ++ waiting) marks }
+{}
+
+/// More commands may wait, each of which passes in the state that it meets.
+pub fn accepts_more<D: SectorDisk>()
+    ensures { (number : ℕ) (state : State) (published waiting : List CommandValue) (marks : List Mark) (stage : Stage D) (commands : List CommandValue)
+        → legal (after state (published ++ waiting)) commands ≡ true
+        → IsFlushing D.disk number state published waiting marks stage
+        → IsFlushing D.disk number state published (waiting ++ commands) marks stage }
+{}
+
+/// What is published may be acknowledged while the journal is at rest.
+pub fn acknowledges<D: SectorDisk>()
+    ensures { (number : ℕ) (state : State) (published waiting : List CommandValue) (marks : List Mark) (acknowledged : ℕ) (j : JournalView D)
+        → acknowledged ≤ number + length published
+        → IsFlushing D.disk number state published waiting marks (Resting j)
+        → IsFlushing D.disk number state published waiting
+        (record { clock = clock (D.disk j.disk).content; acknowledged = acknowledged } ∷ marks) (Resting j) }
+{}
+
+/// Each disk call that is made leaves fewer calls until the batch is through.
+pub fn advances<D: SectorDisk>()
+    ensures { (old new : Stage D) → HasFewCalls old → HasFewCalls new → IsDiskStep D.disk old new (Ok tt)
+        → calls_needed new + 1 ≤ calls_needed old }
+{}
+
+/// A batch that goes on where the journal stands is not refused for what it is.
+pub fn is_fit<D: SectorDisk>()
+    ensures { (stage : Stage D) → GoesOn stage → IsUnfit stage → ⊥ }
+{}
+
+/// After a disk call the batch that is still to be begun goes on where the journal stands.
+pub fn goes_on<D: SectorDisk>()
+    ensures { (old new : Stage D) (answer : Result Unit FlushFault) → IsDiskStep D.disk old new answer → GoesOn old → GoesOn new }
+{}
