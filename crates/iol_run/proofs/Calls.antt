@@ -176,16 +176,20 @@ module _ {D : Type 0} where
   changed_running : (disk : D → Disk) (start : Start) (old new : CoreView) (change : Change) (flusher : FlusherView D) (committed : Option CommittedView)
       → HasChanged old change new → IsInStep start old flusher committed
       → KeepsRunning disk start (record { core = old; flusher = flusher; committed = committed }) (record { core = new; flusher = flusher; committed = committed })
-  changed_running disk start old new (Permits permits) flusher committed is step = record { goes_on = λ marks was.
-      subst (λ (cs : List CommandValue). IsFlushing disk start.number start.state flusher.published cs marks flusher.stage)
-      (sym (ap (waiting_of committed) is ∙ waits_with committed old permits)) was }
-  changed_running disk start old new (Waits command permits) flusher committed is step = record { goes_on = λ marks was.
-      subst (λ (cs : List CommandValue). IsFlushing disk start.number start.state flusher.published cs marks flusher.stage)
-      (sym (ap (waiting_of committed) is.0 ∙ (waits_with committed (queued old command) permits ∙ waits_more start old flusher committed command step)))
-      (accepts_more disk start.number start.state flusher.published (waiting_of committed old) marks flusher.stage (command ∷ [])
-      (ap (λ (s : State). is_none (check s command) && true) (live_is start old flusher committed step)
-      ∙ ap (λ (f : Option CommandFault). is_none f && true) is.1)
-      was) }
+  changed_running disk start old new (Permits permits) flusher committed is step = record {
+    goes_on = λ marks was.
+        subst (λ (cs : List CommandValue). IsFlushing disk start.number start.state flusher.published cs marks flusher.stage)
+        (sym (ap (waiting_of committed) is ∙ waits_with committed old permits)) was;
+  }
+  changed_running disk start old new (Waits command permits) flusher committed is step = record {
+    goes_on = λ marks was.
+        subst (λ (cs : List CommandValue). IsFlushing disk start.number start.state flusher.published cs marks flusher.stage)
+        (sym (ap (waiting_of committed) is.0 ∙ (waits_with committed (queued old command) permits ∙ waits_more start old flusher committed command step)))
+        (accepts_more disk start.number start.state flusher.published (waiting_of committed old) marks flusher.stage (command ∷ [])
+        (ap (λ (s : State). is_none (check s command) && true) (live_is start old flusher committed step)
+        ∙ ap (λ (f : Option CommandFault). is_none f && true) is.1)
+        was);
+  }
 
   -- and the run goes on
   pub call_running : (disk : D → Disk) (start : Start) (call : Call) (old new : CoreView) (heard : Reply) (flusher : FlusherView D) (committed : Option CommittedView)

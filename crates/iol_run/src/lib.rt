@@ -16,6 +16,8 @@ mod run;
 mod said;
 mod schedule;
 mod step;
+#[cfg(test)]
+mod tests;
 
 pub use core_on_disk::{CoreOnDisk, Turn, Turned};
 pub use event::Event;

@@ -27,6 +27,7 @@ use std::alloc::Global;
 use std::marker::Brand;
 
 /// Why no schedule is run.
+#[derive(Drop)]
 pub enum RunFault<D: SectorDisk> {
     /// The disk is not recovered.
     Recover(RecoverFault<D>),
@@ -44,6 +45,7 @@ pub enum Ended {
 }
 
 /// What a schedule did.
+#[derive(Drop)]
 pub struct Trace<D: SectorDisk> {
     pub events: Vec<Stamped>,
     /// When recovery had ended.

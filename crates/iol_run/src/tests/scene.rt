@@ -1,0 +1,88 @@
+//! Disks, steps, and what a run over them tells.
+
+use crate::{Ended, Event, RunFault, Stamped, Step, Trace, run_schedule};
+use iol_core::SubmitFault;
+use iol_disk::{MemoryDisk, Pick, SectorDisk};
+use iol_journal::{Geometry, Journal, format};
+use iol_types::{Change, DeviceId, PortConfig, PortId, PortMode, Validation};
+use std::alloc::Global;
+use std::process::Abort;
+
+/// What a stop may leave of each pending sector.
+pub const PICKS: [Pick; 4] = [Pick::Old, Pick::New, Pick::Zero, Pick::Pattern];
+
+/// A client configures a port.
+pub fn configure<R: Abort>(rt: &R, port: u8) -> Step {
+    Step::Client(Change::Configure {
+        port: PortId::new(port).expect(rt, "a port"),
+        config: PortConfig {
+            mode: PortMode::IolManual,
+            validation: Validation::BackupAndRestore,
+            vendor: 500,
+            device: DeviceId::new(43981).unwrap(),
+        },
+    })
+}
+
+/// A disk with an empty journal of so many ports and four slots.
+pub fn formatted<R: Abort>(rt: &R, alloc: Global, ports: u16) -> MemoryDisk {
+    let geometry = Geometry::new(ports, 4).expect(rt, "a geometry");
+    let mut disk = MemoryDisk::new(alloc, geometry.sectors()).expect(rt, "a disk");
+    format(alloc, &mut disk, geometry).expect(rt, "a format");
+    disk
+}
+
+/// What a whole run of these steps did.
+pub fn run<D: SectorDisk + Drop, R: Abort>(
+    rt: &R,
+    alloc: Global,
+    disk: D,
+    steps: &[Step],
+) -> Trace<D> {
+    match run_schedule(alloc, disk, steps) {
+        Ok(trace) => {
+            assert!(rt; trace.ended == Ended::Whole && trace.waits == 0);
+            trace
+        }
+        Err(RunFault::Recover(_) | RunFault::Memory(_)) => panic!(rt; "a run"),
+    }
+}
+
+/// How many commands are recovered from a disk.
+pub fn recovered<R: Abort>(rt: &R, alloc: Global, disk: MemoryDisk) -> u64 {
+    match Journal::recover(alloc, disk) {
+        Ok((journal, _)) => journal.number(),
+        Err(_) => panic!(rt; "a recovery"),
+    }
+}
+
+/// What kind of event comes at a place, and its number, 0 where it has none.
+pub fn told(events: &[Stamped], place: usize) -> (char, u64) {
+    match events.get(place) {
+        Some(Stamped { event, .. }) => match event {
+            Event::Accepted { number, .. } => ('+', *number),
+            Event::Refused(_) => ('-', 0),
+            Event::Acknowledged { number } => ('=', *number),
+            Event::DiskFailed => ('!', 0),
+        },
+        None => ('?', 0),
+    }
+}
+
+/// Why the command at a place was refused.
+pub fn refused(events: &[Stamped], place: usize) -> Option<SubmitFault> {
+    match events.get(place) {
+        Some(
+            Stamped {
+                event: Event::Refused(fault),
+                ..
+            },
+        ) => Some(*fault),
+        _ => None,
+    }
+}
+
+/// The first of these steps.
+pub fn first<'a, R: Abort>(rt: &R, steps: &'a [Step], made: usize) -> &'a [Step] {
+    steps.get(..made).expect(rt, "so many steps")
+}
