@@ -103,6 +103,8 @@ impl<D: SectorDisk, F: Name> Flusher<D, F> {
         requires { (need_of self.old.stage ≡ need.Disk) ⊎ (need_of self.old.stage ≡ need.Stopped) }
         ensures step { IsDiskStep D.disk self.old.stage self.new.stage result }
         ensures published { self.new.published ≡ self.old.published }
+        // What is then on its way has few disk calls.
+        ensures few { HasFewCalls self.new.stage }
         // Each run of the journal goes on: each image since a moment of it has all that was acknowledged by then.
         ensures run { KeepsRun D.disk self.old.stage self.new.stage }
     {

@@ -1,13 +1,13 @@
 -- A core stays in step with its flusher in each call of a port, and the run of its journal goes on.
-use Rattle.std.proofs.Common.{◌≡◌, refl, ◌+◌, ◌&&◌, ℕ, Bool, true, false, if◌then◌else◌, List, [], ◌∷◌, ◌++◌, length, Option, Some, None, is_none, Result, Ok, Err, ap, sym, ◌∙◌, subst}
+use Rattle.std.proofs.Common.{◌≡◌, refl, ◌&&◌, ℕ, Bool, true, false, if◌then◌else◌, List, [], ◌∷◌, Option, Some, None, is_none, Result, Ok, Err, ap, sym, ◌∙◌, subst}
 use Rattle.iol_types.specs.Command.{CommandValue}
 use Rattle.iol_types.specs.DataSet.{SetValue}
-use Rattle.iol_types.specs.State.{State, check, after, legal}
+use Rattle.iol_types.specs.State.{State, check}
 use Rattle.iol_types.specs.declared.command.CommandFault.{CommandFault}
 use Rattle.iol_disk.specs.Disk.{Disk}
 use Rattle.iol_core.specs.Core.{CoreView, live, with_permit}
 use Rattle.iol_core.specs.Downloads.{IsBeginDownload}
-use Rattle.iol_core.specs.Permits.{is_out, is_download, without_upload, without_download}
+use Rattle.iol_core.specs.Permits.{is_out, is_download}
 use Rattle.iol_core.specs.Core.{permit_at}
 use Rattle.iol_core.specs.Submit.{queued}
 use Rattle.iol_core.specs.Uploads.{IsBeginUpload, IsFinish, store_of}
@@ -29,7 +29,7 @@ use Rattle.iol_journal.specs.Journals.{values}
 use Rattle.iol_port.specs.Calls.{Call, Attend, BeginUpload, FinishUpload, AbandonUpload, AskTicket, BeginDownload, EndDownload, Replies, Passes}
 use Rattle.iol_port.specs.declared.call.Reply.{Reply}
 use Rattle.iol_port.specs.declared.call.Reply.TheVariants as reply
-use Rattle.iol_run.specs.CoreOnDisk.{IsInFlight, IsDurable, HasFlight, IsInStep, KeepsRunning, waiting_of}
+use Rattle.iol_run.specs.CoreOnDisk.{IsInFlight, HasFlight, IsInStep, KeepsRunning, waiting_of}
 use Rattle.iol_run.proofs.InStep.{queued_in_step, waits_more, live_is}
 
 -- a core with other permits out

@@ -32,7 +32,7 @@ pub accepted_passes : (core : CoreView) (command : CommandValue) → submit_faul
 accepted_passes core command none = submit_causes (is_stopped core) (check (live core) command) (queue_fault core) none
 
 -- one more command waits: what is in flight stays in flight
-more_waits : (core : CoreView) (command : CommandValue) (commands : List CommandValue) → IsInFlight core commands → IsInFlight (queued core command) commands
+pub more_waits : (core : CoreView) (command : CommandValue) (commands : List CommandValue) → IsInFlight core commands → IsInFlight (queued core command) commands
 more_waits core command commands is = record {
   behind = is.behind ++ command ∷ [];
   queue = ap (λ (cs : List CommandValue). cs ++ command ∷ []) is.queue ∙ append_assoc commands is.behind (command ∷ []);
@@ -41,7 +41,7 @@ more_waits core command commands is = record {
 }
 
 module _ {D : Type 0} where
-  flight_stays : (core : CoreView) (command : CommandValue) (stage : Stage D) → HasFlight core stage → HasFlight (queued core command) stage
+  pub flight_stays : (core : CoreView) (command : CommandValue) (stage : Stage D) → HasFlight core stage → HasFlight (queued core command) stage
   flight_stays core command (Resting j) is = is
   flight_stays core command (Given j b) is = more_waits core command (values b.commands.items) is
   flight_stays core command (Checkpointing c b) is = more_waits core command (values b.commands.items) is

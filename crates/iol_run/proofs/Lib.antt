@@ -6,3 +6,9 @@ pub mod Marking
 pub mod Making
 pub mod Crash
 pub mod Calls
+pub mod TurnsLeft
+pub mod Served
+pub mod Counted
+pub mod Progress
+pub mod Flushing
+pub mod Layouts

@@ -21,7 +21,12 @@ use Rattle.iol_journal.specs.declared.batch.Batch.{Batch}
 use Rattle.iol_run.specs.CoreOnDisk.{IsInFlight, IsDurable, HasFlight, IsInStep, KeepsRunning}
 use Rattle.iol_run.specs.Turns.{failed_core}
 
-module _ {D : Type 0} (disk : D → Disk) (start : Start) where
+-- a disk call has failed, and the core knows it
+pub knows : (stopped : Bool) → has_failed (Some (if stopped then cause.DiskFailed else cause.DiskFailed)) ≡ true
+knows true = refl
+knows false = refl
+
+module _ {D : Type 0} where
   -- what a flusher has in flight after a disk call is what it had before
   written_flight : (core : CoreView) (w : WritingView D) (new : Stage D) → HasWritten w new → IsInFlight core w.commands → HasFlight core new
   written_flight core w (Writing v) has is = subst (λ (cs : List CommandValue). IsInFlight core cs) (sym has.3) is
@@ -45,7 +50,7 @@ module _ {D : Type 0} (disk : D → Disk) (start : Start) where
   begun_flight core true j batch new has is = checkpointed_flight core (checkpoint_of j) batch new has.1 is
   begun_flight core false j batch new has is = written_flight core (writing_of j (values batch.commands.items)) new has.1 is
 
-  made_flight : (core : CoreView) (old new : Stage D) → HasMade old new → HasFlight core old → HasFlight core new
+  pub made_flight : (core : CoreView) (old new : Stage D) → HasMade old new → HasFlight core old → HasFlight core new
   made_flight core (Given j batch) new has is = begun_flight core (is_full j) j batch new has is
   made_flight core (Checkpointing c batch) new has is = checkpointed_flight core c batch new has is
   made_flight core (Writing w) new has is = written_flight core w new has is
@@ -53,6 +58,15 @@ module _ {D : Type 0} (disk : D → Disk) (start : Start) where
   made_flight core (Publishing j written) new has is = absurd has
   made_flight core (Failed d f) new has is = absurd has
 
+  pub failed_flight : (core : CoreView) (new : Stage D) (why : DiskFault) → failure_of new ≡ Some why → HasFlight (failed_core core) new
+  failed_flight core (Failed d f) why is = knows (has_failed core.stopped)
+  failed_flight core (Resting j) why is = search rules
+  failed_flight core (Given j b) why is = search rules
+  failed_flight core (Checkpointing c b) why is = search rules
+  failed_flight core (Writing w) why is = search rules
+  failed_flight core (Publishing j written) why is = search rules
+
+module _ {D : Type 0} (disk : D → Disk) (start : Start) where
   pub called_in_step : (core : CoreView) (old new : FlusherView D) → new.published ≡ old.published → IsDiskStep disk old.stage new.stage (Ok tt)
       → IsInStep start core old None → IsInStep start core new None
   called_in_step core old new same step is = (
@@ -60,19 +74,6 @@ module _ {D : Type 0} (disk : D → Disk) (start : Start) where
     made_flight core old.stage new.stage step.0 is.1,
     goes_on disk old.stage new.stage (Ok tt) step is.2,
   )
-
-  -- a disk call has failed, and the core knows it
-  knows : (stopped : Bool) → has_failed (Some (if stopped then cause.DiskFailed else cause.DiskFailed)) ≡ true
-  knows true = refl
-  knows false = refl
-
-  failed_flight : (core : CoreView) (new : Stage D) (why : DiskFault) → failure_of new ≡ Some why → HasFlight (failed_core core) new
-  failed_flight core (Failed d f) why is = knows (has_failed core.stopped)
-  failed_flight core (Resting j) why is = search rules
-  failed_flight core (Given j b) why is = search rules
-  failed_flight core (Checkpointing c b) why is = search rules
-  failed_flight core (Writing w) why is = search rules
-  failed_flight core (Publishing j written) why is = search rules
 
   pub failed_in_step : (core : CoreView) (old new : FlusherView D) (why : DiskFault) → new.published ≡ old.published
       → IsDiskStep disk old.stage new.stage (Err (fault.Disk why)) → IsInStep start core old None → IsInStep start (failed_core core) new None

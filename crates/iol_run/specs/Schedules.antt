@@ -16,12 +16,15 @@ use Rattle.iol_run.specs.declared.schedule.Ended.{Ended}
 use Rattle.iol_run.specs.declared.schedule.Ended.TheVariants.{Whole, Memory}
 use Rattle.iol_run.specs.declared.step.Step.{Step}
 
--- a run before its first step: the journal rests as it was recovered, nothing waits, and nothing is told (own)
+-- a run before its first step: the journal rests as it was recovered, nothing waits, nothing is stopped, and nothing is told
+-- (own)
 pub record IsFresh {D : Type 0} (disk : D → Disk) (journal : JournalView D) (run : RunView D) : Type 0 where
   pub stage : run.master.flusher.stage ≡ Resting journal
   pub published : run.master.flusher.published ≡ []
   pub committed : run.master.committed ≡ None
   pub queue : run.master.core.queue ≡ []
+  pub flight : run.master.core.flight ≡ 0
+  pub stopped : run.master.core.stopped ≡ None
   pub number : run.master.core.number ≡ journal.standing.number
   pub state : run.master.core.durable ≡ journal.standing.state
   pub events : run.events ≡ []

@@ -6,7 +6,7 @@ use Rattle.iol_core.specs.Batches.{IsTaken, has_batch, acknowledged}
 use Rattle.iol_core.specs.Core.{CoreView}
 use Rattle.iol_core.specs.Submit.{stopped_by}
 use Rattle.iol_core.specs.declared.stop.StopCause.TheVariants as cause
-use Rattle.iol_flush.specs.Stages.{need_of}
+use Rattle.iol_flush.specs.Stages.{need_of, HasFewCalls}
 use Rattle.iol_flush.specs.Steps.{IsDiskStep, HasTaken, HasPublished, IsGiven}
 use Rattle.iol_flush.specs.declared.fault.FlushFault.TheVariants as fault
 use Rattle.iol_flush.specs.declared.need.Need.{Need}
@@ -37,9 +37,10 @@ Takes old new told Waited = (has_batch old.core ≡ true) × (new ≡ old) × (t
 abbrev pub failed_core : CoreView → CoreView
 failed_core core = record core { stopped = Some (stopped_by core.stopped cause.DiskFailed) }
 
--- a disk call is made, or it fails, which is told (own)
+-- a disk call is made, and what is then on its way has few; or it fails, which is told (own)
 abbrev pub HasCalled : {D : Type 0} → (D → Disk) → CoreOnDiskView D → CoreOnDiskView D → List Event → Type 0
-HasCalled disk old new [] = (new.core ≡ old.core) × IsDiskStep disk old.flusher.stage new.flusher.stage (Ok tt)
+HasCalled disk old new [] =
+    (new.core ≡ old.core) × IsDiskStep disk old.flusher.stage new.flusher.stage (Ok tt) × HasFewCalls new.flusher.stage
 HasCalled disk old new told =
     (failed : DiskFault) × (told ≡ DiskFailed ∷ []) × (new.core ≡ failed_core old.core)
     × IsDiskStep disk old.flusher.stage new.flusher.stage (Err (fault.Disk failed))

@@ -100,6 +100,7 @@ impl<D: SectorDisk, F: Name> CoreOnDisk<D, F> {
         ensures flusher { IfOk result (λ master. master.flusher ≡ record { stage = stage.Resting journal; published = [] }) }
         ensures committed { IfOk result (λ master. master.committed ≡ None) }
         ensures queue { IfOk result (λ master. master.core.queue ≡ []) }
+        ensures idle { IfOk result (λ master. (master.core.flight ≡ 0) × (master.core.stopped ≡ None)) }
         ensures core { IfOk result (λ master. (master.core.number ≡ journal.standing.number) × (master.core.durable ≡ journal.standing.state)) }
         ensures disk { IfErr result (λ disk. disk ≡ journal.disk) }
     {

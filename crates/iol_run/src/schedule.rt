@@ -1,17 +1,19 @@
 //! A schedule run from a disk to a trace.
 
-ghost use Rattle.std.specs.Prelude.{◌≡◌, ℕ, [], map, Ok, IfOk, IfErr, OnErr};
+ghost use Rattle.std.specs.Prelude.{◌≡◌, ℕ, ◌*◌, [], map, Ok, IfOk, IfErr, OnErr};
 ghost use Rattle.iol_types.specs.State.{State};
 ghost use Rattle.iol_disk.specs.Content.{IsImage, clock};
 ghost use Rattle.iol_disk.specs.Disk.{Disk};
 ghost use Rattle.iol_disk.specs.Moments.{LeavesOnly};
 ghost use Rattle.iol_journal.specs.Kept.{IsKept};
-ghost use Rattle.iol_journal.specs.Meaning.{meaning};
+ghost use Rattle.iol_journal.specs.Layout.{total};
+ghost use Rattle.iol_journal.specs.Meaning.{Standing, meaning, standing_in};
 ghost use Rattle.iol_journal.specs.Reading.{Shows};
 ghost use Rattle.iol_journal.specs.Runs.{begun};
 ghost use Rattle.iol_journal.specs.Running.{IsRunAtRest};
 ghost use Rattle.iol_trace.specs.CrashPrefix.{CrashPrefix};
 ghost use Rattle.iol_run.specs.Events.{stamp_of};
+ghost use Rattle.iol_run.specs.Flushed.{AllFlushed, queue_turns};
 ghost use Rattle.iol_run.specs.Runs.{KeepsRun};
 ghost use Rattle.iol_run.specs.Schedules.{HasRun, IsTraceOf, fault_disk, waits_of};
 
@@ -74,6 +76,10 @@ pub fn run_schedule<D: SectorDisk>(
         → CrashPrefix (D.disk trace.disk) trace.begun first start (map stamp_of trace.events.items))) }
     // Each step did what its own clause says, and they are the given ones up to the end.
     ensures steps { IfOk result (λ trace. IsTraceOf D.disk steps.now trace.ended trace.waits (map stamp_of trace.events.items) trace.begun trace.state trace.disk) }
+    // Turns enough of the flusher at the end, 128 for each sector of the journal that the disk shows, leave all that was
+    // accepted acknowledged.
+    ensures flushed { IfOk result (λ trace. Shows (D.disk disk) (λ image. (journal : Standing) → standing_in (D.disk disk).sectors image ≡ Ok journal
+        → AllFlushed (128 * total journal.layout) steps.now journal.number trace.ended trace.waits (map stamp_of trace.events.items))) }
     // Where no run began, a stop leaves what it might have left before.
     ensures fault { IfErr result (λ fault. LeavesOnly (D.disk disk) (D.disk (fault_disk fault)) (IsImage (D.disk disk).content)) }
 {
@@ -99,6 +105,8 @@ fn carry_out<D: SectorDisk, F: Name>(
     requires start { (front.start.state ≡ journal.history.start) × (state ≡ journal.history.start) }
     requires list { journal.history.commands ≡ [] }
     ensures trace { IfOk result (λ trace. IsTraceOf D.disk steps.now trace.ended trace.waits (map stamp_of trace.events.items) trace.begun trace.state trace.disk) }
+    ensures flushed { IfOk result (λ trace. AllFlushed (queue_turns journal.standing.layout) steps.now journal.standing.number trace.ended trace.waits
+        (map stamp_of trace.events.items)) }
     ensures crash_prefix { IsRunAtRest D.disk (begun (clock (D.disk journal.disk).content) front.start.number front.start.state) journal
         → IfOk result (λ trace. CrashPrefix (D.disk trace.disk) trace.begun front.start.number front.start.state (map stamp_of trace.events.items)) }
     ensures fault { IfErr result (λ fault. fault_disk fault ≡ journal.disk) }

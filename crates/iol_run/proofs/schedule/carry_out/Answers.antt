@@ -1,13 +1,16 @@
-use Rattle.std.proofs.Common.{ℕ, map, sym, subst}
+use Rattle.std.proofs.Common.{refl, ℕ, List, map, sym, subst}
 use Rattle.iol_disk.specs.Content.{clock}
 use Rattle.iol_front.specs.Fronts.{FrontId}
 use Rattle.iol_journal.specs.Runs.{begun}
 use Rattle.iol_journal.specs.Running.{IsRunAtRest}
 use Rattle.iol_trace.specs.CrashPrefix.{CrashPrefix}
+use Rattle.iol_trace.specs.Events.{Stamp}
 use Rattle.iol_run.specs.Events.{stamp_of}
+use Rattle.iol_run.specs.Flushed.{AllFlushed, queue_turns}
 use Rattle.iol_run.specs.Schedules.{HasRun}
 use Rattle.iol_run.specs.declared.schedule.Ended.{Ended}
 use Rattle.iol_run.proofs.Crash.{begins, leaves}
+use Rattle.iol_run.proofs.Flushing.{all_flushed}
 use Rattle.iol_run.proofs.schedule.carry_out.Goals as goal
 
 pub returns-in-Ok-clause-trace : goal.returns-in-Ok-clause-trace
@@ -36,3 +39,16 @@ returns-in-Ok-clause-crash_prefix g c = λ resting.
     let left = leaves d start new c.end.ensures.happened (c.make_steps-ended.ensures.kept.goes_on (begins d start c.args.journal c.in-Ok.run' c.in-Ok.ensures.fresh named)) in
     subst (λ (f : FrontId). CrashPrefix (d c.end.result.disk) c.end.result.begun f.start.number f.start.state (map stamp_of c.end.result.events.items)) (sym c.requires.name)
     (rw (c.end.ensures.disk, c.end.ensures.told.0, c.end.ensures.told.1) left)
+
+pub returns-in-Ok-clause-flushed : goal.returns-in-Ok-clause-flushed
+returns-in-Ok-clause-flushed g c =
+    let journal = c.args.journal in
+    let old = c.in-Ok.run' in
+    let new = c.make_steps-ended.new.run in
+    let turns = queue_turns journal.standing.layout in
+    let first = journal.standing.number in
+    subst (λ (e : Ended). AllFlushed turns c.args.steps.now first e c.end.result.waits (map stamp_of c.end.result.events.items)) (sym c.end.ensures.counted.0)
+    (subst (λ (n : ℕ). AllFlushed turns c.args.steps.now first c.make_steps-ended.result.0 n (map stamp_of c.end.result.events.items)) (sym c.end.ensures.counted.1)
+    (subst (λ (es : List Stamp). AllFlushed turns c.args.steps.now first c.make_steps-ended.result.0 c.make_steps-ended.result.1 es) (sym c.end.ensures.told.0)
+    (all_flushed g.D.SectorDisk.disk journal.standing.layout first c.args.steps.now c.make_steps-ended.result.0 c.make_steps-ended.result.1 journal old new
+    c.in-Ok.ensures.fresh refl refl c.make_steps-ended.ensures.made)))

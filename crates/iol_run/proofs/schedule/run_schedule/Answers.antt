@@ -7,6 +7,7 @@ use Rattle.iol_journal.specs.Running.{IsRunAtRest}
 use Rattle.iol_trace.specs.CrashPrefix.{CrashPrefix}
 use Rattle.iol_run.specs.Events.{stamp_of}
 use Rattle.iol_run.proofs.Crash.{means_is, of_trace}
+use Rattle.iol_run.proofs.Layouts.{shown_flushed}
 use Rattle.iol_run.proofs.schedule.run_schedule.Goals as goal
 
 pub returns-in-Ok-new-clause-crash_prefix : goal.returns-in-Ok-new-clause-crash_prefix
@@ -26,3 +27,7 @@ returns-in-Ok-new-clause-crash_prefix g c =
     subst (λ (n : ℕ). IfOk c.carry_out.result (λ trace. CrashPrefix (disk trace.disk) trace.begun n start (map stamp_of trace.events.items))) (number ∙ is.0)
     (subst (λ (s : State). IfOk c.carry_out.result (λ trace. CrashPrefix (disk trace.disk) trace.begun front.start.number s (map stamp_of trace.events.items))) (state ∙ is.1)
     (c.carry_out.ensures.crash_prefix resting)))
+
+pub returns-in-Ok-new-clause-flushed : goal.returns-in-Ok-new-clause-flushed
+returns-in-Ok-new-clause-flushed g c =
+    shown_flushed c.carry_out.result (g.D.SectorDisk.disk c.args.disk) c.in-Ok.journal.standing c.args.steps.now c.in-Ok.ensures.found c.carry_out.ensures.flushed

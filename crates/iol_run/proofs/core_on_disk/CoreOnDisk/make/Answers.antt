@@ -1,4 +1,4 @@
-use Rattle.std.proofs.Common.{subst, sym}
+use Rattle.std.proofs.Common.{subst}
 use Rattle.iol_port.specs.Calls.{call_of}
 use Rattle.iol_run.specs.CoreOnDisk.{CoreOnDiskView, KeepsRunning}
 use Rattle.iol_run.proofs.Calls.{call_in_step, call_running}

@@ -1,0 +1,242 @@
+-- What each step keeps of a master: what is in flight is with the flusher, whose journal keeps its layout, and few wait.
+use Rattle.std.proofs.Common.{◌≡◌, refl, ◌≤◌, ℕ, ◌+◌, nat_le, Bool, true, false, if◌then◌else◌, List, [], ◌∷◌, length, Option, Some, None, Result, Ok, Err, ap, sym, ◌∙◌, subst, arith, rules, length-append, length-drop}
+use Rattle.std.proofs.lemmas.Bool.Decides.{nat_tests}
+use Rattle.iol_types.specs.Command.{CommandValue, command_of}
+use Rattle.iol_types.specs.State.{check}
+use Rattle.iol_types.specs.declared.command.CommandFault.{CommandFault}
+use Rattle.iol_disk.specs.Disk.{Disk}
+use Rattle.iol_disk.specs.declared.fault.DiskFault.{DiskFault}
+use Rattle.iol_core.specs.Batches.{IsTaken}
+use Rattle.iol_core.specs.Core.{CoreView, live}
+use Rattle.iol_core.specs.Submit.{IsSubmit, is_stopped, queued, first_cause}
+use Rattle.iol_core.specs.declared.core_value.TheConstants.{QUEUE_COMMANDS}
+use Rattle.iol_core.specs.declared.ticket.SubmitFault.{SubmitFault}
+use Rattle.iol_core.specs.declared.ticket.SubmitFault.TheVariants as fault
+use Rattle.iol_flush.specs.Stages.{FlusherView, HasFewCalls, is_full, need_of, failure_of}
+use Rattle.iol_flush.specs.Steps.{HasWritten, HasCheckpointed, HasBegun, HasMade, HasTaken, HasPublished, writing_of, checkpoint_of}
+use Rattle.iol_flush.specs.declared.need.Need.{Need}
+use Rattle.iol_flush.specs.declared.need.Need.TheVariants as need
+use Rattle.iol_flush.specs.declared.stage.Stage.{Stage}
+use Rattle.iol_flush.specs.declared.stage.Stage.TheVariants.{Resting, Given, Checkpointing, Writing, Publishing, Failed}
+use Rattle.iol_front.specs.Fronts.{CommittedView}
+use Rattle.iol_journal.specs.CheckpointViews.{CheckpointingView}
+use Rattle.iol_journal.specs.Journals.{JournalView, WritingView, values}
+use Rattle.iol_journal.specs.Layout.{Layout}
+use Rattle.iol_journal.specs.Meaning.{Standing}
+use Rattle.iol_journal.specs.declared.batch.Batch.{Batch}
+use Rattle.iol_journal.specs.declared.batch.TheConstants.{MOST_RECORD_OCTETS}
+use Rattle.iol_trace.specs.Events.{Event}
+use Rattle.iol_run.proofs.Batches.{taken_flight}
+use Rattle.iol_run.proofs.InStep.{more_waits, flight_stays}
+use Rattle.iol_run.proofs.Serving.{made_flight, failed_flight}
+use Rattle.iol_run.proofs.TurnsLeft.{HasBatch, HasLayout}
+use Rattle.iol_run.specs.CoreOnDisk.{CoreOnDiskView, IsInFlight, HasFlight, IsAtRest}
+use Rattle.iol_run.specs.Steps.{Does}
+use Rattle.iol_run.specs.Turns.{Acknowledges, Takes, HasCalled, Publishes, Serves, IsTurn}
+use Rattle.iol_run.specs.declared.core_on_disk.Turned.{Turned}
+use Rattle.iol_run.specs.declared.core_on_disk.Turned.TheVariants.{Made, Idle, Waited}
+use Rattle.iol_run.specs.declared.step.Step.{Step}
+use Rattle.iol_run.specs.declared.step.Step.TheVariants.{Client, Flush}
+
+-- what holds of a master between steps
+pub record IsServed {D : Type 0} (layout : Layout) (core : CoreView) (stage : Stage D) (committed : Option CommittedView) : Type 0 where
+  pub batch : HasBatch core stage committed
+  pub layout_is : HasLayout layout stage
+  pub few_calls : HasFewCalls stage
+  pub few_wait : length core.queue ≤ QUEUE_COMMANDS
+
+-- of a master as contracts see it
+abbrev pub Served : {D : Type 0} → Layout → CoreOnDiskView D → Type 0
+Served layout master = IsServed layout master.core master.flusher.stage master.committed
+
+-- a queue that takes a command has room
+queue_causes : (stopped full last : Bool) (checked : Option CommandFault)
+    → (if stopped then Some fault.Stopped else first_cause checked (if full then Some fault.QueueFull else if last then Some fault.Exhausted else None)) ≡ None
+    → full ≡ false
+queue_causes true full last checked none = search rules
+queue_causes false full last (Some f) none = search rules
+queue_causes false true last None none = search rules
+queue_causes false false last None none = refl
+
+room_left : (n : ℕ) → nat_le QUEUE_COMMANDS n ≡ false → n + 1 ≤ QUEUE_COMMANDS
+room_left n is = grind (arith, nat_tests, is)
+
+module _ {D : Type 0} (layout : Layout) where
+  queued_batch : (core : CoreView) (command : CommandValue) (stage : Stage D) (committed : Option CommittedView) → HasBatch core stage committed
+      → HasBatch (queued core command) stage committed
+  queued_batch core command stage None is = flight_stays core command stage is
+  queued_batch core command stage (Some committed) is = (more_waits core command committed.commands is.0, is.1)
+
+  submit_served : (old new : CoreView) (command : CommandValue) (stage : Stage D) (committed : Option CommittedView) (answer : Result ℕ SubmitFault)
+      → IsSubmit old command new answer → IsServed layout old stage committed → IsServed layout new stage committed
+  submit_served old new command stage committed (Ok n) is was =
+      subst (λ (c : CoreView). IsServed layout c stage committed) (sym is.2) (record {
+        batch = queued_batch old command stage committed was.batch;
+        layout_is = was.layout_is;
+        few_calls = was.few_calls;
+        few_wait = omega (arith, length-append old.queue (command ∷ []), room);
+      })
+    where
+      room : length old.queue + 1 ≤ QUEUE_COMMANDS
+      room = room_left (length old.queue) (queue_causes (is_stopped old) _ _ (check (live old) command) is.0)
+  submit_served old new command stage committed (Err f) is was =
+      subst (λ (c : CoreView). IsServed layout c stage committed) (sym is.1) was
+
+  -- a batch is acknowledged
+  acknowledged_served : (old new : CoreOnDiskView D) (committed : CommittedView) (told : List Event) → Acknowledges old new told
+      → IsServed layout old.core old.flusher.stage (Some committed) → Served layout new
+  acknowledged_served old new committed told is was =
+      subst (λ (c : Option CommittedView). IsServed layout new.core new.flusher.stage c) (sym is.2)
+      (subst (λ (f : FlusherView D). IsServed layout new.core f.stage None) (sym is.1)
+      (record {
+        batch = rests old.flusher.stage was.batch.1;
+        layout_is = was.layout_is;
+        few_calls = was.few_calls;
+        few_wait = fewer;
+      }))
+    where
+      rests : (s : Stage D) → IsAtRest s → HasFlight new.core s
+      rests (Resting j) at = ap (λ (c : CoreView). c.flight) is.0
+      rests (Given j b) at = absurd at
+      rests (Checkpointing c b) at = absurd at
+      rests (Writing w) at = absurd at
+      rests (Publishing j written) at = absurd at
+      rests (Failed d f) at = absurd at
+
+      fewer : length new.core.queue ≤ QUEUE_COMMANDS
+      fewer = omega (arith, ap (λ (c : CoreView). length c.queue) is.0, length-drop old.core.flight old.core.queue, was.few_wait)
+
+  -- a batch is taken
+  taken_served : (old new : CoreView) (s t : Stage D) (batch : Batch) → IsTaken old MOST_RECORD_OCTETS new batch → HasTaken s batch t
+      → IsServed layout old s None → IsServed layout new t None
+  taken_served old new (Resting j) t batch is has was =
+      subst (λ (u : Stage D). IsServed layout new u None) (sym has) (record {
+        batch = taken_flight old new MOST_RECORD_OCTETS batch is;
+        layout_is = was.layout_is;
+        few_calls = tt;
+        few_wait = subst (λ (cs : List CommandValue). length cs ≤ QUEUE_COMMANDS) (sym (ap (λ (c : CoreView). c.queue) is.others)) was.few_wait;
+      })
+  taken_served old new (Given j b) t batch is has was = absurd has
+  taken_served old new (Checkpointing c b) t batch is has was = absurd has
+  taken_served old new (Writing w) t batch is has was = absurd has
+  taken_served old new (Publishing j written) t batch is has was = absurd has
+  taken_served old new (Failed d f) t batch is has was = absurd has
+
+  same_served : (old new : CoreOnDiskView D) → new ≡ old → Served layout old → Served layout new
+  same_served old new same was = subst (λ (m : CoreOnDiskView D). Served layout m) (sym same) was
+
+  -- from where no batch is to be acknowledged to where none is
+  none_served : (old new : CoreOnDiskView D) → old.committed ≡ None → new.committed ≡ None
+      → (IsServed layout old.core old.flusher.stage None → IsServed layout new.core new.flusher.stage None) → Served layout old → Served layout new
+  none_served old new before after goes was =
+      subst (λ (c : Option CommittedView). IsServed layout new.core new.flusher.stage c) (sym after)
+      (goes (subst (λ (c : Option CommittedView). IsServed layout old.core old.flusher.stage c) before was))
+
+  takes_served : (old new : CoreOnDiskView D) (told : List Event) (turned : Turned) → old.committed ≡ None → Takes old new told turned
+      → Served layout old → Served layout new
+  takes_served old new told Made none is was =
+      none_served old new none is.4 (taken_served old.core new.core old.flusher.stage new.flusher.stage is.0 is.1 is.2) was
+  takes_served old new told Idle none is was = same_served old new is.1 was
+  takes_served old new told Waited none is was = same_served old new is.1 was
+
+  -- the layout stays in a disk call
+  written_layout : (w : WritingView D) (new : Stage D) → HasWritten w new → w.standing.layout ≡ layout → HasLayout layout new
+  written_layout w (Writing v) has is = ap (λ (s : Standing). s.layout) has.0 ∙ is
+  written_layout w (Publishing j written) has is = ap (λ (s : Standing). s.layout) has.0 ∙ is
+  written_layout w (Resting j) has is = absurd has
+  written_layout w (Given j b) has is = absurd has
+  written_layout w (Checkpointing c b) has is = absurd has
+  written_layout w (Failed d f) has is = absurd has
+
+  checkpointed_layout : (c : CheckpointingView D) (batch : Batch) (new : Stage D) → HasCheckpointed c batch new → c.standing.layout ≡ layout → HasLayout layout new
+  checkpointed_layout c batch (Checkpointing d kept) has is = ap (λ (s : Standing). s.layout) has.0 ∙ is
+  checkpointed_layout c batch (Given j kept) has is = ap (λ (s : Standing). s.layout) has.0 ∙ is
+  checkpointed_layout c batch (Resting j) has is = absurd has
+  checkpointed_layout c batch (Writing w) has is = absurd has
+  checkpointed_layout c batch (Publishing j written) has is = absurd has
+  checkpointed_layout c batch (Failed d f) has is = absurd has
+
+  begun_layout : (full : Bool) (j : JournalView D) (batch : Batch) (new : Stage D) → HasBegun full j batch new → j.standing.layout ≡ layout → HasLayout layout new
+  begun_layout true j batch new has is = checkpointed_layout (checkpoint_of j) batch new has.1 is
+  begun_layout false j batch new has is = written_layout (writing_of j (values batch.commands.items)) new has.1 is
+
+  made_layout : (old new : Stage D) → HasMade old new → HasLayout layout old → HasLayout layout new
+  made_layout (Given j batch) new has is = begun_layout (is_full j) j batch new has is
+  made_layout (Checkpointing c batch) new has is = checkpointed_layout c batch new has is
+  made_layout (Writing w) new has is = written_layout w new has is
+  made_layout (Resting j) new has is = absurd has
+  made_layout (Publishing j written) new has is = absurd has
+  made_layout (Failed d f) new has is = absurd has
+
+  failed_layout : (new : Stage D) (why : DiskFault) → failure_of new ≡ Some why → HasLayout layout new × HasFewCalls new
+  failed_layout (Failed d f) why is = (tt, tt)
+  failed_layout (Resting j) why is = search rules
+  failed_layout (Given j b) why is = search rules
+  failed_layout (Checkpointing c b) why is = search rules
+  failed_layout (Writing w) why is = search rules
+  failed_layout (Publishing j written) why is = search rules
+
+  module _ (disk : D → Disk) where
+    called_served : (old new : CoreOnDiskView D) (told : List Event) → HasCalled disk old new told → IsServed layout old.core old.flusher.stage None
+        → IsServed layout new.core new.flusher.stage None
+    called_served old new [] is was =
+        subst (λ (c : CoreView). IsServed layout c new.flusher.stage None) (sym is.0) (record {
+          batch = made_flight old.core old.flusher.stage new.flusher.stage is.1.0 was.batch;
+          layout_is = made_layout old.flusher.stage new.flusher.stage is.1.0 was.layout_is;
+          few_calls = is.2;
+          few_wait = was.few_wait;
+        })
+    called_served old new (e ∷ told) is was =
+        subst (λ (c : CoreView). IsServed layout c new.flusher.stage None) (sym is.2) (record {
+          batch = failed_flight old.core new.flusher.stage is.0 is.3.0;
+          layout_is = (failed_layout new.flusher.stage is.0 is.3.0).0;
+          few_calls = (failed_layout new.flusher.stage is.0 is.3.0).1;
+          few_wait = was.few_wait;
+        })
+
+    -- the batch that is durable is published
+    published_served : (core : CoreView) (s : Stage D) (published : List CommandValue) (new : FlusherView D) (committed : CommittedView)
+        → HasPublished s published new committed → IsServed layout core s None → IsServed layout core new.stage (Some committed)
+    published_served core (Publishing j written) published new committed has was =
+        subst (λ (f : FlusherView D). IsServed layout core f.stage (Some committed)) (sym has.0) (record {
+          batch = (subst (λ (cs : List CommandValue). IsInFlight core cs) (sym has.2) was.batch, tt);
+          layout_is = was.layout_is;
+          few_calls = tt;
+          few_wait = was.few_wait;
+        })
+    published_served core (Resting j) published new committed has was = absurd has
+    published_served core (Given j b) published new committed has was = absurd has
+    published_served core (Checkpointing c b) published new committed has was = absurd has
+    published_served core (Writing w) published new committed has was = absurd has
+    published_served core (Failed d f) published new committed has was = absurd has
+
+    publishes_served : (old new : CoreOnDiskView D) (told : List Event) → old.committed ≡ None → Publishes old new told → Served layout old → Served layout new
+    publishes_served old new told none is was =
+        subst (λ (c : Option CommittedView). IsServed layout new.core new.flusher.stage c) (sym is.3)
+        (subst (λ (c : CoreView). IsServed layout c new.flusher.stage (Some is.0)) (sym is.2)
+        (published_served old.core old.flusher.stage old.flusher.published new.flusher is.0 is.1
+        (subst (λ (c : Option CommittedView). IsServed layout old.core old.flusher.stage c) none was)))
+
+    serves_served : (need : Need) (old new : CoreOnDiskView D) (told : List Event) (turned : Turned) → old.committed ≡ None
+        → Serves disk need old new told turned → Served layout old → Served layout new
+    serves_served need.Batch old new told turned none is was = takes_served old new told turned none is was
+    serves_served need.Disk old new told Made none is was = none_served old new none is.1 (called_served old new told is.2) was
+    serves_served need.Disk old new told Idle none is was = absurd is
+    serves_served need.Disk old new told Waited none is was = same_served old new is.1 was
+    serves_served need.Publish old new told turned none is was = publishes_served old new told none is.1 was
+    serves_served need.Stopped old new told turned none is was = same_served old new is.1 was
+
+    turn_served : (committed : Option CommittedView) (old new : CoreOnDiskView D) (told : List Event) (turned : Turned) → old.committed ≡ committed
+        → IsTurn disk committed old new told turned → Served layout old → Served layout new
+    turn_served (Some committed) old new told turned there is was =
+        acknowledged_served old new committed told is.1 (subst (λ (c : Option CommittedView). IsServed layout old.core old.flusher.stage c) there was)
+    turn_served None old new told turned there is was = serves_served (need_of old.flusher.stage) old new told turned there is was
+
+    -- each step keeps it
+    pub step_served : (step : Step) (old new : CoreOnDiskView D) (told : List Event) (turned : Turned) → Does disk step old new told turned
+        → Served layout old → Served layout new
+    step_served (Client change) old new told turned is was =
+        subst (λ (c : Option CommittedView). IsServed layout new.core new.flusher.stage c) (sym is.1.3)
+        (subst (λ (f : FlusherView D). IsServed layout new.core f.stage old.committed) (sym is.1.2)
+        (submit_served old.core new.core (command_of change) old.flusher.stage old.committed is.1.0 is.1.1 was))
+    step_served Flush old new told turned is was = turn_served old.committed old new told turned refl is was

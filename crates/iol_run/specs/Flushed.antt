@@ -1,0 +1,34 @@
+-- What turns enough of the flusher leave.
+use Rattle.std.specs.Prelude.{◌≡◌, ◌≤◌, ℕ, ◌+◌, ◌*◌, List, ◌++◌, length, replicate}
+use Rattle.iol_core.specs.declared.core_value.TheConstants.{QUEUE_COMMANDS}
+use Rattle.iol_flush.specs.Stages.{most_checkpoint_calls}
+use Rattle.iol_journal.specs.Layout.{Layout}
+use Rattle.iol_trace.specs.Events.{Stamp}
+use Rattle.iol_trace.specs.Words.{accepted, acked, HasFailure}
+use Rattle.iol_run.specs.declared.schedule.Ended.{Ended}
+use Rattle.iol_run.specs.declared.schedule.Ended.TheVariants.{Whole}
+use Rattle.iol_run.specs.declared.step.Step.{Step}
+use Rattle.iol_run.specs.declared.step.Step.TheVariants.{Flush}
+
+-- a schedule ends in this many turns of the flusher, or in more (own)
+pub record EndsInTurns (steps : List Step) (least : ℕ) : Type 0 where
+  pub before : List Step
+  pub turns : ℕ
+  pub order : steps ≡ before ++ replicate turns Flush
+  pub enough : least ≤ turns
+
+-- where all steps of a schedule were made, none had to wait, no failure was told, and the schedule ends in turns enough of
+-- the flusher, the number acknowledged last is that of the last command accepted: the starting number, and one more for
+-- each (own)
+abbrev pub AllFlushed : ℕ → List Step → ℕ → Ended → ℕ → List Stamp → Type 0
+AllFlushed least steps first ended waits events =
+    EndsInTurns steps least → ended ≡ Whole → waits ≡ 0 → (HasFailure events → ⊥) → acked first events ≡ first + length (accepted events)
+
+-- the most turns that a batch needs: it is taken, no slot is free, its checkpoint and its 19 disk calls are made, it is
+-- published and acknowledged (own)
+abbrev pub batch_turns : Layout → ℕ
+batch_turns layout = 24 + most_checkpoint_calls layout
+
+-- the most turns that a full queue needs: each command is a batch of its own (own)
+abbrev pub queue_turns : Layout → ℕ
+queue_turns layout = batch_turns layout * QUEUE_COMMANDS
