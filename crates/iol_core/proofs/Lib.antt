@@ -1,4 +1,4 @@
-mod Places
+pub mod Places
 mod Queues
 mod Permits
 mod Standing

@@ -85,7 +85,7 @@ moved_port : (value : PortValue) (next : Next) → (moved value next).port ≡ v
 moved_port value (To stage) = refl
 moved_port value (Start work) = refl
 
-fed_port : (value : PortValue) (heard : Input) → (fed value heard).port ≡ value.port
+pub fed_port : (value : PortValue) (heard : Input) → (fed value heard).port ≡ value.port
 fed_port value input.Wake = refl
 fed_port value (input.Event code) = refl
 fed_port value (input.Page connection octets) = moved_port value (paged value.stage connection (page_of octets))

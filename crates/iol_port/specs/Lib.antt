@@ -12,3 +12,4 @@ pub mod Laws
 pub mod Ending
 pub mod View
 pub mod Examples
+pub mod Telling

@@ -3,7 +3,7 @@
 ghost use Rattle.std.specs.Prelude.{◌≡◌, ◌||◌, ◌==◌};
 ghost use Rattle.iol_port.specs.Calls.{MayBeMade};
 ghost use Rattle.iol_port.specs.Ending.{ended};
-ghost use Rattle.iol_port.specs.Heard.{IsFed, Fits, moved, noted, at_stage};
+ghost use Rattle.iol_port.specs.Heard.{IsFed, Fits, is_settled, moved, noted, at_stage};
 ghost use Rattle.iol_port.specs.Stage.{PortValue, Settled, IsStage, IsNext, new_machine};
 ghost use Rattle.iol_port.specs.Status.{status_of};
 ghost use Rattle.iol_port.specs.View.{stage_of, next_of};
@@ -69,6 +69,13 @@ impl PortMachine {
         ensures { result ≡ status_of self.now.stage }
     {
         acting::status(&self.stage)
+    }
+
+    /// Whether the port is settled: nothing is next until it is woken.
+    pub fn is_settled(&self) -> bool
+        ensures { result ≡ is_settled self.now.stage }
+    {
+        matches!(self.stage, Stage::Settled(_))
     }
 
     /// What is next. A permit that a call of the core takes goes with it; until the reply is fed the machine is `Idle`.

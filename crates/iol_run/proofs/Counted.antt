@@ -1,8 +1,8 @@
 -- What the events of a run count: how many commands were accepted and acknowledged, and that a failure of the disk was told.
-use Rattle.std.proofs.Common.{◌≡◌, ◌≤◌, refl, ◌+◌, inl, inr, ℕ, true, List, [], ◌∷◌, ◌++◌, length, Option, Some, None, Result, Ok, Err, ap, sym, ◌∙◌, subst, arith, length-append, length-drop}
+use Rattle.std.proofs.Common.{◌≡◌, ◌≤◌, refl, ◌+◌, inl, inr, ℕ, nat_le, Bool, true, false, List, [], ◌∷◌, ◌++◌, length, Option, Some, None, Result, Ok, Err, ap, sym, ◌∙◌, subst, arith, length-append, length-drop}
 use Rattle.iol_types.specs.Command.{CommandValue, command_of}
 use Rattle.iol_disk.specs.Disk.{Disk}
-use Rattle.iol_core.specs.Core.{CoreView}
+use Rattle.iol_core.specs.Core.{CoreView, live_number}
 use Rattle.iol_core.specs.Submit.{IsSubmit, has_failed}
 use Rattle.iol_core.specs.Telling.{refusal_of}
 use Rattle.iol_core.specs.declared.ticket.SubmitFault.{SubmitFault}
@@ -14,15 +14,20 @@ use Rattle.iol_journal.specs.Layout.{Layout}
 use Rattle.iol_trace.proofs.Words.{accepted-append, acked-append}
 use Rattle.iol_trace.specs.Events.{Event, Accepted, Refused, Acknowledged, DiskFailed, Stamp, stamped}
 use Rattle.iol_trace.specs.Words.{accepted, acked, HasFailure}
+use Rattle.iol_link.specs.Link.{LinkCall, LinkAnswer}
+use Rattle.iol_run.proofs.Changes.{Becomes, Change, Permits, Waits, Tells, changed}
+use Rattle.iol_run.proofs.PortCalls.{step_becomes}
+use Rattle.iol_run.proofs.Quiet.{AreQuiet, quiet_accepted, quiet_acked, stamped_more}
 use Rattle.iol_run.proofs.Served.{IsServed, Served}
 use Rattle.iol_run.proofs.TurnsLeft.{flies_within}
 use Rattle.iol_run.specs.CoreOnDisk.{CoreOnDiskView}
+use Rattle.iol_run.specs.Ports.{PortsView, StepsIf}
 use Rattle.iol_run.specs.Steps.{Does, submit_told}
 use Rattle.iol_run.specs.Turns.{Acknowledges, Takes, HasCalled, Serves, IsTurn}
 use Rattle.iol_run.specs.declared.core_on_disk.Turned.{Turned}
 use Rattle.iol_run.specs.declared.core_on_disk.Turned.TheVariants.{Made, Idle, Waited}
 use Rattle.iol_run.specs.declared.step.Step.{Step}
-use Rattle.iol_run.specs.declared.step.Step.TheVariants.{Client, Flush}
+use Rattle.iol_run.specs.declared.step.Step.TheVariants.{Client, Port, Flush}
 
 -- so many were accepted as are durable or wait, and so many acknowledged as are durable; a core that knows a failure of
 -- the disk has told it
@@ -77,6 +82,31 @@ module _ (first t : ℕ) where
   silent_counted old new events told none same was =
       subst (λ (es : List Event). IsCounted first new (events ++ stamped t es)) (sym none)
       (more_counted old new events [] (omega (arith, same.number, same.waits)) (sym same.number) (stays_told old new events [] same.stopped was) was)
+
+  -- events that accept and acknowledge nothing
+  quiet_counted : (old new : CoreView) (events : List Stamp) (told : List Event) → AreQuiet told → IsAlike old new → IsCounted first old events
+      → IsCounted first new (events ++ stamped t told)
+  quiet_counted old new events told quiet same was =
+      more_counted old new events (stamped t told) (omega (arith, ap length (quiet_accepted t told quiet), same.number, same.waits))
+      (quiet_acked t old.number told quiet ∙ sym same.number) (stays_told old new events (stamped t told) same.stopped was) was
+
+  -- what a call of a port makes of the core
+  becomes_counted : (P : Type 0) (old new : CoreView) (events : List Stamp) (told : List Event) → Becomes P old new told → IsCounted first old events
+      → IsCounted first new (events ++ stamped t told)
+  becomes_counted P old new events told becomes was = by_change becomes.change becomes.new_is becomes.tells
+    where
+      by_change : (change : Change) → new ≡ changed old change → Tells old change told → IsCounted first new (events ++ stamped t told)
+      by_change (Permits permits) is tells = quiet_counted old new events told tells (record {
+        number = ap (λ (c : CoreView). c.number) is;
+        waits = ap (λ (c : CoreView). length c.queue) is;
+        stopped = ap (λ (c : CoreView). c.stopped) is;
+      }) was
+      by_change (Waits command permits) is tells =
+          subst (λ (es : List Event). IsCounted first new (events ++ stamped t es)) (sym tells)
+          (more_counted old new events (stamped t (Accepted (live_number old + 1) command ∷ []))
+          (omega (arith, ap (λ (c : CoreView). c.number) is, ap (λ (c : CoreView). length c.queue) is, length-append old.queue (command ∷ [])))
+          (sym (ap (λ (c : CoreView). c.number) is))
+          (stays_told old new events (stamped t (Accepted (live_number old + 1) command ∷ [])) (ap (λ (c : CoreView). c.stopped) is) was) was)
 
   submit_counted : (old new : CoreView) (command : CommandValue) (events : List Stamp) (answer : Result ℕ SubmitFault) → IsSubmit old command new answer
       → IsCounted first old events → IsCounted first new (events ++ stamped t (submit_told command answer))
@@ -147,10 +177,26 @@ module _ (first t : ℕ) where
           (subst (λ (c : Option CommittedView). IsServed layout old.core old.flusher.stage c) there served) was
       turn_counted None old new events told turned there is served was = serves_counted (need_of old.flusher.stage) old new events told turned is was
 
+      -- a step of a port: its call, and then its status
+      port_counted : {L : Type 0} (number : L → ℕ) (steps : L → LinkCall → LinkAnswer → L → Type 0) (there : Bool) (port : ℕ) (old new : CoreOnDiskView D)
+          (ports last : PortsView L) (events : List Stamp) (told : List Event) → StepsIf number steps there port old new ports last told
+          → IsCounted first old.core events → IsCounted first new.core (events ++ stamped t told)
+      port_counted number steps true port old new ports last events told is was =
+          let becomes = step_becomes number steps is.before is.after is.link is.linked old.core new.core is.called is.status is.steps_as in
+          subst (λ (es : List Event). IsCounted first new.core (events ++ stamped t es)) (sym is.told_is)
+          (subst (λ (ss : List Stamp). IsCounted first new.core ss) (sym (stamped_more t events is.called is.status))
+          (quiet_counted new.core new.core (events ++ stamped t is.called) is.status becomes.1 (alike_same new.core new.core refl)
+          (becomes_counted ⊥ old.core new.core events is.called becomes.0 was)))
+      port_counted number steps false port old new ports last events told is was = same_counted old new events told is.0 is.2 was
+
       -- each step keeps it
-      pub step_counted : (step : Step) (old new : CoreOnDiskView D) (events : List Stamp) (told : List Event) (turned : Turned)
-          → Does disk step old new told turned → Served layout old → IsCounted first old.core events → IsCounted first new.core (events ++ stamped t told)
-      step_counted (Client change) old new events told turned is served was =
-          subst (λ (es : List Event). IsCounted first new.core (events ++ stamped t es)) (sym is.1.4)
-          (submit_counted old.core new.core (command_of change) events is.1.0 is.1.1 was)
-      step_counted Flush old new events told turned is served was = turn_counted old.committed old new events told turned refl is served was
+      pub step_counted : {L : Type 0} (number : L → ℕ) (steps : L → LinkCall → LinkAnswer → L → Type 0) (step : Step) (old new : CoreOnDiskView D)
+          (ports last : PortsView L) (events : List Stamp) (told : List Event) (turned : Turned) → Does disk number steps step old new ports last told turned
+          → Served layout old → IsCounted first old.core events → IsCounted first new.core (events ++ stamped t told)
+      step_counted number steps (Client change) old new ports last events told turned is served was =
+          subst (λ (es : List Event). IsCounted first new.core (events ++ stamped t es)) (sym is.2.4)
+          (submit_counted old.core new.core (command_of change) events is.2.0 is.2.1 was)
+      step_counted number steps (Port port) old new ports last events told turned is served was =
+          port_counted number steps (nat_le port (length ports.links)) port old new ports last events told is.1 was
+      step_counted number steps Flush old new ports last events told turned is served was =
+          turn_counted old.committed old new events told turned refl is.1 served was

@@ -32,9 +32,9 @@ module _ {D : Type 0} (disk : D → Disk) (start : Start) where
   marked t events published waiting stage = IsFlushing disk start.number start.state published waiting (marks_of t start.number events) stage
 
   -- a run begins where the journal's does
-  pub begins : (j : JournalView D) (run : RunView D) → IsFresh disk j run
+  pub begins : {L : Type 0} (j : JournalView D) (links : List L) (run : RunView D L) → IsFresh disk j links run
       → IsRunAtRest disk (journal.begun (clock (disk j.disk).content) start.number start.state) j → IsMarked disk start run
-  begins j run fresh resting =
+  begins j links run fresh resting =
       subst (λ (es : List Stamp). marked run.begun es run.master.flusher.published (waiting_of run.master.committed run.master.core) run.master.flusher.stage) (sym fresh.events)
       (subst (λ (published : List CommandValue). marked run.begun [] published (waiting_of run.master.committed run.master.core) run.master.flusher.stage) (sym fresh.published)
       (subst (λ (waiting : List CommandValue). marked run.begun [] [] waiting run.master.flusher.stage)
@@ -46,7 +46,7 @@ module _ {D : Type 0} (disk : D → Disk) (start : Start) where
       at = fresh.begun ∙ ap (λ (s : Stage D). clock (disk (disk_of s)).content) fresh.stage
 
   -- and what a stop leaves of it
-  pub leaves : (run : RunView D) → IsTold start run.master run.events → IsMarked disk start run
+  pub leaves : {L : Type 0} (run : RunView D L) → IsTold start run.master run.events → IsMarked disk start run
       → CrashPrefix (disk (disk_of run.master.flusher.stage)) run.begun start.number start.state run.events
   leaves run told marked = crash_prefix d run.begun start.number start.state run.events here.passes told.rise here.images
     where
@@ -79,7 +79,7 @@ means_is sectors image s first state stands means = (ap number_in same, ap state
     same = sym (ap (λ (r : Result Standing Cause). r >>= λ s. Ok (record { number = s.number; state = s.state })) stands) ∙ means
 
 -- a fact of a trace, under what is known of the disk
-pub of_trace : {D : Type 0} (result : Result (Trace D) (RunFault D)) (d : Disk) (P : ℕ → State → Trace D → Type 0)
+pub of_trace : {D L : Type 0} (result : Result (Trace D L) (RunFault D)) (d : Disk) (P : ℕ → State → Trace D L → Type 0)
     → (IsTrue d.honest → IsKept d.sectors (reads d.content) → (first : ℕ) (start : State)
     → meaning d.sectors (reads d.content) ≡ Ok (record { number = first; state = start }) → IfOk result (P first start))
     → IfOk result (λ trace. IsTrue d.honest → IsKept d.sectors (reads d.content) → (first : ℕ) (start : State)

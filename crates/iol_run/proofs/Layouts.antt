@@ -34,7 +34,7 @@ same : (s t : Standing) → ok s ≡ ok t → s ≡ t
 same s t is = cc
 
 -- a trace of the journal that a disk shows
-pub shown_flushed : {D : Type 0} (result : Result (Trace D) (RunFault D)) (d : Disk) (s : Standing) (steps : List Step)
+pub shown_flushed : {D L : Type 0} (result : Result (Trace D L) (RunFault D)) (d : Disk) (s : Standing) (steps : List Step)
     → Shows d (λ image. standing_in d.sectors image ≡ Ok s)
     → IfOk result (λ trace. AllFlushed (queue_turns s.layout) steps s.number trace.ended trace.waits (map stamp_of trace.events.items))
     → IfOk result (λ trace. Shows d (λ image. (journal : Standing) → standing_in d.sectors image ≡ Ok journal

@@ -1,5 +1,5 @@
 -- The moments of a run: one more with each event.
-use Rattle.std.proofs.Common.{◌≡◌, refl, ◌≤◌, ◌+◌, ℕ, List, [], ◌∷◌, ◌++◌, length, Option, Some, None, Result, Ok, Err, ap, sym, ◌∙◌, subst, arith, append-nil}
+use Rattle.std.proofs.Common.{◌≡◌, refl, ◌≤◌, ◌+◌, ℕ, nat_le, Bool, true, false, List, [], ◌∷◌, ◌++◌, length, Option, Some, None, Result, Ok, Err, ap, sym, ◌∙◌, subst, arith, append-nil}
 use Rattle.iol_types.specs.Command.{CommandValue, command_of}
 use Rattle.iol_disk.specs.Content.{clock}
 use Rattle.iol_disk.specs.Disk.{Disk}
@@ -18,14 +18,20 @@ use Rattle.iol_trace.proofs.CrashPrefix.{marks-push, marks-newest}
 use Rattle.iol_trace.specs.CrashPrefix.{marks_of}
 use Rattle.iol_trace.specs.Events.{Event, Accepted, Refused, Acknowledged, DiskFailed, Stamp, stamped}
 use Rattle.iol_trace.specs.Words.{acked, acked_by, clock_after}
+use Rattle.iol_core.specs.Core.{CoreView}
+use Rattle.iol_link.specs.Link.{LinkCall, LinkAnswer}
+use Rattle.iol_run.proofs.Changes.{Change, Permits, Waits, Tells}
+use Rattle.iol_run.proofs.PortCalls.{step_becomes}
+use Rattle.iol_run.proofs.Quiet.{AcksNone, quiet_acks, stamped_more}
 use Rattle.iol_run.proofs.Batches.{acknowledged_in_step}
 use Rattle.iol_run.specs.CoreOnDisk.{CoreOnDiskView, IsAtRest, IsInStep, clock_of, IsRunning}
+use Rattle.iol_run.specs.Ports.{PortsView, StepsIf}
 use Rattle.iol_run.specs.Steps.{Does, submit_told}
 use Rattle.iol_run.specs.Turns.{Acknowledges, Takes, HasCalled, Serves, IsTurn}
 use Rattle.iol_run.specs.declared.core_on_disk.Turned.{Turned}
 use Rattle.iol_run.specs.declared.core_on_disk.Turned.TheVariants.{Made, Idle, Waited}
 use Rattle.iol_run.specs.declared.step.Step.{Step}
-use Rattle.iol_run.specs.declared.step.Step.TheVariants.{Client, Flush}
+use Rattle.iol_run.specs.declared.step.Step.TheVariants.{Client, Port, Flush}
 
 module _ {D : Type 0} (disk : D → Disk) (start : Start) (begun : ℕ) where
   -- the run of a master with the moments of these events
@@ -61,6 +67,31 @@ module _ {D : Type 0} (disk : D → Disk) (start : Start) (begun : ℕ) where
       → acked_by (acked start.number events) e ≡ acked start.number events → Marked master events → Marked master (events ++ stamped (clock_of disk master) told)
   told_mark master events told e one same was =
       subst (λ (es : List Event). Marked master (events ++ stamped (clock_of disk master) es)) (sym one) (quiet_mark master events e same was)
+
+  -- events that acknowledge nothing are told
+  unacked_mark : (master : CoreOnDiskView D) (told : List Event) (events : List Stamp) → AcksNone told → Marked master events
+      → Marked master (events ++ stamped (clock_of disk master) told)
+  unacked_mark master [] events none was = silent_mark master events [] refl was
+  unacked_mark master (e ∷ told) events none was =
+      subst (λ (ss : List Stamp). Marked master ss) (sym (stamped_more (clock_of disk master) events (e ∷ []) told))
+      (unacked_mark master told (events ++ stamped (clock_of disk master) (e ∷ [])) none.1
+      (quiet_mark master events e (none.0 (acked start.number events)) was))
+
+  -- a step of a port acknowledges nothing
+  change_unacked : (old : CoreView) (change : Change) (told : List Event) → Tells old change told → AcksNone told
+  change_unacked old (Permits permits) told tells = quiet_acks told tells
+  change_unacked old (Waits command permits) told tells = subst (λ (es : List Event). AcksNone es) (sym tells) ((λ n. refl), tt)
+
+  port_mark : {L : Type 0} (number : L → ℕ) (steps : L → LinkCall → LinkAnswer → L → Type 0) (there : Bool) (port : ℕ) (old new : CoreOnDiskView D)
+      (ports last : PortsView L) (events : List Stamp) (told : List Event) → StepsIf number steps there port old new ports last told → Marked new events
+      → Marked new (events ++ stamped (clock_of disk new) told)
+  port_mark number steps true port old new ports last events told is was =
+      let becomes = step_becomes number steps is.before is.after is.link is.linked old.core new.core is.called is.status is.steps_as in
+      subst (λ (es : List Event). Marked new (events ++ stamped (clock_of disk new) es)) (sym is.told_is)
+      (subst (λ (ss : List Stamp). Marked new ss) (sym (stamped_more (clock_of disk new) events is.called is.status))
+      (unacked_mark new is.status (events ++ stamped (clock_of disk new) is.called) (quiet_acks is.status becomes.1)
+      (unacked_mark new is.called events (change_unacked old.core becomes.0.change is.called becomes.0.tells) was)))
+  port_mark number steps false port old new ports last events told is was = silent_mark new events told is.2 was
 
   -- what is published is acknowledged while the flusher rests
   rest_mark : (published waiting : List CommandValue) (marks : List Mark) (n : ℕ) (s : Stage D) → IsAtRest s → n ≤ start.number + length published
@@ -121,8 +152,10 @@ module _ {D : Type 0} (disk : D → Disk) (start : Start) (begun : ℕ) where
   submit_mark new command events told (Err f) is was = told_mark new events told (Refused (refusal_of f)) is refl was
 
   -- a step adds the moments of what it tells
-  pub step_mark : (step : Step) (old new : CoreOnDiskView D) (events : List Stamp) (told : List Event) (turned : Turned)
-      → IsInStep start old.core old.flusher old.committed → Does disk step old new told turned → Marked new events
-      → Marked new (events ++ stamped (clock_of disk new) told)
-  step_mark (Client change) old new events told turned step is was = submit_mark new (command_of change) events told is.1.0 is.1.4 was
-  step_mark Flush old new events told turned step is was = turn_mark old.committed old new events told turned step is was
+  pub step_mark : {L : Type 0} (number : L → ℕ) (steps : L → LinkCall → LinkAnswer → L → Type 0) (step : Step) (old new : CoreOnDiskView D)
+      (ports last : PortsView L) (events : List Stamp) (told : List Event) (turned : Turned) → IsInStep start old.core old.flusher old.committed
+      → Does disk number steps step old new ports last told turned → Marked new events → Marked new (events ++ stamped (clock_of disk new) told)
+  step_mark number steps (Client change) old new ports last events told turned step is was = submit_mark new (command_of change) events told is.2.0 is.2.4 was
+  step_mark number steps (Port port) old new ports last events told turned step is was =
+      port_mark number steps (nat_le port (length ports.links)) port old new ports last events told is.1 was
+  step_mark number steps Flush old new ports last events told turned step is was = turn_mark old.committed old new events told turned step is.1 was

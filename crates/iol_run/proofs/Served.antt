@@ -1,6 +1,5 @@
 -- What each step keeps of a master: what is in flight is with the flusher, whose journal keeps its layout, and few wait.
 use Rattle.std.proofs.Common.{◌≡◌, refl, ◌≤◌, ℕ, ◌+◌, nat_le, Bool, true, false, if◌then◌else◌, List, [], ◌∷◌, length, Option, Some, None, Result, Ok, Err, ap, sym, ◌∙◌, subst, arith, rules, length-append, length-drop}
-use Rattle.std.proofs.lemmas.Bool.Decides.{nat_tests}
 use Rattle.iol_types.specs.Command.{CommandValue, command_of}
 use Rattle.iol_types.specs.State.{check}
 use Rattle.iol_types.specs.declared.command.CommandFault.{CommandFault}
@@ -8,7 +7,8 @@ use Rattle.iol_disk.specs.Disk.{Disk}
 use Rattle.iol_disk.specs.declared.fault.DiskFault.{DiskFault}
 use Rattle.iol_core.specs.Batches.{IsTaken}
 use Rattle.iol_core.specs.Core.{CoreView, live}
-use Rattle.iol_core.specs.Submit.{IsSubmit, is_stopped, queued, first_cause}
+use Rattle.iol_core.specs.Submit.{IsSubmit, is_stopped, queue_fault, queued, first_cause}
+use Rattle.iol_core.specs.declared.permit.Grant.{Grant}
 use Rattle.iol_core.specs.declared.core_value.TheConstants.{QUEUE_COMMANDS}
 use Rattle.iol_core.specs.declared.ticket.SubmitFault.{SubmitFault}
 use Rattle.iol_core.specs.declared.ticket.SubmitFault.TheVariants as fault
@@ -26,17 +26,22 @@ use Rattle.iol_journal.specs.Meaning.{Standing}
 use Rattle.iol_journal.specs.declared.batch.Batch.{Batch}
 use Rattle.iol_journal.specs.declared.batch.TheConstants.{MOST_RECORD_OCTETS}
 use Rattle.iol_trace.specs.Events.{Event}
+use Rattle.iol_link.specs.Link.{LinkCall, LinkAnswer}
 use Rattle.iol_run.proofs.Batches.{taken_flight}
+use Rattle.iol_run.proofs.Calls.{flight_with, in_flight_with}
+use Rattle.iol_run.proofs.Changes.{Change, Permits, Waits, HasRoom, changed, room_in, with_permits}
+use Rattle.iol_run.proofs.PortCalls.{step_becomes}
 use Rattle.iol_run.proofs.InStep.{more_waits, flight_stays}
 use Rattle.iol_run.proofs.Serving.{made_flight, failed_flight}
 use Rattle.iol_run.proofs.TurnsLeft.{HasBatch, HasLayout}
 use Rattle.iol_run.specs.CoreOnDisk.{CoreOnDiskView, IsInFlight, HasFlight, IsAtRest}
+use Rattle.iol_run.specs.Ports.{PortsView, StepsIf}
 use Rattle.iol_run.specs.Steps.{Does}
 use Rattle.iol_run.specs.Turns.{Acknowledges, Takes, HasCalled, Publishes, Serves, IsTurn}
 use Rattle.iol_run.specs.declared.core_on_disk.Turned.{Turned}
 use Rattle.iol_run.specs.declared.core_on_disk.Turned.TheVariants.{Made, Idle, Waited}
 use Rattle.iol_run.specs.declared.step.Step.{Step}
-use Rattle.iol_run.specs.declared.step.Step.TheVariants.{Client, Flush}
+use Rattle.iol_run.specs.declared.step.Step.TheVariants.{Client, Port, Flush}
 
 -- what holds of a master between steps
 pub record IsServed {D : Type 0} (layout : Layout) (core : CoreView) (stage : Stage D) (committed : Option CommittedView) : Type 0 where
@@ -49,17 +54,12 @@ pub record IsServed {D : Type 0} (layout : Layout) (core : CoreView) (stage : St
 abbrev pub Served : {D : Type 0} → Layout → CoreOnDiskView D → Type 0
 Served layout master = IsServed layout master.core master.flusher.stage master.committed
 
--- a queue that takes a command has room
-queue_causes : (stopped full last : Bool) (checked : Option CommandFault)
-    → (if stopped then Some fault.Stopped else first_cause checked (if full then Some fault.QueueFull else if last then Some fault.Exhausted else None)) ≡ None
-    → full ≡ false
-queue_causes true full last checked none = search rules
-queue_causes false full last (Some f) none = search rules
-queue_causes false true last None none = search rules
-queue_causes false false last None none = refl
-
-room_left : (n : ℕ) → nat_le QUEUE_COMMANDS n ≡ false → n + 1 ≤ QUEUE_COMMANDS
-room_left n is = grind (arith, nat_tests, is)
+-- where a command is taken, the queue takes it
+queue_causes : (stopped : Bool) (queue : Option SubmitFault) (checked : Option CommandFault)
+    → (if stopped then Some fault.Stopped else first_cause checked queue) ≡ None → queue ≡ None
+queue_causes true queue checked none = search rules
+queue_causes false queue (Some f) none = search rules
+queue_causes false queue None none = none
 
 module _ {D : Type 0} (layout : Layout) where
   queued_batch : (core : CoreView) (command : CommandValue) (stage : Stage D) (committed : Option CommittedView) → HasBatch core stage committed
@@ -67,18 +67,44 @@ module _ {D : Type 0} (layout : Layout) where
   queued_batch core command stage None is = flight_stays core command stage is
   queued_batch core command stage (Some committed) is = (more_waits core command committed.commands is.0, is.1)
 
+  -- one more command waits
+  queued_served : (core : CoreView) (command : CommandValue) (stage : Stage D) (committed : Option CommittedView) → length core.queue + 1 ≤ QUEUE_COMMANDS
+      → IsServed layout core stage committed → IsServed layout (queued core command) stage committed
+  queued_served core command stage committed room was = record {
+    batch = queued_batch core command stage committed was.batch;
+    layout_is = was.layout_is;
+    few_calls = was.few_calls;
+    few_wait = omega (arith, length-append core.queue (command ∷ []), room);
+  }
+
+  -- other permits are out
+  permits_batch : (core : CoreView) (permits : List (Option Grant)) (stage : Stage D) (committed : Option CommittedView) → HasBatch core stage committed
+      → HasBatch (with_permits core permits) stage committed
+  permits_batch core permits stage None is = flight_with core permits stage is
+  permits_batch core permits stage (Some committed) is = (in_flight_with core permits committed.commands is.0, is.1)
+
+  permits_served : (core : CoreView) (permits : List (Option Grant)) (stage : Stage D) (committed : Option CommittedView)
+      → IsServed layout core stage committed → IsServed layout (with_permits core permits) stage committed
+  permits_served core permits stage committed was = record {
+    batch = permits_batch core permits stage committed was.batch;
+    layout_is = was.layout_is;
+    few_calls = was.few_calls;
+    few_wait = was.few_wait;
+  }
+
+  -- what a call of a port makes of the core
+  change_served : (old : CoreView) (change : Change) (stage : Stage D) (committed : Option CommittedView) → HasRoom old change
+      → IsServed layout old stage committed → IsServed layout (changed old change) stage committed
+  change_served old (Permits permits) stage committed room was = permits_served old permits stage committed was
+  change_served old (Waits command permits) stage committed room was =
+      permits_served (queued old command) permits stage committed (queued_served old command stage committed room was)
+
   submit_served : (old new : CoreView) (command : CommandValue) (stage : Stage D) (committed : Option CommittedView) (answer : Result ℕ SubmitFault)
       → IsSubmit old command new answer → IsServed layout old stage committed → IsServed layout new stage committed
   submit_served old new command stage committed (Ok n) is was =
-      subst (λ (c : CoreView). IsServed layout c stage committed) (sym is.2) (record {
-        batch = queued_batch old command stage committed was.batch;
-        layout_is = was.layout_is;
-        few_calls = was.few_calls;
-        few_wait = omega (arith, length-append old.queue (command ∷ []), room);
-      })
-    where
-      room : length old.queue + 1 ≤ QUEUE_COMMANDS
-      room = room_left (length old.queue) (queue_causes (is_stopped old) _ _ (check (live old) command) is.0)
+      subst (λ (c : CoreView). IsServed layout c stage committed) (sym is.2)
+      (queued_served old command stage committed
+      (room_in old (queue_causes (is_stopped old) (queue_fault old) (check (live old) command) is.0)) was)
   submit_served old new command stage committed (Err f) is was =
       subst (λ (c : CoreView). IsServed layout c stage committed) (sym is.1) was
 
@@ -232,11 +258,25 @@ module _ {D : Type 0} (layout : Layout) where
         acknowledged_served old new committed told is.1 (subst (λ (c : Option CommittedView). IsServed layout old.core old.flusher.stage c) there was)
     turn_served None old new told turned there is was = serves_served (need_of old.flusher.stage) old new told turned there is was
 
+    -- a step of a port
+    port_served : {L : Type 0} (number : L → ℕ) (steps : L → LinkCall → LinkAnswer → L → Type 0) (there : Bool) (port : ℕ) (old new : CoreOnDiskView D)
+        (ports last : PortsView L) (told : List Event) → StepsIf number steps there port old new ports last told → Served layout old → Served layout new
+    port_served number steps true port old new ports last told is was =
+        let becomes = step_becomes number steps is.before is.after is.link is.linked old.core new.core is.called is.status is.steps_as in
+        subst (λ (c : Option CommittedView). IsServed layout new.core new.flusher.stage c) (sym is.committed)
+        (subst (λ (f : FlusherView D). IsServed layout new.core f.stage old.committed) (sym is.flusher)
+        (subst (λ (c : CoreView). IsServed layout c old.flusher.stage old.committed) (sym becomes.0.new_is)
+        (change_served old.core becomes.0.change old.flusher.stage old.committed becomes.0.room was)))
+    port_served number steps false port old new ports last told is was = same_served old new is.0 was
+
     -- each step keeps it
-    pub step_served : (step : Step) (old new : CoreOnDiskView D) (told : List Event) (turned : Turned) → Does disk step old new told turned
+    pub step_served : {L : Type 0} (number : L → ℕ) (steps : L → LinkCall → LinkAnswer → L → Type 0) (step : Step) (old new : CoreOnDiskView D)
+        (ports last : PortsView L) (told : List Event) (turned : Turned) → Does disk number steps step old new ports last told turned
         → Served layout old → Served layout new
-    step_served (Client change) old new told turned is was =
-        subst (λ (c : Option CommittedView). IsServed layout new.core new.flusher.stage c) (sym is.1.3)
-        (subst (λ (f : FlusherView D). IsServed layout new.core f.stage old.committed) (sym is.1.2)
-        (submit_served old.core new.core (command_of change) old.flusher.stage old.committed is.1.0 is.1.1 was))
-    step_served Flush old new told turned is was = turn_served old.committed old new told turned refl is was
+    step_served number steps (Client change) old new ports last told turned is was =
+        subst (λ (c : Option CommittedView). IsServed layout new.core new.flusher.stage c) (sym is.2.3)
+        (subst (λ (f : FlusherView D). IsServed layout new.core f.stage old.committed) (sym is.2.2)
+        (submit_served old.core new.core (command_of change) old.flusher.stage old.committed is.2.0 is.2.1 was))
+    step_served number steps (Port port) old new ports last told turned is was =
+        port_served number steps (nat_le port (length ports.links)) port old new ports last told is.1 was
+    step_served number steps Flush old new ports last told turned is was = turn_served old.committed old new told turned refl is.1 was

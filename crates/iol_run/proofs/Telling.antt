@@ -1,5 +1,5 @@
 -- What is told is what happened, and the moments of a run.
-use Rattle.std.proofs.Common.{◌≡◌, refl, ◌+◌, ℕ, List, [], ◌∷◌, ◌++◌, length, drop, Option, Some, None, Result, Ok, Err, ap, sym, ◌∙◌, subst, arith, append-nil, append_assoc, length-append}
+use Rattle.std.proofs.Common.{◌≡◌, refl, ◌+◌, ℕ, nat_le, Bool, true, false, List, [], ◌∷◌, ◌++◌, length, drop, Option, Some, None, Result, Ok, Err, ap, sym, ◌∙◌, subst, arith, append-nil, append_assoc, length-append}
 use Rattle.iol_types.specs.Command.{CommandValue, command_of}
 use Rattle.iol_disk.specs.Disk.{Disk}
 use Rattle.iol_core.specs.Core.{CoreView, live_number}
@@ -14,30 +14,36 @@ use Rattle.iol_trace.proofs.Words.{accepted-append, numbers-append, acked-append
 use Rattle.iol_trace.specs.Events.{Event, Accepted, Refused, Acknowledged, DiskFailed, Stamp, stamped}
 use Rattle.iol_trace.specs.Words.{accepted, numbers, acked, RiseByOne}
 use Rattle.iol_run.specs.CoreOnDisk.{CoreOnDiskView, IsInFlight, IsInStep, waiting_of, accepted_in}
+use Rattle.iol_run.specs.Ports.{PortsView, StepsIf}
 use Rattle.iol_run.specs.Runs.{IsTold}
 use Rattle.iol_run.specs.Steps.{Does, submit_told}
 use Rattle.iol_run.specs.Turns.{Acknowledges, Takes, HasCalled, Publishes, Serves, IsTurn}
 use Rattle.iol_run.specs.declared.core_on_disk.Turned.{Turned}
 use Rattle.iol_run.specs.declared.core_on_disk.Turned.TheVariants.{Made, Idle, Waited}
 use Rattle.iol_run.specs.declared.step.Step.{Step}
-use Rattle.iol_run.specs.declared.step.Step.TheVariants.{Client, Flush}
+use Rattle.iol_run.specs.declared.step.Step.TheVariants.{Client, Port, Flush}
+use Rattle.iol_link.specs.Link.{LinkCall, LinkAnswer}
+use Rattle.iol_run.proofs.Calls.{waits_with}
+use Rattle.iol_run.proofs.Changes.{Becomes, Change, Permits, Waits, Tells, changed}
+use Rattle.iol_run.proofs.PortCalls.{step_becomes}
+use Rattle.iol_run.proofs.Quiet.{quiet_accepted, quiet_numbers, quiet_acked, stamped_more}
 use Rattle.iol_run.proofs.Batches.{published_in_step, before_is}
 use Rattle.iol_run.proofs.InStep.{waits_more, count_is, all_of}
 
 module _ {D : Type 0} (start : Start) (t : ℕ) where
   -- a command is accepted
   accepted_told : (old new : CoreOnDiskView D) (command : CommandValue) (events : List Stamp) → IsInStep start old.core old.flusher old.committed
-      → new.core ≡ queued old.core command → new.flusher ≡ old.flusher → new.committed ≡ old.committed → IsTold start old events
+      → new.core.number ≡ old.core.number → waiting_of old.committed new.core ≡ waiting_of old.committed old.core ++ command ∷ []
+      → new.flusher ≡ old.flusher → new.committed ≡ old.committed → IsTold start old events
       → IsTold start new (events ++ stamped t (Accepted (live_number old.core + 1) command ∷ []))
-  accepted_told old new command events step core flusher committed was = record {
+  accepted_told old new command events step number waits flusher committed was = record {
     accepted_is =
         accepted-append events more
         ∙ (ap (λ (cs : List CommandValue). cs ++ command ∷ []) was.accepted_is
         ∙ (append_assoc old.flusher.published (waiting_of old.committed old.core) (command ∷ [])
         ∙ sym (ap (λ (f : FlusherView D). f.published ++ waiting_of new.committed new.core) flusher
         ∙ (ap (λ (c : Option CommittedView). old.flusher.published ++ waiting_of c new.core) committed
-        ∙ (ap (λ (c : CoreView). old.flusher.published ++ waiting_of old.committed c) core
-        ∙ ap (λ (cs : List CommandValue). old.flusher.published ++ cs) (waits_more start old.core old.flusher old.committed command step))))));
+        ∙ ap (λ (cs : List CommandValue). old.flusher.published ++ cs) waits))));
     rise =
         subst (λ (ns : List ℕ). RiseByOne start.number ns) (sym (numbers-append events more))
         (rise-append start.number (numbers events) ((live_number old.core + 1) ∷ []) was.rise (omega (arith, counted), tt));
@@ -45,7 +51,7 @@ module _ {D : Type 0} (start : Start) (t : ℕ) where
         ap length (numbers-append events more)
         ∙ (omega (arith, was.count, length-append (numbers events) ((live_number old.core + 1) ∷ []), length-append (accepted events) (command ∷ []))
         ∙ ap length (sym (accepted-append events more)));
-    acked_is = acked-append start.number events more ∙ (was.acked_is ∙ ap (λ (c : CoreView). c.number) (sym core));
+    acked_is = acked-append start.number events more ∙ (was.acked_is ∙ sym number);
   }
     where
       more : List Stamp
@@ -83,7 +89,8 @@ module _ {D : Type 0} (start : Start) (t : ℕ) where
       → new.committed ≡ old.committed → IsTold start old events → IsTold start new (events ++ stamped t (submit_told command answer))
   submit_is_told old new command events (Ok n) step is flusher committed was =
       subst (λ (m : ℕ). IsTold start new (events ++ stamped t (Accepted m command ∷ []))) (sym is.1)
-      (accepted_told old new command events step is.2 flusher committed was)
+      (accepted_told old new command events step (ap (λ (c : CoreView). c.number) is.2)
+      (ap (waiting_of old.committed) is.2 ∙ waits_more start old.core old.flusher old.committed command step) flusher committed was)
   submit_is_told old new command events (Err f) step is flusher committed was =
       quiet_told old new events (stamped t (Refused (refusal_of f) ∷ [])) refl refl
       (was.acked_is ∙ ap (λ (c : CoreView). c.number) (sym is.1))
@@ -91,6 +98,48 @@ module _ {D : Type 0} (start : Start) (t : ℕ) where
       ∙ (ap (λ (c : Option CommittedView). old.flusher.published ++ waiting_of c new.core) committed
       ∙ ap (λ (c : CoreView). old.flusher.published ++ waiting_of old.committed c) is.1))
       was
+
+  -- where the flusher and the published batch stay, and so does what waits
+  waiting_same : (old new : CoreOnDiskView D) → new.flusher ≡ old.flusher → new.committed ≡ old.committed
+      → waiting_of old.committed new.core ≡ waiting_of old.committed old.core → accepted_in new ≡ accepted_in old
+  waiting_same old new flusher committed waits =
+      ap (λ (f : FlusherView D). f.published ++ waiting_of new.committed new.core) flusher
+      ∙ (ap (λ (c : Option CommittedView). old.flusher.published ++ waiting_of c new.core) committed
+      ∙ ap (λ (cs : List CommandValue). old.flusher.published ++ cs) waits)
+
+  -- what a call of a port makes of the core
+  becomes_told : (P : Type 0) (old new : CoreOnDiskView D) (events : List Stamp) (told : List Event) → IsInStep start old.core old.flusher old.committed
+      → Becomes P old.core new.core told → new.flusher ≡ old.flusher → new.committed ≡ old.committed → IsTold start old events
+      → IsTold start new (events ++ stamped t told)
+  becomes_told P old new events told step becomes flusher committed was = by_change becomes.change becomes.new_is becomes.tells
+    where
+      by_change : (change : Change) → new.core ≡ changed old.core change → Tells old.core change told → IsTold start new (events ++ stamped t told)
+      by_change (Permits permits) is tells =
+          quiet_told old new events (stamped t told) (quiet_accepted t told tells) (quiet_numbers t told tells)
+          (quiet_acked t (acked start.number events) told tells ∙ (was.acked_is ∙ sym (ap (λ (c : CoreView). c.number) is)))
+          (waiting_same old new flusher committed (ap (waiting_of old.committed) is ∙ waits_with old.committed old.core permits)) was
+      by_change (Waits command permits) is tells =
+          subst (λ (es : List Event). IsTold start new (events ++ stamped t es)) (sym tells)
+          (accepted_told old new command events step (ap (λ (c : CoreView). c.number) is)
+          (ap (waiting_of old.committed) is
+          ∙ (waits_with old.committed (queued old.core command) permits
+          ∙ waits_more start old.core old.flusher old.committed command step)) flusher committed was)
+
+  -- a step of a port: its call, and then its status
+  port_told : {L : Type 0} (number : L → ℕ) (steps : L → LinkCall → LinkAnswer → L → Type 0) (there : Bool) (port : ℕ) (old new : CoreOnDiskView D)
+      (ports last : PortsView L) (events : List Stamp) (told : List Event) → IsInStep start old.core old.flusher old.committed
+      → StepsIf number steps there port old new ports last told → IsTold start old events → IsTold start new (events ++ stamped t told)
+  port_told number steps true port old new ports last events told step is was =
+      let becomes = step_becomes number steps is.before is.after is.link is.linked old.core new.core is.called is.status is.steps_as in
+      let called = becomes_told ⊥ old new events is.called step becomes.0 is.flusher is.committed was in
+      subst (λ (es : List Event). IsTold start new (events ++ stamped t es)) (sym is.told_is)
+      (subst (λ (ss : List Stamp). IsTold start new ss) (sym (stamped_more t events is.called is.status))
+      (quiet_told new new (events ++ stamped t is.called) (stamped t is.status) (quiet_accepted t is.status becomes.1)
+      (quiet_numbers t is.status becomes.1)
+      (quiet_acked t (acked start.number (events ++ stamped t is.called)) is.status becomes.1 ∙ called.acked_is) refl called))
+  port_told number steps false port old new ports last events told step is was =
+      subst (λ (es : List Event). IsTold start new (events ++ stamped t es)) (sym is.2)
+      (silent_told old new events (ap (λ (m : CoreOnDiskView D). m.core.number) is.0) (ap accepted_in is.0) was)
 
   -- a batch that is acknowledged
   acknowledged_told : (old new : CoreOnDiskView D) (committed : CommittedView) (events : List Stamp) (told : List Event) → old.committed ≡ Some committed
@@ -169,10 +218,14 @@ module _ {D : Type 0} (start : Start) (t : ℕ) where
   turn_told disk None old new events told turned there step is was = serves_told disk (need_of old.flusher.stage) old new events told turned there step is was
 
   -- what a step tells is what happened
-  pub step_told : (disk : D → Disk) (step : Step) (old new : CoreOnDiskView D) (events : List Stamp) (told : List Event) (turned : Turned)
-      → IsInStep start old.core old.flusher old.committed → Does disk step old new told turned → IsTold start old events
+  pub step_told : {L : Type 0} (disk : D → Disk) (number : L → ℕ) (steps : L → LinkCall → LinkAnswer → L → Type 0) (step : Step)
+      (old new : CoreOnDiskView D) (ports last : PortsView L) (events : List Stamp) (told : List Event) (turned : Turned)
+      → IsInStep start old.core old.flusher old.committed → Does disk number steps step old new ports last told turned → IsTold start old events
       → IsTold start new (events ++ stamped t told)
-  step_told disk (Client change) old new events told turned step is was =
-      subst (λ (es : List Event). IsTold start new (events ++ stamped t es)) (sym is.1.4)
-      (submit_is_told old new (command_of change) events is.1.0 step is.1.1 is.1.2 is.1.3 was)
-  step_told disk Flush old new events told turned step is was = turn_told disk old.committed old new events told turned refl step is was
+  step_told disk number steps (Client change) old new ports last events told turned step is was =
+      subst (λ (es : List Event). IsTold start new (events ++ stamped t es)) (sym is.2.4)
+      (submit_is_told old new (command_of change) events is.2.0 step is.2.1 is.2.2 is.2.3 was)
+  step_told disk number steps (Port port) old new ports last events told turned step is was =
+      port_told number steps (nat_le port (length ports.links)) port old new ports last events told step is.1 was
+  step_told disk number steps Flush old new ports last events told turned step is was =
+      turn_told disk old.committed old new events told turned refl step is.1 was

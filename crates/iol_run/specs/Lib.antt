@@ -2,6 +2,8 @@ pub mod Said
 pub mod Events
 pub mod CoreOnDisk
 pub mod Turns
+pub mod PortSteps
+pub mod Ports
 pub mod Steps
 pub mod Runs
 pub mod Schedules

@@ -2,17 +2,20 @@
 use Rattle.std.specs.Prelude.{◌≡◌, ℕ, ◌++◌, List, length}
 use Rattle.iol_disk.specs.Disk.{Disk}
 use Rattle.iol_front.specs.Fronts.{Start}
+use Rattle.iol_link.specs.Link.{LinkCall, LinkAnswer}
 use Rattle.iol_trace.specs.CrashPrefix.{marks_of}
 use Rattle.iol_trace.specs.Events.{Event, Stamp, stamped}
 use Rattle.iol_trace.specs.Words.{accepted, numbers, acked, RiseByOne}
 use Rattle.iol_run.specs.CoreOnDisk.{CoreOnDiskView, accepted_in, clock_of, IsRunning}
+use Rattle.iol_run.specs.Ports.{PortsView}
 use Rattle.iol_run.specs.Steps.{Does}
 use Rattle.iol_run.specs.declared.core_on_disk.Turned.{Turned}
 use Rattle.iol_run.specs.declared.step.Step.{Step}
 
--- a run as contracts see it: its master, what it has told, and the disk's clock when it began (own)
-pub record RunView (D : Type 0) : Type 0 where
+-- a run as contracts see it: its master, the ports, what it has told, and the disk's clock when it began (own)
+pub record RunView (D L : Type 0) : Type 0 where
   pub master : CoreOnDiskView D
+  pub ports : PortsView L
   pub events : List Stamp
   pub begun : ℕ
 
@@ -24,16 +27,17 @@ pub record IsTold {D : Type 0} (start : Start) (master : CoreOnDiskView D) (even
   pub count : length (numbers events) ≡ length (accepted events)
   pub acked_is : acked start.number events ≡ master.core.number
 
--- a step was made, and what it tells is stamped with the disk's clock after it (own)
-abbrev pub Did : {D : Type 0} → (D → Disk) → Step → Turned → RunView D → RunView D → Type 0
-Did disk step turned old new =
-    (told : List Event) × Does disk step old.master new.master told turned × (new.events ≡ old.events ++ stamped (clock_of disk new.master) told)
-    × (new.begun ≡ old.begun)
+module _ {D L : Type 0} (disk : D → Disk) (number : L → ℕ) (steps : L → LinkCall → LinkAnswer → L → Type 0) where
+  -- a step was made, and what it tells is stamped with the disk's clock after it (own)
+  abbrev pub Did : Step → Turned → RunView D L → RunView D L → Type 0
+  Did step turned old new =
+      (told : List Event) × Does disk number steps step old.master new.master old.ports new.ports told turned
+      × (new.events ≡ old.events ++ stamped (clock_of disk new.master) told) × (new.begun ≡ old.begun)
 
 -- a run of the journal, with what was acknowledged after each event (own)
-abbrev pub IsMarked : {D : Type 0} → (D → Disk) → Start → RunView D → Type 0
+abbrev pub IsMarked : {D L : Type 0} → (D → Disk) → Start → RunView D L → Type 0
 IsMarked disk start run = IsRunning disk start (marks_of run.begun start.number run.events) run.master
 
 -- whatever a stop leaves of a run before, it leaves of it after (own)
-pub record KeepsRun {D : Type 0} (disk : D → Disk) (start : Start) (old new : RunView D) : Type 0 where
+pub record KeepsRun {D L : Type 0} (disk : D → Disk) (start : Start) (old new : RunView D L) : Type 0 where
   pub goes_on : IsMarked disk start old → IsMarked disk start new

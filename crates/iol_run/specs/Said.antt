@@ -1,9 +1,8 @@
--- What a command is read off.
-use Rattle.iol_types.specs.Command.{command_of}
+-- What is said of a command.
+use Rattle.iol_types.specs.Command.{value_of}
 use Rattle.iol_run.specs.declared.said.Said.{Said}
 use Rattle.iol_run.specs.declared.said.Source.{Source}
-use Rattle.iol_run.specs.declared.said.Source.TheVariants.{Change}
 
--- what a command says that a client asked for (own)
+-- what the command says that it is read off (own)
 abbrev pub said_of : Source → Said
-said_of (Change change) = record { command = command_of change.now }
+said_of source = record { command = value_of source.command.now }

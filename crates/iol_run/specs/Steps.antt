@@ -5,13 +5,15 @@ use Rattle.iol_disk.specs.Disk.{Disk}
 use Rattle.iol_core.specs.Submit.{IsSubmit}
 use Rattle.iol_core.specs.Telling.{refusal_of}
 use Rattle.iol_core.specs.declared.ticket.SubmitFault.{SubmitFault}
+use Rattle.iol_link.specs.Link.{LinkCall, LinkAnswer}
 use Rattle.iol_trace.specs.Events.{Event, Accepted, Refused}
 use Rattle.iol_run.specs.CoreOnDisk.{CoreOnDiskView}
+use Rattle.iol_run.specs.Ports.{PortsView, StepsPort}
 use Rattle.iol_run.specs.Turns.{IsTurn}
 use Rattle.iol_run.specs.declared.core_on_disk.Turned.{Turned}
 use Rattle.iol_run.specs.declared.core_on_disk.Turned.TheVariants.{Made}
 use Rattle.iol_run.specs.declared.step.Step.{Step}
-use Rattle.iol_run.specs.declared.step.Step.TheVariants.{Client, Flush}
+use Rattle.iol_run.specs.declared.step.Step.TheVariants.{Client, Port, Flush}
 
 -- what is told of a command: its number, or why it is refused (own)
 abbrev pub submit_told : CommandValue → Result ℕ SubmitFault → List Event
@@ -24,7 +26,9 @@ Submits command old new told =
     (answer : Result ℕ SubmitFault) × IsSubmit old.core command new.core answer × (new.flusher ≡ old.flusher) × (new.committed ≡ old.committed)
     × (told ≡ submit_told command answer)
 
--- a step: a client's command, or a turn of the flusher (own)
-abbrev pub Does : {D : Type 0} → (D → Disk) → Step → CoreOnDiskView D → CoreOnDiskView D → List Event → Turned → Type 0
-Does disk (Client change) old new told turned = (turned ≡ Made) × Submits (command_of change) old new told
-Does disk Flush old new told turned = IsTurn disk old.committed old new told turned
+module _ {D L : Type 0} (disk : D → Disk) (number : L → ℕ) (steps : L → LinkCall → LinkAnswer → L → Type 0) where
+  -- a step: a client's command, the step of a port, or a turn of the flusher; only a port's step changes a port (own)
+  abbrev pub Does : Step → CoreOnDiskView D → CoreOnDiskView D → PortsView L → PortsView L → List Event → Turned → Type 0
+  Does (Client change) old new ports last told turned = (turned ≡ Made) × (last ≡ ports) × Submits (command_of change) old new told
+  Does (Port port) old new ports last told turned = (turned ≡ Made) × StepsPort number steps port old new ports last told
+  Does Flush old new ports last told turned = (last ≡ ports) × IsTurn disk old.committed old new told turned

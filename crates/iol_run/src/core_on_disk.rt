@@ -8,6 +8,7 @@ ghost use Rattle.iol_flush.specs.Stages as flush;
 ghost use Rattle.iol_flush.specs.Stages.{need_of, disk_of};
 ghost use Rattle.iol_flush.specs.declared.need.Need.TheVariants as need;
 ghost use Rattle.iol_port.specs.Calls.{MayBeMade, Replies, IsReplyTo, call_of};
+ghost use Rattle.iol_port.specs.Ending.{ended};
 ghost use Rattle.iol_run.specs.CoreOnDisk.{IsInStep, KeepsRunning};
 ghost use Rattle.iol_run.specs.Events.{event_of, told_of};
 ghost use Rattle.iol_run.specs.Turns.{IsTurn, Takes, CallsDisk, Publishes};
@@ -18,7 +19,7 @@ use iol_disk::SectorDisk;
 use iol_flush::{FlushEnd, FlushFault, Flusher, Need};
 use iol_front::{Committed, Front, Name};
 use iol_journal::Journal;
-use iol_port::{CoreCall, Reply};
+use iol_port::{CoreCall, PortMachine, Reply};
 use iol_types::{Change, MasterState};
 use std::alloc::Global;
 use std::marker::Model;
@@ -143,7 +144,6 @@ impl<D: SectorDisk, F: Name> CoreOnDisk<D, F> {
     pub fn submit(&mut self, change: Change) -> Result<Ticket, SubmitFault>
         ensures submit { IsSubmit self.old.core (command_of change) self.new.core result }
         ensures others { (self.new.flusher ≡ self.old.flusher) × (self.new.committed ≡ self.old.committed) }
-        ensures in_step { IsInStep F.front.start self.old.core self.old.flusher self.old.committed }
         ensures run { KeepsRunning D.disk F.front.start self.old self.new }
     {
         self.core.submit(change)
@@ -155,17 +155,31 @@ impl<D: SectorDisk, F: Name> CoreOnDisk<D, F> {
         ensures replies { Replies (call_of call) self.old.core self.new.core result }
         ensures of_the_call { IsReplyTo (call_of call) result }
         ensures others { (self.new.flusher ≡ self.old.flusher) × (self.new.committed ≡ self.old.committed) }
-        ensures in_step { IsInStep F.front.start self.old.core self.old.flusher self.old.committed }
         ensures run { KeepsRunning D.disk F.front.start self.old self.new }
     {
         call.make(&mut self.core)
+    }
+
+    // The core is in step with its flusher: no code runs, but a caller's proof learns it.
+    pub(crate) fn is_in_step(&self)
+        ensures { IsInStep F.front.start self.now.core self.now.flusher self.now.committed }
+    {
+        let _ = &self.core;
+    }
+
+    /// Ends the machine of a port: a permit that it holds is returned.
+    pub fn end_port(&mut self, machine: PortMachine)
+        ensures core { self.new.core ≡ ended self.old.core machine.stage }
+        ensures durable { self.new.core.durable ≡ self.old.core.durable }
+        ensures others { (self.new.flusher ≡ self.old.flusher) × (self.new.committed ≡ self.old.committed) }
+    {
+        machine.end(&mut self.core);
     }
 
     /// One turn of the flusher. A batch that is published is acknowledged; where there is none the flusher's next need is
     /// met: a batch of the core is taken, one disk call made, or the batch that is durable published.
     pub fn turn(&mut self) -> Turn
         ensures turn { IsTurn D.disk self.old.committed self.old self.new (told_of result.event) result.turned }
-        ensures in_step { IsInStep F.front.start self.old.core self.old.flusher self.old.committed }
         ensures run { KeepsRunning D.disk F.front.start self.old self.new }
     {
         if self.committed.is_some() {

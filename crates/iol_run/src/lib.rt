@@ -1,19 +1,24 @@
-//! Runs of a master on one thread, over any disk: a schedule of steps in, a trace of events out.
+//! Runs of a master on one thread, over any disk and any links: a schedule of steps in, a trace of events out.
 //!
-//! [`run_schedule`] recovers a disk and makes the steps of a schedule: a client asks for a change, or the flusher makes a
-//! turn. Each step tells what happened, stamped with the disk's clock, which contracts alone see. The [`Trace`] has the
+//! [`run_schedule`] recovers a disk and makes the steps of a schedule: a client asks for a change, a port makes a step, or
+//! the flusher makes a turn. Each step tells what happened, stamped with the disk's clock, which contracts alone see. The [`Trace`] has the
 //! events in their order, the durable state at the end, and the disk. [`Run`] is the same step by step.
 //!
 //! Modules in reading order: `core_on_disk`, a core and the flusher that brings its batches to the disk; `said`, `event`
-//! and `moment`, what is told and when; `step`, `run` and `schedule`. What a turn of the flusher does is said in
-//! `specs/Turns.antt`, what a step tells in `specs/Steps.antt`, and what a schedule does in `specs/Schedules.antt`.
+//! and `moment`, what is told and when; `port_step` and `ports`, the machines of ports over their links; `step`, `run` and
+//! `schedule`. What a turn of the flusher does is said in `specs/Turns.antt`, what a step of a port does in
+//! `specs/PortSteps.antt` and `specs/Ports.antt`, what a step tells in `specs/Steps.antt`, and what a schedule does in
+//! `specs/Schedules.antt`.
 #![tactic(auto)]
 
 mod core_on_disk;
 mod event;
 mod moment;
+mod port_step;
+mod ports;
 mod run;
 mod said;
+mod same_status;
 mod schedule;
 mod step;
 #[cfg(test)]
@@ -22,6 +27,8 @@ mod tests;
 pub use core_on_disk::{CoreOnDisk, Turn, Turned};
 pub use event::Event;
 pub use moment::Moment;
+pub use port_step::{PortTold, step_port};
+pub use ports::Ports;
 pub use run::{Run, Stamped};
 pub use said::Said;
 pub use schedule::{Ended, RunFault, Trace, run_schedule};

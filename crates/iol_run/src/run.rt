@@ -1,6 +1,6 @@
 //! A run, step by step.
 
-ghost use Rattle.std.specs.Prelude.{◌≡◌, ◌<◌, ◌++◌, [], map, vec_len, vec_capacity, IfOk, IfErr, OnErr};
+ghost use Rattle.std.specs.Prelude.{◌≡◌, ◌<◌, ◌≤◌, ◌+◌, ◌++◌, [], map, length, vec_len, vec_capacity, IfOk, IfErr, OnErr};
 ghost use Rattle.iol_trace.specs.Events.{stamped};
 ghost use Rattle.iol_run.specs.CoreOnDisk.{clock_of};
 ghost use Rattle.iol_run.specs.Events.{stamp_of, told_of};
@@ -8,14 +8,16 @@ ghost use Rattle.iol_flush.specs.Stages.{disk_of};
 ghost use Rattle.iol_run.specs.Runs.{Did, IsTold, KeepsRun};
 ghost use Rattle.iol_run.specs.Schedules.{IsFresh};
 
-use crate::core_on_disk::{CoreOnDisk, Turn, Turned};
+use crate::core_on_disk::{CoreOnDisk, Turned};
 use crate::event::Event;
 use crate::moment::Moment;
+use crate::ports::Ports;
 use crate::schedule::{Ended, Trace};
-use crate::step::{Step, make};
+use crate::step::{Step, Told, make};
 use iol_disk::SectorDisk;
 use iol_front::{Front, Name};
 use iol_journal::Journal;
+use iol_link::DeviceLink;
 use iol_types::MasterState;
 use std::alloc::{AllocError, Global};
 use std::marker::Model;
@@ -28,32 +30,34 @@ pub struct Stamped {
 }
 
 /// A run between its steps. A contract sees the record `RunView` of `specs/Runs.antt`.
-pub struct Run<D: SectorDisk, F: Name> {
+pub struct Run<D: SectorDisk, L: DeviceLink, F: Name> {
     master: CoreOnDisk<D, F>,
+    ports: Ports<L>,
     events: Vec<Stamped>,
     begun: Moment,
 }
 
-impl<D: SectorDisk, F: Name> Model for Run<D, F> {
+impl<D: SectorDisk, L: DeviceLink, F: Name> Model for Run<D, L, F> {
     ghost use Rattle.std.specs.Prelude.{map};
     ghost use Rattle.iol_run.specs.Events.{stamp_of};
     ghost use Rattle.iol_run.specs.Runs.{RunView, IsTold};
 
-    ghost Value = { RunView D };
+    ghost Value = { RunView D L };
 
-    ghost view = { λ r. record { master = r.master; events = map stamp_of r.events.items; begun = r.begun } };
+    ghost view = { λ r. record { master = r.master; ports = r.ports; events = map stamp_of r.events.items; begun = r.begun } };
 
     ghost invariant = { λ r. IsTold F.front.start r.master (map stamp_of r.events.items) };
 }
 
-// Writes down what a step tells; there is room.
+// Writes down what happened, if anything did; there is room.
 fn note<D: SectorDisk, F: Name>(
     events: &mut Vec<Stamped>,
     master: &CoreOnDisk<D, F>,
     event: Option<Event>,
 )
     requires { vec_len events.old < vec_capacity events.old }
-    ensures { map stamp_of events.new.items ≡ map stamp_of events.old.items ++ stamped (clock_of D.disk master.now) (told_of event) }
+    ensures events { map stamp_of events.new.items ≡ map stamp_of events.old.items ++ stamped (clock_of D.disk master.now) (told_of event) }
+    ensures room { (vec_len events.new ≤ vec_len events.old + 1) × (vec_capacity events.new ≡ vec_capacity events.old) }
 {
     if let Some(event) = event {
         let moment = Moment::of(master);
@@ -61,8 +65,9 @@ fn note<D: SectorDisk, F: Name>(
     }
 }
 
-impl<D: SectorDisk, F: Name> Run<D, F> {
-    /// Begins a run over a journal that was just recovered, with its state, and a front of that number and state.
+impl<D: SectorDisk, L: DeviceLink + Drop, F: Name> Run<D, L, F> {
+    /// Begins a run over a journal that was just recovered, with its state, a front of that number and state, and a link
+    /// for each port.
     ///
     /// # Errors
     /// Out of memory; the disk is handed back.
@@ -71,27 +76,38 @@ impl<D: SectorDisk, F: Name> Run<D, F> {
         front: Front,
         journal: Journal<D>,
         state: MasterState,
-    ) -> Result<Run<D, F>, D>
+        links: Vec<L>,
+    ) -> Result<Run<D, L, F>, D>
         requires name { front ≡ F.front }
         requires number { front.start.number ≡ journal.history.first }
         requires state { (front.start.state ≡ journal.history.start) × (state ≡ journal.history.start) }
         requires list { journal.history.commands ≡ [] }
-        ensures fresh { IfOk result (IsFresh D.disk journal) }
+        requires ports { vec_len links ≡ length state }
+        ensures fresh { IfOk result (IsFresh D.disk journal links.items) }
         ensures disk { IfErr result (λ disk. disk ≡ journal.disk) }
     {
+        let ports = state.ports();
         let master = CoreOnDisk::new(alloc, front, journal, state)?;
+        let Ok(ports) = Ports::new(alloc, ports, links) else {
+            let (disk, _state) = master.end();
+            return Err(disk);
+        };
         let begun = Moment::of(&master);
         Ok(Run {
             master,
+            ports,
             events: Vec::new(alloc),
             begun,
         })
     }
+}
 
-    /// Ends a run.
-    pub fn end(self, ended: Ended, waits: u64) -> Trace<D>
+impl<D: SectorDisk, L: DeviceLink, F: Name> Run<D, L, F> {
+    /// Ends a run. Permits that are held are returned.
+    pub fn end(self, ended: Ended, waits: u64) -> Trace<D, L>
         ensures told { (map stamp_of result.events.items ≡ self.events) × (result.begun ≡ self.begun) }
         ensures state { result.state ≡ self.master.core.durable }
+        ensures links { result.links.items ≡ self.ports.links }
         ensures disk { result.disk ≡ disk_of self.master.flusher.stage }
         ensures counted { (result.ended ≡ ended) × (result.waits ≡ waits) }
         // What was told is what happened.
@@ -99,9 +115,12 @@ impl<D: SectorDisk, F: Name> Run<D, F> {
     {
         let Run {
             master,
+            ports,
             events,
             begun,
         } = self;
+        let mut master = master;
+        let links = ports.end(&mut master);
         let (disk, state) = master.end();
         Trace {
             events,
@@ -109,6 +128,7 @@ impl<D: SectorDisk, F: Name> Run<D, F> {
             waits,
             ended,
             state,
+            links,
             disk,
         }
     }
@@ -118,14 +138,20 @@ impl<D: SectorDisk, F: Name> Run<D, F> {
     /// # Errors
     /// Out of memory for what the step may tell: the step is not made, and nothing changes.
     pub fn step(&mut self, step: &Step) -> Result<Turned, AllocError>
-        ensures did { IfOk result (λ turned. Did D.disk step.now turned self.old self.new) }
+        ensures did { IfOk result (λ turned. Did D.disk L.number L.steps step.now turned self.old self.new) }
         ensures same { OnErr result (self.new ≡ self.old) }
         // What held of a stop holds again.
         ensures kept { KeepsRun D.disk F.front.start self.old self.new }
     {
-        self.events.reserve(1)?;
-        let Turn { turned, event } = make(&mut self.master, step);
-        note(&mut self.events, &self.master, event);
+        self.events.reserve(2)?;
+        self.master.is_in_step();
+        let Told {
+            turned,
+            first,
+            second,
+        } = make(&mut self.master, &mut self.ports, step);
+        note(&mut self.events, &self.master, first);
+        note(&mut self.events, &self.master, second);
         Ok(turned)
     }
 }

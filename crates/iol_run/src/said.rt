@@ -4,7 +4,7 @@ ghost use Rattle.std.specs.Prelude.{◌≡◌};
 ghost use Rattle.std.specs.Borrow.{ftrue};
 ghost use Rattle.iol_types.specs.Command.{CommandValue};
 
-use iol_types::Change;
+use iol_types::Command;
 use std::marker::Model;
 
 /// What a command says. It has no octets: contracts alone see it, so that a trace needs no memory for a set.
@@ -19,20 +19,19 @@ impl Model for Said {
 
 // What it is read off.
 #[derive(Clone, Copy, Drop)]
-enum Source<'a> {
-    // a change that a client asks for
-    Change(&'a Change),
+struct Source<'a> {
+    command: &'a Command,
 }
 
 impl Said {
-    ghost use Rattle.iol_types.specs.Command.{command_of};
+    ghost use Rattle.iol_types.specs.Command.{value_of};
     ghost use Rattle.iol_run.specs.Said.{said_of};
 
-    // What a client's change says.
-    pub(crate) fn by_client(change: &Change) -> Said
-        ensures { result.command ≡ command_of change.now }
+    // What a command says.
+    pub(crate) fn of(command: &Command) -> Said
+        ensures { result.command ≡ value_of command.now }
     {
-        Said::read_off(&Source::Change(change))
+        Said::read_off(&Source { command })
     }
 
     // Proved by hand, as no code can set what contracts alone see.

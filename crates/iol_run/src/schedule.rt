@@ -1,6 +1,6 @@
 //! A schedule run from a disk to a trace.
 
-ghost use Rattle.std.specs.Prelude.{◌≡◌, ℕ, ◌*◌, [], map, Ok, IfOk, IfErr, OnErr};
+ghost use Rattle.std.specs.Prelude.{◌≡◌, ℕ, ◌*◌, [], map, length, vec_len, Ok, IfOk, IfErr, OnErr};
 ghost use Rattle.iol_types.specs.State.{State};
 ghost use Rattle.iol_disk.specs.Content.{IsImage, clock};
 ghost use Rattle.iol_disk.specs.Disk.{Disk};
@@ -15,7 +15,7 @@ ghost use Rattle.iol_trace.specs.CrashPrefix.{CrashPrefix};
 ghost use Rattle.iol_run.specs.Events.{stamp_of};
 ghost use Rattle.iol_run.specs.Flushed.{AllFlushed, queue_turns};
 ghost use Rattle.iol_run.specs.Runs.{KeepsRun};
-ghost use Rattle.iol_run.specs.Schedules.{HasRun, IsTraceOf, fault_disk, waits_of};
+ghost use Rattle.iol_run.specs.Schedules.{AreLinkRuns, HasRun, IsTraceOf, fault_disk, waits_of};
 
 use crate::core_on_disk::Turned;
 use crate::moment::Moment;
@@ -24,6 +24,7 @@ use crate::step::Step;
 use iol_disk::SectorDisk;
 use iol_front::{Front, Name};
 use iol_journal::{Journal, RecoverFault};
+use iol_link::DeviceLink;
 use iol_types::MasterState;
 use std::alloc::Global;
 use std::marker::Brand;
@@ -33,6 +34,8 @@ use std::marker::Brand;
 pub enum RunFault<D: SectorDisk> {
     /// The disk is not recovered.
     Recover(RecoverFault<D>),
+    /// There is not one link for each port; the disk is handed back.
+    Ports(D),
     /// Out of memory; the disk is handed back.
     Memory(D),
 }
@@ -48,7 +51,7 @@ pub enum Ended {
 
 /// What a schedule did.
 #[derive(Drop)]
-pub struct Trace<D: SectorDisk> {
+pub struct Trace<D: SectorDisk, L> {
     pub events: Vec<Stamped>,
     /// When recovery had ended.
     pub begun: Moment,
@@ -57,25 +60,31 @@ pub struct Trace<D: SectorDisk> {
     pub ended: Ended,
     /// The durable state at the end.
     pub state: MasterState,
+    /// The link of each port, port 1 first.
+    pub links: Vec<L>,
     pub disk: D,
 }
 
-/// Recovers a disk, and runs a schedule over it.
+/// Recovers a disk, and runs a schedule over it, with a link for each port of its state, port 1 first.
 ///
 /// # Errors
-/// `Recover` where the disk is not recovered, and `Memory`, in this order.
-pub fn run_schedule<D: SectorDisk>(
+/// `Recover` where the disk is not recovered, `Ports` where there is not one link for each port, and `Memory`, in this
+/// order. The links are gone then.
+pub fn run_schedule<D: SectorDisk, L: DeviceLink + Drop>(
     alloc: Global,
     disk: D,
+    links: Vec<L>,
     steps: &[Step],
-) -> Result<Trace<D>, RunFault<D>>
+) -> Result<Trace<D, L>, RunFault<D>>
     // On a disk that is kept: a stop after any count of events leaves the state after a prefix of the accepted commands, with
     // all that were acknowledged.
     ensures crash_prefix { IfOk result (λ trace. Shows (D.disk disk) (λ image. IsKept (D.disk disk).sectors image → (first : ℕ) (start : State)
         → meaning (D.disk disk).sectors image ≡ Ok (record { number = first; state = start })
         → CrashPrefix (D.disk trace.disk) trace.begun first start (map stamp_of trace.events.items))) }
     // Each step did what its own clause says, and they are the given ones up to the end.
-    ensures steps { IfOk result (λ trace. IsTraceOf D.disk steps.now trace.ended trace.waits (map stamp_of trace.events.items) trace.begun trace.state trace.disk) }
+    ensures steps { IfOk result (λ trace. IsTraceOf D.disk L.number L.steps steps.now links.items trace.ended trace.waits (map stamp_of trace.events.items) trace.begun trace.state trace.links.items trace.disk) }
+    // What is told of each port's link is a run of it, from the link that was handed in to the one in the trace.
+    ensures links { IfOk result (λ trace. AreLinkRuns L.number L.steps links.items (map stamp_of trace.events.items) trace.links.items) }
     // Turns enough of the flusher at the end, 128 for each sector of the journal that the disk shows, leave all that was
     // accepted acknowledged.
     ensures flushed { IfOk result (λ trace. Shows (D.disk disk) (λ image. (journal : Standing) → standing_in (D.disk disk).sectors image ≡ Ok journal
@@ -84,34 +93,42 @@ pub fn run_schedule<D: SectorDisk>(
     ensures fault { IfErr result (λ fault. LeavesOnly (D.disk disk) (D.disk (fault_disk fault)) (IsImage (D.disk disk).content)) }
 {
     match Journal::recover(alloc, disk) {
-        Ok((journal, state)) => match Front::new(alloc, journal.number(), &state) {
-            Ok(front) => carry_out::<D, Brand>(alloc, front, journal, state, steps),
-            Err(_) => Err(RunFault::Memory(journal.disk())),
-        },
+        Ok((journal, state)) => {
+            if links.len() != usize::from(state.ports()) {
+                return Err(RunFault::Ports(journal.disk()));
+            }
+            match Front::new(alloc, journal.number(), &state) {
+                Ok(front) => carry_out::<D, L, Brand>(alloc, front, journal, state, links, steps),
+                Err(_) => Err(RunFault::Memory(journal.disk())),
+            }
+        }
         Err(fault) => Err(RunFault::Recover(fault)),
     }
 }
 
 // Runs a schedule over a journal that was just recovered.
-fn carry_out<D: SectorDisk, F: Name>(
+fn carry_out<D: SectorDisk, L: DeviceLink + Drop, F: Name>(
     alloc: Global,
     front: Front,
     journal: Journal<D>,
     state: MasterState,
+    links: Vec<L>,
     steps: &[Step],
-) -> Result<Trace<D>, RunFault<D>>
+) -> Result<Trace<D, L>, RunFault<D>>
     requires name { front ≡ F.front }
     requires number { front.start.number ≡ journal.history.first }
     requires start { (front.start.state ≡ journal.history.start) × (state ≡ journal.history.start) }
     requires list { journal.history.commands ≡ [] }
-    ensures trace { IfOk result (λ trace. IsTraceOf D.disk steps.now trace.ended trace.waits (map stamp_of trace.events.items) trace.begun trace.state trace.disk) }
+    requires ports { vec_len links ≡ length state }
+    ensures trace { IfOk result (λ trace. IsTraceOf D.disk L.number L.steps steps.now links.items trace.ended trace.waits (map stamp_of trace.events.items) trace.begun trace.state trace.links.items trace.disk) }
+    ensures links { IfOk result (λ trace. AreLinkRuns L.number L.steps links.items (map stamp_of trace.events.items) trace.links.items) }
     ensures flushed { IfOk result (λ trace. AllFlushed (queue_turns journal.standing.layout) steps.now journal.standing.number trace.ended trace.waits
         (map stamp_of trace.events.items)) }
     ensures crash_prefix { IsRunAtRest D.disk (begun (clock (D.disk journal.disk).content) front.start.number front.start.state) journal
         → IfOk result (λ trace. CrashPrefix (D.disk trace.disk) trace.begun front.start.number front.start.state (map stamp_of trace.events.items)) }
     ensures fault { IfErr result (λ fault. fault_disk fault ≡ journal.disk) }
 {
-    match Run::<D, F>::begin(alloc, front, journal, state) {
+    match Run::<D, L, F>::begin(alloc, front, journal, state, links) {
         Ok(mut run) => {
             let (ended, waits) = make_steps(&mut run, steps);
             Ok(run.end(ended, waits))
@@ -121,8 +138,11 @@ fn carry_out<D: SectorDisk, F: Name>(
 }
 
 // Makes steps, up to one for which memory runs out, and counts those that had to wait.
-fn make_steps<D: SectorDisk, F: Name>(run: &mut Run<D, F>, steps: &[Step]) -> (Ended, u64)
-    ensures made { HasRun D.disk steps.now result.0 result.1 run.old run.new }
+fn make_steps<D: SectorDisk, L: DeviceLink, F: Name>(
+    run: &mut Run<D, L, F>,
+    steps: &[Step],
+) -> (Ended, u64)
+    ensures made { HasRun D.disk L.number L.steps steps.now result.0 result.1 run.old run.new }
     ensures kept { KeepsRun D.disk F.front.start run.old run.new }
 {
     let mut waits = 0;

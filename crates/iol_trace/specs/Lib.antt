@@ -1,4 +1,5 @@
 pub mod Statuses
 pub mod Events
 pub mod Words
+pub mod Links
 pub mod CrashPrefix

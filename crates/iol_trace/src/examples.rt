@@ -1,8 +1,11 @@
 //! A trace worked out: the prover computes each of these.
 
-ghost use Rattle.std.specs.Prelude.{◌≡◌, [], ◌∷◌, ◌++◌, take};
+ghost use Rattle.std.specs.Prelude.{◌≡◌, [], ◌∷◌, ◌++◌, take, Some, None};
+ghost use Rattle.iol_link.specs.Link as link;
 ghost use Rattle.iol_types.specs.Command.{Clear};
+ghost use Rattle.iol_trace.specs.Events as trace;
 ghost use Rattle.iol_trace.specs.Events.{Accepted, Acknowledged, Refused, DiskFailed, stamped};
+ghost use Rattle.iol_trace.specs.Links.{calls_told, without_events};
 ghost use Rattle.iol_trace.specs.Statuses.{QueueFull};
 ghost use Rattle.iol_trace.specs.Words.{accepted, numbers, acked, clock_after, RiseByOne};
 
@@ -19,4 +22,19 @@ pub fn two_commands()
     ensures begun { clock_after 3 [] ≡ 3 }
     ensures last { acked 4 (stamped 7 (Acknowledged 5 ∷ []) ++ stamped 9 (Acknowledged 6 ∷ [])) ≡ 6 }
     ensures latest { clock_after 3 (stamped 7 (Acknowledged 5 ∷ []) ++ stamped 9 (Acknowledged 6 ∷ [])) ≡ 9 }
+{}
+
+/// On its first connection port 1 reads a page, and exchanges a request and an answer with its device, which it then
+/// loses; port 2 loses its own at the page.
+pub fn the_calls_of_two_links()
+    ensures first { calls_told 1 (stamped 7 (trace.Page 1 0 (5 ∷ []) ∷ trace.Exchange 1 0 (6 ∷ []) (7 ∷ []) ∷ trace.Lost 2 0 None
+        ∷ trace.Lost 1 0 (Some (8 ∷ [])) ∷ DiskFailed ∷ []))
+        ≡ record { connection = 0; call = link.ReadPage; answer = link.Octets (5 ∷ []) }
+        ∷ record { connection = 0; call = link.Exchange (6 ∷ []); answer = link.Octets (7 ∷ []) }
+        ∷ record { connection = 0; call = link.Exchange (8 ∷ []); answer = link.Gone } ∷ [] }
+    ensures second { calls_told 2 (stamped 7 (trace.Page 1 0 (5 ∷ []) ∷ trace.Lost 2 0 None ∷ []))
+        ≡ record { connection = 0; call = link.ReadPage; answer = link.Gone } ∷ [] }
+    ensures events { without_events (record { connection = 0; call = link.TakeEvent; answer = link.Event 16384 }
+        ∷ record { connection = 0; call = link.ReadPage; answer = link.Gone } ∷ [])
+        ≡ record { connection = 0; call = link.ReadPage; answer = link.Gone } ∷ [] }
 {}

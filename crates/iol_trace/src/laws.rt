@@ -7,8 +7,11 @@ ghost use Rattle.iol_disk.specs.Content.{Image, IsImageSince};
 ghost use Rattle.iol_disk.specs.Disk.{Disk};
 ghost use Rattle.iol_journal.specs.Runs.{HasPrefix};
 ghost use Rattle.iol_trace.specs.Events.{Stamp};
+ghost use Rattle.iol_trace.specs.Links.{IsLinkRun};
 ghost use Rattle.iol_trace.specs.Words.{accepted, numbers, acked, RiseByOne};
 ghost use Rattle.iol_trace.specs.CrashPrefix.{CrashPrefix, marks_of};
+
+use iol_link::DeviceLink;
 
 /// What is accepted in more events is accepted behind what was.
 pub fn accepts_behind()
@@ -27,4 +30,10 @@ pub fn leaves_a_prefix()
         → All (λ mark. IsTrue d.honest → (image : Image) → IsImageSince mark.clock d.content image
         → HasPrefix d.sectors first start (accepted events) mark.acknowledged image) (marks_of begun first events)
         → CrashPrefix d begun first start events }
+{}
+
+/// Where one run of a port's link ends another may begin, and what is told of both is told of one run.
+pub fn link_runs_join<L: DeviceLink>()
+    ensures { (port : ℕ) (events more : List Stamp) (first middle last : L) → IsLinkRun L.number L.steps port events first middle
+        → IsLinkRun L.number L.steps port more middle last → IsLinkRun L.number L.steps port (events ++ more) first last }
 {}

@@ -5,6 +5,7 @@ use super::scene::{configure, told};
 use crate::{Ended, RunFault, Step, Trace, run_schedule};
 use iol_disk::MemoryDisk;
 use iol_journal::{FormatFault, Geometry, RecoverCause, format};
+use iol_sim::SimLink;
 use std::alloc::Global;
 use std::process::Abort;
 use std::test::Fail;
@@ -16,17 +17,21 @@ fn a_run_ends_as_it_may(rt: HostRuntime) -> Result<(), Fail> {
         return Ok(());
     };
     steps[0] = configure(&rt, 1);
-    if let Some(disk) = formatted_or_none(&rt, rt.alloc()) {
-        match run_schedule(rt.alloc(), disk, &steps) {
-            Ok(trace) => judge(&rt, trace),
-            Err(fault) => judge_fault(&rt, fault),
-        }
+    let Some(disk) = formatted_or_none(&rt, rt.alloc()) else {
+        return Ok(());
+    };
+    let Some(links) = unplugged_or_none(rt.alloc()) else {
+        return Ok(());
+    };
+    match run_schedule(rt.alloc(), disk, links, &steps) {
+        Ok(trace) => judge(&rt, trace),
+        Err(fault) => judge_fault(&rt, fault),
     }
     Ok(())
 }
 
 // What a run may come to: all of it, a disk call that failed for want of memory, a wait, or an end before a step.
-fn judge<R: Abort>(rt: &R, trace: Trace<MemoryDisk>) {
+fn judge<R: Abort>(rt: &R, trace: Trace<MemoryDisk, SimLink>) {
     let last = told(&trace.events, 1);
     let ended = last == ('=', 1) || last == ('!', 0);
     assert!(rt; ended || trace.waits == 1 || trace.ended == Ended::Memory);
@@ -37,6 +42,14 @@ fn judge_fault<R: Abort>(rt: &R, fault: RunFault<MemoryDisk>) {
     if let RunFault::Recover(fault) = fault {
         assert!(rt; matches!(fault.cause, RecoverCause::Memory | RecoverCause::Disk(_)));
     }
+}
+
+// Two links without a device, unless memory runs out.
+fn unplugged_or_none(alloc: Global) -> Option<Vec<SimLink>> {
+    let mut links = Vec::with_capacity(alloc, 2).ok()?;
+    links.push(SimLink::new(Vec::new(alloc))).ok()?;
+    links.push(SimLink::new(Vec::new(alloc))).ok()?;
+    Some(links)
 }
 
 // A disk with an empty journal of two ports and four slots, unless memory runs out.

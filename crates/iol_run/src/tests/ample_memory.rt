@@ -9,7 +9,7 @@ use std::test::Fail;
 fn a_run_finds_memory(rt: HostRuntime) -> Result<(), Fail> {
     let mut steps = vec![in rt.alloc(); Step::Flush; 9]?;
     steps[0] = configure(&rt, 1);
-    let trace = run(&rt, rt.alloc(), formatted(&rt, rt.alloc(), 2), &steps);
+    let trace = run(&rt, rt.alloc(), formatted(&rt, rt.alloc(), 2), 2, &steps);
     assert!(rt; told(&trace.events, 1) == ('=', 1));
     Ok(())
 }

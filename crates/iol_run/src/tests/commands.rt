@@ -1,6 +1,6 @@
 //! Commands: accepted, refused, written and acknowledged.
 
-use super::scene::{PICKS, configure, formatted, recovered, refused, run, told};
+use super::scene::{PICKS, configure, formatted, recovered, refused, run, told, unplugged};
 use crate::{RunFault, Step, run_schedule};
 use iol_core::SubmitFault;
 use iol_disk::{DiskFault, FaultDisk, MemoryDisk};
@@ -12,11 +12,11 @@ use std::test::Fail;
 fn a_configure_is_accepted_written_and_acknowledged(rt: HostRuntime) -> Result<(), Fail> {
     let mut steps = vec![in rt.alloc(); Step::Flush; 8]?;
     steps[0] = configure(&rt, 1);
-    let trace = run(&rt, rt.alloc(), formatted(&rt, rt.alloc(), 2), &steps);
+    let trace = run(&rt, rt.alloc(), formatted(&rt, rt.alloc(), 2), 2, &steps);
     assert!(rt; trace.events.len() == 2);
     assert!(rt; told(&trace.events, 0) == ('+', 1) && told(&trace.events, 1) == ('=', 1));
     for pick in PICKS {
-        let again = run(&rt, rt.alloc(), formatted(&rt, rt.alloc(), 2), &steps);
+        let again = run(&rt, rt.alloc(), formatted(&rt, rt.alloc(), 2), 2, &steps);
         assert!(rt; recovered(&rt, rt.alloc(), again.disk.stop(pick)) == 1);
     }
     Ok(())
@@ -30,7 +30,7 @@ fn a_failed_sync_stops_all_but_what_was_there(rt: HostRuntime) -> Result<(), Fai
     }
     // the recovery makes the first sync, and the batch has two sectors of body
     let disk = FaultDisk::new(formatted(&rt, rt.alloc(), 2), DiskFault::Sync, 2);
-    let trace = run(&rt, rt.alloc(), disk, &steps);
+    let trace = run(&rt, rt.alloc(), disk, 2, &steps);
     assert!(rt; trace.events.len() == 67);
     assert!(rt; told(&trace.events, 63) == ('+', 64));
     assert!(rt; refused(&trace.events, 64) == Some(SubmitFault::QueueFull));
@@ -43,11 +43,30 @@ fn a_failed_sync_stops_all_but_what_was_there(rt: HostRuntime) -> Result<(), Fai
 #[test]
 fn a_disk_that_is_not_formatted_runs_nothing(rt: HostRuntime) -> Result<(), Fail> {
     let disk = MemoryDisk::new(rt.alloc(), 178)?;
-    match run_schedule(rt.alloc(), disk, &[Step::Flush]) {
+    match run_schedule(
+        rt.alloc(),
+        disk,
+        unplugged(&rt, rt.alloc(), 2),
+        &[Step::Flush],
+    ) {
         Err(RunFault::Recover(RecoverFault { cause, .. })) => {
             assert!(rt; cause == RecoverCause::NotFormatted);
         }
         _ => panic!(rt; "no run"),
     }
     Ok(())
+}
+
+#[test]
+fn a_port_without_a_link_runs_nothing(rt: HostRuntime) {
+    let links = unplugged(&rt, rt.alloc(), 1);
+    match run_schedule(
+        rt.alloc(),
+        formatted(&rt, rt.alloc(), 2),
+        links,
+        &[Step::Flush],
+    ) {
+        Err(RunFault::Ports(disk)) => assert!(rt; recovered(&rt, rt.alloc(), disk) == 0),
+        _ => panic!(rt; "no run"),
+    }
 }

@@ -4,6 +4,7 @@ use crate::{Ended, Event, RunFault, Stamped, Step, Trace, run_schedule};
 use iol_core::SubmitFault;
 use iol_disk::{MemoryDisk, Pick, SectorDisk};
 use iol_journal::{Geometry, Journal, format};
+use iol_sim::SimLink;
 use iol_types::{Change, DeviceId, PortConfig, PortId, PortMode, Validation};
 use std::alloc::Global;
 use std::process::Abort;
@@ -32,19 +33,33 @@ pub fn formatted<R: Abort>(rt: &R, alloc: Global, ports: u16) -> MemoryDisk {
     disk
 }
 
-/// What a whole run of these steps did.
+/// Links of so many ports, at none of which a device ever is.
+pub fn unplugged<R: Abort>(rt: &R, alloc: Global, ports: u16) -> Vec<SimLink> {
+    let mut links = Vec::new(alloc);
+    for _port in 0..ports {
+        let Ok(()) = links.push(SimLink::new(Vec::new(alloc))) else {
+            panic!(rt; "memory")
+        };
+    }
+    links
+}
+
+/// What a whole run of these steps did, over so many ports without a device.
 pub fn run<D: SectorDisk + Drop, R: Abort>(
     rt: &R,
     alloc: Global,
     disk: D,
+    ports: u16,
     steps: &[Step],
-) -> Trace<D> {
-    match run_schedule(alloc, disk, steps) {
+) -> Trace<D, SimLink> {
+    match run_schedule(alloc, disk, unplugged(rt, alloc, ports), steps) {
         Ok(trace) => {
             assert!(rt; trace.ended == Ended::Whole && trace.waits == 0);
             trace
         }
-        Err(RunFault::Recover(_) | RunFault::Memory(_)) => panic!(rt; "a run"),
+        Err(RunFault::Recover(_) | RunFault::Ports(_) | RunFault::Memory(_)) => {
+            panic!(rt; "a run")
+        }
     }
 }
 
@@ -64,6 +79,7 @@ pub fn told(events: &[Stamped], place: usize) -> (char, u64) {
             Event::Refused(_) => ('-', 0),
             Event::Acknowledged { number } => ('=', *number),
             Event::DiskFailed => ('!', 0),
+            _ => ('?', 0),
         },
         None => ('?', 0),
     }

@@ -55,6 +55,6 @@ fn a_checkpoint_changes_no_state(rt: HostRuntime) -> Result<(), Fail> {
 
 // How many commands a stop leaves after these steps.
 fn stopped<R: Abort>(rt: &R, alloc: Global, ports: u16, steps: &[Step], pick: Pick) -> u64 {
-    let trace = run(rt, alloc, formatted(rt, alloc, ports), steps);
+    let trace = run(rt, alloc, formatted(rt, alloc, ports), ports, steps);
     recovered(rt, alloc, trace.disk.stop(pick))
 }

@@ -1,0 +1,57 @@
+-- The ports of a master.
+use Rattle.std.specs.Prelude.{◌≡◌, ℕ, zero, suc, ◌+◌, ◌-◌, nat_le, Bool, true, false, List, [], ◌∷◌, ◌++◌, length, Some, slice_get, slice_set}
+use Rattle.iol_link.specs.Link.{LinkCall, LinkAnswer}
+use Rattle.iol_port.specs.Stage.{PortValue, new_machine}
+use Rattle.iol_trace.specs.Events.{Event}
+use Rattle.iol_run.specs.CoreOnDisk.{CoreOnDiskView}
+use Rattle.iol_run.specs.PortSteps.{IsReady, PortStep}
+
+-- the ports of a master, port 1 first: the machine of each, and its link (own)
+pub record PortsView (L : Type 0) : Type 0 where
+  pub machines : List PortValue
+  pub links : List L
+
+-- the machine of a port stands at its place, and is ready (own)
+pub record IsAtPlace (place : ℕ) (machine : PortValue) : Type 0 where
+  pub port_is : machine.port ≡ place + 1
+  pub ready : IsReady machine.stage
+
+-- there is a machine for each link, and each is at its place (own)
+pub record ArePorts {L : Type 0} (ports : PortsView L) : Type 0 where
+  pub count : length ports.machines ≡ length ports.links
+  pub places : (place : ℕ) (machine : PortValue) → slice_get ports.machines place ≡ Some machine → IsAtPlace place machine
+
+-- so many machines, all new, from the port behind a number on (own)
+abbrev pub machines_from : ℕ → ℕ → List PortValue
+machines_from before zero = []
+machines_from before (suc ports) = new_machine (before + 1) ∷ machines_from (before + 1) ports
+
+-- the machines of so many ports, all new (own)
+abbrev pub new_machines : ℕ → List PortValue
+new_machines ports = machines_from 0 ports
+
+module _ {D L : Type 0} (number : L → ℕ) (steps : L → LinkCall → LinkAnswer → L → Type 0) where
+  -- a port makes its step; the other ports, and what the flusher has, stay (own)
+  pub record StepsThere (port : ℕ) (old new : CoreOnDiskView D) (ports last : PortsView L) (told : List Event) : Type 0 where
+    pub before : PortValue
+    pub after : PortValue
+    pub link : L
+    pub linked : L
+    pub called : List Event
+    pub status : List Event
+    pub machine_is : slice_get ports.machines (port - 1) ≡ Some before
+    pub link_is : slice_get ports.links (port - 1) ≡ Some link
+    pub steps_as : PortStep number steps before after link linked old.core new.core called status
+    pub told_is : told ≡ called ++ status
+    pub machines : last.machines ≡ slice_set ports.machines (port - 1) after
+    pub links : last.links ≡ slice_set ports.links (port - 1) linked
+    pub flusher : new.flusher ≡ old.flusher
+    pub committed : new.committed ≡ old.committed
+
+  -- a port that the master has makes its step; of another nothing is told, and nothing changes (own)
+  abbrev pub StepsIf : Bool → ℕ → CoreOnDiskView D → CoreOnDiskView D → PortsView L → PortsView L → List Event → Type 0
+  StepsIf true port old new ports last told = StepsThere port old new ports last told
+  StepsIf false port old new ports last told = (new ≡ old) × (last ≡ ports) × (told ≡ [])
+
+  abbrev pub StepsPort : ℕ → CoreOnDiskView D → CoreOnDiskView D → PortsView L → PortsView L → List Event → Type 0
+  StepsPort port old new ports last told = StepsIf (nat_le port (length ports.links)) port old new ports last told
