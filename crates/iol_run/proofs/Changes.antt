@@ -7,7 +7,7 @@ use Rattle.iol_types.specs.State.{check}
 use Rattle.iol_core.specs.Core.{CoreView, live, live_number, permit_at, with_permit}
 use Rattle.iol_core.specs.Downloads.{IsBeginDownload}
 use Rattle.iol_core.specs.Permits.{is_out, is_download}
-use Rattle.iol_core.specs.Submit.{queue_fault, queued}
+use Rattle.iol_core.specs.Submit.{is_stopped, queue_fault, queued}
 use Rattle.iol_core.specs.Uploads.{IsBeginUpload, IsFinish, store_of}
 use Rattle.iol_core.specs.declared.core_value.TheConstants.{QUEUE_COMMANDS}
 use Rattle.iol_core.specs.declared.download.DownloadBegun.{DownloadBegun}
@@ -50,10 +50,10 @@ abbrev pub IsPassing : CoreView → Change → Type 0
 IsPassing old (Permits permits) = Unit {0}
 IsPassing old (Waits command permits) = check (live old) command ≡ None
 
--- and there was room for it
+-- it was taken by a core that takes commands, which had room for it
 abbrev pub HasRoom : CoreView → Change → Type 0
 HasRoom old (Permits permits) = Unit {0}
-HasRoom old (Waits command permits) = length old.queue + 1 ≤ QUEUE_COMMANDS
+HasRoom old (Waits command permits) = (is_stopped old ≡ false) × (length old.queue + 1 ≤ QUEUE_COMMANDS)
 
 -- it is told under the next number, and nothing else that counts
 abbrev pub Tells : CoreView → Change → List Event → Type 0
@@ -123,7 +123,7 @@ finished port old new grant set (Ok n) is = record {
   change = Waits (store_of grant set) new.permits;
   new_is = is.3 ∙ ap (λ (c : CoreView). with_permits (queued old (store_of grant set)) c.permits) (sym is.3);
   passing = λ passes. passes;
-  room = room_in old is.1;
+  room = (is.0.runs, room_in old is.1);
   tells = ap (λ (m : ℕ). Accepted m (store_of grant set) ∷ []) is.2;
 }
 finished port old new grant set (Err finish.Stopped) is = abandoned _ old new grant.port (is_out old grant) is.1

@@ -13,6 +13,7 @@ pub mod Served
 pub mod Counted
 pub mod Progress
 pub mod Flushing
+pub mod Stopped
 pub mod Layouts
 pub mod PortSteps
 pub mod PortCalls

@@ -1,7 +1,7 @@
 -- Events that accept and acknowledge nothing, and tell of no failure.
-use Rattle.std.proofs.Common.{◌≡◌, refl, ℕ, List, [], ◌∷◌, ◌++◌, ap, sym, ◌∙◌, append_assoc}
+use Rattle.std.proofs.Common.{◌≡◌, refl, inl, inr, ℕ, List, [], ◌∷◌, ◌++◌, ap, sym, ◌∙◌, append_assoc}
 use Rattle.iol_trace.specs.Events.{Event, Accepted, Refused, Page, Exchange, Lost, Attended, Changed, Acknowledged, DiskFailed, Stamp, stamped}
-use Rattle.iol_trace.specs.Words.{accepted, numbers, acked, acked_by, command_in, number_in}
+use Rattle.iol_trace.specs.Words.{IsFailure, HasFailure, accepted, numbers, acked, acked_by, command_in, number_in}
 
 abbrev pub IsQuiet : Event → Type 0
 IsQuiet (Accepted number command) = ⊥
@@ -35,6 +35,17 @@ acks_none n (Changed p s) quiet = refl
 acks_none n (Acknowledged m) quiet = absurd quiet
 acks_none n DiskFailed quiet = absurd quiet
 
+fails_none : (e : Event) → IsQuiet e → IsFailure e → ⊥
+fails_none (Accepted m c) quiet failed = failed
+fails_none (Refused r) quiet failed = failed
+fails_none (Page p c os) quiet failed = failed
+fails_none (Exchange p c r a) quiet failed = failed
+fails_none (Lost p c r) quiet failed = failed
+fails_none (Attended p w) quiet failed = failed
+fails_none (Changed p s) quiet failed = failed
+fails_none (Acknowledged m) quiet failed = failed
+fails_none DiskFailed quiet failed = quiet
+
 module _ (t : ℕ) where
   pub quiet_accepted : (told : List Event) → AreQuiet told → accepted (stamped t told) ≡ []
   quiet_accepted [] quiet = refl
@@ -58,6 +69,11 @@ quiet_acks [] quiet = tt
 quiet_acks (e ∷ told) quiet = ((λ n. acks_none n e quiet.0), quiet_acks told quiet.1)
 
 -- more events with the same clock
+pub quiet_fails : (t : ℕ) (told : List Event) → AreQuiet told → HasFailure (stamped t told) → ⊥
+quiet_fails t [] quiet failed = failed
+quiet_fails t (e ∷ told) quiet (inl here) = fails_none e quiet.0 here
+quiet_fails t (e ∷ told) quiet (inr later) = quiet_fails t told quiet.1 later
+
 pub stamped_both : (t : ℕ) (one two : List Event) → stamped t (one ++ two) ≡ stamped t one ++ stamped t two
 stamped_both t [] two = refl
 stamped_both t (e ∷ one) two = ap (λ (ss : List Stamp). record { event = e; clock = t } ∷ ss) (stamped_both t one two)

@@ -97,7 +97,7 @@ module _ {D : Type 0} (layout : Layout) where
       → IsServed layout old stage committed → IsServed layout (changed old change) stage committed
   change_served old (Permits permits) stage committed room was = permits_served old permits stage committed was
   change_served old (Waits command permits) stage committed room was =
-      permits_served (queued old command) permits stage committed (queued_served old command stage committed room was)
+      permits_served (queued old command) permits stage committed (queued_served old command stage committed room.1 was)
 
   submit_served : (old new : CoreView) (command : CommandValue) (stage : Stage D) (committed : Option CommittedView) (answer : Result ℕ SubmitFault)
       → IsSubmit old command new answer → IsServed layout old stage committed → IsServed layout new stage committed

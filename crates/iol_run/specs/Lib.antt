@@ -8,3 +8,4 @@ pub mod Steps
 pub mod Runs
 pub mod Schedules
 pub mod Flushed
+pub mod Stopped

@@ -15,6 +15,7 @@ ghost use Rattle.iol_trace.specs.CrashPrefix.{CrashPrefix};
 ghost use Rattle.iol_run.specs.Events.{stamp_of};
 ghost use Rattle.iol_run.specs.Flushed.{AllFlushed, queue_turns};
 ghost use Rattle.iol_run.specs.Runs.{KeepsRun};
+ghost use Rattle.iol_run.specs.Stopped.{NoneOnceFailed};
 ghost use Rattle.iol_run.specs.Schedules.{AreLinkRuns, HasRun, IsTraceOf, fault_disk, waits_of};
 
 use crate::core_on_disk::Turned;
@@ -85,6 +86,8 @@ pub fn run_schedule<D: SectorDisk, L: DeviceLink + Drop>(
     ensures steps { IfOk result (λ trace. IsTraceOf D.disk L.number L.steps steps.now links.items trace.ended trace.waits (map stamp_of trace.events.items) trace.begun trace.state trace.links.items trace.disk) }
     // What is told of each port's link is a run of it, from the link that was handed in to the one in the trace.
     ensures links { IfOk result (λ trace. AreLinkRuns L.number L.steps links.items (map stamp_of trace.events.items) trace.links.items) }
+    // Once a disk call has failed nothing more is accepted.
+    ensures stopped { IfOk result (λ trace. NoneOnceFailed (map stamp_of trace.events.items)) }
     // Turns enough of the flusher at the end, 128 for each sector of the journal that the disk shows, leave all that was
     // accepted acknowledged.
     ensures flushed { IfOk result (λ trace. Shows (D.disk disk) (λ image. (journal : Standing) → standing_in (D.disk disk).sectors image ≡ Ok journal
@@ -122,6 +125,7 @@ fn carry_out<D: SectorDisk, L: DeviceLink + Drop, F: Name>(
     requires ports { vec_len links ≡ length state }
     ensures trace { IfOk result (λ trace. IsTraceOf D.disk L.number L.steps steps.now links.items trace.ended trace.waits (map stamp_of trace.events.items) trace.begun trace.state trace.links.items trace.disk) }
     ensures links { IfOk result (λ trace. AreLinkRuns L.number L.steps links.items (map stamp_of trace.events.items) trace.links.items) }
+    ensures stopped { IfOk result (λ trace. NoneOnceFailed (map stamp_of trace.events.items)) }
     ensures flushed { IfOk result (λ trace. AllFlushed (queue_turns journal.standing.layout) steps.now journal.standing.number trace.ended trace.waits
         (map stamp_of trace.events.items)) }
     ensures crash_prefix { IsRunAtRest D.disk (begun (clock (D.disk journal.disk).content) front.start.number front.start.state) journal

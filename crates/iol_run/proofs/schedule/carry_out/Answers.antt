@@ -12,6 +12,8 @@ use Rattle.iol_run.specs.declared.schedule.Ended.{Ended}
 use Rattle.iol_run.proofs.Crash.{begins, leaves}
 use Rattle.iol_run.proofs.Flushing.{all_flushed}
 use Rattle.iol_run.proofs.LinksMade.{all_link_runs}
+use Rattle.iol_run.proofs.Stopped.{none_once_failed}
+use Rattle.iol_run.specs.Stopped.{NoneOnceFailed}
 use Rattle.iol_run.proofs.schedule.carry_out.Goals as goal
 
 pub returns-in-Ok-clause-trace : goal.returns-in-Ok-clause-trace
@@ -65,3 +67,10 @@ returns-in-Ok-clause-links g c =
     rw (c.end.ensures.told.0, c.end.ensures.links)
     (all_link_runs l.number l.steps d (take c.make_steps-ended.ensures.made.0 c.args.steps.now) c.make_steps-ended.result.1 c.args.journal links c.in-Ok.run' new
     c.in-Ok.ensures.fresh c.make_steps-ended.ensures.made.2)
+
+pub returns-in-Ok-clause-stopped : goal.returns-in-Ok-clause-stopped
+returns-in-Ok-clause-stopped g c =
+    let l = g.L.DeviceLink in
+    subst (λ (es : List Stamp). NoneOnceFailed es) (sym c.end.ensures.told.0)
+    (none_once_failed g.D.SectorDisk.disk l.number l.steps (take c.make_steps-ended.ensures.made.0 c.args.steps.now) c.make_steps-ended.result.1 c.args.journal
+    c.args.links.items c.in-Ok.run' c.make_steps-ended.new.run c.in-Ok.ensures.fresh c.make_steps-ended.ensures.made.2)
