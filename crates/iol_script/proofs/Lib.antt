@@ -1,2 +1,3 @@
 pub mod Keys
+pub mod InOrder
 pub mod StopLemmas

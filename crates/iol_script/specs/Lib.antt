@@ -1,6 +1,12 @@
 pub mod Table
+pub mod Number
+pub mod Parameter
+pub mod Parameters
+pub mod Device
+pub mod Devices
 pub mod Step
 pub mod Stop
 pub mod Steps
 pub mod Fail
 pub mod Script
+pub mod Examples

@@ -1,42 +1,22 @@
 -- What the steps of a script say in TOML.
-use Rattle.std.specs.Prelude.{ℕ, ℤ, pos, negsuc, ◌+◌, ◌^◌, nat_le, nat_lt, if◌then◌else◌, List, [], ◌∷◌, codes, Option, Some, None, option_and_then, option_map}
+use Rattle.std.specs.Prelude.{ℕ, ◌^◌, if◌then◌else◌, List, [], ◌∷◌, codes, Option, Some, None, option_and_then, option_map}
 use Rattle.std.specs.Str.{bytes_eq}
 use Rattle.toml.specs.Data.{Data, Members, as_table}
 use Rattle.iol_types.specs.Config.{mode_of, validation_of}
-use Rattle.iol_types.specs.declared.port_id.TheConstants.{PORTS}
-use Rattle.iol_types.specs.declared.device_id.TheConstants.{DEVICE_NUMBERS}
 use Rattle.iol_types.specs.declared.config.PortConfig.{PortConfig}
 use Rattle.iol_types.specs.declared.config.PortMode.{PortMode}
 use Rattle.iol_types.specs.declared.config.Validation.{Validation}
-use Rattle.iol_script.specs.Table.{integer_at, text_at, has_only_keys}
+use Rattle.iol_script.specs.Number.{number_below, port_in, vendor_in, device_in, times_in}
+use Rattle.iol_script.specs.Table.{text_at, has_only_keys}
 use Rattle.iol_script.specs.declared.step.Step.{Step}
-use Rattle.iol_script.specs.declared.step.Step.TheVariants.{Configure, Clear, Drain}
+use Rattle.iol_script.specs.declared.step.Step.TheVariants.{Configure, Clear, Port, Flush, Drain}
 
--- a whole number of 0 to below a bound (format, Scripts)
-abbrev pub below : ℕ → ℤ → Option ℕ
-below bound (pos n) = if nat_lt n bound then Some n else None
-below bound (negsuc n) = None
-
--- the whole number at a key, of 0 to below a bound (format, Scripts)
-abbrev pub number_below : ℕ → List ℕ → Members → Option ℕ
-number_below bound key table = option_and_then (below bound) (integer_at key table)
-
--- the number of the port that a table says (format, Scripts)
-abbrev pub port_in : Members → Option ℕ
-port_in table = option_and_then (λ n. if nat_le 1 n then Some n else None) (number_below (PORTS + 1) (codes "port") table)
-
--- the parts of a port's configuration: its mode, validation, vendor and device (format, Scripts)
+-- the parts of a port's configuration that are no numbers: its mode and its validation (format, Scripts)
 abbrev pub mode_in : Members → Option PortMode
 mode_in table = option_and_then mode_of (number_below (2 ^ 8) (codes "mode") table)
 
 abbrev pub validation_in : Members → Option Validation
 validation_in table = option_and_then validation_of (number_below (2 ^ 8) (codes "validation") table)
-
-abbrev pub vendor_in : Members → Option ℕ
-vendor_in table = number_below (2 ^ 16) (codes "vendor") table
-
-abbrev pub device_in : Members → Option ℕ
-device_in table = number_below DEVICE_NUMBERS (codes "device") table
 
 -- the configuration of a port that a table says (format, Scripts)
 abbrev pub config_in : Members → Option PortConfig
@@ -54,6 +34,12 @@ configure_keys = codes "do" ∷ codes "port" ∷ codes "mode" ∷ codes "validat
 abbrev pub clear_keys : List (List ℕ)
 clear_keys = codes "do" ∷ codes "port" ∷ []
 
+abbrev pub port_keys : List (List ℕ)
+port_keys = codes "do" ∷ codes "port" ∷ codes "times" ∷ []
+
+abbrev pub flush_keys : List (List ℕ)
+flush_keys = codes "do" ∷ codes "times" ∷ []
+
 abbrev pub drain_keys : List (List ℕ)
 drain_keys = codes "do" ∷ []
 
@@ -67,6 +53,15 @@ configure_in table =
 abbrev pub clear_in : Members → Option Step
 clear_in table = if has_only_keys clear_keys table then option_map Clear (port_in table) else None
 
+abbrev pub port_step_in : Members → Option Step
+port_step_in table =
+    if has_only_keys port_keys table then
+    option_and_then (λ port. option_map (λ times. Port port times) (times_in table)) (port_in table)
+    else None
+
+abbrev pub flush_in : Members → Option Step
+flush_in table = if has_only_keys flush_keys table then option_map Flush (times_in table) else None
+
 abbrev pub drain_in : Members → Option Step
 drain_in table = if has_only_keys drain_keys table then Some Drain else None
 
@@ -75,6 +70,8 @@ abbrev pub step_of_kind : List ℕ → Members → Option Step
 step_of_kind kind table =
     if bytes_eq kind (codes "configure") then configure_in table
     else if bytes_eq kind (codes "clear") then clear_in table
+    else if bytes_eq kind (codes "port") then port_step_in table
+    else if bytes_eq kind (codes "flush") then flush_in table
     else if bytes_eq kind (codes "drain") then drain_in table
     else None
 

@@ -1,19 +1,11 @@
 -- The steps of a script, and the stop after them.
-use Rattle.std.specs.Prelude.{List, [], ◌∷◌, codes, Option, Some, None, option_and_then, option_map}
-use Rattle.toml.specs.Data.{Data, Items, no_items, item, Members, as_array, get_member}
+use Rattle.std.specs.Prelude.{List, [], ◌∷◌, Option, Some, None, option_and_then, option_map}
+use Rattle.toml.specs.Data.{Data, Items, no_items, item}
 use Rattle.iol_script.specs.declared.stop.Keep.{Keep}
 use Rattle.iol_script.specs.declared.stop.Keep.TheVariants.{New}
 use Rattle.iol_script.specs.Step.{step_of}
 use Rattle.iol_script.specs.Stop.{stop_of}
 use Rattle.iol_script.specs.declared.step.Step.{Step}
-
--- the values of the key `step`, an array where it is there (format, Scripts)
-abbrev pub values_of : Option Data → Option Items
-values_of None = Some no_items
-values_of (Some value) = as_array value
-
-abbrev pub values_in : Members → Option Items
-values_in table = values_of (get_member (codes "step") table)
 
 -- the last value without the stop that it may say, and what the stop keeps (format, Scripts)
 abbrev pub without_stop : Data → Option Keep → Items × Keep

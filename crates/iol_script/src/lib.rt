@@ -1,14 +1,21 @@
-//! Scripts: what an operator writes in TOML for a run, read to numbers, a failing disk call, steps and a stop.
+//! Scripts: what an operator writes in TOML for a run, read to numbers, a failing disk call, devices, steps and a stop.
 //!
 //! In come the octets of a text; out comes a [`Script`], by [`Script::read`], or why there is none. The numbers of
-//! ports and slots stand in it as they stand in the text: whether they are those of a disk is for the caller to judge,
-//! after the text.
+//! ports and slots stand in it as they stand in the text: whether they are those of a disk, and by
+//! [`Script::fits_ports`] whether the devices are at those ports, is for the caller to judge, after the text.
 //!
-//! Modules in reading order: `table` looks up a table's keys, `fail`, `step` and `stop` read one value, `steps` all of them,
-//! and `script` the whole text. What a text says is defined in `specs/Script.antt`.
+//! Modules in reading order: `table` looks up a table's keys, and `number` reads the numbers there; `fail`, `parameter`,
+//! `device`, `step` and `stop` read one value, `parameters`, `devices` and `steps` all of them, `script` the whole text,
+//! and `examples` has values worked out. What a text says is defined in `specs/Script.antt`.
 #![tactic(auto)]
 
+mod device;
+mod devices;
+pub mod examples;
 mod fail;
+mod number;
+mod parameter;
+mod parameters;
 mod script;
 mod step;
 mod steps;
@@ -17,7 +24,11 @@ mod table;
 #[cfg(test)]
 mod tests;
 
+pub use device::{Device, USUAL_REVISION};
 pub use fail::{CallKind, FailingCall, LAST_FAILING_CALL};
+pub use number::MOST_TIMES;
+pub use parameter::Parameter;
+pub use parameters::MOST_PARAMETERS;
 pub use script::{SCRIPT_OCTETS, Script, ScriptFault};
 pub use step::Step;
 pub use stop::Keep;

@@ -2,11 +2,14 @@
 ghost use Rattle.std.specs.Prelude.{◌≡◌};
 ghost use Rattle.iol_script.specs.declared.script.ScriptFault.TheVariants.{Memory};
 
+use crate::device::Device;
+use crate::devices::read_devices;
 use crate::fail::{FailingCall, fail_in};
 use crate::step::Step;
-use crate::steps::{before_stop, read_steps, values_in};
+use crate::steps::{before_stop, read_steps};
 use crate::stop::Keep;
-use crate::table::{has_only_keys, integer_at};
+use crate::table::{has_only_keys, integer_at, values_at};
+use iol_types::PortId;
 use std::alloc::{AllocError, AllocFailed, Global};
 use std::str;
 use thiserror::Error;
@@ -24,6 +27,8 @@ pub struct Script {
     pub slots: i64,
     /// The disk call that fails, if one does.
     pub fail: Option<FailingCall>,
+    /// The simulated devices, in order.
+    pub devices: Vec<Device>,
     /// What is done, in order.
     pub steps: Vec<Step>,
     /// What the stop at the end leaves of the sectors that no sync has settled.
@@ -60,11 +65,11 @@ impl From<AllocError> for ScriptFault {
 impl Script {
     ghost use Rattle.std.specs.Prelude.{None, Some, IfOk, OnOk};
     ghost use Rattle.toml.specs.View.{table_view};
-    ghost use Rattle.iol_script.specs.Script.{IsText, said_by, said_in, said_of};
+    ghost use Rattle.iol_script.specs.Script.{IsText, said_by, said_in, said_of, fits_ports, is_port_of, step_fits};
 
     /// The script in a text of at most 65,536 octets: TOML with the whole numbers `ports` and `slots`, of any size
-    /// that 64 bits hold, perhaps a disk call that fails, and the steps, of which a stop is the last. Where there is
-    /// none, one that keeps what is new is added.
+    /// that 64 bits hold, perhaps a disk call that fails, simulated devices, and the steps, of which a stop is the last.
+    /// Where there is none, one that keeps what is new is added.
     ///
     /// # Errors
     /// `NotValid` where the text is no script; `Memory` where reading a text is out of memory.
@@ -91,21 +96,49 @@ impl Script {
         ensures script { IfOk result (λ script. said_by (table_view table.now) ≡ Some (said_of script)) }
         ensures not_valid { result ≡ Err ScriptFault.NotValid → said_by (table_view table.now) ≡ None }
     {
-        if !has_only_keys(table, &["ports", "slots", "fail", "step"]) {
+        if !has_only_keys(table, &["ports", "slots", "fail", "device", "step"]) {
             return Err(ScriptFault::NotValid);
         }
         let ports = integer_at(table, "ports").ok_or(ScriptFault::NotValid)?;
         let slots = integer_at(table, "slots").ok_or(ScriptFault::NotValid)?;
         let fail = fail_in(table).ok_or(ScriptFault::NotValid)?;
-        let values = values_in(table).ok_or(ScriptFault::NotValid)?;
+        let devices = values_at(table, "device").ok_or(ScriptFault::NotValid)?;
+        let devices = read_devices(alloc, devices)?;
+        let values = values_at(table, "step").ok_or(ScriptFault::NotValid)?;
         let (values, keep) = before_stop(values);
         let steps = read_steps(alloc, values)?;
         Ok(Script {
             ports,
             slots,
             fail,
+            devices,
             steps,
             keep,
         })
+    }
+
+    /// Whether each device, and each step that is a port's own, is at one of the script's `ports`: what a run asks of a
+    /// script, behind its text and before its geometry. A command of another port is no fault, but is refused when it
+    /// comes.
+    pub fn fits_ports(&self) -> bool
+        ensures { result ≡ fits_ports (said_of self.now) }
+    {
+        self.devices.iter().all(|device| self.has_port(device.port))
+            && self.steps.iter().all(|step| self.fits_step(*step))
+    }
+
+    fn fits_step(&self, step: Step) -> bool
+        ensures { result ≡ step_fits self.now.ports step }
+    {
+        match step {
+            Step::Port { port, .. } => self.has_port(port),
+            _ => true,
+        }
+    }
+
+    fn has_port(&self, port: PortId) -> bool
+        ensures { result ≡ is_port_of self.now.ports port }
+    {
+        i64::from(port.number()) <= self.ports
     }
 }

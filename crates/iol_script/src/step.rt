@@ -1,10 +1,11 @@
 //! One step of a script.
-ghost use Rattle.std.specs.Prelude.{◌≡◌, ◌^◌};
+ghost use Rattle.std.specs.Prelude.{◌≡◌};
 ghost use Rattle.toml.specs.View.{table_view};
-ghost use Rattle.iol_script.specs.Step.{configure_in, clear_in, drain_in, config_in, number_below, port_in, mode_in, validation_in, vendor_in, device_in};
+ghost use Rattle.iol_script.specs.Step.{configure_in, clear_in, port_step_in, flush_in, drain_in, config_in, mode_in, validation_in};
 
-use crate::table::{has_only_keys, integer_at, text_at};
-use iol_types::{DeviceId, PortConfig, PortId, PortMode, Validation};
+use crate::number::{device_in, octet_at, port_in, times_in, vendor_in};
+use crate::table::{has_only_keys, text_at};
+use iol_types::{PortConfig, PortId, PortMode, Validation};
 use toml::{Table, Value};
 
 /// A step of a script, but for the stop that ends it.
@@ -14,6 +15,10 @@ pub enum Step {
     Configure { port: PortId, config: PortConfig },
     /// A client deletes the parameter set of a port.
     Clear { port: PortId },
+    /// A port makes this many steps, 1 to [`MOST_TIMES`](crate::MOST_TIMES).
+    Port { port: PortId, times: u16 },
+    /// The flusher makes this many steps, 1 to [`MOST_TIMES`](crate::MOST_TIMES).
+    Flush { times: u16 },
     /// All that is queued is written to the disk.
     Drain,
 }
@@ -23,8 +28,9 @@ impl Step {
     ghost use Rattle.toml.specs.View.{view};
     ghost use Rattle.iol_script.specs.Step.{step_of};
 
-    // The step that a value says: `{ do = "drain" }`, `{ do = "clear", .. }` with its port, or `{ do = "configure", .. }`
-    // with its five whole numbers.
+    // The step that a value says: `{ do = "drain" }`, `{ do = "clear", .. }` with its port, `{ do = "configure", .. }`
+    // with its five whole numbers, `{ do = "port", .. }` with its port, or `{ do = "flush" }`, the last two perhaps with
+    // how often they are made.
     pub(crate) fn read(value: &Value) -> Option<Step>
         ensures { result ≡ step_of (view value.now) }
     {
@@ -32,6 +38,8 @@ impl Step {
         match text_at(table, "do")? {
             "configure" => configure_in(table),
             "clear" => clear_in(table),
+            "port" => port_step_in(table),
+            "flush" => flush_in(table),
             "drain" => drain_in(table),
             _ => None,
         }
@@ -62,6 +70,29 @@ fn clear_in(table: &Table) -> Option<Step>
     })
 }
 
+fn port_step_in(table: &Table) -> Option<Step>
+    ensures { result ≡ port_step_in (table_view table.now) }
+{
+    if !has_only_keys(table, &["do", "port", "times"]) {
+        return None;
+    }
+    Some(Step::Port {
+        port: port_in(table)?,
+        times: times_in(table)?,
+    })
+}
+
+fn flush_in(table: &Table) -> Option<Step>
+    ensures { result ≡ flush_in (table_view table.now) }
+{
+    if !has_only_keys(table, &["do", "times"]) {
+        return None;
+    }
+    Some(Step::Flush {
+        times: times_in(table)?,
+    })
+}
+
 fn drain_in(table: &Table) -> Option<Step>
     ensures { result ≡ drain_in (table_view table.now) }
 {
@@ -83,12 +114,6 @@ fn config_in(table: &Table) -> Option<PortConfig>
     })
 }
 
-fn port_in(table: &Table) -> Option<PortId>
-    ensures { result ≡ port_in (table_view table.now) }
-{
-    PortId::new(octet_at(table, "port")?)
-}
-
 fn mode_in(table: &Table) -> Option<PortMode>
     ensures { result ≡ mode_in (table_view table.now) }
 {
@@ -99,23 +124,4 @@ fn validation_in(table: &Table) -> Option<Validation>
     ensures { result ≡ validation_in (table_view table.now) }
 {
     Validation::from_octet(octet_at(table, "validation")?)
-}
-
-fn vendor_in(table: &Table) -> Option<u16>
-    ensures { result ≡ vendor_in (table_view table.now) }
-{
-    u16::try_from(integer_at(table, "vendor")?).ok()
-}
-
-fn device_in(table: &Table) -> Option<DeviceId>
-    ensures { result ≡ device_in (table_view table.now) }
-{
-    DeviceId::new(u32::try_from(integer_at(table, "device")?).ok()?)
-}
-
-// The whole number of 0 to 255 at a key.
-fn octet_at(table: &Table, key: &str) -> Option<u8>
-    ensures { result ≡ number_below (2 ^ 8) key.now (table_view table.now) }
-{
-    u8::try_from(integer_at(table, key)?).ok()
 }

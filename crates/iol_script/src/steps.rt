@@ -1,24 +1,13 @@
 //! The steps of a script, and the stop after them.
-ghost use Rattle.std.specs.Prelude.{◌≡◌, None, Some, option_map, IfOk};
-ghost use Rattle.toml.specs.View.{items_view, table_view};
-ghost use Rattle.iol_script.specs.Steps.{values_in, before_stop, steps_of};
+ghost use Rattle.std.specs.Prelude.{◌≡◌, None, Some, IfOk};
+ghost use Rattle.toml.specs.View.{items_view};
+ghost use Rattle.iol_script.specs.Steps.{before_stop, steps_of};
 
 use crate::script::ScriptFault;
 use crate::step::Step;
 use crate::stop::{Keep, read_stop};
-use crate::table::value_at;
 use std::alloc::Global;
-use toml::{Table, Value};
-
-// The values of the key `step`, which is an array where it is there.
-pub(crate) fn values_in(table: &Table) -> Option<&[Value]>
-    ensures { option_map (λ values. items_view values.now) result ≡ values_in (table_view table.now) }
-{
-    match value_at(table, "step") {
-        Some(value) => Some(value.as_array()?.as_slice()),
-        None => Some(&[]),
-    }
-}
+use toml::Value;
 
 // The values before the stop, and what the stop keeps: what is new where the last value is no stop.
 pub(crate) fn before_stop(values: &[Value]) -> (&[Value], Keep)

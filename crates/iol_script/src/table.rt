@@ -1,8 +1,8 @@
 //! What a TOML table holds at its keys.
 ghost use Rattle.std.specs.Prelude.{◌≡◌, map, option_map};
 ghost use Rattle.toml.specs.Data.{get_member};
-ghost use Rattle.toml.specs.View.{view, table_view};
-ghost use Rattle.iol_script.specs.Table.{has_only_keys, is_among, integer_at, text_at};
+ghost use Rattle.toml.specs.View.{view, items_view, table_view};
+ghost use Rattle.iol_script.specs.Table.{has_only_keys, is_among, integer_at, text_at, values_at, truth_or};
 
 use toml::{Table, Value};
 
@@ -43,4 +43,24 @@ pub(crate) fn integer_at(table: &Table, key: &str) -> Option<i64>
     ensures { result ≡ integer_at key.now (table_view table.now) }
 {
     value_at(table, key)?.as_integer()
+}
+
+// The values of the array at a key, and none where the key is missing; `None` where something else is there.
+pub(crate) fn values_at<'a>(table: &'a Table, key: &str) -> Option<&'a [Value]>
+    ensures { option_map (λ values. items_view values.now) result ≡ values_at key.now (table_view table.now) }
+{
+    match value_at(table, key) {
+        Some(value) => Some(value.as_array()?.as_slice()),
+        None => Some(&[]),
+    }
+}
+
+// The boolean at a key, or `absent` where the key is missing; `None` where something else is there.
+pub(crate) fn truth_or(table: &Table, key: &str, absent: bool) -> Option<bool>
+    ensures { result ≡ truth_or absent key.now (table_view table.now) }
+{
+    match value_at(table, key) {
+        Some(value) => value.as_bool(),
+        None => Some(absent),
+    }
 }

@@ -4,11 +4,17 @@ use std::alloc::{AllocError, Global};
 use std::process::Abort;
 use std::test::Fail;
 
+mod devices;
+mod port_steps;
+
+// What a test asks of memory.
+const ROOM: &str = "there is room for a text";
+
 const CONFIGURE: &str =
     r#"do = "configure", port = 1, mode = 1, validation = 3, vendor = 500, device = 43981"#;
 
 // What stands at the top of a script, and why it is not valid.
-const TOPS: [(&str, &str); 19] = [
+const TOPS: [(&str, &str); 18] = [
     ("it is no TOML", "ports"),
     ("a key stands twice", "ports = 2\nports = 2\nslots = 4"),
     ("ports are missing", "slots = 4"),
@@ -38,10 +44,6 @@ const TOPS: [(&str, &str); 19] = [
         "ports = 2\nslots = 4\nstep = [{ do = \"stop\", keep = \"old\" }, { do = \"stop\", keep = \"old\" }]",
     ),
     (
-        "devices are not simulated",
-        "ports = 2\nslots = 4\n[[device]]\nport = 1\nvendor = 500\ndevice = 43981",
-    ),
-    (
         "no number of ports makes up for a wrong step",
         "ports = 0\nslots = 4\nstep = [{ do = \"jump\" }]",
     ),
@@ -52,7 +54,7 @@ const TOPS: [(&str, &str); 19] = [
 ];
 
 // What a step says, and why it is not valid.
-const STEPS: [(&str, &str); 39] = [
+const STEPS: [(&str, &str); 37] = [
     ("do is missing", "port = 1"),
     ("a step is empty", ""),
     ("do is a number", "do = 1"),
@@ -65,11 +67,6 @@ const STEPS: [(&str, &str); 39] = [
         "a clear has a key of configure",
         "do = \"clear\", port = 1, mode = 1",
     ),
-    (
-        "ports are not stepped",
-        "do = \"port\", port = 1, times = 1",
-    ),
-    ("flush is not done", "do = \"flush\", times = 1"),
     ("a drain has a key of its own", "do = \"drain\", times = 1"),
     ("a drain has a key of configure", "do = \"drain\", port = 1"),
     ("keep is missing", "do = \"stop\""),

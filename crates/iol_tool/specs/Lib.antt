@@ -2,5 +2,6 @@ pub mod Fault
 pub mod Geometry
 pub mod Runs
 pub mod Stop
-pub mod Store
+pub mod Devices
+pub mod Steps
 pub mod Images

@@ -29,16 +29,19 @@ pub fn run_text<W: Write, E: Write>(alloc: Global, script: &[u8], out: &mut W, e
     }
 }
 
-// What a run prints: the text is judged first, then its numbers, and then it is run.
+// What a run prints: the text is judged first, then whether its ports are there, then its numbers, and then it is run.
 fn text_of_run(alloc: Global, text: &[u8]) -> Result<String, Fault<'static>>
     ensures ran { OnOk result (CanRun text.now) }
     ensures cause { IfErr result (IsCause text.now) }
 {
     let script = Script::read(alloc, text)?;
+    if !script.fits_ports() {
+        return Err(Fault::Script);
+    }
     let geometry = geometry_of(script.ports, script.slots).ok_or(Fault::Geometry)?;
     let disk = MemoryDisk::new(alloc, geometry.sectors())?;
-    let trace = run(alloc, disk, geometry, &script)?;
-    Ok(trace.to_string(alloc)?)
+    let report = run(alloc, disk, geometry, &script)?;
+    Ok(report.to_string(alloc)?)
 }
 
 // Writes a command's output, and answers the exit status: 0, or 1 where the writing fails.

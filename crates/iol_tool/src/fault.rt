@@ -30,9 +30,6 @@ pub(crate) enum Fault<'a> {
     /// Memory ran out.
     #[error("out of memory")]
     Memory,
-    /// A batch does not follow the journal.
-    #[error("a batch does not follow the journal")]
-    Misfit,
     /// A word of the command line is no text.
     #[error("a word is not UTF-8")]
     Words,

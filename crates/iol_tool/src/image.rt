@@ -10,8 +10,8 @@ ghost use Rattle.iol_journal.specs.Reading.{Shows};
 ghost use Rattle.iol_tool.specs.Fault.{status_of};
 ghost use Rattle.iol_tool.specs.Images.{IsFileCause, TellsWhy};
 
-use crate::disk_calls::recover;
 use crate::fault::Fault;
+use crate::recovery::recover;
 use crate::state_text::Recovered;
 use iol_disk::{DiskFault, ImageFault, ImageFile, SectorDisk};
 use iol_journal::Geometry;

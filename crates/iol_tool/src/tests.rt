@@ -3,6 +3,9 @@
 mod failures;
 mod faults;
 mod images;
+mod port_failures;
+mod port_texts;
+mod ports;
 mod runs;
 mod scripts;
 mod words;

@@ -49,6 +49,17 @@ pub(crate) fn read_words(alloc: Global, words: &[String]) -> Result<Asked<'_>, E
     })
 }
 
+// Where a user finds scripts to begin with.
+const EXAMPLES: &str = "\
+Examples, each with what it prints beside it:
+  examples/first.toml                  a port is configured
+  examples/sensor_replaced.toml        a new sensor gets the parameters of the old one
+  examples/power_lost_in_a_backup.toml the power stops while parameters are stored
+  examples/lost_in_an_upload.toml      a sensor is lost while its parameters are read
+  examples/locked_device.toml          a sensor whose parameters are locked
+  examples/wrong_device.toml           a sensor that is not the configured one
+  examples/failing_disk.toml           a disk call fails";
+
 fn run<'a>(alloc: Global) -> Result<Command<'a>, Error> {
     let script = Arg::new(alloc, "SCRIPT")
         .required(true)
@@ -58,6 +69,7 @@ fn run<'a>(alloc: Global) -> Result<Command<'a>, Error> {
             .about(
                 "Runs a script on a disk in memory, and prints its trace and the recovered state",
             )
+            .after_help(EXAMPLES)
             .arg(script)?,
     )
 }

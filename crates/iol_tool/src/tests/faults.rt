@@ -5,7 +5,7 @@ use crate::commands::report;
 use crate::fault::Fault;
 use std::alloc::Global;
 
-const FAULTS: [(Fault<'_>, &str, u8); 11] = [
+const FAULTS: [(Fault<'_>, &str, u8); 10] = [
     (Fault::NotFormatted, "error: the disk is not formatted\n", 1),
     (
         Fault::AlreadyFormatted,
@@ -20,11 +20,6 @@ const FAULTS: [(Fault<'_>, &str, u8); 11] = [
     ),
     (Fault::Disk, "error: the disk failed\n", 1),
     (Fault::Memory, "error: out of memory\n", 1),
-    (
-        Fault::Misfit,
-        "error: a batch does not follow the journal\n",
-        1,
-    ),
     (Fault::File { path: "a b" }, "error: cannot open a b\n", 1),
     (Fault::Words, "error: a word is not UTF-8\n", 2),
     (Fault::Script, "error: the script is not valid\n", 2),

@@ -38,6 +38,29 @@ fn a_geometry_is_judged_after_the_text(rt: HostRuntime) {
     }
 }
 
+// Numbers of ports, and a device or a step at a port that is not among them.
+const PORTS_NOT_THERE: [(&str, &str); 4] = [
+    ("2", "[[device]]\nport = 3\nvendor = 500\ndevice = 43981\n"),
+    ("2", "[[step]]\ndo = \"port\"\nport = 3\n"),
+    ("0", "[[device]]\nport = 1\nvendor = 500\ndevice = 43981\n"),
+    ("-1", "[[step]]\ndo = \"port\"\nport = 1\n"),
+];
+
+// Sees that a script with this at a port that is not there is none.
+fn expect_no_port<R: Abort>(rt: &R, alloc: Global, ports: &str, text: &str) {
+    let script = format!(in alloc; "ports = {ports}\nslots = 4\n{text}").expect(rt, "memory");
+    expect_error(rt, alloc, script.as_bytes(), NO_SCRIPT);
+}
+
+#[test]
+fn ports_are_judged_before_the_geometry(rt: HostRuntime) {
+    for (ports, text) in PORTS_NOT_THERE {
+        expect_no_port(&rt, rt.alloc(), ports, text);
+    }
+    let script = b"ports = 33\nslots = 4\n[[step]]\ndo = \"port\"\nport = 32\n";
+    expect_error(&rt, rt.alloc(), script, NO_GEOMETRY);
+}
+
 #[test]
 fn what_is_no_text_is_no_script(rt: HostRuntime) {
     let script = b"ports = 0\nslots = 4\n# \xFF\n";

@@ -1,0 +1,13 @@
+-- What values say one after another.
+use Rattle.std.proofs.Common.{◌≡◌, List, [], ◌∷◌, ◌++◌, map, Option, Some, None, option_map, refl, ap}
+
+-- what the next one says stands behind what those before it say, and in front of what those that are left say
+in_order : {A B : Type 0} (f : A → B) (before : List A) (next : A) (left : List B) → map f before ++ (f next ∷ left) ≡ map f (before ++ next ∷ []) ++ left
+in_order f [] next left = refl
+in_order f (first ∷ before) next left = ap (λ others. f first ∷ others) (in_order f before next left)
+
+pub said_in_order : {A B : Type 0} (f : A → B) (before : List A) (next : A) (left : Option (List B))
+    → option_map (λ others. map f before ++ others) (option_map (λ others. f next ∷ others) left)
+    ≡ option_map (λ others. map f (before ++ next ∷ []) ++ others) left
+said_in_order f before next None = refl
+said_in_order f before next (Some left) = ap Some (in_order f before next left)

@@ -1,0 +1,66 @@
+//! The lines of an event (docs/FORMATS.md, "Texts").
+
+use crate::status_text::StatusText;
+use iol_core::SubmitFault;
+use iol_run::Event;
+use iol_types::{CommandFault, PortId};
+use std::fmt;
+
+// The lines of an event: one, or two for an exchange and for a request that was lost. What the core answers to a port
+// has none.
+pub(crate) fn write_event<W: fmt::Write>(f: &mut fmt::Formatter<W>, event: &Event) -> fmt::Result {
+    match event {
+        Event::Accepted { number, .. } => writeln!(f, "accepted {number}"),
+        Event::Refused(fault) => writeln!(f, "refused {}", name_of(*fault)),
+        Event::Page { port, octets, .. } => write_octets(f, *port, "page", octets),
+        Event::Exchange {
+            port,
+            request,
+            answer,
+            ..
+        } => {
+            write_octets(f, *port, ">", request.as_slice())?;
+            write_octets(f, *port, "<", answer.as_slice())
+        }
+        Event::Lost { port, request, .. } => {
+            if let Some(request) = request {
+                write_octets(f, *port, ">", request.as_slice())?;
+            }
+            writeln!(f, "port {} lost", port.number())
+        }
+        Event::Attended { .. } => Ok(()),
+        Event::Status { port, status } => {
+            writeln!(f, "port {} {}", port.number(), StatusText(*status))
+        }
+        Event::Acknowledged { number } => writeln!(f, "acknowledged {number}"),
+        Event::DiskFailed => f.write_str("disk failed\n"),
+    }
+}
+
+// The line of a port with a word or a sign and octets, each behind a space.
+fn write_octets<W: fmt::Write>(
+    f: &mut fmt::Formatter<W>,
+    port: PortId,
+    sign: &str,
+    octets: &[u8],
+) -> fmt::Result {
+    write!(f, "port {} {sign}", port.number())?;
+    for octet in octets {
+        write!(f, " {octet:02X}")?;
+    }
+    f.write_str("\n")
+}
+
+// What the trace calls a refusal.
+fn name_of(fault: SubmitFault) -> &'static str {
+    match fault {
+        SubmitFault::Stopped => "Stopped",
+        SubmitFault::Command(CommandFault::UnknownPort) => "UnknownPort",
+        SubmitFault::Command(CommandFault::RevisionSpent) => "RevisionSpent",
+        SubmitFault::Command(CommandFault::NotAllowed) => "NotAllowed",
+        SubmitFault::Command(CommandFault::StaleRevision) => "StaleRevision",
+        SubmitFault::Command(CommandFault::WrongDevice) => "WrongDevice",
+        SubmitFault::QueueFull => "QueueFull",
+        SubmitFault::Exhausted => "Exhausted",
+    }
+}
