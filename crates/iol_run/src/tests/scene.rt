@@ -4,23 +4,29 @@ use crate::{Ended, Event, RunFault, Stamped, Step, Trace, run_schedule};
 use iol_core::SubmitFault;
 use iol_disk::{MemoryDisk, Pick, SectorDisk};
 use iol_journal::{Geometry, Journal, format};
+use iol_link::DeviceLink;
 use iol_sim::SimLink;
-use iol_types::{Change, DeviceId, PortConfig, PortId, PortMode, Validation};
+use iol_types::{Change, DeviceId, MasterState, PortConfig, PortId, PortMode, Validation};
 use std::alloc::Global;
 use std::process::Abort;
 
 /// What a stop may leave of each pending sector.
 pub const PICKS: [Pick; 4] = [Pick::Old, Pick::New, Pick::Zero, Pick::Pattern];
 
-/// A client configures a port.
+/// A client configures a port for the sensor.
 pub fn configure<R: Abort>(rt: &R, port: u8) -> Step {
+    configure_for(rt, port, 43981)
+}
+
+/// A client configures a port for the device with this DeviceID.
+pub fn configure_for<R: Abort>(rt: &R, port: u8, device: u32) -> Step {
     Step::Client(Change::Configure {
         port: PortId::new(port).expect(rt, "a port"),
         config: PortConfig {
             mode: PortMode::IolManual,
             validation: Validation::BackupAndRestore,
             vendor: 500,
-            device: DeviceId::new(43981).unwrap(),
+            device: DeviceId::new(device).expect(rt, "a DeviceID"),
         },
     })
 }
@@ -52,7 +58,18 @@ pub fn run<D: SectorDisk + Drop, R: Abort>(
     ports: u16,
     steps: &[Step],
 ) -> Trace<D, SimLink> {
-    match run_schedule(alloc, disk, unplugged(rt, alloc, ports), steps) {
+    run_at(rt, alloc, disk, unplugged(rt, alloc, ports), steps)
+}
+
+/// What a whole run of these steps did, over these links.
+pub fn run_at<D: SectorDisk + Drop, L: DeviceLink + Drop, R: Abort>(
+    rt: &R,
+    alloc: Global,
+    disk: D,
+    links: Vec<L>,
+    steps: &[Step],
+) -> Trace<D, L> {
+    match run_schedule(alloc, disk, links, steps) {
         Ok(trace) => {
             assert!(rt; trace.ended == Ended::Whole && trace.waits == 0);
             trace
@@ -65,8 +82,13 @@ pub fn run<D: SectorDisk + Drop, R: Abort>(
 
 /// How many commands are recovered from a disk.
 pub fn recovered<R: Abort>(rt: &R, alloc: Global, disk: MemoryDisk) -> u64 {
+    found_on(rt, alloc, disk).0
+}
+
+/// How many commands are recovered from a disk, and the state after them.
+pub fn found_on<R: Abort>(rt: &R, alloc: Global, disk: MemoryDisk) -> (u64, MasterState) {
     match Journal::recover(alloc, disk) {
-        Ok((journal, _)) => journal.number(),
+        Ok((journal, state)) => (journal.number(), state),
         Err(_) => panic!(rt; "a recovery"),
     }
 }

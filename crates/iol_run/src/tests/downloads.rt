@@ -1,0 +1,112 @@
+//! A stored set is written to a device that comes in place of a lost one.
+
+use super::devices::{
+    CHECKSUM, FIRST, SECOND, VALUES, add, blank_sensor, has_values, link_to_both, port_step,
+    run_from_empty, sensor, sensor_of, upload_steps,
+};
+use super::lines::{Line, assert_told};
+use super::messages::{DONE, DOWNLOAD_END, DOWNLOAD_START, FLAG_CLEAR, SUM};
+use super::uploads::UPLOADED;
+use crate::Trace;
+use iol_disk::MemoryDisk;
+use iol_ident::IdentFault;
+use iol_port::PortStatus;
+use iol_sim::{SimDevice, SimLink};
+use std::alloc::Global;
+use std::process::Abort;
+
+// How many calls the upload makes of the sensor.
+const UPLOAD_CALLS: u64 = 10;
+
+// The sensor is lost, and a blank one gets its parameters.
+const REPLACED: [Line<'static>; 17] = [
+    Line::Attended(Some(CHECKSUM)),
+    Line::Lost,
+    Line::Status(PortStatus::Lost),
+    Line::Attended(Some(CHECKSUM)),
+    Line::Status(PortStatus::Starting),
+    Line::Page,
+    FLAG_CLEAR,
+    Line::Exchange(
+        &[0xA4, 0x03, 0x04, 0xA3],
+        &[0xD6, 0x00, 0x00, 0x00, 0x00, 0xD6],
+    ),
+    Line::Attended(Some(CHECKSUM)),
+    Line::Status(PortStatus::Downloading),
+    DOWNLOAD_START,
+    Line::Exchange(&[0x15, 0x40, 0x0A, 0x64, 0x3B], &DONE),
+    Line::Exchange(&[0x25, 0x41, 0x01, 0x7F, 0x1A], &DONE),
+    DOWNLOAD_END,
+    Line::Status(PortStatus::Ready),
+    Line::Attended(Some(CHECKSUM)),
+    Line::Page,
+];
+
+// The sensor is lost, and one comes that has its parameters.
+const THE_SAME: [Line<'static>; 12] = [
+    Line::Attended(Some(CHECKSUM)),
+    Line::Lost,
+    Line::Status(PortStatus::Lost),
+    Line::Attended(Some(CHECKSUM)),
+    Line::Status(PortStatus::Starting),
+    Line::Page,
+    FLAG_CLEAR,
+    SUM,
+    Line::Attended(Some(CHECKSUM)),
+    Line::Status(PortStatus::Ready),
+    Line::Attended(Some(CHECKSUM)),
+    Line::Page,
+];
+
+// The sensor is lost, and another kind of device comes.
+const ANOTHER_KIND: [Line<'static>; 7] = [
+    Line::Attended(Some(CHECKSUM)),
+    Line::Lost,
+    Line::Status(PortStatus::Lost),
+    Line::Attended(Some(CHECKSUM)),
+    Line::Status(PortStatus::Starting),
+    Line::Page,
+    Line::Status(PortStatus::Mismatch(IdentFault::Device)),
+];
+
+#[test]
+fn a_blank_device_gets_the_stored_set(rt: HostRuntime) {
+    let second = blank_sensor(&rt, rt.alloc());
+    let trace = replaced_by(&rt, rt.alloc(), second, 15);
+    assert_told(&rt, &trace.events, UPLOADED.len(), &REPLACED);
+    assert!(rt; has_values(&trace.state));
+    let link = trace.links.first().expect(&rt, "a link");
+    let device = link.device(1).expect(&rt, "a second device");
+    let (first, second) = VALUES;
+    assert!(rt; device.parameter(FIRST) == Some(first.as_slice()));
+    assert!(rt; device.parameter(SECOND) == Some([second].as_slice()));
+}
+
+#[test]
+fn a_device_with_the_stored_set_is_left_alone(rt: HostRuntime) {
+    let second = sensor(&rt, rt.alloc());
+    let trace = replaced_by(&rt, rt.alloc(), second, 9);
+    assert_told(&rt, &trace.events, UPLOADED.len(), &THE_SAME);
+}
+
+#[test]
+fn a_device_of_another_kind_gets_nothing(rt: HostRuntime) {
+    let second = sensor_of(&rt, rt.alloc(), 500, 43982, ([0, 0], 0));
+    let trace = replaced_by(&rt, rt.alloc(), second, 4);
+    assert_told(&rt, &trace.events, UPLOADED.len(), &ANOTHER_KIND);
+    assert!(rt; has_values(&trace.state));
+}
+
+// A sensor is backed up and lost, a second device comes, and the port makes so many steps.
+fn replaced_by<R: Abort>(
+    rt: &R,
+    alloc: Global,
+    second: SimDevice,
+    port_steps: usize,
+) -> Trace<MemoryDisk, SimLink> {
+    let first = sensor(rt, alloc).with_flag();
+    let link = link_to_both(rt, alloc, first, UPLOAD_CALLS, second);
+    let mut steps = upload_steps(rt, alloc);
+    add(rt, &mut steps, port_step(), port_steps);
+    run_from_empty(rt, alloc, link, &steps)
+}
