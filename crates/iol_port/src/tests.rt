@@ -3,4 +3,5 @@ mod driver;
 mod endings;
 mod rows;
 mod scene;
+mod texts;
 mod transfers;
