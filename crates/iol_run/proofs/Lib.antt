@@ -14,6 +14,7 @@ pub mod Counted
 pub mod Progress
 pub mod Flushing
 pub mod Stopped
+pub mod Clocks
 pub mod Layouts
 pub mod PortSteps
 pub mod PortCalls

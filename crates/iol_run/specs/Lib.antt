@@ -9,3 +9,4 @@ pub mod Runs
 pub mod Schedules
 pub mod Flushed
 pub mod Stopped
+pub mod Clocks

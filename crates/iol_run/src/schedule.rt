@@ -1,6 +1,6 @@
 //! A schedule run from a disk to a trace.
 
-ghost use Rattle.std.specs.Prelude.{◌≡◌, ℕ, ◌*◌, [], map, length, vec_len, Ok, IfOk, IfErr, OnErr};
+ghost use Rattle.std.specs.Prelude.{◌≡◌, ℕ, ◌*◌, [], map, length, vec_len, Ok, IsTrue, IfOk, IfErr, OnErr};
 ghost use Rattle.iol_types.specs.State.{State};
 ghost use Rattle.iol_disk.specs.Content.{IsImage, clock};
 ghost use Rattle.iol_disk.specs.Disk.{Disk};
@@ -15,6 +15,7 @@ ghost use Rattle.iol_trace.specs.CrashPrefix.{CrashPrefix};
 ghost use Rattle.iol_run.specs.Events.{stamp_of};
 ghost use Rattle.iol_run.specs.Flushed.{AllFlushed, queue_turns};
 ghost use Rattle.iol_run.specs.Runs.{KeepsRun};
+ghost use Rattle.iol_run.specs.Clocks.{ClocksRise};
 ghost use Rattle.iol_run.specs.Stopped.{NoneOnceFailed};
 ghost use Rattle.iol_run.specs.Schedules.{AreLinkRuns, HasRun, IsTraceOf, fault_disk, waits_of};
 
@@ -86,6 +87,9 @@ pub fn run_schedule<D: SectorDisk, L: DeviceLink + Drop>(
     ensures steps { IfOk result (λ trace. IsTraceOf D.disk L.number L.steps steps.now links.items trace.ended trace.waits (map stamp_of trace.events.items) trace.begun trace.state trace.links.items trace.disk) }
     // What is told of each port's link is a run of it, from the link that was handed in to the one in the trace.
     ensures links { IfOk result (λ trace. AreLinkRuns L.number L.steps links.items (map stamp_of trace.events.items) trace.links.items) }
+    // On an honest disk each event is stamped with the clock between what it showed before and what it shows then.
+    ensures clocks { IfOk result (λ trace. IsTrue (D.disk trace.disk).honest
+        → ClocksRise trace.begun (clock (D.disk trace.disk).content) (map stamp_of trace.events.items)) }
     // Once a disk call has failed nothing more is accepted.
     ensures stopped { IfOk result (λ trace. NoneOnceFailed (map stamp_of trace.events.items)) }
     // Turns enough of the flusher at the end, 128 for each sector of the journal that the disk shows, leave all that was
@@ -125,6 +129,8 @@ fn carry_out<D: SectorDisk, L: DeviceLink + Drop, F: Name>(
     requires ports { vec_len links ≡ length state }
     ensures trace { IfOk result (λ trace. IsTraceOf D.disk L.number L.steps steps.now links.items trace.ended trace.waits (map stamp_of trace.events.items) trace.begun trace.state trace.links.items trace.disk) }
     ensures links { IfOk result (λ trace. AreLinkRuns L.number L.steps links.items (map stamp_of trace.events.items) trace.links.items) }
+    ensures clocks { IfOk result (λ trace. IsTrue (D.disk trace.disk).honest
+        → ClocksRise trace.begun (clock (D.disk trace.disk).content) (map stamp_of trace.events.items)) }
     ensures stopped { IfOk result (λ trace. NoneOnceFailed (map stamp_of trace.events.items)) }
     ensures flushed { IfOk result (λ trace. AllFlushed (queue_turns journal.standing.layout) steps.now journal.standing.number trace.ended trace.waits
         (map stamp_of trace.events.items)) }

@@ -1,4 +1,4 @@
-use Rattle.std.proofs.Common.{refl, ℕ, List, map, take, sym, subst}
+use Rattle.std.proofs.Common.{refl, ℕ, IsTrue, List, map, take, sym, subst}
 use Rattle.iol_disk.specs.Content.{clock}
 use Rattle.iol_front.specs.Fronts.{FrontId}
 use Rattle.iol_journal.specs.Runs.{begun}
@@ -12,6 +12,7 @@ use Rattle.iol_run.specs.declared.schedule.Ended.{Ended}
 use Rattle.iol_run.proofs.Crash.{begins, leaves}
 use Rattle.iol_run.proofs.Flushing.{all_flushed}
 use Rattle.iol_run.proofs.LinksMade.{all_link_runs}
+use Rattle.iol_run.proofs.Clocks.{clocks_rise}
 use Rattle.iol_run.proofs.Stopped.{none_once_failed}
 use Rattle.iol_run.specs.Stopped.{NoneOnceFailed}
 use Rattle.iol_run.proofs.schedule.carry_out.Goals as goal
@@ -74,3 +75,13 @@ returns-in-Ok-clause-stopped g c =
     subst (λ (es : List Stamp). NoneOnceFailed es) (sym c.end.ensures.told.0)
     (none_once_failed g.D.SectorDisk.disk l.number l.steps (take c.make_steps-ended.ensures.made.0 c.args.steps.now) c.make_steps-ended.result.1 c.args.journal
     c.args.links.items c.in-Ok.run' c.make_steps-ended.new.run c.in-Ok.ensures.fresh c.make_steps-ended.ensures.made.2)
+
+pub returns-in-Ok-clause-clocks : goal.returns-in-Ok-clause-clocks
+returns-in-Ok-clause-clocks g c = λ honest.
+    let d = g.D.SectorDisk.disk in
+    let l = g.L.DeviceLink in
+    let old = c.in-Ok.run' in
+    let new = c.make_steps-ended.new.run in
+    rw (c.end.ensures.disk, c.end.ensures.told.0, c.end.ensures.told.1)
+    (clocks_rise d l.number l.steps (take c.make_steps-ended.ensures.made.0 c.args.steps.now) c.make_steps-ended.result.1 c.args.journal c.args.links.items old new
+    c.in-Ok.ensures.fresh c.make_steps-ended.ensures.made.2 (subst (λ (x : g.row.D.Denot). IsTrue (d x).honest) c.end.ensures.disk honest))
