@@ -42,7 +42,7 @@ failure_stays [] more failed = absurd failed
 failure_stays (e ∷ events) more (inl here) = inl here
 failure_stays (e ∷ events) more (inr there) = inr (failure_stays events more there)
 
-failure_told : (events more : List Stamp) → HasFailure more → HasFailure (events ++ more)
+pub failure_told : (events more : List Stamp) → HasFailure more → HasFailure (events ++ more)
 failure_told [] more failed = failed
 failure_told (e ∷ events) more failed = inr (failure_told events more failed)
 

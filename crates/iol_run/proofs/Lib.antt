@@ -14,7 +14,9 @@ pub mod Counted
 pub mod Progress
 pub mod Flushing
 pub mod Stopped
+pub mod DiskSteps
 pub mod Clocks
+pub mod Failures
 pub mod Layouts
 pub mod PortSteps
 pub mod PortCalls

@@ -1,5 +1,5 @@
 -- A core that knows a failure of the disk accepts nothing more.
-use Rattle.std.proofs.Common.{◌≡◌, refl, ◌⊎◌, inl, inr, ⊎_elim, ℕ, nat_le, Bool, true, false, if◌then◌else◌, List, [], ◌∷◌, ◌++◌, length, Option, Some, None, is_some, Result, Ok, Err, ap, sym, ◌∙◌, subst, rules, append-nil, append_assoc}
+use Rattle.std.proofs.Common.{◌≡◌, refl, inl, inr, ⊎_elim, ℕ, nat_le, Bool, true, false, if◌then◌else◌, List, [], ◌∷◌, ◌++◌, length, Option, Some, None, is_some, Result, Ok, Err, ap, sym, ◌∙◌, subst, rules, append-nil, append_assoc}
 use Rattle.iol_types.specs.Command.{CommandValue, command_of}
 use Rattle.iol_types.specs.State.{check}
 use Rattle.iol_types.specs.declared.command.CommandFault.{CommandFault}
@@ -7,7 +7,6 @@ use Rattle.iol_disk.specs.Disk.{Disk}
 use Rattle.iol_core.specs.Core.{CoreView, live}
 use Rattle.iol_core.specs.Submit.{IsSubmit, is_stopped, queue_fault, first_cause, has_failed}
 use Rattle.iol_core.specs.declared.stop.StopCause.{StopCause}
-use Rattle.iol_core.specs.declared.stop.StopCause.TheVariants as cause
 use Rattle.iol_core.specs.declared.ticket.SubmitFault.{SubmitFault}
 use Rattle.iol_core.specs.declared.ticket.SubmitFault.TheVariants as fault
 use Rattle.iol_flush.specs.Stages.{need_of}
@@ -17,7 +16,7 @@ use Rattle.iol_front.specs.Fronts.{CommittedView}
 use Rattle.iol_journal.specs.Journals.{JournalView}
 use Rattle.iol_link.specs.Link.{LinkCall, LinkAnswer}
 use Rattle.iol_trace.proofs.Words.{accepted-append, failure-append}
-use Rattle.iol_trace.specs.Events.{Event, Accepted, Acknowledged, DiskFailed, Stamp, stamped}
+use Rattle.iol_trace.specs.Events.{Event, Accepted, Acknowledged, Stamp, stamped}
 use Rattle.iol_trace.specs.Words.{accepted, IsFailure, HasFailure}
 use Rattle.iol_run.proofs.Changes.{Change, Permits, Waits, HasRoom, Tells, changed}
 use Rattle.iol_run.proofs.PortCalls.{step_becomes}

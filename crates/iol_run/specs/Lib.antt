@@ -9,4 +9,5 @@ pub mod Runs
 pub mod Schedules
 pub mod Flushed
 pub mod Stopped
+pub mod Failures
 pub mod Clocks

@@ -16,6 +16,7 @@ ghost use Rattle.iol_run.specs.Events.{stamp_of};
 ghost use Rattle.iol_run.specs.Flushed.{AllFlushed, queue_turns};
 ghost use Rattle.iol_run.specs.Runs.{KeepsRun};
 ghost use Rattle.iol_run.specs.Clocks.{ClocksRise};
+ghost use Rattle.iol_run.specs.Failures.{TellsFailures};
 ghost use Rattle.iol_run.specs.Stopped.{NoneOnceFailed};
 ghost use Rattle.iol_run.specs.Schedules.{AreLinkRuns, HasRun, IsTraceOf, fault_disk, waits_of};
 
@@ -90,6 +91,8 @@ pub fn run_schedule<D: SectorDisk, L: DeviceLink + Drop>(
     // On an honest disk each event is stamped with the clock between what it showed before and what it shows then.
     ensures clocks { IfOk result (λ trace. IsTrue (D.disk trace.disk).honest
         → ClocksRise trace.begun (clock (D.disk trace.disk).content) (map stamp_of trace.events.items)) }
+    // A failure of the disk is told exactly where the disk has counted one.
+    ensures failures { IfOk result (λ trace. TellsFailures (D.disk disk) (D.disk trace.disk) (map stamp_of trace.events.items)) }
     // Once a disk call has failed nothing more is accepted.
     ensures stopped { IfOk result (λ trace. NoneOnceFailed (map stamp_of trace.events.items)) }
     // Turns enough of the flusher at the end, 128 for each sector of the journal that the disk shows, leave all that was
@@ -131,6 +134,7 @@ fn carry_out<D: SectorDisk, L: DeviceLink + Drop, F: Name>(
     ensures links { IfOk result (λ trace. AreLinkRuns L.number L.steps links.items (map stamp_of trace.events.items) trace.links.items) }
     ensures clocks { IfOk result (λ trace. IsTrue (D.disk trace.disk).honest
         → ClocksRise trace.begun (clock (D.disk trace.disk).content) (map stamp_of trace.events.items)) }
+    ensures failures { IfOk result (λ trace. TellsFailures (D.disk journal.disk) (D.disk trace.disk) (map stamp_of trace.events.items)) }
     ensures stopped { IfOk result (λ trace. NoneOnceFailed (map stamp_of trace.events.items)) }
     ensures flushed { IfOk result (λ trace. AllFlushed (queue_turns journal.standing.layout) steps.now journal.standing.number trace.ended trace.waits
         (map stamp_of trace.events.items)) }

@@ -13,6 +13,7 @@ use Rattle.iol_run.proofs.Crash.{begins, leaves}
 use Rattle.iol_run.proofs.Flushing.{all_flushed}
 use Rattle.iol_run.proofs.LinksMade.{all_link_runs}
 use Rattle.iol_run.proofs.Clocks.{clocks_rise}
+use Rattle.iol_run.proofs.Failures.{tells_failures}
 use Rattle.iol_run.proofs.Stopped.{none_once_failed}
 use Rattle.iol_run.specs.Stopped.{NoneOnceFailed}
 use Rattle.iol_run.proofs.schedule.carry_out.Goals as goal
@@ -85,3 +86,11 @@ returns-in-Ok-clause-clocks g c = λ honest.
     rw (c.end.ensures.disk, c.end.ensures.told.0, c.end.ensures.told.1)
     (clocks_rise d l.number l.steps (take c.make_steps-ended.ensures.made.0 c.args.steps.now) c.make_steps-ended.result.1 c.args.journal c.args.links.items old new
     c.in-Ok.ensures.fresh c.make_steps-ended.ensures.made.2 (subst (λ (x : g.row.D.Denot). IsTrue (d x).honest) c.end.ensures.disk honest))
+
+pub returns-in-Ok-clause-failures : goal.returns-in-Ok-clause-failures
+returns-in-Ok-clause-failures g c =
+    let d = g.D.SectorDisk.disk in
+    let l = g.L.DeviceLink in
+    rw (c.end.ensures.disk, c.end.ensures.told.0)
+    (tells_failures d l.number l.steps (take c.make_steps-ended.ensures.made.0 c.args.steps.now) c.make_steps-ended.result.1 c.args.journal c.args.links.items
+    c.in-Ok.run' c.make_steps-ended.new.run c.in-Ok.ensures.fresh c.make_steps-ended.ensures.made.2)

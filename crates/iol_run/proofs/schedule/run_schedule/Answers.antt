@@ -7,6 +7,7 @@ use Rattle.iol_journal.specs.Running.{IsRunAtRest}
 use Rattle.iol_trace.specs.CrashPrefix.{CrashPrefix}
 use Rattle.iol_run.specs.Events.{stamp_of}
 use Rattle.iol_run.proofs.Crash.{means_is, of_trace}
+use Rattle.iol_run.proofs.Failures.{trace_tells}
 use Rattle.iol_run.proofs.Layouts.{shown_flushed}
 use Rattle.iol_run.proofs.schedule.run_schedule.Goals as goal
 
@@ -31,3 +32,8 @@ returns-in-Ok-new-clause-crash_prefix g c =
 pub returns-in-Ok-new-clause-flushed : goal.returns-in-Ok-new-clause-flushed
 returns-in-Ok-new-clause-flushed g c =
     shown_flushed c.carry_out.result (g.D.SectorDisk.disk c.args.disk) c.in-Ok.journal.standing c.args.steps.now c.in-Ok.ensures.found c.carry_out.ensures.flushed
+
+pub returns-in-Ok-new-clause-failures : goal.returns-in-Ok-new-clause-failures
+returns-in-Ok-new-clause-failures g c =
+    let d = g.D.SectorDisk.disk in
+    trace_tells c.carry_out.result d (d c.args.disk) (d c.in-Ok.journal.disk) c.in-Ok.ensures.makes c.carry_out.ensures.failures

@@ -1,0 +1,121 @@
+-- A failure of the disk is told exactly where it was counted.
+use Rattle.std.proofs.Common.{◌≡◌, ◌≤◌, inl, inr, ⊎_elim, ℕ, List, [], ◌∷◌, ◌++◌, map, Result, Ok, Err, IfOk, ap, sym, ◌∙◌, subst, arith, append-nil, append_assoc}
+use Rattle.iol_disk.specs.Calls.{Call, write, sync, Made, LeftBy}
+use Rattle.iol_disk.specs.Disk.{Disk, HasFailed}
+use Rattle.iol_flush.specs.Stages.{disk_of}
+use Rattle.iol_flush.specs.declared.stage.Stage.{Stage}
+use Rattle.iol_journal.specs.Journals.{JournalView}
+use Rattle.iol_link.specs.Link.{LinkCall, LinkAnswer}
+use Rattle.iol_trace.proofs.Words.{failure-append}
+use Rattle.iol_trace.specs.Events.{Event, Stamp, stamped}
+use Rattle.iol_trace.specs.Words.{HasFailure}
+use Rattle.iol_run.proofs.Counted.{failure_stays, failure_told}
+use Rattle.iol_run.proofs.DiskSteps.{DiskStep, Stays, Makes, Fails, disk_step}
+use Rattle.iol_run.specs.CoreOnDisk.{clock_of}
+use Rattle.iol_run.specs.Events.{stamp_of}
+use Rattle.iol_run.specs.Failures.{TellsFailures}
+use Rattle.iol_run.specs.Runs.{RunView}
+use Rattle.iol_run.specs.Schedules.{IsFresh, HasMade}
+use Rattle.iol_run.specs.declared.schedule.RunFault.{RunFault}
+use Rattle.iol_run.specs.declared.schedule.Trace.{Trace}
+use Rattle.iol_run.specs.declared.step.Step.{Step}
+
+-- what is told of failures, and that none is taken back
+record Counts (old new : Disk) (told : List Stamp) : Type 0 where
+  pub tells : TellsFailures old new told
+  pub most : old.failures ≤ new.failures
+
+failed_first : (old mid new : Disk) → HasFailed old mid → mid.failures ≤ new.failures → HasFailed old new
+failed_first old mid new (inl rose) le = inl (omega (arith, rose, le))
+failed_first old mid new (inr top) le = inr (omega (arith, top, le))
+
+failed_then : (old mid new : Disk) → old.failures ≤ mid.failures → HasFailed mid new → HasFailed old new
+failed_then old mid new le (inl rose) = inl (omega (arith, rose, le))
+failed_then old mid new le (inr top) = inr top
+
+left_most : (call : Call) (old new : Disk) → LeftBy call old new → old.failures ≤ new.failures
+left_most (write n octets) old new is = is.1.failures
+left_most sync old new is = is.failures
+
+counts_same : (old new : Disk) (told : List Stamp) → new.failures ≡ old.failures → (HasFailure told → ⊥) → Counts old new told
+counts_same old new told same sound = record {
+  tells = record { told = λ failed. absurd (sound failed); untold = λ none. same };
+  most = omega (arith, same);
+}
+
+counts_more : (old mid new : Disk) (told more : List Stamp) → Counts old mid told → Counts mid new more → Counts old new (told ++ more)
+counts_more old mid new told more one two = record {
+  tells = record {
+    told = λ failed.
+        ⊎_elim (λ before. failed_first old mid new (one.tells.told before) two.most) (λ behind. failed_then old mid new one.most (two.tells.told behind))
+        (failure-append told more failed);
+    untold = λ none.
+        two.tells.untold (λ behind. none (failure_told told more behind))
+        ∙ one.tells.untold (λ before. none (failure_stays told more before));
+  };
+  most = omega (arith, one.most, two.most);
+}
+
+step_counts : (t : ℕ) (old new : Disk) (told : List Event) → DiskStep old new told → Counts old new (stamped t told)
+step_counts t old new told (Stays same sound) = counts_same old new (stamped t told) (ap (λ (d : Disk). d.failures) same) (sound t)
+step_counts t old new told (Makes calls left made silent) =
+    subst (λ (es : List Event). Counts old new (stamped t es)) (sym silent) (counts_same old new [] made.made.no_failure (λ never. never))
+step_counts t old new told (Fails calls why failed telling) =
+    let in_ = failed.failed in
+    let counted : HasFailed old new = failed_then old in_.between new (omega (arith, in_.before.no_failure)) in_.failed.counted in
+    subst (λ (es : List Event). Counts old new (stamped t es)) (sym telling) (record {
+      tells = record { told = λ is. counted; untold = λ none. absurd (none (inl tt)) };
+      most = omega (arith, in_.before.no_failure, left_most in_.call in_.between new in_.failed.left);
+    })
+
+module _ {D L : Type 0} (disk : D → Disk) (connection : L → ℕ) (allows : L → LinkCall → LinkAnswer → L → Type 0) where
+  abbrev disk_at : RunView D L → Disk
+  disk_at run = disk (disk_of run.master.flusher.stage)
+
+  record HasCounted (old new : RunView D L) : Type 0 where
+    more : List Stamp
+    events : new.events ≡ old.events ++ more
+    counts : Counts (disk_at old) (disk_at new) more
+
+  steps_count : (steps : List Step) (waits : ℕ) (old new : RunView D L) → HasMade disk connection allows steps waits old new → HasCounted old new
+  steps_count [] waits old new made = record {
+    more = [];
+    events = ap (λ (r : RunView D L). r.events) made.1 ∙ sym (append-nil old.events);
+    counts = counts_same (disk_at old) (disk_at new) [] (ap (λ (r : RunView D L). (disk_at r).failures) made.1) (λ never. never);
+  }
+  steps_count (step ∷ steps) waits old new made =
+      let mid = made.2 in
+      let t = clock_of disk mid.master in
+      let one = step_counts t (disk_at old) (disk_at mid) made.3.0 (disk_step disk connection allows step old.master mid.master old.ports mid.ports made.3.0 made.0 made.3.1) in
+      let rest = steps_count steps made.1 mid new made.5 in
+      record {
+        more = stamped t made.3.0 ++ rest.more;
+        events =
+            rest.events
+            ∙ (ap (λ (ss : List Stamp). ss ++ rest.more) made.3.2 ∙ append_assoc old.events (stamped t made.3.0) rest.more);
+        counts = counts_more (disk_at old) (disk_at mid) (disk_at new) (stamped t made.3.0) rest.more one rest.counts;
+      }
+
+  -- of a schedule that was run from a fresh run on
+  pub tells_failures : (steps : List Step) (waits : ℕ) (journal : JournalView D) (links : List L) (old new : RunView D L) → IsFresh disk journal links old
+      → HasMade disk connection allows steps waits old new → TellsFailures (disk journal.disk) (disk_at new) new.events
+  tells_failures steps waits journal links old new fresh made =
+      let all = steps_count steps waits old new made in
+      subst (λ (d : Disk). TellsFailures d (disk_at new) new.events) (ap (λ (s : Stage D). disk (disk_of s)) fresh.stage)
+      (subst (λ (ss : List Stamp). TellsFailures (disk_at old) (disk_at new) ss)
+      (sym (all.events ∙ ap (λ (ss : List Stamp). ss ++ all.more) fresh.events)) all.counts.tells)
+
+-- and of the disk that was recovered
+recovered_tells : (given recovered new : Disk) (events : List Stamp) → Made (sync ∷ []) given recovered → TellsFailures recovered new events
+    → TellsFailures given new events
+recovered_tells given recovered new events made tells = record {
+  told = λ failed. failed_then given recovered new (omega (arith, made.no_failure)) (tells.told failed);
+  untold = λ none. tells.untold none ∙ made.no_failure;
+}
+
+pub trace_tells : {D L : Type 0} (result : Result (Trace D L) (RunFault D)) (disk : D → Disk) (given recovered : Disk) → Made (sync ∷ []) given recovered
+    → IfOk result (λ trace. TellsFailures recovered (disk trace.disk) (map stamp_of trace.events.items))
+    → IfOk result (λ trace. TellsFailures given (disk trace.disk) (map stamp_of trace.events.items))
+trace_tells (Ok trace) disk given recovered made tells =
+    recovered_tells given recovered (disk trace.disk) (map stamp_of trace.events.items) made tells
+trace_tells (Err fault) disk given recovered made tells = tt
