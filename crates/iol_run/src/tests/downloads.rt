@@ -5,13 +5,14 @@ use super::devices::{
     run_from_empty, sensor, sensor_of, upload_steps,
 };
 use super::lines::{Line, assert_told};
-use super::messages::{DONE, DOWNLOAD_END, DOWNLOAD_START, FLAG_CLEAR, SUM};
+use super::messages::{BREAK, DONE, DOWNLOAD_END, DOWNLOAD_START, FLAG_CLEAR, SUM};
 use super::uploads::UPLOADED;
 use crate::Trace;
 use iol_disk::MemoryDisk;
 use iol_ident::IdentFault;
-use iol_port::PortStatus;
+use iol_port::{PortFault, PortStatus};
 use iol_sim::{SimDevice, SimLink};
+use iol_types::DeviceId;
 use std::alloc::Global;
 use std::process::Abort;
 
@@ -68,6 +69,40 @@ const ANOTHER_KIND: [Line<'static>; 7] = [
     Line::Page,
     Line::Status(PortStatus::Mismatch(IdentFault::Device)),
 ];
+
+// The sensor is lost, and one comes whose first parameter is shorter: it refuses the write, and the download is broken off.
+const REFUSED: [Line<'static>; 14] = [
+    Line::Attended(Some(CHECKSUM)),
+    Line::Lost,
+    Line::Status(PortStatus::Lost),
+    Line::Attended(Some(CHECKSUM)),
+    Line::Status(PortStatus::Starting),
+    Line::Page,
+    FLAG_CLEAR,
+    Line::Exchange(
+        &[0xA4, 0x03, 0x04, 0xA3],
+        &[0xD6, 0x00, 0x00, 0x00, 0x00, 0xD6],
+    ),
+    Line::Attended(Some(CHECKSUM)),
+    Line::Status(PortStatus::Downloading),
+    DOWNLOAD_START,
+    Line::Exchange(&[0x15, 0x40, 0x0A, 0x64, 0x3B], &[0x44, 0x80, 0x33, 0xF7]),
+    BREAK,
+    Line::Status(PortStatus::Failed(PortFault::Refused {
+        error: 0x80,
+        additional: 0x33,
+    })),
+];
+
+#[test]
+fn a_device_that_refuses_a_parameter_is_not_ready(rt: HostRuntime) {
+    let number = DeviceId::new(43981).expect(&rt, "a DeviceID");
+    let mut second = SimDevice::new(rt.alloc(), 500, number, 0x11, true);
+    second.add(FIRST, &[0]).expect(&rt, "a parameter");
+    let trace = replaced_by(&rt, rt.alloc(), second, 12);
+    assert_told(&rt, &trace.events, UPLOADED.len(), &REFUSED);
+    assert!(rt; has_values(&trace.state));
+}
 
 #[test]
 fn a_blank_device_gets_the_stored_set(rt: HostRuntime) {
