@@ -42,7 +42,7 @@ none_if : (test : Bool) (one other : Stage) → held_by one ≡ None → held_by
 none_if true one other first second = first
 none_if false one other first second = second
 
-exchanged_holds : (what : ExchangeFor) (heard : Result Answer IsduFault) → held_by (exchanged what heard) ≡ None
+pub exchanged_holds : (what : ExchangeFor) (heard : Result Answer IsduFault) → held_by (exchanged what heard) ≡ None
 exchanged_holds (exchange.ReadingState found left) heard = by heard
   where
     by : (heard : Result Answer IsduFault) → held_by (state_read found left heard) ≡ None
@@ -96,7 +96,7 @@ free_if : (test : Bool) (one other : Next) → GoesFree one → GoesFree other �
 free_if true one other first second = first
 free_if false one other first second = second
 
-page_free : (what : PageFor) (connection : ℕ) (page : PageValue) → GoesFree (page_heard what connection page)
+pub page_free : (what : PageFor) (connection : ℕ) (page : PageValue) → GoesFree (page_heard what connection page)
 page_free (page_for.Comparing work own) connection page = free_if (settled_with own page) _ _ refl tt
 page_free (page_for.Identifying work) connection page = by (ident_fault work.config page)
   where

@@ -4,7 +4,10 @@ pub mod Keeping
 pub mod Stages
 pub mod Telling
 pub mod Leading
+pub mod Deciding
+pub mod Comparing
 pub mod Holding
+pub mod BreakingOff
 pub mod Releasing
 pub mod Knowing
 pub mod Settling

@@ -146,6 +146,16 @@ held_by (Breaking holder fault) = Some holder
 held_by (Returning holder own) = Some holder
 held_by _ = None
 
+-- the page of the device with which a port is settled, if it is settled with one (own)
+abbrev pub page_at : Rest → Option PageValue
+page_at rest.Off = None
+page_at rest.Lost = None
+page_at (rest.Failed why) = None
+page_at (rest.Ready page) = Some page
+page_at (rest.ReadyLocked page) = Some page
+page_at (rest.ReadyEmpty page) = Some page
+page_at (rest.Mismatch why page) = Some page
+
 -- after a loss a port is settled as lost, or it returns the permit that it held and is then; nothing else is kept (own)
 abbrev pub IsLostWith : Option Held → Stage → Type 0
 IsLostWith None stage = stage ≡ Settled rest.Lost

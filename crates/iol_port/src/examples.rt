@@ -45,6 +45,7 @@ pub fn backup_and_restore()
     ensures asked { decide validation.BackupAndRestore state.Inactive true 7 (Some 7) ≡ decision.Upload }
     ensures equal { decide validation.BackupAndRestore state.Inactive false 7 (Some 7) ≡ decision.Ready }
     ensures blank { decide validation.BackupAndRestore state.Inactive false 0 (Some 591) ≡ decision.Download }
+    ensures another { decide validation.BackupAndRestore state.Inactive false 7 (Some 591) ≡ decision.Download }
 {}
 
 /// Under Restore a device gets the set, unless it has it or there is none; it is never read.

@@ -1,33 +1,44 @@
 //! Laws of the machines of ports, which no code calls: what all that has happened to a machine tells of its transfers.
-//! Proofs of other crates cite them from `proofs/PortLaws.antt` and `proofs/SettlingLaws.antt`, under the same names, and
-//! that of permits from `proofs/Holding.antt` and `proofs/Releasing.antt`.
+//! Proofs of other crates cite them from `proofs/PortLaws.antt` and `proofs/SettlingLaws.antt`, under the same names, that of
+//! permits from `proofs/Holding.antt` and `proofs/Releasing.antt`, and those of decisions, of a settled port's page and of
+//! failed transfers from `proofs/Deciding.antt`, `proofs/Comparing.antt` and `proofs/BreakingOff.antt`.
 
-ghost use Rattle.std.specs.Prelude.{◌≡◌, ◌⊎◌, ℕ, List, ◌∷◌, Some, None};
+ghost use Rattle.std.specs.Prelude.{◌≡◌, ◌⊎◌, ◌↔◌, ℕ, Bool, true, false, List, ◌∷◌, Option, Some, None, Err};
+ghost use Rattle.arrayvec.specs.ArrayVec.{ArrayVec};
 ghost use Rattle.iol_front.specs.Fronts.{Start};
 ghost use Rattle.iol_core.specs.Core.{CoreView, IsCore, permit_at};
+ghost use Rattle.iol_types.specs.Config.{restores, backs_up};
 ghost use Rattle.iol_types.specs.DataSet.{SetValue};
+ghost use Rattle.iol_types.specs.declared.config.Validation.{Validation};
+ghost use Rattle.iol_ident.specs.Page.{page_of};
 ghost use Rattle.iol_isdu.specs.declared.messages.Request.{Request};
 ghost use Rattle.iol_dsindex.specs.declared.command.DsCommand.TheVariants as command;
+ghost use Rattle.iol_dsindex.specs.declared.property.State.{State};
+ghost use Rattle.iol_dsindex.specs.declared.property.State.TheVariants as state;
 ghost use Rattle.iol_transfer.specs.Asked.{IsNext};
 ghost use Rattle.iol_transfer.specs.Download.{IsSending};
 ghost use Rattle.iol_transfer.specs.Exchanges.{Exchange, commanded};
 ghost use Rattle.iol_transfer.specs.Upload.{IsFinished};
 ghost use Rattle.iol_core.specs.declared.permit.UploadGrant.{UploadGrant};
 ghost use Rattle.iol_core.specs.declared.port.Work.{Work};
+ghost use Rattle.iol_core.specs.declared.ticket.TicketState.TheVariants as ticket;
+ghost use Rattle.iol_core.specs.declared.upload.FinishFault.TheVariants as finish;
 ghost use Rattle.iol_port.specs.Calls.{Call, BeginUpload, FinishUpload, BeginDownload, Replies};
+ghost use Rattle.iol_port.specs.Decision.{decide};
 ghost use Rattle.iol_port.specs.Ending.{ended};
 ghost use Rattle.iol_port.specs.Permits.{HasOut, IsOfLink};
 ghost use Rattle.iol_port.specs.Heard.{Fits, fed, started, at_stage};
 ghost use Rattle.iol_port.specs.History.{Happening, Did, Happens, HasLed, ComesOf};
-ghost use Rattle.iol_port.specs.Laws.{HasUploaded, HasDownloaded, IsDurable, IsDecided, IsJudged, IsLostWith, held_by};
+ghost use Rattle.iol_port.specs.Laws.{HasUploaded, HasDownloaded, IsDurable, IsDecided, IsJudged, IsLostWith, held_by, page_at};
 ghost use Rattle.iol_port.specs.Stage.{Stage, PortValue, IsStage, Settled, Attending, Returning};
 ghost use Rattle.iol_port.specs.Status.{status_of};
-ghost use Rattle.iol_port.specs.Wanted.{Wanted, AnswerTo, ReplyTo, wanted, after_action, return_of};
+ghost use Rattle.iol_port.specs.Wanted.{Wanted, ThePage, AnswerTo, ReplyTo, wanted, after_action, return_of};
 ghost use Rattle.iol_port.specs.declared.action.Input.{Input};
 ghost use Rattle.iol_port.specs.declared.action.Input.TheVariants as input;
 ghost use Rattle.iol_port.specs.declared.call.Reply.{Reply};
 ghost use Rattle.iol_port.specs.declared.call.Reply.TheVariants as reply;
 ghost use Rattle.iol_port.specs.declared.decision.Decision.TheVariants as decision;
+ghost use Rattle.iol_port.specs.declared.fault.PortFault.{PortFault};
 ghost use Rattle.iol_port.specs.declared.stage.AttendFor.TheVariants as attend;
 ghost use Rattle.iol_port.specs.declared.stage.Found.{Found};
 ghost use Rattle.iol_port.specs.declared.stage.Held.{Held};
@@ -39,6 +50,30 @@ ghost use Rattle.iol_port.specs.declared.stage.Rest.TheVariants as rest;
 pub fn what_comes_fits()
     ensures { (port : ℕ) (history : List Happening) (value : PortValue) (heard : Input) → HasLed port history value → IsStage value.stage
         → ComesOf (wanted value.port value.stage) heard → Fits (after_action value.stage) heard }
+{}
+
+/// What is done with the parameters of a device, and when. They are read and stored where the validation backs up, the
+/// device's Data Storage is not locked, and nothing is stored or the device asks for it. The stored ones are written to it
+/// where the validation restores, the Data Storage is not locked, their checksum is another than the device's, and it has
+/// not asked for an upload that it would get. Nothing is done where the validation does not restore, or the stored
+/// checksum is the device's; where the Data Storage is locked; and where there is nothing to restore and nothing backs up.
+pub fn what_is_decided()
+    ensures upload { (validation : Validation) (at : State) (flag : Bool) (checksum : ℕ) (stored : Option ℕ)
+        → (decide validation at flag checksum stored ≡ decision.Upload)
+        ↔ ((backs_up validation ≡ true) × (at ≡ state.Locked → ⊥) × ((stored ≡ None) ⊎ (flag ≡ true))) }
+    ensures download { (validation : Validation) (at : State) (flag : Bool) (checksum : ℕ) (stored : Option ℕ)
+        → (decide validation at flag checksum stored ≡ decision.Download)
+        ↔ ((restores validation ≡ true) × (at ≡ state.Locked → ⊥) × (backs_up validation ≡ true → flag ≡ false)
+        × ((other : ℕ) × (stored ≡ Some other) × (other ≡ checksum → ⊥))) }
+    ensures ready { (validation : Validation) (at : State) (flag : Bool) (checksum : ℕ) (stored : Option ℕ)
+        → (decide validation at flag checksum stored ≡ decision.Ready)
+        ↔ ((restores validation ≡ false)
+        ⊎ ((at ≡ state.Locked → ⊥) × (backs_up validation ≡ true → flag ≡ false) × (stored ≡ Some checksum))) }
+    ensures locked { (validation : Validation) (at : State) (flag : Bool) (checksum : ℕ) (stored : Option ℕ)
+        → (decide validation at flag checksum stored ≡ decision.ReadyLocked) ↔ ((restores validation ≡ true) × (at ≡ state.Locked)) }
+    ensures empty { (validation : Validation) (at : State) (flag : Bool) (checksum : ℕ) (stored : Option ℕ)
+        → (decide validation at flag checksum stored ≡ decision.ReadyEmpty)
+        ↔ ((restores validation ≡ true) × (backs_up validation ≡ false) × (at ≡ state.Locked → ⊥) × (stored ≡ None)) }
 {}
 
 /// A permit to upload is asked for only where the device was found on its connection and examined there, and an upload was
@@ -104,6 +139,29 @@ pub fn a_loss_keeps_nothing()
 pub fn a_port_settles_for_its_reason()
     ensures { (port : ℕ) (history : List Happening) (old new : PortValue) (latest : Happening) (own : Rest) → HasLed port history old
         → Happens old latest new → new.stage ≡ Settled own → (status_of old.stage ≡ status_of new.stage → ⊥) → IsJudged own (latest ∷ history) }
+{}
+
+/// Where a page was read and the port is settled then, it is off, or the page that it keeps is the one that was read, in
+/// every field: VendorID, DeviceID, RevisionID, MinCycleTime, and whether ISDU is supported. So a settled port stays as it
+/// was only where the device that it finds has its own page.
+pub fn a_settled_port_keeps_its_page()
+    ensures { (connection : ℕ) (octets : List ℕ) (old new : PortValue) (own : Rest) → Happens old (Did ThePage (input.Page connection octets)) new
+        → new.stage ≡ Settled own → (own ≡ rest.Off) ⊎ (page_at own ≡ Some (page_of octets)) }
+{}
+
+/// A machine comes to return a permit as that of a failed transfer only where it held it, wanted DS_Break of the device, and
+/// heard an answer to that. Where a failed upload has no permit to return, as the core took it with the set, DS_Break is
+/// wanted next: nothing more is stored, the port was configured anew, or nobody will know whether the set is durable.
+pub fn a_failed_transfer_is_broken_off()
+    ensures returns { (old new : PortValue) (wants : Wanted) (heard : Input) (holder : Held) (why : PortFault) → Happens old (Did wants heard) new
+        → new.stage ≡ Returning holder (rest.Failed why)
+        → (held_by old.stage ≡ Some holder) × (wants ≡ AnswerTo (commanded command.Break)) × ((octets : ArrayVec ℕ) × (heard ≡ input.Octets octets)) }
+    ensures stopped { (old new : PortValue) (wants : Wanted) → Happens old (Did wants (input.Reply (reply.FinishedUpload (Err finish.Stopped)))) new
+        → wanted new.port new.stage ≡ AnswerTo (commanded command.Break) }
+    ensures changed { (old new : PortValue) (wants : Wanted) → Happens old (Did wants (input.Reply (reply.FinishedUpload (Err finish.ConfigChanged)))) new
+        → wanted new.port new.stage ≡ AnswerTo (commanded command.Break) }
+    ensures unsure { (old new : PortValue) (wants : Wanted) → Happens old (Did wants (input.Reply (reply.Ticket ticket.Unsure))) new
+        → wanted new.port new.stage ≡ AnswerTo (commanded command.Break) }
 {}
 
 /// The permit of a port that is out is the one that its machine holds, and none is out where it holds none: an event and what
