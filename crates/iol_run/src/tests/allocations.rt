@@ -93,8 +93,10 @@ fn has_no_other_fault(events: &[Stamped]) -> bool {
 
 // Why none may be run.
 fn judge_fault<R: Abort>(rt: &R, fault: RunFault<MemoryDisk>) {
-    if let RunFault::Recover(fault) = fault {
-        judge_cause(rt, fault.cause);
+    match fault {
+        RunFault::Recover(fault) => judge_cause(rt, fault.cause),
+        RunFault::Ports(_) => panic!(rt; "each port has a link"),
+        RunFault::Memory(_) => {}
     }
 }
 
