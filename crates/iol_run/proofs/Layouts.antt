@@ -33,6 +33,14 @@ more_flushed least more steps first ended waits events le all = λ ends whole no
 same : (s t : Standing) → ok s ≡ ok t → s ≡ t
 same s t is = cc
 
+-- what holds of a trace by its journal holds of it by the journal that the disk shows
+pub shown_trace : {D L : Type 0} (result : Result (Trace D L) (RunFault D)) (d : Disk) (s : Standing) (P : Standing → Trace D L → Type 0)
+    → Shows d (λ image. standing_in d.sectors image ≡ Ok s) → IfOk result (P s)
+    → IfOk result (λ trace. Shows d (λ image. (journal : Standing) → standing_in d.sectors image ≡ Ok journal → P journal trace))
+shown_trace (Err fault) d s P found all = tt
+shown_trace (Ok trace) d s P found all = λ honest journal stands.
+    subst (λ (j : Standing). P j trace) (same s journal (sym (found honest) ∙ stands)) all
+
 -- a trace of the journal that a disk shows
 pub shown_flushed : {D L : Type 0} (result : Result (Trace D L) (RunFault D)) (d : Disk) (s : Standing) (steps : List Step)
     → Shows d (λ image. standing_in d.sectors image ≡ Ok s)
@@ -42,6 +50,6 @@ pub shown_flushed : {D L : Type 0} (result : Result (Trace D L) (RunFault D)) (d
 shown_flushed (Err fault) d s steps found all = tt
 shown_flushed (Ok trace) d s steps found all = λ honest journal stands.
     let events = map stamp_of trace.events.items in
-    subst (λ (j : Standing). AllFlushed (128 * total j.layout) steps j.number trace.ended trace.waits events) (same s journal (sym (found honest) ∙ stands))
-    (more_flushed (queue_turns s.layout) (128 * total s.layout) steps s.number trace.ended trace.waits events
-    (turns_within d.sectors (reads d.content) s (found honest)) all)
+    more_flushed (queue_turns journal.layout) (128 * total journal.layout) steps journal.number trace.ended trace.waits events
+    (turns_within d.sectors (reads d.content) journal stands)
+    (shown_trace (Ok trace) d s (λ j trace. AllFlushed (queue_turns j.layout) steps j.number trace.ended trace.waits (map stamp_of trace.events.items)) found all honest journal stands)

@@ -21,5 +21,10 @@ pub mod Layouts
 pub mod PortSteps
 pub mod PortCalls
 pub mod Machines
+pub mod FlusherTells
 pub mod LinkRuns
 pub mod LinksMade
+pub mod CoreAfter
+pub mod OwnEvents
+pub mod Histories
+pub mod PortRuns

@@ -15,7 +15,8 @@ use Rattle.iol_port.specs.declared.call.Reply.{Reply}
 use Rattle.iol_port.specs.declared.call.Reply.TheVariants as reply
 use Rattle.iol_trace.proofs.Links.{joined, calls-append}
 use Rattle.iol_trace.specs.Events.{Event, Stamp, stamped}
-use Rattle.iol_trace.specs.Links.{IsLinkRun, at_port, call_told, calls_told, if_told}
+use Rattle.iol_trace.specs.Links.{IsLinkRun, call_told, calls_told, if_told}
+use Rattle.iol_trace.specs.Own.{at_port}
 use Rattle.iol_run.proofs.Machines.{awake_port}
 use Rattle.iol_run.proofs.Quiet.{stamped_both}
 use Rattle.iol_run.specs.PortSteps.{Hears, HearsCore, HasEvent, IsStatusTold, PortStep, reply_told, attended_told, filed_told, accepted_told, store_in}

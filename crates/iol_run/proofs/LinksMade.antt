@@ -6,16 +6,13 @@ use Rattle.iol_types.specs.Command.{CommandValue, command_of}
 use Rattle.iol_disk.specs.Disk.{Disk}
 use Rattle.iol_core.proofs.Places.{get_written, get_other}
 use Rattle.iol_core.specs.declared.ticket.SubmitFault.{SubmitFault}
-use Rattle.iol_flush.specs.Stages.{need_of}
-use Rattle.iol_flush.specs.declared.need.Need.{Need}
-use Rattle.iol_flush.specs.declared.need.Need.TheVariants as need
-use Rattle.iol_front.specs.Fronts.{CommittedView}
 use Rattle.iol_journal.specs.Journals.{JournalView}
 use Rattle.iol_link.specs.Link.{LinkCall, LinkAnswer}
 use Rattle.iol_port.specs.Stage.{PortValue}
 use Rattle.iol_trace.proofs.Links.{joined, untouched}
 use Rattle.iol_trace.specs.Events.{Event, Stamp, stamped}
 use Rattle.iol_trace.specs.Links.{IsLinkRun, calls_told}
+use Rattle.iol_run.proofs.FlusherTells.{PassesOver, turn_says}
 use Rattle.iol_run.proofs.LinkRuns.{step_link}
 use Rattle.iol_run.proofs.Machines.{HavePlaces, elsewhere, new_places, one_some, port_stays}
 use Rattle.iol_run.specs.CoreOnDisk.{CoreOnDiskView, clock_of}
@@ -23,9 +20,7 @@ use Rattle.iol_run.specs.Ports.{PortsView, StepsThere, StepsIf}
 use Rattle.iol_run.specs.Runs.{RunView}
 use Rattle.iol_run.specs.Schedules.{IsFresh, HasMade, AreLinkRuns}
 use Rattle.iol_run.specs.Steps.{Does, submit_told}
-use Rattle.iol_run.specs.Turns.{Takes, HasCalled, Serves, IsTurn}
 use Rattle.iol_run.specs.declared.core_on_disk.Turned.{Turned}
-use Rattle.iol_run.specs.declared.core_on_disk.Turned.TheVariants.{Made, Idle, Waited}
 use Rattle.iol_run.specs.declared.step.Step.{Step}
 use Rattle.iol_run.specs.declared.step.Step.TheVariants.{Client, Port, Flush}
 
@@ -38,29 +33,8 @@ module _ (q t : ℕ) where
   told_calls : (told : List Event) (rest : List Event) → told ≡ rest → calls_told q (stamped t rest) ≡ [] → calls_told q (stamped t told) ≡ []
   told_calls told rest is none = ap (λ (es : List Event). calls_told q (stamped t es)) is ∙ none
 
-  module _ {D : Type 0} (disk : D → Disk) where
-    takes_calls : (old new : CoreOnDiskView D) (told : List Event) (turned : Turned) → Takes old new told turned → calls_told q (stamped t told) ≡ []
-    takes_calls old new told Made is = told_calls told [] is.5 refl
-    takes_calls old new told Idle is = told_calls told [] is.2 refl
-    takes_calls old new told Waited is = told_calls told [] is.2 refl
-
-    called_calls : (old new : CoreOnDiskView D) (told : List Event) → HasCalled disk old new told → calls_told q (stamped t told) ≡ []
-    called_calls old new [] is = refl
-    called_calls old new (e ∷ told) is = told_calls (e ∷ told) _ is.1 refl
-
-    serves_calls : (needs : Need) (old new : CoreOnDiskView D) (told : List Event) (turned : Turned) → Serves disk needs old new told turned
-        → calls_told q (stamped t told) ≡ []
-    serves_calls need.Batch old new told turned is = takes_calls old new told turned is
-    serves_calls need.Disk old new told Made is = called_calls old new told is.2
-    serves_calls need.Disk old new told Idle is = absurd is
-    serves_calls need.Disk old new told Waited is = told_calls told [] is.2 refl
-    serves_calls need.Publish old new told turned is = told_calls told [] is.1.4 refl
-    serves_calls need.Stopped old new told turned is = told_calls told [] is.2 refl
-
-    turn_calls : (committed : Option CommittedView) (old new : CoreOnDiskView D) (told : List Event) (turned : Turned)
-        → IsTurn disk committed old new told turned → calls_told q (stamped t told) ≡ []
-    turn_calls (Some committed) old new told turned is = told_calls told _ is.1.3 refl
-    turn_calls None old new told turned is = serves_calls (need_of old.flusher.stage) old new told turned is
+  flusher_calls : PassesOver (λ (es : List Event). calls_told q (stamped t es))
+  flusher_calls = record { none = refl; acknowledged = λ n. refl; failed = refl }
 
 module _ {L : Type 0} (connection : L → ℕ) (allows : L → LinkCall → LinkAnswer → L → Type 0) where
   -- the link of a place, and what is told of it
@@ -158,7 +132,7 @@ module _ {L : Type 0} (connection : L → ℕ) (allows : L → LinkCall → Link
         stays_on ports last (stamped t told) is.1 places (λ q. told_calls q t told _ is.2.4 (submit_calls q t (command_of change) is.2.0))
     step_goes_on t (Port port) old new ports last told turned places is = port_goes_on t (nat_le port (length ports.links)) port old new ports last told places is.1
     step_goes_on t Flush old new ports last told turned places is =
-        stays_on ports last (stamped t told) is.0 places (λ q. turn_calls q t disk old.committed old new told turned is.1)
+        stays_on ports last (stamped t told) is.0 places (λ q. turn_says (λ (es : List Event). calls_told q (stamped t es)) (flusher_calls q t) disk old.committed old new told turned is.1)
 
     -- all that a run has told since a moment
     record HasTold (old new : RunView D L) : Type 0 where

@@ -4,6 +4,7 @@ pub mod CoreOnDisk
 pub mod Turns
 pub mod PortSteps
 pub mod Ports
+pub mod PortRuns
 pub mod Steps
 pub mod Runs
 pub mod Schedules

@@ -14,6 +14,7 @@ ghost use Rattle.iol_journal.specs.Running.{IsRunAtRest};
 ghost use Rattle.iol_trace.specs.CrashPrefix.{CrashPrefix};
 ghost use Rattle.iol_run.specs.Events.{stamp_of};
 ghost use Rattle.iol_run.specs.Flushed.{AllFlushed, queue_turns};
+ghost use Rattle.iol_run.specs.PortRuns.{ArePortRuns};
 ghost use Rattle.iol_run.specs.Runs.{KeepsRun};
 ghost use Rattle.iol_run.specs.Clocks.{ClocksRise};
 ghost use Rattle.iol_run.specs.Failures.{TellsFailures};
@@ -88,6 +89,10 @@ pub fn run_schedule<D: SectorDisk, L: DeviceLink + Drop>(
     ensures steps { IfOk result (λ trace. IsTraceOf D.disk L.number L.steps steps.now links.items trace.ended trace.waits (map stamp_of trace.events.items) trace.begun trace.state trace.links.items trace.disk) }
     // What is told of each port's link is a run of it, from the link that was handed in to the one in the trace.
     ensures links { IfOk result (λ trace. AreLinkRuns L.number L.steps links.items (map stamp_of trace.events.items) trace.links.items) }
+    // What is told of each port is a run of its machine, from a new one on: step by step, each with the port's link and with the
+    // core as it stood after the events before it. From the state on that the disk showed.
+    ensures ports { IfOk result (λ trace. Shows (D.disk disk) (λ image. (journal : Standing) → standing_in (D.disk disk).sectors image ≡ Ok journal
+        → ArePortRuns L.number L.steps journal.number journal.state links.items (map stamp_of trace.events.items) trace.links.items)) }
     // On an honest disk each event is stamped with the clock between what it showed before and what it shows then.
     ensures clocks { IfOk result (λ trace. IsTrue (D.disk trace.disk).honest
         → ClocksRise trace.begun (clock (D.disk trace.disk).content) (map stamp_of trace.events.items)) }
@@ -132,6 +137,8 @@ fn carry_out<D: SectorDisk, L: DeviceLink + Drop, F: Name>(
     requires ports { vec_len links ≡ length state }
     ensures trace { IfOk result (λ trace. IsTraceOf D.disk L.number L.steps steps.now links.items trace.ended trace.waits (map stamp_of trace.events.items) trace.begun trace.state trace.links.items trace.disk) }
     ensures links { IfOk result (λ trace. AreLinkRuns L.number L.steps links.items (map stamp_of trace.events.items) trace.links.items) }
+    ensures ports { IfOk result (λ trace. ArePortRuns L.number L.steps journal.standing.number journal.standing.state links.items
+        (map stamp_of trace.events.items) trace.links.items) }
     ensures clocks { IfOk result (λ trace. IsTrue (D.disk trace.disk).honest
         → ClocksRise trace.begun (clock (D.disk trace.disk).content) (map stamp_of trace.events.items)) }
     ensures failures { IfOk result (λ trace. TellsFailures (D.disk journal.disk) (D.disk trace.disk) (map stamp_of trace.events.items)) }

@@ -1,3 +1,4 @@
 pub mod Words
+pub mod Own
 pub mod Links
 pub mod CrashPrefix

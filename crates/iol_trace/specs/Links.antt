@@ -1,17 +1,14 @@
 -- What a trace tells of a port's link.
-use Rattle.std.specs.Prelude.{◌≡◌, ℕ, nat_eq, if◌then◌else◌, List, [], ◌∷◌, ◌++◌, Option, Some, None}
+use Rattle.std.specs.Prelude.{◌≡◌, ℕ, List, [], ◌∷◌, ◌++◌, Option, Some, None}
 use Rattle.iol_link.specs.Link as link
 use Rattle.iol_link.specs.Link.{Answered, LinkCall, LinkAnswer, TakeEvent, ReadPage, Octets, Gone, Run}
 use Rattle.iol_trace.specs.Events.{Event, Page, Exchange, Lost, Stamp}
+use Rattle.iol_trace.specs.Own.{at_port}
 
 -- the call at which a device was lost: the read of the page, or an exchange (own)
 abbrev pub lost_call : Option (List ℕ) → LinkCall
 lost_call None = ReadPage
 lost_call (Some request) = link.Exchange request
-
--- what an event of a port tells, where the port is this one (own)
-abbrev pub at_port : ℕ → ℕ → Answered → List Answered
-at_port port told made = if nat_eq told port then made ∷ [] else []
 
 -- the call of a port's link that an event tells, and its answer (own)
 abbrev pub call_told : ℕ → Event → List Answered

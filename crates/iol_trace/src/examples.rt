@@ -2,11 +2,13 @@
 
 ghost use Rattle.std.specs.Prelude.{◌≡◌, [], ◌∷◌, ◌++◌, take, Some, None};
 ghost use Rattle.iol_link.specs.Link as link;
-ghost use Rattle.iol_types.specs.Command.{Clear};
+ghost use Rattle.iol_types.specs.Command.{Clear, Store};
+ghost use Rattle.iol_types.specs.DataSet.{SetValue};
 ghost use Rattle.iol_trace.specs.Events as trace;
 ghost use Rattle.iol_trace.specs.Events.{Accepted, Acknowledged, Refused, DiskFailed, stamped};
 ghost use Rattle.iol_trace.specs.Links.{calls_told, without_events};
-ghost use Rattle.iol_trace.specs.Statuses.{QueueFull};
+ghost use Rattle.iol_trace.specs.Own.{own};
+ghost use Rattle.iol_trace.specs.Statuses.{QueueFull, Uploading};
 ghost use Rattle.iol_trace.specs.Words.{accepted, numbers, acked, clock_after, RiseByOne};
 
 /// Behind number 4, two commands are accepted and one is refused; the first is acknowledged at the clock 9, and then
@@ -37,4 +39,14 @@ pub fn the_calls_of_two_links()
     ensures events { without_events (record { connection = 0; call = link.TakeEvent; answer = link.Event 16384 }
         ∷ record { connection = 0; call = link.ReadPage; answer = link.Gone } ∷ [])
         ≡ record { connection = 0; call = link.ReadPage; answer = link.Gone } ∷ [] }
+{}
+
+/// Port 1 reads a page, is uploading, and its set is accepted; what a client asks for, what is acknowledged and what another
+/// port tells is not its own.
+pub fn the_own_events_of_a_port()
+    ensures first { (set : SetValue) → own 1 (stamped 7 (trace.Page 1 0 (5 ∷ []) ∷ trace.Changed 1 Uploading ∷ trace.Lost 2 0 None
+        ∷ Accepted 5 (Clear 1) ∷ Accepted 6 (Store 1 3 set) ∷ Acknowledged 6 ∷ []))
+        ≡ trace.Page 1 0 (5 ∷ []) ∷ trace.Changed 1 Uploading ∷ Accepted 6 (Store 1 3 set) ∷ [] }
+    ensures second { (set : SetValue) → own 2 (stamped 7 (trace.Lost 2 0 None ∷ Accepted 6 (Store 1 3 set) ∷ DiskFailed ∷ []))
+        ≡ trace.Lost 2 0 None ∷ [] }
 {}

@@ -12,6 +12,7 @@ use Rattle.iol_run.specs.declared.schedule.Ended.{Ended}
 use Rattle.iol_run.proofs.Crash.{begins, leaves}
 use Rattle.iol_run.proofs.Flushing.{all_flushed}
 use Rattle.iol_run.proofs.LinksMade.{all_link_runs}
+use Rattle.iol_run.proofs.PortRuns.{all_port_runs}
 use Rattle.iol_run.proofs.Clocks.{clocks_rise}
 use Rattle.iol_run.proofs.Failures.{tells_failures}
 use Rattle.iol_run.proofs.Stopped.{none_once_failed}
@@ -69,6 +70,14 @@ returns-in-Ok-clause-links g c =
     rw (c.end.ensures.told.0, c.end.ensures.links)
     (all_link_runs l.number l.steps d (take c.make_steps-ended.ensures.made.0 c.args.steps.now) c.make_steps-ended.result.1 c.args.journal links c.in-Ok.run' new
     c.in-Ok.ensures.fresh c.make_steps-ended.ensures.made.2)
+
+pub returns-in-Ok-clause-ports : goal.returns-in-Ok-clause-ports
+returns-in-Ok-clause-ports g c =
+    let l = g.L.DeviceLink in
+    let journal = c.args.journal in
+    rw (c.end.ensures.told.0, c.end.ensures.links)
+    (all_port_runs l.number l.steps journal.standing.number journal.standing.state g.D.SectorDisk.disk (take c.make_steps-ended.ensures.made.0 c.args.steps.now)
+    c.make_steps-ended.result.1 journal c.args.links.items c.in-Ok.run' c.make_steps-ended.new.run refl refl c.in-Ok.ensures.fresh c.make_steps-ended.ensures.made.2)
 
 pub returns-in-Ok-clause-stopped : goal.returns-in-Ok-clause-stopped
 returns-in-Ok-clause-stopped g c =

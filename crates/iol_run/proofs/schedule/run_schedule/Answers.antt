@@ -6,9 +6,10 @@ use Rattle.iol_journal.specs.Runs.{begun}
 use Rattle.iol_journal.specs.Running.{IsRunAtRest}
 use Rattle.iol_trace.specs.CrashPrefix.{CrashPrefix}
 use Rattle.iol_run.specs.Events.{stamp_of}
+use Rattle.iol_run.specs.PortRuns.{ArePortRuns}
 use Rattle.iol_run.proofs.Crash.{means_is, of_trace}
 use Rattle.iol_run.proofs.Failures.{trace_tells}
-use Rattle.iol_run.proofs.Layouts.{shown_flushed}
+use Rattle.iol_run.proofs.Layouts.{shown_flushed, shown_trace}
 use Rattle.iol_run.proofs.schedule.run_schedule.Goals as goal
 
 pub returns-in-Ok-new-clause-crash_prefix : goal.returns-in-Ok-new-clause-crash_prefix
@@ -32,6 +33,13 @@ returns-in-Ok-new-clause-crash_prefix g c =
 pub returns-in-Ok-new-clause-flushed : goal.returns-in-Ok-new-clause-flushed
 returns-in-Ok-new-clause-flushed g c =
     shown_flushed c.carry_out.result (g.D.SectorDisk.disk c.args.disk) c.in-Ok.journal.standing c.args.steps.now c.in-Ok.ensures.found c.carry_out.ensures.flushed
+
+pub returns-in-Ok-new-clause-ports : goal.returns-in-Ok-new-clause-ports
+returns-in-Ok-new-clause-ports g c =
+    let l = g.L.DeviceLink in
+    shown_trace c.carry_out.result (g.D.SectorDisk.disk c.args.disk) c.in-Ok.journal.standing
+    (λ journal trace. ArePortRuns l.number l.steps journal.number journal.state c.args.links.items (map stamp_of trace.events.items) trace.links.items)
+    c.in-Ok.ensures.found c.carry_out.ensures.ports
 
 pub returns-in-Ok-new-clause-failures : goal.returns-in-Ok-new-clause-failures
 returns-in-Ok-new-clause-failures g c =

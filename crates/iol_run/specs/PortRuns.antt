@@ -1,0 +1,54 @@
+-- What is told of a port is what its machine, its link and the core did, step by step.
+use Rattle.std.specs.Prelude.{◌≡◌, ◌<◌, ◌+◌, ℕ, zero, suc, List, [], ◌++◌, length, Some, slice_get}
+use Rattle.iol_types.specs.State.{State, after}
+use Rattle.iol_core.specs.Core.{CoreView, live, live_number}
+use Rattle.iol_link.specs.Link.{LinkCall, LinkAnswer}
+use Rattle.iol_port.specs.Stage.{PortValue, new_machine}
+use Rattle.iol_trace.specs.Events.{Event, Stamp, stamped}
+use Rattle.iol_trace.specs.Own.{own}
+use Rattle.iol_trace.specs.Words.{accepted, acked, durable}
+use Rattle.iol_run.specs.PortSteps.{PortStep}
+
+-- a core as it stands after these events of a run that began with a number and a state: its live state is that after the
+-- commands that were accepted, its durable state and number are those of the ones that were acknowledged (own)
+pub record IsCoreAfter (first : ℕ) (start : State) (events : List Stamp) (core : CoreView) : Type 0 where
+  pub live : live core ≡ after start (accepted events)
+  pub live_number : live_number core ≡ first + length (accepted events)
+  pub durable : core.durable ≡ durable first start events
+  pub number : core.number ≡ acked first events
+
+module _ {L : Type 0} (number : L → ℕ) (steps : L → LinkCall → LinkAnswer → L → Type 0) (first : ℕ) (start : State) where
+  -- the last step of a port's machine: it stood so before, was led there by what was told earlier, and made its step with its
+  -- link and with the core as it stood then; what it tells of that follows at once, and later nothing that is the port's own (own)
+  pub record HasStepped (Led : PortValue → L → List Stamp → Type 0) (port : ℕ) (machine : PortValue) (link : L) (events : List Stamp) : Type 0 where
+    pub before : PortValue
+    pub linked : L
+    pub old : CoreView
+    pub new : CoreView
+    pub earlier : List Stamp
+    pub clock : ℕ
+    pub called : List Event
+    pub status : List Event
+    pub later : List Stamp
+    pub led : Led before linked earlier
+    pub core : IsCoreAfter first start earlier old
+    pub step : PortStep number steps before machine linked link old new called status
+    pub told : events ≡ earlier ++ stamped clock (called ++ status) ++ later
+    pub others : own port later ≡ []
+
+  -- so many steps have led a port's machine, which was new, and its link to where they are, and told all that is told of the port (own)
+  abbrev pub IsPortRun : ℕ → L → ℕ → PortValue → L → List Stamp → Type 0
+  IsPortRun port begun zero machine link events = (machine ≡ new_machine port) × (link ≡ begun) × (own port events ≡ [])
+  IsPortRun port begun (suc made) machine link events = HasStepped (IsPortRun port begun made) port machine link events
+
+  -- what is told of a port is a run of its machine, from one link to another (own)
+  pub record HasPortRun (port : ℕ) (begun last : L) (events : List Stamp) : Type 0 where
+    pub made : ℕ
+    pub machine : PortValue
+    pub run : IsPortRun port begun made machine last events
+
+  -- what is told of each port that has a link is a run of its machine, from the link that was handed in to the one that is handed
+  -- out; of other ports nothing is told (own)
+  pub record ArePortRuns (links : List L) (events : List Stamp) (last : List L) : Type 0 where
+    pub runs : (place : ℕ) (begun link : L) → slice_get links place ≡ Some begun → slice_get last place ≡ Some link → HasPortRun (place + 1) begun link events
+    pub others : (port : ℕ) → length links < port → own port events ≡ []
