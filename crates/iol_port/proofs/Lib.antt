@@ -14,3 +14,5 @@ pub mod Settling
 pub mod SettlingLaws
 pub mod UploadEnds
 pub mod PortLaws
+pub mod Writing
+pub mod Restoring

@@ -230,7 +230,7 @@ goes-is : (one other : Sender) → GoesOn one ≡ GoesOn other → one ≡ other
 goes-is one other same = cc
 
 -- what goes on is a step of the download
-sent_step : (download next : Sender) (said : Answer) → sent download said ≡ GoesOn next → IsDownloadStep download said download_step.More next
+pub sent_step : (download next : Sender) (said : Answer) → sent download said ≡ GoesOn next → IsDownloadStep download said download_step.More next
 sent_step download next answer.WriteOk goes = by download.sends goes refl
   where
     by : (sends : Sends) → sent_well download.set sends ≡ GoesOn next → download.sends ≡ sends → IsDownloadStep download answer.WriteOk download_step.More next

@@ -1,11 +1,11 @@
 -- What the history of a port's machine tells of its transfers.
 use Rattle.std.specs.Prelude.{◌≡◌, ◌⊎◌, ℕ, false, true, List, [], ◌∷◌, ◌++◌, length, slice_index, Option, Some, None, Ok, Err}
-use Rattle.iol_types.specs.Config.{is_manual}
+use Rattle.iol_types.specs.Config.{is_manual, restores}
 use Rattle.iol_types.specs.DataSet.{SetValue, IsSet}
 use Rattle.iol_types.specs.declared.key.TheConstants.{DATA_STORAGE}
 use Rattle.iol_isdu.specs.Reading.{answer_of}
 use Rattle.iol_isdu.specs.declared.messages.Answer.{Answer}
-use Rattle.iol_isdu.specs.declared.messages.Answer.TheVariants.{Busy}
+use Rattle.iol_isdu.specs.declared.messages.Answer.TheVariants.{WriteOk, Busy}
 use Rattle.iol_isdu.specs.declared.messages.Request.{Request}
 use Rattle.iol_ident.specs.Page.{PageValue, page_of}
 use Rattle.iol_ident.specs.Validation.{ident_fault}
@@ -15,6 +15,7 @@ use Rattle.iol_dsindex.specs.declared.command.DsCommand.TheVariants as command
 use Rattle.iol_dsindex.specs.declared.object.TheConstants.{STATE_PROPERTY, PARAMETER_CHECKSUM}
 use Rattle.iol_transfer.specs.Exchanges.{Exchange, commanded, read_of, Follows}
 use Rattle.iol_transfer.specs.Upload.{IsFinished, number_of}
+use Rattle.iol_transfer.specs.Download.{IsDownload}
 use Rattle.iol_core.specs.declared.permit.UploadGrant.{UploadGrant}
 use Rattle.iol_core.specs.declared.port.Work.{Work}
 use Rattle.iol_core.specs.declared.ticket.TicketState.TheVariants as ticket
@@ -27,6 +28,7 @@ use Rattle.iol_port.specs.Wanted.{AnswerTo, ReplyTo}
 use Rattle.iol_port.specs.declared.action.Input.TheVariants as input
 use Rattle.iol_port.specs.declared.call.Reply.TheVariants as reply
 use Rattle.iol_port.specs.declared.decision.Decision.{Decision}
+use Rattle.iol_port.specs.declared.decision.Decision.TheVariants as decision
 use Rattle.iol_port.specs.declared.stage.Found.{Found}
 use Rattle.iol_port.specs.declared.stage.Held.{Held}
 use Rattle.iol_port.specs.declared.stage.Held.TheVariants as held
@@ -204,3 +206,35 @@ IsJudged (rest.Ready page) history = IsKnown page history
 IsJudged (rest.ReadyLocked page) history = IsKnown page history
 IsJudged (rest.ReadyEmpty page) history = IsKnown page history
 IsJudged (rest.Mismatch why page) history = IsMismatched why page history
+
+-- the core has last said what is to be done, and its validation restores nothing (own)
+abbrev pub RestoresNothing : List Happening → Type 0
+RestoresNothing history = (work : Work) × (last_work history ≡ Some work) × (restores work.config.validation ≡ false)
+
+-- the last that happened, events apart, is that it was decided so of the device with this page, which was found and examined
+-- (own)
+abbrev pub IsSoDecided : Decision → PageValue → List Happening → Type 0
+IsSoDecided is page history = (found : Found) × (checksum : ℕ) × IsDecided is found checksum history × (found.page ≡ page)
+
+-- a set was written to the device with this page: it came with the last permit to download, it is one for the numbers of the
+-- page, and the exchanges with the device since are a whole download of it, each request answered (+) (own)
+pub record HasRestored (port : ℕ) (page : PageValue) (history : List Happening) : Type 0 where
+  pub set : SetValue
+  pub conversation : List Exchange
+  pub downloaded : HasDownloaded port set conversation history
+  pub whole : IsDownload set conversation
+  pub vendor : set.vendor ≡ page.vendor
+  pub device : set.device ≡ page.device
+
+-- by the last that happened the device with this page has what is stored for it: the page was read, and nothing is to be
+-- restored; it was decided that the port is ready; the permit was returned under which a set was written to the device; or
+-- it answered (+) to DS_UploadEnd, and what it uploaded is durable (own)
+abbrev pub IsRestored : ℕ → PageValue → List Happening → Type 0
+IsRestored port page [] = ⊥
+IsRestored port page (Did wants (input.Page connection octets) ∷ before) = (page ≡ page_of octets) × RestoresNothing before
+IsRestored port page (Did wants (input.Reply (reply.Attended work)) ∷ before) =
+    IsSoDecided decision.Ready page (Did wants (input.Reply (reply.Attended work)) ∷ before)
+IsRestored port page (Did wants (input.Reply reply.EndedDownload) ∷ before) = HasRestored port page before
+IsRestored port page (Did wants (input.Octets octets) ∷ before) =
+    (wants ≡ AnswerTo (commanded command.UploadEnd)) × (answer_of octets.items ≡ Ok WriteOk) × IsDurable port before
+IsRestored port page (latest ∷ before) = ⊥

@@ -1,7 +1,8 @@
 //! Laws of the machines of ports, which no code calls: what all that has happened to a machine tells of its transfers.
 //! Proofs of other crates cite them from `proofs/PortLaws.antt` and `proofs/SettlingLaws.antt`, under the same names, that of
-//! permits from `proofs/Holding.antt` and `proofs/Releasing.antt`, and those of decisions, of a settled port's page and of
-//! failed transfers from `proofs/Deciding.antt`, `proofs/Comparing.antt` and `proofs/BreakingOff.antt`.
+//! permits from `proofs/Holding.antt` and `proofs/Releasing.antt`, and those of decisions, of a settled port's page, of failed
+//! transfers and of ready ports from `proofs/Deciding.antt`, `proofs/Comparing.antt`, `proofs/BreakingOff.antt` and
+//! `proofs/Restoring.antt`.
 
 ghost use Rattle.std.specs.Prelude.{◌≡◌, ◌⊎◌, ◌↔◌, ℕ, Bool, true, false, List, ◌∷◌, Option, Some, None, Err};
 ghost use Rattle.arrayvec.specs.ArrayVec.{ArrayVec};
@@ -10,7 +11,7 @@ ghost use Rattle.iol_core.specs.Core.{CoreView, IsCore, permit_at};
 ghost use Rattle.iol_types.specs.Config.{restores, backs_up};
 ghost use Rattle.iol_types.specs.DataSet.{SetValue};
 ghost use Rattle.iol_types.specs.declared.config.Validation.{Validation};
-ghost use Rattle.iol_ident.specs.Page.{page_of};
+ghost use Rattle.iol_ident.specs.Page.{PageValue, page_of};
 ghost use Rattle.iol_isdu.specs.declared.messages.Request.{Request};
 ghost use Rattle.iol_dsindex.specs.declared.command.DsCommand.TheVariants as command;
 ghost use Rattle.iol_dsindex.specs.declared.property.State.{State};
@@ -29,7 +30,7 @@ ghost use Rattle.iol_port.specs.Ending.{ended};
 ghost use Rattle.iol_port.specs.Permits.{HasOut, IsOfLink};
 ghost use Rattle.iol_port.specs.Heard.{Fits, fed, started, at_stage};
 ghost use Rattle.iol_port.specs.History.{Happening, Did, Happens, HasLed, ComesOf};
-ghost use Rattle.iol_port.specs.Laws.{HasUploaded, HasDownloaded, IsDurable, IsDecided, IsJudged, IsLostWith, held_by, page_at};
+ghost use Rattle.iol_port.specs.Laws.{HasUploaded, HasDownloaded, IsDurable, IsDecided, IsJudged, IsLostWith, IsRestored, IsSoDecided, held_by, page_at};
 ghost use Rattle.iol_port.specs.Stage.{Stage, PortValue, IsStage, Settled, Attending, Returning};
 ghost use Rattle.iol_port.specs.Status.{status_of};
 ghost use Rattle.iol_port.specs.Wanted.{Wanted, ThePage, AnswerTo, ReplyTo, wanted, after_action, return_of};
@@ -139,6 +140,23 @@ pub fn a_loss_keeps_nothing()
 pub fn a_port_settles_for_its_reason()
     ensures { (port : ℕ) (history : List Happening) (old new : PortValue) (latest : Happening) (own : Rest) → HasLed port history old
         → Happens old latest new → new.stage ≡ Settled own → (status_of old.stage ≡ status_of new.stage → ⊥) → IsJudged own (latest ∷ history) }
+{}
+
+/// A port becomes ready only where its device has what is stored for it: its page was read, and nothing is to be restored;
+/// or the device was found and examined, and it was decided so; or a permit to download is returned, and since it was given
+/// the set that came with it was written whole, each request answered (+); or the device answered (+) to DS_UploadEnd, and
+/// what it uploaded is durable. It becomes ready but locked, or ready and empty, only where that was decided. So no port
+/// becomes ready by a download or a DS_UploadEnd that its device refused, nor where a download was decided and not made.
+pub fn a_ready_port_has_its_set()
+    ensures ready { (port : ℕ) (history : List Happening) (old new : PortValue) (latest : Happening) (page : PageValue) → HasLed port history old
+        → Happens old latest new → new.stage ≡ Settled (rest.Ready page) → (status_of old.stage ≡ status_of new.stage → ⊥)
+        → IsRestored port page (latest ∷ history) }
+    ensures locked { (port : ℕ) (history : List Happening) (old new : PortValue) (latest : Happening) (page : PageValue) → HasLed port history old
+        → Happens old latest new → new.stage ≡ Settled (rest.ReadyLocked page) → (status_of old.stage ≡ status_of new.stage → ⊥)
+        → IsSoDecided decision.ReadyLocked page (latest ∷ history) }
+    ensures empty { (port : ℕ) (history : List Happening) (old new : PortValue) (latest : Happening) (page : PageValue) → HasLed port history old
+        → Happens old latest new → new.stage ≡ Settled (rest.ReadyEmpty page) → (status_of old.stage ≡ status_of new.stage → ⊥)
+        → IsSoDecided decision.ReadyEmpty page (latest ∷ history) }
 {}
 
 /// Where a page was read and the port is settled then, it is off, or the page that it keeps is the one that was read, in
