@@ -27,4 +27,5 @@ pub mod LinksMade
 pub mod CoreAfter
 pub mod OwnEvents
 pub mod Histories
+pub mod StatusesShown
 pub mod PortRuns

@@ -12,15 +12,19 @@ use Rattle.iol_journal.specs.Journals.{JournalView}
 use Rattle.iol_link.specs.Link.{LinkCall, LinkAnswer}
 use Rattle.iol_port.proofs.Leading.{led_is}
 use Rattle.iol_port.specs.Stage.{PortValue, new_machine}
+use Rattle.iol_port.specs.Status.{status_of}
+use Rattle.iol_port.specs.Telling.{status_told}
 use Rattle.iol_trace.proofs.Own.{own-append}
 use Rattle.iol_trace.specs.Events.{Event, Stamp, stamped}
-use Rattle.iol_trace.specs.Own.{own}
+use Rattle.iol_trace.specs.Own.{own, status_after, status_shown}
+use Rattle.iol_trace.specs.Statuses.{Off}
 use Rattle.iol_trace.specs.Words.{accepted, acked}
 use Rattle.iol_run.proofs.CoreAfter.{Stands, core_after, step_stands}
 use Rattle.iol_run.proofs.FlusherTells.{turn_says}
 use Rattle.iol_run.proofs.Histories.{Led, step_led}
 use Rattle.iol_run.proofs.Machines.{elsewhere, machines_length, machines_new, one_some}
 use Rattle.iol_run.proofs.OwnEvents.{submit_own, flusher_own, step_own}
+use Rattle.iol_run.proofs.StatusesShown.{status-append, step_status}
 use Rattle.iol_run.specs.CoreOnDisk.{CoreOnDiskView, clock_of}
 use Rattle.iol_run.specs.PortRuns.{IsPortRun, ArePortRuns, IsCoreAfter}
 use Rattle.iol_run.specs.Ports.{PortsView, StepsThere, StepsIf, new_machines}
@@ -48,6 +52,30 @@ module _ {L : Type 0} (number : L → ℕ) (steps : L → LinkCall → LinkAnswe
   run_led port begun (suc made) machine link events is =
       step_led number steps port is.before machine is.linked link is.old is.new is.called is.status
       (run_led port begun made is.before is.linked is.earlier is.led) is.step
+
+  -- its status is the one that was told last
+  run_status : (port : ℕ) (begun : L) (made : ℕ) (machine : PortValue) (link : L) (events : List Stamp) → IsRun port begun made machine link events
+      → status_shown port events ≡ status_told (status_of machine.stage)
+  run_status port begun zero machine link events is =
+      ap (status_after Off) is.2 ∙ ap (λ (m : PortValue). status_told (status_of m.stage)) (sym is.0)
+  run_status port begun (suc made) machine link events is =
+      ap (λ (ss : List Stamp). status_shown port ss) is.told
+      ∙ (ap (status_after Off) (own-append port (is.earlier ++ told) is.later)
+      ∙ (ap (λ (es : List Event). status_after Off (own port (is.earlier ++ told) ++ es)) is.others
+      ∙ (ap (status_after Off) (append-nil (own port (is.earlier ++ told)))
+      ∙ (ap (status_after Off) (own-append port is.earlier told)
+      ∙ (status-append Off (own port is.earlier) (own port told)
+      ∙ step_status port is.clock number steps (status_shown port is.earlier) is.before machine is.linked link is.old is.new is.called is.status
+      (run_status port begun made is.before is.linked is.earlier is.led) there is.step)))))
+    where
+      told : List Stamp
+      told = stamped is.clock (is.called ++ is.status)
+
+      led : Led port machine
+      led = run_led port begun (suc made) machine link events is
+
+      there : machine.port ≡ port
+      there = (led_is port led.0 machine led.1).port_is
 
   -- events that are not the port's own change nothing
   more_events : (port : ℕ) (begun : L) (made : ℕ) (machine : PortValue) (link : L) (events more : List Stamp) → IsRun port begun made machine link events
@@ -224,7 +252,15 @@ module _ {L : Type 0} (number : L → ℕ) (steps : L → LinkCall → LinkAnswe
               let inside = slice_get_within new.ports.links place link linked in
               let machine = slice_get-get_or new.ports.machines place (new_machine 0) (omega (arith, inside, are.machines)) in
               let run = are.runs place begun link (get_or new.ports.machines place (new_machine 0)) at linked machine in
-              record { made = run.0; machine = get_or new.ports.machines place (new_machine 0); run = run.1 };
+              let led = run_led (place + 1) begun run.0 (get_or new.ports.machines place (new_machine 0)) link new.events run.1 in
+              record {
+                made = run.0;
+                machine = get_or new.ports.machines place (new_machine 0);
+                run = run.1;
+                history = led.0;
+                led = led.1;
+                status = run_status (place + 1) begun run.0 (get_or new.ports.machines place (new_machine 0)) link new.events run.1;
+              };
           others = are.others;
         }
       where

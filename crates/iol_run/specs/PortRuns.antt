@@ -3,9 +3,12 @@ use Rattle.std.specs.Prelude.{◌≡◌, ◌<◌, ◌+◌, ℕ, zero, suc, List,
 use Rattle.iol_types.specs.State.{State, after}
 use Rattle.iol_core.specs.Core.{CoreView, live, live_number}
 use Rattle.iol_link.specs.Link.{LinkCall, LinkAnswer}
+use Rattle.iol_port.specs.History.{Happening, HasLed}
 use Rattle.iol_port.specs.Stage.{PortValue, new_machine}
+use Rattle.iol_port.specs.Status.{status_of}
+use Rattle.iol_port.specs.Telling.{status_told}
 use Rattle.iol_trace.specs.Events.{Event, Stamp, stamped}
-use Rattle.iol_trace.specs.Own.{own}
+use Rattle.iol_trace.specs.Own.{own, status_shown}
 use Rattle.iol_trace.specs.Words.{accepted, acked, durable}
 use Rattle.iol_run.specs.PortSteps.{PortStep}
 
@@ -41,11 +44,15 @@ module _ {L : Type 0} (number : L → ℕ) (steps : L → LinkCall → LinkAnswe
   IsPortRun port begun zero machine link events = (machine ≡ new_machine port) × (link ≡ begun) × (own port events ≡ [])
   IsPortRun port begun (suc made) machine link events = HasStepped (IsPortRun port begun made) port machine link events
 
-  -- what is told of a port is a run of its machine, from one link to another (own)
+  -- what is told of a port is a run of its machine, from one link to another; the machine has a history, and its status is the one
+  -- that was told last (own)
   pub record HasPortRun (port : ℕ) (begun last : L) (events : List Stamp) : Type 0 where
     pub made : ℕ
     pub machine : PortValue
     pub run : IsPortRun port begun made machine last events
+    pub history : List Happening
+    pub led : HasLed port history machine
+    pub status : status_shown port events ≡ status_told (status_of machine.stage)
 
   -- what is told of each port that has a link is a run of its machine, from the link that was handed in to the one that is handed
   -- out; of other ports nothing is told (own)

@@ -1,7 +1,8 @@
 -- A port's own events.
-use Rattle.std.specs.Prelude.{ℕ, nat_eq, if◌then◌else◌, List, [], ◌∷◌, ◌++◌}
+use Rattle.std.specs.Prelude.{ℕ, nat_eq, if◌then◌else◌, List, [], ◌∷◌, ◌++◌, fold}
 use Rattle.iol_types.specs.Command.{CommandValue, Configure, Clear, Store}
 use Rattle.iol_trace.specs.Events.{Event, Accepted, Refused, Page, Exchange, Lost, Attended, Changed, Acknowledged, DiskFailed, Stamp}
+use Rattle.iol_trace.specs.Statuses.{Status, Off}
 
 -- what is told of a port, where the port is this one (own)
 abbrev pub at_port : {A : Type 0} → ℕ → ℕ → A → List A
@@ -30,3 +31,16 @@ own_in port DiskFailed = []
 abbrev pub own : ℕ → List Stamp → List Event
 own port [] = []
 own port (e ∷ events) = own_in port e.event ++ own port events
+
+-- the status after an event (own)
+abbrev pub status_by : Status → Event → Status
+status_by was (Changed told status) = status
+status_by was event = was
+
+-- the status that events tell last, or the one before them (own)
+abbrev pub status_after : Status → List Event → Status
+status_after was events = fold (λ (s : Status) (e : Event). status_by s e) was events
+
+-- the status of a port as events tell it: off, until another is told (own)
+abbrev pub status_shown : ℕ → List Stamp → Status
+status_shown port events = status_after Off (own port events)

@@ -7,8 +7,8 @@ ghost use Rattle.iol_types.specs.DataSet.{SetValue};
 ghost use Rattle.iol_trace.specs.Events as trace;
 ghost use Rattle.iol_trace.specs.Events.{Accepted, Acknowledged, Refused, DiskFailed, stamped};
 ghost use Rattle.iol_trace.specs.Links.{calls_told, without_events};
-ghost use Rattle.iol_trace.specs.Own.{own};
-ghost use Rattle.iol_trace.specs.Statuses.{QueueFull, Uploading};
+ghost use Rattle.iol_trace.specs.Own.{own, status_shown};
+ghost use Rattle.iol_trace.specs.Statuses.{QueueFull, Off, Uploading};
 ghost use Rattle.iol_trace.specs.Words.{accepted, numbers, acked, clock_after, RiseByOne};
 
 /// Behind number 4, two commands are accepted and one is refused; the first is acknowledged at the clock 9, and then
@@ -49,4 +49,6 @@ pub fn the_own_events_of_a_port()
         ≡ trace.Page 1 0 (5 ∷ []) ∷ trace.Changed 1 Uploading ∷ Accepted 6 (Store 1 3 set) ∷ [] }
     ensures second { (set : SetValue) → own 2 (stamped 7 (trace.Lost 2 0 None ∷ Accepted 6 (Store 1 3 set) ∷ DiskFailed ∷ []))
         ≡ trace.Lost 2 0 None ∷ [] }
+    ensures status { status_shown 1 (stamped 7 (trace.Page 1 0 (5 ∷ []) ∷ trace.Changed 1 Uploading ∷ trace.Changed 2 Off ∷ [])) ≡ Uploading }
+    ensures none { status_shown 2 (stamped 7 (trace.Page 2 0 (5 ∷ []) ∷ [])) ≡ Off }
 {}
