@@ -1,13 +1,12 @@
 //! Changes under way: another configuration in an upload, a set that is cleared, and a device that wants an upload.
 
+use super::beginnings::{FIRST_READ, REST_READ, found, stored_under};
 use super::devices::{
     CHECKSUM, add, configured, has_values, link_to, port_step, run_from_empty, sensor, stored_in,
     upload_steps,
 };
-use super::lines::{Line, assert_told};
-use super::messages::{
-    BREAK, FIRST_VALUE, FLAG_SET, LIST, SECOND_VALUE, SIZE, SUM, UPLOAD_END, UPLOAD_START,
-};
+use super::lines::{Line, assert_parts, assert_told};
+use super::messages::{BREAK, FLAG_SET, SUM};
 use super::scene::configure_for;
 use super::uploads::UPLOADED;
 use crate::Step;
@@ -17,22 +16,8 @@ use iol_sim::{SimLink, Visit};
 use iol_types::{Change, PortId};
 use std::process::Abort;
 
-// The port is configured for another device when the first value has been read.
-const CONFIGURED_OVER: [Line<'static>; 19] = [
-    Line::Attended(None),
-    Line::Status(PortStatus::Starting),
-    Line::Page,
-    FLAG_SET,
-    SUM,
-    Line::Attended(None),
-    Line::Status(PortStatus::Uploading),
-    UPLOAD_START,
-    SIZE,
-    LIST,
-    FIRST_VALUE,
-    Line::Accepted(2),
-    SECOND_VALUE,
-    SUM,
+// The port is configured for another device when the first value has been read, and the upload comes to nothing.
+const CONFIGURED_OVER: [Line<'static>; 5] = [
     BREAK,
     Line::Attended(None),
     Line::Status(PortStatus::Starting),
@@ -41,28 +26,7 @@ const CONFIGURED_OVER: [Line<'static>; 19] = [
 ];
 
 // The settled sensor wants an upload when its page has been read.
-const ASKED_FOR: [Line<'static>; 20] = [
-    Line::Attended(Some(CHECKSUM)),
-    Line::Page,
-    Line::Attended(Some(CHECKSUM)),
-    Line::Status(PortStatus::Starting),
-    Line::Page,
-    FLAG_SET,
-    SUM,
-    Line::Attended(Some(CHECKSUM)),
-    Line::Status(PortStatus::Uploading),
-    UPLOAD_START,
-    SIZE,
-    LIST,
-    FIRST_VALUE,
-    SECOND_VALUE,
-    SUM,
-    Line::Accepted(3),
-    Line::Status(PortStatus::Storing),
-    Line::Acknowledged(3),
-    UPLOAD_END,
-    Line::Status(PortStatus::Ready),
-];
+const ASKED_FOR: [Line<'static>; 2] = [Line::Attended(Some(CHECKSUM)), Line::Page];
 
 #[test]
 fn a_set_of_an_older_configuration_is_not_stored(rt: HostRuntime) {
@@ -72,7 +36,10 @@ fn a_set_of_an_older_configuration_is_not_stored(rt: HostRuntime) {
     let device = sensor(&rt, rt.alloc()).with_flag();
     let link = link_to(&rt, rt.alloc(), device, None);
     let trace = run_from_empty(&rt, rt.alloc(), link, &steps);
-    assert_told(&rt, &trace.events, 2, &CONFIGURED_OVER);
+    let found = found(FLAG_SET, SUM, None);
+    let accepted = [Line::Accepted(2)];
+    let parts: [&[Line<'_>]; 5] = [&found, &FIRST_READ, &accepted, &REST_READ, &CONFIGURED_OVER];
+    assert_parts(&rt, &trace.events, 2, &parts);
     assert!(rt; stored_in(&trace.state).is_none());
 }
 
@@ -95,7 +62,7 @@ fn a_cleared_set_is_gone(rt: HostRuntime) {
         Line::Attended(None),
         Line::Page,
     ];
-    assert_told(&rt, &trace.events, UPLOADED.len(), &lines);
+    assert_told(&rt, &trace.events, UPLOADED, &lines);
     assert!(rt; stored_in(&trace.state).is_none());
 }
 
@@ -111,6 +78,9 @@ fn a_device_that_asks_for_it_is_backed_up_again(rt: HostRuntime) {
         .push(Visit::new(device, None, Some(11)))
         .expect(&rt, "a visit");
     let trace = run_from_empty(&rt, rt.alloc(), SimLink::new(visits), &steps);
-    assert_told(&rt, &trace.events, UPLOADED.len(), &ASKED_FOR);
+    let found = found(FLAG_SET, SUM, Some(CHECKSUM));
+    let stored = stored_under(3);
+    let parts: [&[Line<'_>]; 5] = [&ASKED_FOR, &found, &FIRST_READ, &REST_READ, &stored];
+    assert_parts(&rt, &trace.events, UPLOADED, &parts);
     assert!(rt; has_values(&trace.state));
 }

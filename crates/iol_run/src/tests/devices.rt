@@ -92,10 +92,35 @@ pub fn port_step() -> Step {
     Step::Port(PortId::new(1).unwrap())
 }
 
+// Appends steps of the first so many ports in turn, so many of each.
+fn add_in_turn<R: Abort>(rt: &R, steps: &mut Vec<Step>, ports: u8, times: usize) {
+    for _ in 0..times {
+        add_round(rt, steps, ports);
+    }
+}
+
+// Appends a step of each of the first so many ports.
+fn add_round<R: Abort>(rt: &R, steps: &mut Vec<Step>, ports: u8) {
+    for number in 1..=ports {
+        let port = PortId::new(number).expect(rt, "a port");
+        add(rt, steps, Step::Port(port), 1);
+    }
+}
+
 /// Port 1 is configured, which the flusher's seven turns make durable; the port then makes so many steps.
 pub fn configured<R: Abort>(rt: &R, alloc: Global, port_steps: usize) -> Vec<Step> {
+    configured_by(rt, alloc, configure(rt, 1), port_steps)
+}
+
+/// A client's command, which the flusher's seven turns make durable; port 1 then makes so many steps.
+pub fn configured_by<R: Abort>(
+    rt: &R,
+    alloc: Global,
+    command: Step,
+    port_steps: usize,
+) -> Vec<Step> {
     let mut steps = Vec::new(alloc);
-    add(rt, &mut steps, configure(rt, 1), 1);
+    add(rt, &mut steps, command, 1);
     add(rt, &mut steps, Step::Flush, 7);
     add(rt, &mut steps, port_step(), port_steps);
     steps
@@ -103,9 +128,20 @@ pub fn configured<R: Abort>(rt: &R, alloc: Global, port_steps: usize) -> Vec<Ste
 
 /// Port 1 is configured, its sensor's 13 steps read the set, seven turns store it, and two steps end the upload.
 pub fn upload_steps<R: Abort>(rt: &R, alloc: Global) -> Vec<Step> {
-    let mut steps = configured(rt, alloc, 13);
+    upload_steps_at(rt, alloc, 1)
+}
+
+/// The same at each of the first so many ports, three at most, which make their steps in turn: their Configures are one
+/// batch, and their sets another.
+pub fn upload_steps_at<R: Abort>(rt: &R, alloc: Global, ports: u8) -> Vec<Step> {
+    let mut steps = Vec::new(alloc);
+    for number in 1..=ports {
+        add(rt, &mut steps, configure(rt, number), 1);
+    }
     add(rt, &mut steps, Step::Flush, 7);
-    add(rt, &mut steps, port_step(), 2);
+    add_in_turn(rt, &mut steps, ports, 13);
+    add(rt, &mut steps, Step::Flush, 7);
+    add_in_turn(rt, &mut steps, ports, 2);
     steps
 }
 

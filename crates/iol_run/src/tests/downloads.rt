@@ -1,11 +1,12 @@
 //! A stored set is written to a device that comes in place of a lost one.
 
+use super::beginnings::{LEFT_ALONE, LOST, found};
 use super::devices::{
     CHECKSUM, FIRST, SECOND, VALUES, add, blank_sensor, has_values, link_to_both, port_step,
     run_from_empty, sensor, sensor_of, upload_steps,
 };
-use super::lines::{Line, assert_told};
-use super::messages::{BREAK, DONE, DOWNLOAD_END, DOWNLOAD_START, FLAG_CLEAR, SUM};
+use super::lines::{Line, assert_parts};
+use super::messages::{BREAK, DONE, DOWNLOAD_END, DOWNLOAD_START, FLAG_CLEAR, NO_SUM, SUM};
 use super::uploads::UPLOADED;
 use crate::Trace;
 use iol_disk::MemoryDisk;
@@ -16,23 +17,11 @@ use iol_types::DeviceId;
 use std::alloc::Global;
 use std::process::Abort;
 
-// How many calls the upload makes of the sensor.
-const UPLOAD_CALLS: u64 = 10;
+/// How many calls the upload makes of the sensor.
+pub const UPLOAD_CALLS: u64 = 10;
 
-// The sensor is lost, and a blank one gets its parameters.
-const REPLACED: [Line<'static>; 17] = [
-    Line::Attended(Some(CHECKSUM)),
-    Line::Lost,
-    Line::Status(PortStatus::Lost),
-    Line::Attended(Some(CHECKSUM)),
-    Line::Status(PortStatus::Starting),
-    Line::Page,
-    FLAG_CLEAR,
-    Line::Exchange(
-        &[0xA4, 0x03, 0x04, 0xA3],
-        &[0xD6, 0x00, 0x00, 0x00, 0x00, 0xD6],
-    ),
-    Line::Attended(Some(CHECKSUM)),
+/// A blank sensor gets the stored parameters.
+pub const WRITTEN: [Line<'static>; 8] = [
     Line::Status(PortStatus::Downloading),
     DOWNLOAD_START,
     Line::Exchange(&[0x15, 0x40, 0x0A, 0x64, 0x3B], &DONE),
@@ -43,47 +32,16 @@ const REPLACED: [Line<'static>; 17] = [
     Line::Page,
 ];
 
-// The sensor is lost, and one comes that has its parameters.
-const THE_SAME: [Line<'static>; 12] = [
-    Line::Attended(Some(CHECKSUM)),
-    Line::Lost,
-    Line::Status(PortStatus::Lost),
-    Line::Attended(Some(CHECKSUM)),
-    Line::Status(PortStatus::Starting),
-    Line::Page,
-    FLAG_CLEAR,
-    SUM,
-    Line::Attended(Some(CHECKSUM)),
-    Line::Status(PortStatus::Ready),
-    Line::Attended(Some(CHECKSUM)),
-    Line::Page,
-];
-
-// The sensor is lost, and another kind of device comes.
-const ANOTHER_KIND: [Line<'static>; 7] = [
-    Line::Attended(Some(CHECKSUM)),
-    Line::Lost,
-    Line::Status(PortStatus::Lost),
+// Another kind of device comes.
+const ANOTHER_KIND: [Line<'static>; 4] = [
     Line::Attended(Some(CHECKSUM)),
     Line::Status(PortStatus::Starting),
     Line::Page,
     Line::Status(PortStatus::Mismatch(IdentFault::Device)),
 ];
 
-// The sensor is lost, and one comes whose first parameter is shorter: it refuses the write, and the download is broken off.
-const REFUSED: [Line<'static>; 14] = [
-    Line::Attended(Some(CHECKSUM)),
-    Line::Lost,
-    Line::Status(PortStatus::Lost),
-    Line::Attended(Some(CHECKSUM)),
-    Line::Status(PortStatus::Starting),
-    Line::Page,
-    FLAG_CLEAR,
-    Line::Exchange(
-        &[0xA4, 0x03, 0x04, 0xA3],
-        &[0xD6, 0x00, 0x00, 0x00, 0x00, 0xD6],
-    ),
-    Line::Attended(Some(CHECKSUM)),
+// A sensor whose first parameter is shorter refuses the write, and the download is broken off.
+const REFUSED: [Line<'static>; 5] = [
     Line::Status(PortStatus::Downloading),
     DOWNLOAD_START,
     Line::Exchange(&[0x15, 0x40, 0x0A, 0x64, 0x3B], &[0x44, 0x80, 0x33, 0xF7]),
@@ -100,7 +58,9 @@ fn a_device_that_refuses_a_parameter_is_not_ready(rt: HostRuntime) {
     let mut second = SimDevice::new(rt.alloc(), 500, number, 0x11, true);
     second.add(FIRST, &[0]).expect(&rt, "a parameter");
     let trace = replaced_by(&rt, rt.alloc(), second, 12);
-    assert_told(&rt, &trace.events, UPLOADED.len(), &REFUSED);
+    let found = found(FLAG_CLEAR, NO_SUM, Some(CHECKSUM));
+    let parts: [&[Line<'_>]; 3] = [&LOST, &found, &REFUSED];
+    assert_parts(&rt, &trace.events, UPLOADED, &parts);
     assert!(rt; has_values(&trace.state));
 }
 
@@ -108,7 +68,9 @@ fn a_device_that_refuses_a_parameter_is_not_ready(rt: HostRuntime) {
 fn a_blank_device_gets_the_stored_set(rt: HostRuntime) {
     let second = blank_sensor(&rt, rt.alloc());
     let trace = replaced_by(&rt, rt.alloc(), second, 15);
-    assert_told(&rt, &trace.events, UPLOADED.len(), &REPLACED);
+    let found = found(FLAG_CLEAR, NO_SUM, Some(CHECKSUM));
+    let parts: [&[Line<'_>]; 3] = [&LOST, &found, &WRITTEN];
+    assert_parts(&rt, &trace.events, UPLOADED, &parts);
     assert!(rt; has_values(&trace.state));
     let link = trace.links.first().expect(&rt, "a link");
     let device = link.device(1).expect(&rt, "a second device");
@@ -121,14 +83,17 @@ fn a_blank_device_gets_the_stored_set(rt: HostRuntime) {
 fn a_device_with_the_stored_set_is_left_alone(rt: HostRuntime) {
     let second = sensor(&rt, rt.alloc());
     let trace = replaced_by(&rt, rt.alloc(), second, 9);
-    assert_told(&rt, &trace.events, UPLOADED.len(), &THE_SAME);
+    let found = found(FLAG_CLEAR, SUM, Some(CHECKSUM));
+    let parts: [&[Line<'_>]; 3] = [&LOST, &found, &LEFT_ALONE];
+    assert_parts(&rt, &trace.events, UPLOADED, &parts);
 }
 
 #[test]
 fn a_device_of_another_kind_gets_nothing(rt: HostRuntime) {
     let second = sensor_of(&rt, rt.alloc(), 500, 43982, ([0, 0], 0));
     let trace = replaced_by(&rt, rt.alloc(), second, 4);
-    assert_told(&rt, &trace.events, UPLOADED.len(), &ANOTHER_KIND);
+    let parts: [&[Line<'_>]; 2] = [&LOST, &ANOTHER_KIND];
+    assert_parts(&rt, &trace.events, UPLOADED, &parts);
     assert!(rt; has_values(&trace.state));
 }
 

@@ -79,6 +79,26 @@ pub fn assert_told<R: Abort>(rt: &R, events: &[Stamped], from: usize, lines: &[L
     assert!(rt; rest.len() == lines.len(), "{} events", rest.len());
 }
 
+/// A run has told these parts, one behind another, and nothing else, from this event on.
+pub fn assert_parts<R: Abort>(rt: &R, events: &[Stamped], from: usize, parts: &[&[Line<'_>]]) {
+    let mut rest = events.get(from..).expect(rt, "so many events");
+    for part in parts {
+        let (told, behind) = rest.split_at(part.len().min(rest.len()));
+        assert_told(rt, told, 0, part);
+        rest = behind;
+    }
+    assert!(rt; rest.is_empty(), "{} events more", rest.len());
+}
+
+/// Whether a port has shown these statuses, and no others.
+pub fn has_shown(events: &[Stamped], number: u8, statuses: &[PortStatus]) -> bool {
+    let shown = events.iter().filter_map(|stamped| match &stamped.event {
+        Event::Status { port, status } if port.number() == number => Some(*status),
+        _ => None,
+    });
+    shown.eq(statuses.iter().copied())
+}
+
 /// How many lines like this one were told.
 pub fn count(events: &[Stamped], line: Line<'_>) -> usize {
     events

@@ -20,11 +20,16 @@ pub fn configure<R: Abort>(rt: &R, port: u8) -> Step {
 
 /// A client configures a port for the device with this DeviceID.
 pub fn configure_for<R: Abort>(rt: &R, port: u8, device: u32) -> Step {
+    configure_under(rt, port, device, Validation::BackupAndRestore)
+}
+
+/// A client configures a port for the device with this DeviceID, under this validation.
+pub fn configure_under<R: Abort>(rt: &R, port: u8, device: u32, validation: Validation) -> Step {
     Step::Client(Change::Configure {
         port: PortId::new(port).expect(rt, "a port"),
         config: PortConfig {
             mode: PortMode::IolManual,
-            validation: Validation::BackupAndRestore,
+            validation,
             vendor: 500,
             device: DeviceId::new(device).expect(rt, "a DeviceID"),
         },

@@ -9,8 +9,8 @@ use iol_sim::SimDevice;
 use iol_types::DeviceId;
 use std::process::Abort;
 
-// What is told of a device that is not the one that is wanted: its page alone is read, again and again.
-fn mismatch(fault: IdentFault) -> [Line<'static>; 8] {
+/// What is told of a device that is not the one that is wanted: its page alone is read, again and again.
+pub fn mismatch(fault: IdentFault) -> [Line<'static>; 8] {
     [
         Line::Attended(None),
         Line::Status(PortStatus::Starting),

@@ -1,11 +1,11 @@
 //! Two ports at work in turn, each with its own device.
 
-use super::devices::{FIRST, SECOND, add, link_to, sensor, sensor_of};
-use super::lines::{Line, count};
-use super::scene::{configure, formatted, run_at};
-use crate::{Event, Stamped, Step, Trace};
+use super::beginnings::STORED;
+use super::devices::{FIRST, SECOND, link_to, sensor, sensor_of, upload_steps_at};
+use super::lines::{Line, count, has_shown};
+use super::scene::{formatted, run_at};
+use crate::{Step, Trace};
 use iol_disk::MemoryDisk;
-use iol_port::PortStatus;
 use iol_sim::SimLink;
 use iol_types::{Key, PortId};
 use std::alloc::Global;
@@ -14,18 +14,12 @@ use std::process::Abort;
 // Both Configures are one batch, and both sets another.
 #[test]
 fn two_sets_are_stored_in_one_batch(rt: HostRuntime) {
-    let mut steps = Vec::new(rt.alloc());
-    add(&rt, &mut steps, configure(&rt, 1), 1);
-    add(&rt, &mut steps, configure(&rt, 2), 1);
-    add(&rt, &mut steps, Step::Flush, 7);
-    add_in_turn(&rt, &mut steps, 13);
-    add(&rt, &mut steps, Step::Flush, 7);
-    add_in_turn(&rt, &mut steps, 2);
+    let steps = upload_steps_at(&rt, rt.alloc(), 2);
     let trace = run_over_two(&rt, rt.alloc(), &steps);
     assert!(rt; count(&trace.events, Line::Acknowledged(2)) == 1);
     assert!(rt; count(&trace.events, Line::Acknowledged(4)) == 1);
     for number in 1..=2 {
-        assert!(rt; has_shown(&trace.events, number), "port {number}");
+        assert!(rt; has_shown(&trace.events, number, &STORED), "port {number}");
     }
     assert!(rt;
         is_stored(&trace, 1, FIRST, &[0x0A, 0x64]) && is_stored(&trace, 1, SECOND, &[0x7F])
@@ -33,14 +27,6 @@ fn two_sets_are_stored_in_one_batch(rt: HostRuntime) {
     assert!(rt;
         is_stored(&trace, 2, FIRST, &[0x01, 0x02]) && is_stored(&trace, 2, SECOND, &[0x03])
     );
-}
-
-// Appends steps of port 1 and of port 2, so many of each.
-fn add_in_turn<R: Abort>(rt: &R, steps: &mut Vec<Step>, times: usize) {
-    for _ in 0..times {
-        add(rt, steps, Step::Port(PortId::new(1).unwrap()), 1);
-        add(rt, steps, Step::Port(PortId::new(2).unwrap()), 1);
-    }
 }
 
 // A run over two sensors with different values, both of which want an upload.
@@ -55,21 +41,6 @@ fn run_over_two<R: Abort>(rt: &R, alloc: Global, steps: &[Step]) -> Trace<Memory
         .push(link_to(rt, alloc, second, None))
         .expect(rt, "a link");
     run_at(rt, alloc, formatted(rt, alloc, 2), links, steps)
-}
-
-// Whether a port has shown the statuses of an upload, each once.
-fn has_shown(events: &[Stamped], number: u8) -> bool {
-    let statuses = [
-        PortStatus::Starting,
-        PortStatus::Uploading,
-        PortStatus::Storing,
-        PortStatus::Ready,
-    ];
-    let shown = events.iter().filter_map(|stamped| match &stamped.event {
-        Event::Status { port, status } if port.number() == number => Some(*status),
-        _ => None,
-    });
-    shown.eq(statuses)
 }
 
 // Whether a parameter is stored for a port.
