@@ -3,6 +3,7 @@
 mod allocations;
 mod ample_memory;
 mod beginnings;
+mod busy_ports;
 mod changes;
 mod commands;
 mod devices;
@@ -17,6 +18,10 @@ mod messages;
 mod power;
 mod restarts;
 mod scene;
+mod stopped_changes;
+mod stopped_large_sets;
+mod stopped_losses;
+mod stopped_twice;
 mod stops;
 mod strangers;
 mod three_ports;

@@ -14,6 +14,7 @@ use iol_ident::IdentFault;
 use iol_port::PortStatus;
 use iol_sim::{SimLink, Visit};
 use iol_types::{Change, PortId};
+use std::alloc::Global;
 use std::process::Abort;
 
 // The port is configured for another device when the first value has been read, and the upload comes to nothing.
@@ -46,11 +47,7 @@ fn a_set_of_an_older_configuration_is_not_stored(rt: HostRuntime) {
 // Nothing is begun by it: the port reads the page, as before.
 #[test]
 fn a_cleared_set_is_gone(rt: HostRuntime) {
-    let mut steps = upload_steps(&rt, rt.alloc());
-    let port = PortId::new(1).expect(&rt, "a port");
-    add(&rt, &mut steps, Step::Client(Change::Clear { port }), 1);
-    add(&rt, &mut steps, Step::Flush, 7);
-    add(&rt, &mut steps, port_step(), 4);
+    let steps = cleared_steps(&rt, rt.alloc());
     let device = sensor(&rt, rt.alloc()).with_flag();
     let link = link_to(&rt, rt.alloc(), device, None);
     let trace = run_from_empty(&rt, rt.alloc(), link, &steps);
@@ -83,4 +80,20 @@ fn a_device_that_asks_for_it_is_backed_up_again(rt: HostRuntime) {
     let parts: [&[Line<'_>]; 5] = [&ASKED_FOR, &found, &FIRST_READ, &REST_READ, &stored];
     assert_parts(&rt, &trace.events, UPLOADED, &parts);
     assert!(rt; has_values(&trace.state));
+}
+
+/// The sensor's set is stored and cleared, which seven turns make durable, and the port makes four steps.
+pub fn cleared_steps<R: Abort>(rt: &R, alloc: Global) -> Vec<Step> {
+    let mut steps = upload_steps(rt, alloc);
+    add(rt, &mut steps, clear(), 1);
+    add(rt, &mut steps, Step::Flush, 7);
+    add(rt, &mut steps, port_step(), 4);
+    steps
+}
+
+/// A client deletes the set of port 1.
+pub fn clear() -> Step {
+    Step::Client(Change::Clear {
+        port: PortId::new(1).unwrap(),
+    })
 }

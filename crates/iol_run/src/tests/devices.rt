@@ -5,7 +5,7 @@ use crate::{Step, Trace};
 use iol_disk::MemoryDisk;
 use iol_link::DeviceLink;
 use iol_sim::{SimDevice, SimLink, Visit};
-use iol_types::{DeviceId, Key, MasterState, PortId, StoredSet};
+use iol_types::{DeviceId, Key, MasterState, PortId, PortState, StoredSet};
 use std::alloc::Global;
 use std::process::Abort;
 
@@ -20,8 +20,11 @@ pub const SECOND: Key = Key {
     subindex: 1,
 };
 
-/// The sensor's values of them, and their checksum.
-pub const VALUES: ([u8; 2], u8) = ([0x0A, 0x64], 0x7F);
+/// Values of them.
+pub type Values = ([u8; 2], u8);
+
+/// The sensor's values, and their checksum.
+pub const VALUES: Values = ([0x0A, 0x64], 0x7F);
 
 pub const CHECKSUM: u32 = 0x024F;
 
@@ -31,7 +34,7 @@ pub fn sensor_of<R: Abort>(
     alloc: Global,
     vendor: u16,
     device: u32,
-    values: ([u8; 2], u8),
+    values: Values,
 ) -> SimDevice {
     let device = DeviceId::new(device).expect(rt, "a DeviceID");
     let mut sensor = SimDevice::new(alloc, vendor, device, 0x11, true);
@@ -92,8 +95,8 @@ pub fn port_step() -> Step {
     Step::Port(PortId::new(1).unwrap())
 }
 
-// Appends steps of the first so many ports in turn, so many of each.
-fn add_in_turn<R: Abort>(rt: &R, steps: &mut Vec<Step>, ports: u8, times: usize) {
+/// Appends steps of the first so many ports in turn, so many of each.
+pub fn add_in_turn<R: Abort>(rt: &R, steps: &mut Vec<Step>, ports: u8, times: usize) {
     for _ in 0..times {
         add_round(rt, steps, ports);
     }
@@ -162,6 +165,29 @@ pub fn run_from_empty<L: DeviceLink + Drop, R: Abort>(
 /// What is stored for port 1.
 pub fn stored_in(state: &MasterState) -> Option<&StoredSet> {
     state.port(PortId::new(1).unwrap())?.stored()
+}
+
+/// Whether a port is at this revision, and these values, and nothing else, are stored for it: nothing at all at `None`.
+pub fn is_port(state: &MasterState, number: u8, revision: u64, values: Option<Values>) -> bool {
+    let Some(port) = PortId::new(number).and_then(|port| state.port(port)) else {
+        return false;
+    };
+    port.revision() == revision
+        && match values {
+            Some(values) => holds(port, values),
+            None => port.stored().is_none(),
+        }
+}
+
+// Whether these values, and nothing else, are stored for a port.
+fn holds(port: &PortState, values: Values) -> bool {
+    let Some(stored) = port.stored() else {
+        return false;
+    };
+    let (first, second) = values;
+    stored.set.len() == 2
+        && stored.set.get(FIRST) == Some(first.as_slice())
+        && stored.set.get(SECOND) == Some([second].as_slice())
 }
 
 /// Whether the sensor's values, and nothing else, are stored for port 1.

@@ -1,17 +1,17 @@
 //! A disk call that fails beside an upload: it is told once, nothing is stored behind it, and what was acknowledged is there.
 
 use super::beginnings::{CONFIGURED, FIRST_READ, REST_READ, found, stored_under};
-use super::devices::{FIRST, SECOND, VALUES, link_to, sensor_of, upload_steps_at};
+use super::devices::{VALUES, Values, is_port, link_to, sensor_of, upload_steps_at};
 use super::lines::{Line, assert_parts};
 use super::messages::{BREAK, FLAG_SET, SUM};
-use super::power::last_numbers;
+use super::power::{is_between, last_numbers};
 use super::scene::{PICKS, formatted, found_on, run_at};
 use crate::{RunFault, Trace, run_schedule};
 use iol_disk::{DiskFault, Due, FaultDisk, MemoryDisk};
 use iol_journal::{RecoverCause, RecoverFault};
 use iol_port::{PortFault, PortStatus};
 use iol_sim::SimLink;
-use iol_types::{MasterState, PortId, PortState};
+use iol_types::MasterState;
 use std::alloc::Global;
 use std::process::Abort;
 
@@ -132,8 +132,8 @@ pub fn run_failing<R: Abort>(
     run_at(rt, alloc, disk, plugged(rt, alloc, ports), &steps)
 }
 
-// A link to a device at each port, which wants an upload.
-fn plugged<R: Abort>(rt: &R, alloc: Global, ports: u8) -> Vec<SimLink> {
+/// A link to a device at each port, which wants an upload.
+pub fn plugged<R: Abort>(rt: &R, alloc: Global, ports: u8) -> Vec<SimLink> {
     let mut links = Vec::new(alloc);
     for number in 1..=ports {
         let device = sensor_of(rt, alloc, 500, 43981, values_of(number)).with_flag();
@@ -144,8 +144,8 @@ fn plugged<R: Abort>(rt: &R, alloc: Global, ports: u8) -> Vec<SimLink> {
     links
 }
 
-// The values of the device at a port: the sensor is at the first.
-fn values_of(number: u8) -> ([u8; 2], u8) {
+/// The values of the device at a port: the sensor is at the first.
+pub fn values_of(number: u8) -> Values {
     match number {
         1 => VALUES,
         _ => ([number, 0x20], 0x30),
@@ -165,11 +165,10 @@ pub fn assert_kept<R: Abort>(rt: &R, alloc: Global, ports: u8, kind: DiskFault, 
 }
 
 fn assert_prefix<R: Abort>(rt: &R, alloc: Global, ports: u8, disk: MemoryDisk, told: (u64, u64)) {
-    let (accepted, acknowledged) = told;
     let (number, state) = found_on(rt, alloc, disk);
     assert!(rt;
-        acknowledged <= number && number <= accepted && is_after(&state, ports, number),
-        "{number} of {accepted}"
+        is_between(number, told) && is_after(&state, ports, number),
+        "{number} of {told:?}"
     );
 }
 
@@ -190,23 +189,9 @@ pub fn is_after(state: &MasterState, ports: u8, number: u64) -> bool {
 
 // Whether a port is as it is after so many batches.
 fn is_port_after(state: &MasterState, number: u8, batches: u8) -> bool {
-    let Some(port) = PortId::new(number).and_then(|port| state.port(port)) else {
-        return false;
-    };
     match batches {
-        0 => port.revision() == 0 && port.stored().is_none(),
-        1 => port.revision() == 1 && port.stored().is_none(),
-        _ => port.revision() == 1 && has_values_of(port, number),
+        0 => is_port(state, number, 0, None),
+        1 => is_port(state, number, 1, None),
+        _ => is_port(state, number, 1, Some(values_of(number))),
     }
-}
-
-// Whether the values of the device at a port, and nothing else, are stored for it.
-fn has_values_of(port: &PortState, number: u8) -> bool {
-    let Some(stored) = port.stored() else {
-        return false;
-    };
-    let (first, second) = values_of(number);
-    stored.set.len() == 2
-        && stored.set.get(FIRST) == Some(first.as_slice())
-        && stored.set.get(SECOND) == Some([second].as_slice())
 }

@@ -63,8 +63,8 @@ fn run_with_both<R: Abort>(rt: &R, alloc: Global) -> Trace<MemoryDisk, SimLink> 
     let mut steps = configured(rt, alloc, 29);
     add(rt, &mut steps, Step::Flush, 15);
     add(rt, &mut steps, port_step(), 33);
-    let first = device_of(rt, alloc, false).with_flag();
-    let second = device_of(rt, alloc, true);
+    let first = device_of(rt, alloc, None).with_flag();
+    let second = device_of(rt, alloc, Some(0));
     let link = link_to_both(rt, alloc, first, CALLS, second);
     run_from_empty(rt, alloc, link, &steps)
 }
@@ -93,32 +93,43 @@ fn length_of(place: u8) -> u8 {
     if place == 17 { 80 } else { 232 }
 }
 
-// A device with all these parameters, or one of its kind with nothing set yet.
-fn device_of<R: Abort>(rt: &R, alloc: Global, is_blank: bool) -> SimDevice {
+// The value of the parameter at a place: these octets, or so many of another one.
+fn value_of<R: Abort>(rt: &R, alloc: Global, place: u8, octet: Option<u8>) -> Vec<u8> {
+    let mut octets = octets_of(rt, alloc, place);
+    if let Some(octet) = octet {
+        octets.fill(octet);
+    }
+    octets
+}
+
+/// A device with all these parameters, or one of its kind that has this octet throughout.
+pub fn device_of<R: Abort>(rt: &R, alloc: Global, octet: Option<u8>) -> SimDevice {
     let number = DeviceId::new(43981).expect(rt, "a DeviceID");
     let mut device = SimDevice::new(alloc, 500, number, 0x11, true);
     for place in 0..PARAMETERS {
-        let mut octets = octets_of(rt, alloc, place);
-        if is_blank {
-            octets.fill(0);
-        }
+        let octets = value_of(rt, alloc, place, octet);
         device.add(key_of(place), &octets).expect(rt, "a parameter");
     }
     device
 }
 
-// The whole set, and nothing else, is stored for port 1.
-fn assert_stored<R: Abort>(rt: &R, alloc: Global, state: &MasterState) {
+/// The whole set, and nothing else, is stored for port 1.
+pub fn assert_stored<R: Abort>(rt: &R, alloc: Global, state: &MasterState) {
     let stored = stored_in(state).expect(rt, "a set");
-    let set = &stored.set;
-    assert!(rt; set.len() == 18 && set.octets() == 4096 && set.checksum() == SUM);
+    assert!(rt; stored.set.checksum() == SUM);
+    assert_set(rt, alloc, &stored.set, None);
+}
+
+/// A set has all that such a device has, and nothing else.
+pub fn assert_set<R: Abort>(rt: &R, alloc: Global, set: &DataSet, octet: Option<u8>) {
+    assert!(rt; set.len() == 18 && set.octets() == 4096);
     for place in 0..PARAMETERS {
-        assert_entry(rt, alloc, set, place);
+        assert_entry(rt, alloc, set, place, octet);
     }
 }
 
-fn assert_entry<R: Abort>(rt: &R, alloc: Global, set: &DataSet, place: u8) {
-    let wanted = octets_of(rt, alloc, place);
+fn assert_entry<R: Abort>(rt: &R, alloc: Global, set: &DataSet, place: u8, octet: Option<u8>) {
+    let wanted = value_of(rt, alloc, place, octet);
     assert!(rt;
         set.entry(usize::from(place)) == Some((key_of(place), wanted.as_slice())),
         "parameter {place}"

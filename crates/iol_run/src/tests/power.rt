@@ -1,50 +1,88 @@
-//! Power stops after each step of a run that configures a port, backs up its sensor and writes to another one.
+//! Power stops after each step of a run that configures a port, backs up its sensor and writes to another one; and what
+//! the tests of other runs that are stopped so have in common.
 
 use super::devices::{
     add, blank_sensor, has_values, link_to_both, port_step, run_from_empty, sensor, stored_in,
     upload_steps,
 };
 use super::scene::{PICKS, first, found_on};
-use crate::{Event, Stamped, Step};
-use iol_disk::Pick;
+use crate::{Event, Stamped, Step, Trace};
+use iol_disk::{MemoryDisk, Pick};
+use iol_sim::SimLink;
 use iol_types::{MasterState, PortId};
 use std::alloc::Global;
 use std::process::Abort;
+
+/// A power stop of a run: how many steps it has made, and what is left of each pending sector.
+#[derive(Clone, Copy, Debug)]
+pub struct Stop {
+    pub made: usize,
+    pub pick: Pick,
+}
 
 // The sensor is backed up in 30 steps; after two more it is lost, and a blank one is written to in eleven.
 #[test]
 fn a_stop_leaves_what_was_acknowledged(rt: HostRuntime) {
     let mut steps = upload_steps(&rt, rt.alloc());
     add(&rt, &mut steps, port_step(), 13);
+    for stop in &stops_of(&rt, rt.alloc(), &steps) {
+        let device = sensor(&rt, rt.alloc()).with_flag();
+        let blank = blank_sensor(&rt, rt.alloc());
+        let link = link_to_both(&rt, rt.alloc(), device, 10, blank);
+        let trace = run_from_empty(&rt, rt.alloc(), link, first(&rt, &steps, stop.made));
+        let (number, state) = left(&rt, rt.alloc(), trace, *stop);
+        assert!(rt; is_after(&state, number), "{stop:?}: {number}");
+    }
+}
+
+/// A stop before the first of these steps and after each of them, under each pick.
+pub fn stops_of<R: Abort>(rt: &R, alloc: Global, steps: &[Step]) -> Vec<Stop> {
+    let mut stops = Vec::new(alloc);
     for made in 0..=steps.len() {
-        stop_under_each(&rt, rt.alloc(), first(&rt, &steps, made));
+        add_stops(rt, &mut stops, made);
     }
+    stops
 }
 
-fn stop_under_each<R: Abort>(rt: &R, alloc: Global, steps: &[Step]) {
+/// The same but for stops between two steps of ports: the disk is then as it was before the first of them, and what they
+/// have filed is accepted before the flusher's next turn.
+pub fn stops_at_turns<R: Abort>(rt: &R, alloc: Global, steps: &[Step]) -> Vec<Stop> {
+    let mut stops = Vec::new(alloc);
+    for made in 0..=steps.len() {
+        if !is_between_ports(rt, steps, made) {
+            add_stops(rt, &mut stops, made);
+        }
+    }
+    stops
+}
+
+fn add_stops<R: Abort>(rt: &R, stops: &mut Vec<Stop>, made: usize) {
     for pick in PICKS {
-        stop(rt, alloc, steps, pick);
+        let Ok(()) = stops.push(Stop { made, pick }) else {
+            panic!(rt; "memory")
+        };
     }
 }
 
-// The run that has made these steps is stopped: no fewer commands are there than were acknowledged, no more than were
-// accepted, and the state is the one after them.
-fn stop<R: Abort>(rt: &R, alloc: Global, steps: &[Step], pick: Pick) {
-    let device = sensor(rt, alloc).with_flag();
-    let link = link_to_both(rt, alloc, device, 10, blank_sensor(rt, alloc));
-    let trace = run_from_empty(rt, alloc, link, steps);
-    let (accepted, acknowledged) = last_numbers(&trace.events);
-    let (number, state) = found_on(rt, alloc, trace.disk.stop(pick));
-    assert!(rt;
-        acknowledged <= number && number <= accepted,
-        "{} steps, {pick:?}: {number}",
-        steps.len()
-    );
-    assert!(rt;
-        is_after(&state, number),
-        "{} steps, {pick:?}: {number}",
-        steps.len()
-    );
+// Whether the last step that is made is a port's, and the next one too.
+fn is_between_ports<R: Abort>(rt: &R, steps: &[Step], made: usize) -> bool {
+    let last = first(rt, steps, made).last();
+    let next = steps.get(made);
+    matches!((last, next), (Some(Step::Port(_)), Some(Step::Port(_))))
+}
+
+/// How many commands a stop leaves of a run, no fewer than were acknowledged and no more than were accepted, and the
+/// state after them.
+pub fn left<R: Abort>(
+    rt: &R,
+    alloc: Global,
+    trace: Trace<MemoryDisk, SimLink>,
+    stop: Stop,
+) -> (u64, MasterState) {
+    let told = last_numbers(&trace.events);
+    let (number, state) = found_on(rt, alloc, trace.disk.stop(stop.pick));
+    assert!(rt; is_between(number, told), "{stop:?}: {number} of {told:?}");
+    (number, state)
 }
 
 /// The last numbers that were accepted and acknowledged, 0 where none was.
@@ -59,6 +97,13 @@ pub fn last_numbers(events: &[Stamped]) -> (u64, u64) {
         }
     }
     (accepted, acknowledged)
+}
+
+/// Whether so many commands are no more than the first of these numbers, which is accepted, and no fewer than the second,
+/// which is acknowledged.
+pub fn is_between(number: u64, told: (u64, u64)) -> bool {
+    let (accepted, acknowledged) = told;
+    acknowledged <= number && number <= accepted
 }
 
 /// Whether a state is the one after so many commands: the first configures the port, and the second stores its set.
