@@ -90,7 +90,7 @@ pub fn run_schedule<D: SectorDisk, L: DeviceLink + Drop>(
     // What is told of each port's link is a run of it, from the link that was handed in to the one in the trace.
     ensures links { IfOk result (λ trace. AreLinkRuns L.number L.steps links.items (map stamp_of trace.events.items) trace.links.items) }
     // What is told of each port is a run of its machine, from a new one on: step by step, each with the port's link and with the
-    // core as it stood after the events before it. From the state on that the disk showed.
+    // core as it stood after the events before it. The run begins with the state that the disk showed.
     ensures ports { IfOk result (λ trace. Shows (D.disk disk) (λ image. (journal : Standing) → standing_in (D.disk disk).sectors image ≡ Ok journal
         → ArePortRuns L.number L.steps journal.number journal.state links.items (map stamp_of trace.events.items) trace.links.items)) }
     // On an honest disk each event is stamped with the clock between what it showed before and what it shows then.
