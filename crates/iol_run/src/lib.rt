@@ -21,8 +21,6 @@ mod said;
 mod same_status;
 mod schedule;
 mod step;
-#[cfg(test)]
-mod tests;
 
 pub use core_on_disk::{CoreOnDisk, Turn, Turned};
 pub use event::Event;

@@ -4,9 +4,9 @@
 use super::devices::{add, configured, link_to_both, port_step, run_from_empty, stored_in};
 use super::lines::{Line, assert_shown, count};
 use super::scene::{PICKS, found_on};
-use crate::{Step, Trace};
 use iol_disk::MemoryDisk;
 use iol_port::PortStatus;
+use iol_run::{Step, Trace};
 use iol_sim::{SimDevice, SimLink};
 use iol_types::{DataSet, DeviceId, Key, MasterState};
 use std::alloc::Global;

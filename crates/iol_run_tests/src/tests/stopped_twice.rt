@@ -3,8 +3,8 @@
 use super::devices::{VALUES, is_port, link_to, run_from_empty, sensor, upload_steps};
 use super::power::{Stop, is_between, last_numbers, stops_at_turns, stops_of};
 use super::scene::{first, found_on, recovered, run_at};
-use crate::{Step, Trace};
 use iol_disk::{MemoryDisk, Pick};
+use iol_run::{Step, Trace};
 use iol_sim::SimLink;
 use iol_types::MasterState;
 use std::alloc::Global;

@@ -1,10 +1,10 @@
 //! Disks, steps, and what a run over them tells.
 
-use crate::{Ended, Event, RunFault, Stamped, Step, Trace, run_schedule};
 use iol_core::SubmitFault;
 use iol_disk::{MemoryDisk, Pick, SectorDisk};
 use iol_journal::{Geometry, Journal, format};
 use iol_link::DeviceLink;
+use iol_run::{Ended, Event, RunFault, Stamped, Step, Trace, run_schedule};
 use iol_sim::SimLink;
 use iol_types::{Change, DeviceId, MasterState, PortConfig, PortId, PortMode, Validation};
 use std::alloc::Global;

@@ -7,8 +7,8 @@ use super::devices::{
 use super::full_queue::add_turns;
 use super::power::{last_numbers, left, stops_of};
 use super::scene::{configure_for, configure_under, first};
-use crate::{Step, Trace};
 use iol_disk::MemoryDisk;
+use iol_run::{Step, Trace};
 use iol_sim::SimLink;
 use iol_types::{MasterState, PortConfig, PortId, Validation};
 use std::alloc::Global;

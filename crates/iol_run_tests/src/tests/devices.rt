@@ -1,9 +1,9 @@
 //! Devices at the ports of a run.
 
 use super::scene::{configure, formatted, run_at};
-use crate::{Step, Trace};
 use iol_disk::MemoryDisk;
 use iol_link::DeviceLink;
+use iol_run::{Step, Trace};
 use iol_sim::{SimDevice, SimLink, Visit};
 use iol_types::{DeviceId, Key, MasterState, PortId, PortState, StoredSet};
 use std::alloc::Global;

@@ -1,8 +1,8 @@
 //! A power stop after each step of a run, under each pick.
 
 use super::scene::{PICKS, configure, first, formatted, recovered, run};
-use crate::Step;
 use iol_disk::Pick;
+use iol_run::Step;
 use std::alloc::Global;
 use std::process::Abort;
 use std::test::Fail;

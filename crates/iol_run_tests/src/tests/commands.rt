@@ -1,10 +1,10 @@
 //! Commands: accepted, refused, written and acknowledged.
 
 use super::scene::{PICKS, configure, formatted, recovered, refused, run, told, unplugged};
-use crate::{RunFault, Step, run_schedule};
 use iol_core::SubmitFault;
 use iol_disk::{DiskFault, FaultDisk, MemoryDisk};
 use iol_journal::{RecoverCause, RecoverFault};
+use iol_run::{RunFault, Step, run_schedule};
 use std::process::Abort;
 use std::test::Fail;
 

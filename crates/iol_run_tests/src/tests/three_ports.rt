@@ -7,9 +7,9 @@ use super::failing_disk::{
 use super::lines::{Line, count, has_shown};
 use super::messages::UPLOAD_END;
 use super::power::last_numbers;
-use crate::{Stamped, Trace};
 use iol_disk::{Due, FaultDisk, MemoryDisk};
 use iol_port::PortStatus;
+use iol_run::{Stamped, Trace};
 use iol_sim::SimLink;
 use std::process::Abort;
 

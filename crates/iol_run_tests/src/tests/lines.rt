@@ -1,8 +1,8 @@
 //! What a run tells, event by event, as values to compare.
 
-use crate::{Event, Stamped};
 use iol_core::SubmitFault;
 use iol_port::PortStatus;
+use iol_run::{Event, Stamped};
 use std::process::Abort;
 
 /// What an event tells, but for the port, the connection and the moment.

@@ -6,8 +6,8 @@ use super::devices::{
 };
 use super::lines::{Line, assert_shown, count};
 use super::scene::found_on;
-use crate::Step;
 use iol_port::PortStatus;
+use iol_run::Step;
 use iol_sim::SimLink;
 use std::alloc::Global;
 use std::process::Abort;

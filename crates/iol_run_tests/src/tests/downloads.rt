@@ -8,10 +8,10 @@ use super::devices::{
 use super::lines::{Line, assert_parts};
 use super::messages::{BREAK, DONE, DOWNLOAD_END, DOWNLOAD_START, FLAG_CLEAR, NO_SUM, SUM};
 use super::uploads::UPLOADED;
-use crate::Trace;
 use iol_disk::MemoryDisk;
 use iol_ident::IdentFault;
 use iol_port::{PortFault, PortStatus};
+use iol_run::Trace;
 use iol_sim::{SimDevice, SimLink};
 use iol_types::DeviceId;
 use std::alloc::Global;

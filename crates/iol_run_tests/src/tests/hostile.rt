@@ -2,12 +2,12 @@
 
 use super::devices::{configured, run_from_empty, sensor, stored_in};
 use super::lines::{Line, assert_shown, count};
-use crate::Trace;
 use arrayvec::ArrayVec;
 use iol_disk::MemoryDisk;
 use iol_isdu::{Answer, DATA_OCTETS, ISDU_OCTETS, write_answer};
 use iol_link::DeviceLink;
 use iol_port::{PortFault, PortStatus};
+use iol_run::Trace;
 use iol_sim::ScriptLink;
 use std::alloc::Global;
 use std::process::Abort;

@@ -6,8 +6,8 @@ use super::devices::{
     upload_steps,
 };
 use super::scene::{PICKS, first, found_on};
-use crate::{Event, Stamped, Step, Trace};
 use iol_disk::{MemoryDisk, Pick};
+use iol_run::{Event, Stamped, Step, Trace};
 use iol_sim::SimLink;
 use iol_types::{MasterState, PortId};
 use std::alloc::Global;

@@ -7,8 +7,8 @@ use super::devices::{
 use super::lines::{Line, assert_parts};
 use super::messages::{FLAG_CLEAR, SUM};
 use super::scene::{PICKS, run_at};
-use crate::Step;
 use iol_disk::Pick;
+use iol_run::Step;
 use std::alloc::Global;
 use std::process::Abort;
 
