@@ -21,8 +21,6 @@ mod permit;
 mod port;
 mod stop;
 mod submit;
-#[cfg(test)]
-mod tests;
 mod ticket;
 mod upload;
 

@@ -23,8 +23,6 @@ mod memory;
 mod new_file;
 mod pick;
 mod recorded_disk;
-#[cfg(test)]
-mod tests;
 mod undo;
 
 pub use disk::{SECTOR_OCTETS, SectorDisk};

@@ -14,8 +14,6 @@ mod list;
 mod object;
 mod property;
 mod reading;
-#[cfg(test)]
-mod tests;
 mod writing;
 
 pub use command::DsCommand;

@@ -17,8 +17,6 @@ mod flusher;
 pub mod laws;
 mod need;
 mod stage;
-#[cfg(test)]
-mod tests;
 
 pub use fault::{FlushFault, GiveFault};
 pub use flusher::{FlushEnd, Flusher};

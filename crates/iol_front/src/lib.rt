@@ -20,8 +20,6 @@ mod name;
 mod pass;
 mod publisher;
 mod seat;
-#[cfg(test)]
-mod tests;
 
 pub use committed::Committed;
 pub use front::Front;

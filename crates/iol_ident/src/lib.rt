@@ -9,8 +9,6 @@
 
 pub mod examples;
 mod page;
-#[cfg(test)]
-mod tests;
 mod validation;
 
 pub use page::{PAGE_OCTETS, Page};

@@ -15,8 +15,6 @@ mod messages;
 mod parts;
 mod reading;
 mod service;
-#[cfg(test)]
-mod tests;
 mod writing;
 
 pub use faults::IsduFault;

@@ -9,8 +9,6 @@
 pub mod examples;
 mod laws;
 mod link;
-#[cfg(test)]
-mod tests;
 
 pub use laws::runs_join;
 pub use link::{DeviceLink, Lost, PAGE_OCTETS};

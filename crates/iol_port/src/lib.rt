@@ -30,8 +30,6 @@ mod machine;
 mod paging;
 mod stage;
 mod status;
-#[cfg(test)]
-mod tests;
 mod uploading;
 
 pub use action::{Action, Input, UPLOAD_REQUEST};

@@ -25,6 +25,3 @@ pub use encode::{
 };
 pub use fault::RecordFault;
 pub use laws::no_record_begins_another;
-
-#[cfg(test)]
-mod tests;

@@ -21,8 +21,6 @@ mod step;
 mod steps;
 mod stop;
 mod table;
-#[cfg(test)]
-mod tests;
 
 pub use device::{Device, USUAL_REVISION};
 pub use fail::{CallKind, FailingCall, LAST_FAILING_CALL};

@@ -17,8 +17,6 @@ mod parameters;
 mod refusal;
 mod script;
 mod sim_link;
-#[cfg(test)]
-mod tests;
 mod visit;
 
 pub use device::{DS_UPLOAD_REQUEST, SimDevice};

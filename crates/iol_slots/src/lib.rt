@@ -9,7 +9,5 @@
 
 pub mod examples;
 mod slot;
-#[cfg(test)]
-mod tests;
 
 pub use slot::{GATE_MARK, Slot};

@@ -1,38 +1,9 @@
-//! `iolmaster`, the program of an IO-Link master's data storage.
-//!
-//! In comes a script in TOML: a geometry, simulated devices and steps. Its run formats a disk in memory, carries out the
-//! steps of clients, ports and the flusher, stops the power and recovers what the disk holds. Or in comes an image file, to be formatted or shown. Out go a line for
-//! each event and the recovered state, on standard output, or one line that says why not, on standard error.
-//!
-//! Modules in reading order: `geometry` judges a script's numbers; `disk` has the disk that a run is made on, `recovery`
-//! the journal on it, `devices` the devices at the ports, `steps` the steps of a script, and `run` runs it; `image`
-//! formats and shows the disk of an image file; `trace_text`, `event_text`, `status_text` and `state_text` have the
-//! lines, and `fault` why a command fails; `commands` and `image_commands` are the commands over writers, `words` what
-//! the words of the command line ask for, and `arguments` carries it out. Which texts can be run is defined in
-//! `specs/Runs.antt`, what the steps of a script are in `specs/Steps.antt`.
+//! `iolmaster`, the program: the commands of `iol_commands` over its words, standard output and standard error.
 #![tactic(auto)]
 
-mod arguments;
-mod commands;
-mod devices;
-mod disk;
-mod event_text;
-mod fault;
-mod geometry;
-mod image;
-mod image_commands;
-mod recovery;
-mod run;
-mod state_text;
-mod status_text;
-mod steps;
-#[cfg(test)]
-mod tests;
-mod trace_text;
-mod words;
-
+use iol_commands::run_program;
 use std::process::ExitCode;
 
 fn main(rt: HostRuntime) -> ExitCode {
-    ExitCode::from(arguments::run_program(&rt, &mut rt.stdout(), &mut rt.stderr()))
+    ExitCode::from(run_program(&rt, &mut rt.stdout(), &mut rt.stderr()))
 }

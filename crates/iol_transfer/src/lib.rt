@@ -15,8 +15,6 @@ pub mod examples;
 mod fault;
 mod repeats;
 mod stage;
-#[cfg(test)]
-mod tests;
 mod upload;
 
 pub use download::{Download, DownloadStep};

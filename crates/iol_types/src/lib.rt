@@ -33,6 +33,3 @@ pub use master_state::MasterState;
 pub use port_id::{PORTS, PortId};
 pub use port_state::{LAST_REVISION, PortState, StoredSet};
 pub use set_builder::{AddFault, SetBuilder};
-
-#[cfg(test)]
-mod tests;

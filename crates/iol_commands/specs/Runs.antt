@@ -1,0 +1,25 @@
+-- Which texts can be run, and why others are not.
+use Rattle.std.specs.Prelude.{◌≡◌, List, ℕ, true, IsSomeAnd}
+use Rattle.iol_script.specs.Script.{Said, IsText, said_in, fits_ports}
+use Rattle.iol_commands.specs.Geometry.{HasGeometry}
+use Rattle.iol_commands.specs.declared.fault.Fault.{Fault}
+use Rattle.iol_commands.specs.declared.fault.Fault.TheVariants.{Words, Script, Geometry, Memory}
+
+-- what a script says can be run: its devices and the steps of its ports are at its ports, and these and the slots are
+-- the numbers of a geometry (format, Scripts)
+abbrev pub MayRun : Said → Type 0
+MayRun said = (fits_ports said ≡ true) × HasGeometry said.ports said.slots
+
+-- a text can be run: it is a script, and what it says can be run (format, Scripts)
+abbrev pub CanRun : List ℕ → Type 0
+CanRun text = IsText text × IsSomeAnd (said_in text) MayRun
+
+-- why a text was not run: it is no script, or a port of it is not there; it is one, but its numbers are no geometry; or
+-- it can be run, and the run failed. Memory may run out over any text (format, Texts)
+abbrev pub IsCause : List ℕ → Fault → Type 0
+IsCause text Script = IsText text → IsSomeAnd (said_in text) (λ said. fits_ports said ≡ true) → ⊥
+IsCause text Geometry =
+    IsText text × IsSomeAnd (said_in text) (λ said. (fits_ports said ≡ true) × (HasGeometry said.ports said.slots → ⊥))
+IsCause text Memory = IsText text
+IsCause text Words = ⊥
+IsCause text fault = CanRun text

@@ -1,0 +1,71 @@
+//! The program's commands, over a writer for their output and one for their faults.
+ghost use Rattle.std.specs.Prelude.{◌≡◌, ◌≤◌, ◌⊎◌, IfErr, OnOk};
+ghost use Rattle.std.specs.Io.KnownBytes.{Appends};
+ghost use Rattle.iol_commands.specs.Fault.{status_of};
+ghost use Rattle.iol_commands.specs.Runs.{CanRun, IsCause};
+
+use crate::fault::Fault;
+use crate::geometry::geometry_of;
+use crate::run::run;
+use iol_disk::MemoryDisk;
+use iol_script::Script;
+use std::alloc::Global;
+use std::io::{self, Write};
+
+/// Runs a script on a disk in memory, and answers the exit status: 0 once its trace and the recovered state are
+/// written to `out`; 1, or 2 where the script or its geometry is not valid, after a line on `err` that says why, and
+/// then nothing is written to `out`; 1 where writing to `out` fails, with nothing written to `err`.
+pub fn run_text<W: Write, E: Write>(alloc: Global, script: &[u8], out: &mut W, err: &mut E) -> u8
+    ensures statuses { result ≤ 2 }
+    ensures one_writer { (out.new ≡ out.old) ⊎ (err.new ≡ err.old) }
+    ensures ran { result ≡ 0 → CanRun script.now }
+    ensures quiet { result ≡ 0 → err.new ≡ err.old }
+    ensures not_valid { result ≡ 2 → CanRun script.now → ⊥ }
+    ensures untouched { result ≡ 2 → out.new ≡ out.old }
+{
+    match text_of_run(alloc, script) {
+        Ok(text) => print(out, text.as_bytes()),
+        Err(fault) => report(err, &fault),
+    }
+}
+
+// What a run prints: the text is judged first, then whether its ports are there, then its numbers, and then it is run.
+fn text_of_run(alloc: Global, text: &[u8]) -> Result<String, Fault<'static>>
+    ensures ran { OnOk result (CanRun text.now) }
+    ensures cause { IfErr result (IsCause text.now) }
+{
+    let script = Script::read(alloc, text)?;
+    if !script.fits_ports() {
+        return Err(Fault::Script);
+    }
+    let geometry = geometry_of(script.ports, script.slots).ok_or(Fault::Geometry)?;
+    let disk = MemoryDisk::new(alloc, geometry.sectors())?;
+    let report = run(alloc, disk, geometry, &script)?;
+    Ok(report.to_string(alloc)?)
+}
+
+// Writes a command's output, and answers the exit status: 0, or 1 where the writing fails.
+pub(crate) fn print<W: Write>(out: &mut W, text: &[u8]) -> u8
+    ensures status { (result ≡ 0) ⊎ (result ≡ 1) }
+    ensures written { result ≡ 0 → Appends (W.contents out.old) (W.contents out.new) text.now }
+{
+    match write_through(out, text) {
+        Ok(()) => 0,
+        Err(_) => 1,
+    }
+}
+
+fn write_through<W: Write>(out: &mut W, text: &[u8]) -> io::Result<()>
+    ensures { OnOk result (Appends (W.contents out.old) (W.contents out.new) text.now) }
+{
+    out.write_all(text)?;
+    out.flush()
+}
+
+// Writes why a command failed, and answers its exit status, also where the writing fails.
+pub fn report<E: Write>(err: &mut E, fault: &Fault<'_>) -> u8
+    ensures { result ≡ status_of fault.now }
+{
+    let _ = writeln!(err, "error: {fault}");
+    fault.status()
+}

@@ -1,0 +1,57 @@
+//! The disks that a run can be made on.
+ghost use Rattle.std.specs.Prelude.{◌≡◌, IfSome};
+ghost use Rattle.iol_disk.specs.FaultDisk.{inner, kind_of, due_of};
+ghost use Rattle.iol_commands.specs.Stop.{pick_of, fault_of, due_at};
+
+use iol_disk::{DiskFault, FaultDisk, MemoryDisk, Pick, SectorDisk};
+use iol_script::{CallKind, FailingCall, Keep};
+
+// A disk that a power stop can be tried on.
+pub(crate) trait Stoppable: SectorDisk {
+    ghost use Rattle.iol_disk.specs.Stops.{IsAfterStop};
+
+    // The disk after a power stop, which leaves of each sector written since the last sync what `pick` says.
+    fn stop(self, pick: Pick) -> Self
+        ensures { IsAfterStop pick (Self.disk self) (Self.disk result) };
+}
+
+impl Stoppable for MemoryDisk {
+    fn stop(self, pick: Pick) -> MemoryDisk {
+        MemoryDisk::stop(self, pick)
+    }
+}
+
+// A disk of which the call fails that a script says, if it says one.
+pub(crate) fn failing<D: SectorDisk>(disk: D, fail: Option<FailingCall>) -> FaultDisk<D>
+    ensures disk { inner result ≡ disk }
+    ensures kind { IfSome fail (λ call. kind_of result ≡ fault_of call.kind) }
+    ensures due { due_of result ≡ due_at fail }
+{
+    match fail {
+        Some(call) => FaultDisk::new(disk, fault_of(call.kind), u64::from(call.number)),
+        None => FaultDisk::new(disk, DiskFault::Read, 0),
+    }
+}
+
+// How a call of this kind fails.
+fn fault_of(kind: CallKind) -> DiskFault
+    ensures { result ≡ fault_of kind }
+{
+    match kind {
+        CallKind::Read => DiskFault::Read,
+        CallKind::Write => DiskFault::Write,
+        CallKind::Sync => DiskFault::Sync,
+    }
+}
+
+// What a stop leaves that keeps this.
+pub(crate) fn pick_of(keep: Keep) -> Pick
+    ensures { result ≡ pick_of keep }
+{
+    match keep {
+        Keep::Old => Pick::Old,
+        Keep::New => Pick::New,
+        Keep::Zero => Pick::Zero,
+        Keep::Pattern => Pick::Pattern,
+    }
+}

@@ -1,0 +1,118 @@
+//! Why a command of the program fails.
+ghost use Rattle.std.specs.Prelude.{◌≡◌};
+ghost use Rattle.iol_commands.specs.Fault.{status_of, fault_for, unrecovered};
+ghost use Rattle.iol_commands.specs.declared.fault.Fault.TheVariants.{Disk, Memory};
+
+use iol_disk::DiskFault;
+use iol_journal::{FormatFault, RecoverCause};
+use iol_script::ScriptFault;
+use std::alloc::{AllocError, AllocFailed};
+use thiserror::Error;
+
+// Why a command fails. The text of each stands on standard error after `error: `.
+#[derive(Clone, Copy, Debug, PartialEq, Eq, Error)]
+pub enum Fault<'a> {
+    /// The disk has no journal.
+    #[error("the disk is not formatted")]
+    NotFormatted,
+    /// The disk has a journal already.
+    #[error("the disk is already formatted")]
+    AlreadyFormatted,
+    /// The disk has too few sectors for the geometry.
+    #[error("the disk is too small")]
+    TooSmall,
+    /// What stands in this sector is nothing that a journal writes.
+    #[error("damaged at sector {sector}")]
+    Damaged { sector: usize },
+    /// A call of the disk failed.
+    #[error("the disk failed")]
+    Disk,
+    /// Memory ran out.
+    #[error("out of memory")]
+    Memory,
+    /// A word of the command line is no text.
+    #[error("a word is not UTF-8")]
+    Words,
+    /// The file at this path cannot be opened, read or made.
+    #[error("cannot open {path}")]
+    File { path: &'a str },
+    /// The text is no script.
+    #[error("the script is not valid")]
+    Script,
+    /// The numbers of ports and slots are no geometry.
+    #[error("the geometry is not valid")]
+    Geometry,
+}
+
+impl Fault<'_> {
+    // The exit status: 2 where the words, the script or its geometry are not valid, and else 1.
+    pub fn status(&self) -> u8
+        ensures { result ≡ status_of self.now }
+    {
+        match self {
+            Fault::Words | Fault::Script | Fault::Geometry => 2,
+            _ => 1,
+        }
+    }
+}
+
+impl From<AllocError> for Fault<'_> {
+    ghost from_gives = { λ _ fault. fault ≡ Memory };
+
+    fn from(_error: AllocError) -> Self {
+        Fault::Memory
+    }
+}
+
+impl<T: Drop> From<AllocFailed<T>> for Fault<'_> {
+    ghost from_gives = { λ _ fault. fault ≡ Memory };
+
+    fn from(_error: AllocFailed<T>) -> Self {
+        Fault::Memory
+    }
+}
+
+impl From<ScriptFault> for Fault<'_> {
+    ghost from_gives = { λ cause fault. fault ≡ fault_for cause };
+
+    fn from(fault: ScriptFault) -> Self {
+        match fault {
+            ScriptFault::NotValid => Fault::Script,
+            ScriptFault::Memory => Fault::Memory,
+        }
+    }
+}
+
+impl From<DiskFault> for Fault<'_> {
+    ghost from_gives = { λ _ fault. fault ≡ Disk };
+
+    fn from(_fault: DiskFault) -> Self {
+        Fault::Disk
+    }
+}
+
+impl From<FormatFault> for Fault<'_> {
+    ghost from_gives = { λ _ fault. status_of fault ≡ 1 };
+
+    fn from(fault: FormatFault) -> Self {
+        match fault {
+            FormatFault::TooSmall => Fault::TooSmall,
+            FormatFault::AlreadyFormatted => Fault::AlreadyFormatted,
+            FormatFault::Memory => Fault::Memory,
+            FormatFault::Disk(_) => Fault::Disk,
+        }
+    }
+}
+
+impl From<RecoverCause> for Fault<'_> {
+    ghost from_gives = { λ cause fault. fault ≡ unrecovered cause };
+
+    fn from(cause: RecoverCause) -> Self {
+        match cause {
+            RecoverCause::Disk(_) => Fault::Disk,
+            RecoverCause::NotFormatted => Fault::NotFormatted,
+            RecoverCause::Damaged { sector } => Fault::Damaged { sector },
+            RecoverCause::Memory => Fault::Memory,
+        }
+    }
+}

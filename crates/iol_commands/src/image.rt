@@ -1,0 +1,121 @@
+//! The disks of the commands on image files: formatted, and shown.
+ghost use Rattle.std.specs.Prelude.{◌≡◌, ◌⊎◌, true, false, Ok, IfOk, IfErr, IsOk, OnOk};
+ghost use Rattle.iol_types.specs.State.{empty_state};
+ghost use Rattle.iol_disk.specs.Content.{IsImage};
+ghost use Rattle.iol_disk.specs.Moments.{LeavesOnly};
+ghost use Rattle.iol_journal.specs.Erasing.{MeansAsBeforeOrNothing};
+ghost use Rattle.iol_journal.specs.Kept.{EachMeans, KeptMeans};
+ghost use Rattle.iol_journal.specs.Meaning.{is_formatted, meaning, standing_in};
+ghost use Rattle.iol_journal.specs.Reading.{Shows};
+ghost use Rattle.iol_commands.specs.Fault.{status_of};
+ghost use Rattle.iol_commands.specs.Images.{IsFileCause, TellsWhy};
+
+use crate::fault::Fault;
+use crate::recovery::recover;
+use crate::state_text::Recovered;
+use iol_disk::{DiskFault, ImageFault, ImageFile, SectorDisk};
+use iol_journal::Geometry;
+use std::alloc::Global;
+use std::fs::OpenFile;
+use std::os::unix::fs::FileExt;
+use std::rt::Files;
+
+// The image file at this path.
+//
+// # Errors
+// `File`, `Disk` or `Memory`.
+pub(crate) fn opened<'a, F: FileExt + OpenFile + Drop, R: Files<File = F>>(
+    rt: &R,
+    path: &'a str,
+) -> Result<ImageFile<F>, Fault<'a>>
+    ensures { IfErr result (λ fault. status_of fault ≡ 1) }
+{
+    ImageFile::open(rt, path).map_err(|fault| of_image(fault, path))
+}
+
+// The image file at this path, which is made with so many sectors if there is none.
+//
+// # Errors
+// `File`, `Disk` or `Memory`.
+pub(crate) fn opened_or_made<'a, F: FileExt + OpenFile + Drop, R: Files<File = F>>(
+    rt: &R,
+    path: &'a str,
+    sectors: usize,
+) -> Result<ImageFile<F>, Fault<'a>>
+    ensures { IfErr result (λ fault. status_of fault ≡ 1) }
+{
+    match ImageFile::open(rt, path) {
+        Ok(file) => Ok(file),
+        Err(ImageFault::Open) => {
+            ImageFile::create(rt, path, sectors).map_err(|fault| of_image(fault, path))
+        }
+        Err(fault) => Err(of_image(fault, path)),
+    }
+}
+
+// Why the image file at this path is not used.
+fn of_image(fault: ImageFault, path: &str) -> Fault<'_>
+    ensures cause { IsFileCause fault result }
+    ensures status { status_of result ≡ 1 }
+{
+    match fault {
+        ImageFault::Open => Fault::File { path },
+        ImageFault::Disk(_) => Fault::Disk,
+        ImageFault::Memory => Fault::Memory,
+    }
+}
+
+// Formats a disk, where that is forced after its journal is erased.
+//
+// # Errors
+// `TooSmall`, `AlreadyFormatted` or `Memory`, or `Disk` where a disk call fails.
+pub fn format_disk<D: SectorDisk>(
+    alloc: Global,
+    disk: &mut D,
+    geometry: Geometry,
+    force: bool,
+) -> Result<(), Fault<'static>>
+    // Each image is an empty journal.
+    ensures done { OnOk result (EachMeans (D.disk disk.new) 0 (empty_state geometry.ports)) }
+    // A journal that is there stays, unless its end is forced.
+    ensures kept { force ≡ false → Shows (D.disk disk.old) (λ image. is_formatted (D.disk disk.old).sectors image ≡ true)
+        → LeavesOnly (D.disk disk.old) (D.disk disk.new) (IsImage (D.disk disk.old).content) }
+    // At any moment each image means what one meant before, or is not formatted, or is an empty journal.
+    ensures any_moment { LeavesOnly (D.disk disk.old) (D.disk disk.new)
+        (λ image. MeansAsBeforeOrNothing (D.disk disk.old).sectors (D.disk disk.old).content image
+        ⊎ KeptMeans (D.disk disk.old).sectors 0 (empty_state geometry.ports) image) }
+    ensures status { IfErr result (λ fault. status_of fault ≡ 1) }
+{
+    erase_if_forced(disk, force)?;
+    iol_journal::format(alloc, disk, geometry)?;
+    Ok(())
+}
+
+// Erases a disk, where that is forced.
+fn erase_if_forced<D: SectorDisk>(disk: &mut D, force: bool) -> Result<(), DiskFault>
+    ensures untouched { force ≡ false → (disk.new ≡ disk.old) × IsOk result }
+    ensures any_moment { LeavesOnly (D.disk disk.old) (D.disk disk.new) (MeansAsBeforeOrNothing (D.disk disk.old).sectors (D.disk disk.old).content) }
+{
+    if force {
+        iol_journal::erase(disk)
+    } else {
+        Ok(())
+    }
+}
+
+// What is recovered of a disk.
+//
+// # Errors
+// `NotFormatted`, `Damaged`, `Disk` or `Memory`, as first met.
+pub fn show_disk<D: SectorDisk + Drop>(alloc: Global, disk: D) -> Result<Recovered, Fault<'static>>
+    ensures found { IfOk result (λ found. Shows (D.disk disk)
+        (λ image. meaning (D.disk disk).sectors image ≡ Ok (record { number = found.number; state = found.state }))) }
+    ensures cause { IfErr result (λ fault. Shows (D.disk disk) (λ image. TellsWhy (standing_in (D.disk disk).sectors image) fault)) }
+    ensures status { IfErr result (λ fault. status_of fault ≡ 1) }
+{
+    let (journal, state) = recover(alloc, disk)?;
+    Ok(Recovered {
+        number: journal.number(),
+        state,
+    })
+}

@@ -1,0 +1,90 @@
+//! The program's commands on image files, over a writer for their output and one for their faults.
+ghost use Rattle.std.specs.Prelude.{◌≡◌, ◌≤◌, ◌⊎◌, ◌↔◌, IfErr, IfOk, OnOk, string_bytes};
+ghost use Rattle.std.specs.Io.KnownBytes.{Appends};
+ghost use Rattle.iol_journal.specs.Geometry.{IsGeometry};
+ghost use Rattle.iol_commands.specs.Fault.{status_of};
+ghost use Rattle.iol_commands.specs.Images.{IsFormatCause, formatted_text};
+
+use crate::commands::{print, report};
+use crate::fault::Fault;
+use crate::image::{format_disk, opened, opened_or_made, show_disk};
+use iol_journal::Geometry;
+use std::fs::OpenFile;
+use std::io::Write;
+use std::os::unix::fs::FileExt;
+use std::rt::Files;
+
+/// Formats the image file at `path` for so many ports and slots, and answers the exit status: 0 once the number of
+/// sectors that the journal takes is written to `out`; 2 where the numbers are no geometry, or 1, after a line on `err`
+/// that says why, and then nothing is written to `out`; 1 where writing to `out` fails, with nothing written to `err`.
+///
+/// A file that is not there is made, with as many sectors as the geometry has. A journal that is there stays, unless
+/// `force` has it erased first.
+pub fn format_image<
+    F: FileExt + OpenFile + Drop,
+    R: Files<File = F> + AllocGlobal,
+    W: Write,
+    E: Write,
+>(rt: &R, path: &str, ports: u16, slots: u16, force: bool, out: &mut W, err: &mut E) -> u8
+    ensures statuses { result ≤ 2 }
+    ensures one_writer { (out.new ≡ out.old) ⊎ (err.new ≡ err.old) }
+    ensures geometry { (result ≡ 2) ↔ (IsGeometry (record { ports = ports; slots = slots }) → ⊥) }
+    ensures quiet { result ≡ 0 → err.new ≡ err.old }
+    ensures untouched { result ≡ 2 → out.new ≡ out.old }
+    ensures printed { result ≡ 0 → Appends (W.contents out.old) (W.contents out.new) (formatted_text (record { ports = ports; slots = slots })) }
+{
+    match text_of_format(rt, path, ports, slots, force) {
+        Ok(text) => print(out, text.as_bytes()),
+        Err(fault) => report(err, &fault),
+    }
+}
+
+// What a format prints: the numbers are judged first, then the file is opened or made, and then it is formatted.
+fn text_of_format<'a, F: FileExt + OpenFile + Drop, R: Files<File = F> + AllocGlobal>(
+    rt: &R,
+    path: &'a str,
+    ports: u16,
+    slots: u16,
+    force: bool,
+) -> Result<String, Fault<'a>>
+    ensures geometry { OnOk result (IsGeometry (record { ports = ports; slots = slots })) }
+    ensures text { IfOk result (λ text. string_bytes text ≡ formatted_text (record { ports = ports; slots = slots })) }
+    ensures cause { IfErr result (IsFormatCause (record { ports = ports; slots = slots })) }
+{
+    let geometry = Geometry::new(ports, slots).ok_or(Fault::Geometry)?;
+    let sectors = geometry.sectors();
+    let mut disk = opened_or_made(rt, path, sectors)?;
+    format_disk(rt.alloc(), &mut disk, geometry, force)?;
+    Ok(format!(in rt.alloc(); "formatted {sectors} sectors\n")?)
+}
+
+/// Recovers the state on the image file at `path`, and answers the exit status: 0 once the state is written to `out`; 1
+/// after a line on `err` that says why not, and then nothing is written to `out`; 1 where writing to `out` fails, with
+/// nothing written to `err`.
+pub fn show_image<
+    F: FileExt + OpenFile + Drop,
+    R: Files<File = F> + AllocGlobal,
+    W: Write,
+    E: Write,
+>(rt: &R, path: &str, out: &mut W, err: &mut E) -> u8
+    ensures statuses { result ≤ 1 }
+    ensures one_writer { (out.new ≡ out.old) ⊎ (err.new ≡ err.old) }
+    ensures quiet { result ≡ 0 → err.new ≡ err.old }
+{
+    match text_of_show(rt, path) {
+        Ok(text) => print(out, text.as_bytes()),
+        Err(fault) => report(err, &fault),
+    }
+}
+
+// What is printed of the state on an image file.
+fn text_of_show<'a, F: FileExt + OpenFile + Drop, R: Files<File = F> + AllocGlobal>(
+    rt: &R,
+    path: &'a str,
+) -> Result<String, Fault<'a>>
+    ensures { IfErr result (λ fault. status_of fault ≡ 1) }
+{
+    let disk = opened(rt, path)?;
+    let recovered = show_disk(rt.alloc(), disk)?;
+    Ok(recovered.to_string(rt.alloc())?)
+}

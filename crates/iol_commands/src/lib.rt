@@ -1,0 +1,38 @@
+//! The commands of `iolmaster`, the program of an IO-Link master's data storage, over writers.
+//!
+//! In comes a script in TOML: a geometry, simulated devices and steps. Its run formats a disk in memory, carries out the
+//! steps of clients, ports and the flusher, stops the power and recovers what the disk holds. Or in comes an image file, to be formatted or shown. Out go a line for
+//! each event and the recovered state, on standard output, or one line that says why not, on standard error.
+//!
+//! Modules in reading order: `geometry` judges a script's numbers; `disk` has the disk that a run is made on, `recovery`
+//! the journal on it, `devices` the devices at the ports, `steps` the steps of a script, and `run` runs it; `image`
+//! formats and shows the disk of an image file; `trace_text`, `event_text`, `status_text` and `state_text` have the
+//! lines, and `fault` why a command fails; `commands` and `image_commands` are the commands over writers, `words` what
+//! the words of the command line ask for, and `arguments` carries it out. Which texts can be run is defined in
+//! `specs/Runs.antt`, what the steps of a script are in `specs/Steps.antt`.
+#![tactic(auto)]
+
+mod arguments;
+mod commands;
+mod devices;
+mod disk;
+mod event_text;
+mod fault;
+mod geometry;
+mod image;
+mod image_commands;
+mod recovery;
+mod run;
+mod state_text;
+mod status_text;
+mod steps;
+mod trace_text;
+mod words;
+
+pub use arguments::{run_program, run_words};
+pub use commands::{report, run_text};
+pub use fault::Fault;
+pub use geometry::geometry_of;
+pub use image::{format_disk, show_disk};
+pub use image_commands::{format_image, show_image};
+pub use state_text::Recovered;

@@ -1,0 +1,32 @@
+//! The journal on a disk.
+ghost use Rattle.std.specs.Prelude.{◌≡◌, Ok, [], IfOk, IfErr};
+ghost use Rattle.iol_journal.specs.Meaning.{standing_in};
+ghost use Rattle.iol_journal.specs.Reading.{Shows};
+ghost use Rattle.iol_commands.specs.Fault.{status_of};
+ghost use Rattle.iol_commands.specs.Images.{TellsWhy};
+
+use crate::fault::Fault;
+use iol_disk::SectorDisk;
+use iol_journal::{Journal, RecoverFault};
+use iol_types::MasterState;
+use std::alloc::Global;
+
+// The journal on a disk, and the state that it means.
+//
+// # Errors
+// Why the disk is not recovered.
+pub(crate) fn recover<D: SectorDisk + Drop>(
+    alloc: Global,
+    disk: D,
+) -> Result<(Journal<D>, MasterState), Fault<'static>>
+    ensures found { IfOk result (λ found. Shows (D.disk disk) (λ image. standing_in (D.disk disk).sectors image ≡ Ok found.0.standing)) }
+    ensures state { IfOk result (λ found. found.1 ≡ found.0.standing.state) }
+    ensures history { IfOk result (λ found. found.0.history ≡ record { first = found.0.standing.number; start = found.1; commands = [] }) }
+    ensures cause { IfErr result (λ fault. Shows (D.disk disk) (λ image. TellsWhy (standing_in (D.disk disk).sectors image) fault)) }
+    ensures status { IfErr result (λ fault. status_of fault ≡ 1) }
+{
+    match Journal::recover(alloc, disk) {
+        Ok(recovered) => Ok(recovered),
+        Err(RecoverFault { cause, .. }) => Err(Fault::from(cause)),
+    }
+}

@@ -1,0 +1,18 @@
+//! Tests of what is spoken with devices, through the doors of its crates: ISDUs, identification, Index_Lists, links, uploads
+//! and downloads, simulated devices and ports.
+#![tactic(auto)]
+
+#[cfg(test)]
+mod dsindex;
+#[cfg(test)]
+mod ident;
+#[cfg(test)]
+mod isdu;
+#[cfg(test)]
+mod link;
+#[cfg(test)]
+mod port;
+#[cfg(test)]
+mod sim;
+#[cfg(test)]
+mod transfer;

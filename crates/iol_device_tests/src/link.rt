@@ -1,0 +1,75 @@
+//! A link of which nothing is said, called as a port calls it.
+
+use arrayvec::ArrayVec;
+use iol_isdu::ISDU_OCTETS;
+use iol_link::{DeviceLink, Lost, PAGE_OCTETS, runs_join};
+
+// A link of which nothing is said: no device is there.
+#[derive(Drop)]
+struct Unplugged {
+    connection: u64,
+}
+
+impl Unplugged {
+    ghost use Rattle.std.specs.Prelude.{◌≡◌, ◌+◌, min};
+    ghost use Rattle.iol_link.specs.Link.{last_connection};
+
+    fn lose(&mut self) -> Lost
+        ensures { self.new.connection ≡ min (self.old.connection + 1) last_connection }
+    {
+        self.connection = self.connection.saturating_add(1);
+        Lost
+    }
+}
+
+impl DeviceLink for Unplugged {
+    ghost number = { λ link. link.connection };
+
+    ghost device = { λ link. link.connection };
+
+    ghost steps = { λ _ _ _ _. Unit {0} };
+
+    fn connection(&self) -> u64 {
+        self.connection
+    }
+
+    fn take_event(&mut self) -> Option<u16> {
+        None
+    }
+
+    fn read_page(&mut self) -> Result<[u8; PAGE_OCTETS], Lost> {
+        Err(self.lose())
+    }
+
+    fn exchange(&mut self, _request: &[u8]) -> Result<ArrayVec<u8, ISDU_OCTETS>, Lost> {
+        Err(self.lose())
+    }
+}
+
+// The connections after an event was asked for, a page, and an answer.
+fn connections<L: DeviceLink>(link: &mut L) -> [u64; 3] {
+    let _ = link.take_event();
+    let silent = link.connection();
+    let _ = link.read_page();
+    let unread = link.connection();
+    let _ = link.exchange(&[0x93, 0x10, 0x83]);
+    [silent, unread, link.connection()]
+}
+
+#[test]
+fn each_loss_begins_a_connection(rt: HostRuntime) {
+    let mut link = Unplugged { connection: 0 };
+    assert_eq!(rt; connections(&mut link), [0, 1, 2]);
+    let mut link = Unplugged {
+        connection: 18446744073709551614,
+    };
+    assert_eq!(rt;
+        connections(&mut link),
+        [
+            18446744073709551614,
+            18446744073709551615,
+            18446744073709551615
+        ]
+    );
+    runs_join::<Unplugged>();
+}

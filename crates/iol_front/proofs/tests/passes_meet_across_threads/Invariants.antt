@@ -1,5 +1,0 @@
-use Rattle.iol_front.proofs.tests.passes_meet_across_threads.Given as goal
-
--- the front that was just made
-abbrev pub ghosts-publish_three : goal.ghosts-publish_three
-ghosts-publish_three g a = record { front = a.front }

@@ -1,0 +1,5 @@
+//! Tests of scripts: texts that are read, and what is wrong with others.
+#![tactic(auto)]
+
+#[cfg(test)]
+mod script;

@@ -1,0 +1,11 @@
+use Rattle.std.proofs.Common.{◌≡◌, length}
+use Rattle.iol_journal.specs.Journals.{calls_left}
+use Rattle.iol_store_tests.proofs.front.finish.Given as goal
+
+-- the batch stays behind the same commands
+abbrev pub invariant-loop-next : goal.invariant-loop-next
+invariant-loop-next l = (l.writing.standing ≡ l.fn.writing.standing) × (l.writing.commands ≡ l.fn.writing.commands)
+
+-- each step makes one of the disk calls that are left
+abbrev pub decreases-loop-next : goal.decreases-loop-next
+decreases-loop-next l = length (calls_left l.writing)

@@ -1,0 +1,5 @@
+use Rattle.iol_store_tests.proofs.front.passes_meet_across_threads.Given as goal
+
+-- the front that was just made
+abbrev pub ghosts-publish_three : goal.ghosts-publish_three
+ghosts-publish_three g a = record { front = a.front }

@@ -1,0 +1,93 @@
+//! A flusher with what stands around it, and what a caller does with it.
+
+ghost use Rattle.std.specs.Prelude.{◌≡◌, [], ◌⊎◌};
+ghost use Rattle.iol_flush.specs.Stages.{HasHistory, need_of};
+ghost use Rattle.iol_flush.specs.declared.need.Need.TheVariants as need;
+
+use iol_disk::{MemoryDisk, SectorDisk};
+use iol_flush::{Flusher, Need};
+use iol_front::{Front, Name};
+use iol_journal::{Batch, Geometry, Journal, format};
+use iol_types::{Command, DeviceId, MasterState, PortConfig, PortId, PortMode, Validation};
+use std::alloc::Global;
+use std::process::Abort;
+
+/// A Configure of port 1.
+pub fn configure() -> Command {
+    Command::Configure {
+        port: PortId::new(1).unwrap(),
+        config: PortConfig {
+            mode: PortMode::IolManual,
+            validation: Validation::BackupAndRestore,
+            vendor: 500,
+            device: DeviceId::new(43981).unwrap(),
+        },
+    }
+}
+
+/// So many Configures of port 1, the first under this number.
+pub fn batch<R: Abort>(rt: &R, alloc: Global, first: u64, count: usize) -> Batch {
+    let mut commands = Vec::new(alloc);
+    for _ in 0..count {
+        commands.push(configure()).expect(rt, "memory");
+    }
+    Batch { first, commands }
+}
+
+/// A disk with an empty journal of two ports and four slots.
+pub fn formatted<R: Abort>(rt: &R, alloc: Global) -> MemoryDisk {
+    let geometry = Geometry::new(2, 4).expect(rt, "a geometry");
+    let mut disk = MemoryDisk::new(alloc, geometry.sectors()).expect(rt, "a disk");
+    format(alloc, &mut disk, geometry).expect(rt, "a format");
+    disk
+}
+
+/// The journal that is recovered from a disk, and its state.
+pub fn recovered<D: SectorDisk + Drop, R: Abort>(
+    rt: &R,
+    alloc: Global,
+    disk: D,
+) -> (Journal<D>, MasterState)
+    ensures { result.0.history ≡ record { first = result.0.standing.number; start = result.1; commands = [] } }
+{
+    let Ok(found) = Journal::recover(alloc, disk) else {
+        panic!(rt; "a recovery")
+    };
+    found
+}
+
+/// A flusher of a journal that was just recovered.
+pub fn flusher_of<D: SectorDisk, F: Name>(front: Front, journal: Journal<D>) -> Flusher<D, F>
+    requires name { front ≡ F.front }
+    requires list { HasHistory front.start [] journal.history }
+    ensures { need_of result.stage ≡ need.Batch }
+{
+    Flusher::new(journal, front.publisher::<F>())
+}
+
+/// Gives a batch, which is taken.
+pub fn give<D: SectorDisk, F: Name, R: Abort>(rt: &R, flusher: &mut Flusher<D, F>, batch: Batch) {
+    assert_eq!(rt; flusher.needs(), Need::Batch);
+    flusher.give(batch).expect(rt, "a batch that is taken");
+}
+
+/// Makes the disk calls that a batch needs, 64 at most, and counts them.
+pub fn make_calls<D: SectorDisk, F: Name, R: Abort>(rt: &R, flusher: &mut Flusher<D, F>) -> usize {
+    for made in 0..64 {
+        if flusher.needs() != Need::Disk {
+            return made;
+        }
+        flusher.disk_step().expect(rt, "a disk call");
+    }
+    64
+}
+
+/// Publishes a batch that is durable, and tells the number of its first command and how many it has.
+pub fn publish<D: SectorDisk, F: Name, R: Abort>(
+    rt: &R,
+    flusher: &mut Flusher<D, F>,
+) -> (u64, usize) {
+    assert_eq!(rt; flusher.needs(), Need::Publish);
+    let committed = flusher.publish().expect(rt, "a batch that is published");
+    (committed.first(), committed.len())
+}

@@ -1,5 +1,0 @@
-use Rattle.iol_tool.proofs.SaidDevices.{may_visit}
-use Rattle.iol_tool.proofs.commands.text_of_run.Goals as goal
-
-pub run-requires : goal.run-requires
-run-requires c = may_visit c.args.text.now c.in_ok-script.script c.in_ok-script.ensures.script
