@@ -10,8 +10,8 @@
 //! Modules in reading order: where things stand (`area`, `geometry`, `layout`, `header`, `place`), what stands there
 //! (`numbers`, `batch`, `body`, `records`, `area_plan`), reading it (`cause`, `reading`, `opening`, `snapshot`, `replay`,
 //! `recovery`), and writing it (`formatting`, `erasing`, `history`, `journal`, `phase`, `calls`, `writing`, `stage`,
-//! `stage_calls`, `checkpointing`); then `laws` and `runs`, for proofs of other crates, and `examples`, facts with values
-//! of the layout. What an image of a disk means is said in `specs/Meaning.antt`, what a run of batches and checkpoints
+//! `stage_calls`, `checkpointing`); then `laws` and `runs`, for proofs of other crates, `examples`, facts with values
+//! of the layout, and `plain`, a slow reading of an image to compare a recovery with. What an image of a disk means is said in `specs/Meaning.antt`, what a run of batches and checkpoints
 //! keeps in `specs/Runs.antt`. [`Area`], [`Head`], [`Header`], [`History`], [`Idle`], [`InUse`], [`Phase`] and [`Stage`]
 //! are what contracts show of a journal.
 #![tactic(auto)]
@@ -36,6 +36,7 @@ mod numbers;
 mod opening;
 mod phase;
 mod place;
+mod plain;
 mod reading;
 mod records;
 mod recovery;
@@ -61,9 +62,7 @@ pub use journal::{BeginCause, BeginFault, CheckpointFault, Journal};
 pub use opening::InUse;
 pub use phase::Phase;
 pub use place::Idle;
+pub use plain::plain_meaning;
 pub use recovery::RecoverFault;
 pub use stage::Stage;
 pub use writing::{Progress, Writing, Written};
-
-#[cfg(test)]
-mod tests;

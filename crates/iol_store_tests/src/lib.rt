@@ -1,5 +1,5 @@
-//! Tests of the store, through the doors of its crates: values, records, disks, slots, the front, the core and the flusher.
-//! Those of the journal stand beside it, as they read its images with its own words.
+//! Tests of what stands around the journal, through the doors of the crates: values, records, disks, slots, the front, the
+//! core and the flusher.
 #![tactic(auto)]
 
 #[cfg(test)]

@@ -1,8 +1,8 @@
 //! Which batches a journal takes.
 
 use super::{batch, begun, configure, finished, formatted, journal_of, journal_on, put_octet};
-use crate::{Batch, BeginCause, Journal};
 use iol_disk::MemoryDisk;
+use iol_journal::{Batch, BeginCause, Journal};
 use std::alloc::Global;
 use std::process::Abort;
 

@@ -3,9 +3,9 @@
 use super::{
     batch, behind, blank, formatted, journal_of, journal_on, octets_at, put, two_ports_four_slots,
 };
-use crate::format;
 use iol_disk::DiskCall::{self, Read, Sync, Write};
 use iol_disk::{MemoryDisk, RecordedDisk, SECTOR_OCTETS};
+use iol_journal::format;
 use std::alloc::Global;
 use std::process::Abort;
 

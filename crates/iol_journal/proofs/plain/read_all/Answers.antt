@@ -3,7 +3,7 @@ use Rattle.std.proofs.lemmas.Result.{err_from_is_err_and}
 use Rattle.iol_journal.specs.Plain.{image_of}
 use Rattle.iol_journal.proofs.Chains.{no_layout, no_area, no_ports, no_log}
 use Rattle.iol_journal.proofs.Plainly.{no_meaning, all_read}
-use Rattle.iol_journal.proofs.tests.plain.read_all.Goals as goal
+use Rattle.iol_journal.proofs.plain.read_all.Goals as goal
 
 pub returns-in_err-layout-clause-says : goal.returns-in_err-layout-clause-says
 returns-in_err-layout-clause-says c =

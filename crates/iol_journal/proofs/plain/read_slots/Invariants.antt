@@ -2,7 +2,7 @@ use Rattle.std.proofs.Common.{◌≡◌, ◌≤◌, ◌+◌, ℕ}
 use Rattle.iol_journal.specs.Meaning.{log_from}
 use Rattle.iol_journal.specs.Plain.{image_of}
 use Rattle.iol_journal.specs.declared.header.TheConstants.{LAST_NUMBER}
-use Rattle.iol_journal.proofs.tests.plain.read_slots.Given as goal
+use Rattle.iol_journal.proofs.plain.read_slots.Given as goal
 
 abbrev pub invariant-loop-place : goal.invariant-loop-place
 invariant-loop-place l = record {

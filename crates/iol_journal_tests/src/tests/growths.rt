@@ -4,11 +4,11 @@
 
 use super::checkpoints::{checkpoint_of, steps};
 use super::{begun, blank, configure, journal_on, stepped, two_ports_four_slots};
-use crate::{
+use iol_disk::{DiskFault, MemoryDisk};
+use iol_journal::{
     Batch, BeginCause, CheckpointProgress, FormatFault, Journal, Progress, RecoverCause, Writing,
     format,
 };
-use iol_disk::{DiskFault, MemoryDisk};
 use std::alloc::Global;
 use std::process::Abort;
 

@@ -1,4 +1,5 @@
-//! A plain and slow program for what an image of a disk means. It takes all sectors, and knows no disk.
+//! A plain and slow program for what an image of a disk means, to compare a recovery with. It takes all sectors, and knows
+//! no disk.
 ghost use Rattle.std.specs.Prelude.{◌≡◌, ◌<◌, ◌≤◌, ◌+◌, ◌*◌, length, IfOk, IfErr};
 ghost use Rattle.iol_slots.specs.Gate.{is_open};
 ghost use Rattle.iol_journal.specs.Faults.{IsFault, IsDiskFault};

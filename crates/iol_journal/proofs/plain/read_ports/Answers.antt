@@ -9,7 +9,7 @@ use Rattle.iol_journal.specs.Reading.{SaysWhy}
 use Rattle.iol_journal.proofs.Snapshots.{ports-more, ports-stopped, ports-ended, port_placed}
 use Rattle.iol_journal.proofs.Plainly.{front_grows}
 use Rattle.std.proofs.lemmas.Result.{err_from_is_err_and}
-use Rattle.iol_journal.proofs.tests.plain.read_ports.Goals as goal
+use Rattle.iol_journal.proofs.plain.read_ports.Goals as goal
 
 pub loop-place-preserved : goal.loop-place-preserved
 loop-place-preserved c =

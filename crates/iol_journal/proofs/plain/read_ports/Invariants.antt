@@ -2,7 +2,7 @@ use Rattle.std.proofs.Common.{◌≡◌, ◌+◌, ℕ, length, take}
 use Rattle.iol_journal.specs.Meaning.{ports_from}
 use Rattle.iol_journal.specs.Plain.{image_of}
 use Rattle.iol_journal.proofs.Snapshots.{with_front}
-use Rattle.iol_journal.proofs.tests.plain.read_ports.Given as goal
+use Rattle.iol_journal.proofs.plain.read_ports.Given as goal
 
 abbrev pub invariant-loop-place : goal.invariant-loop-place
 invariant-loop-place l = record {

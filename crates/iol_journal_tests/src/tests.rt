@@ -10,12 +10,11 @@ mod hostile_images;
 mod largest;
 mod layout;
 mod orders;
-mod plain;
 mod power_stops;
 mod sets;
 
-use crate::{Batch, Geometry, Journal, Progress, RecoverCause, Writing, format};
 use iol_disk::{MemoryDisk, Pick, SECTOR_OCTETS, SectorDisk};
+use iol_journal::{Batch, Geometry, Journal, Progress, RecoverCause, Writing, format};
 use iol_types::{Command, DeviceId, MasterState, PortConfig, PortId, PortMode, Validation};
 use std::alloc::Global;
 use std::process::Abort;

@@ -5,7 +5,7 @@ use Rattle.std.proofs.lemmas.List.{drop_more}
 use Rattle.std.proofs.lemmas.Option.{unwrap_or-slice_get}
 use Rattle.iol_journal.specs.Octets.{octets_at}
 use Rattle.iol_journal.specs.Plain.{image_of}
-use Rattle.iol_journal.proofs.tests.plain.octets_from.Goals as goal
+use Rattle.iol_journal.proofs.plain.octets_from.Goals as goal
 
 -- sectors one behind the other, as the image has them
 joined : (sectors : List (List ℕ)) (first n : ℕ) → first + n ≤ length sectors → flat_map (λ x. x) (take n (drop first sectors)) ≡ octets_at (image_of sectors) first n

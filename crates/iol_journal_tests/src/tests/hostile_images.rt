@@ -3,10 +3,9 @@
 ghost use Rattle.std.specs.Prelude.{◌<◌};
 ghost use Rattle.iol_disk.specs.declared.disk.TheConstants.{SECTOR_OCTETS};
 
-use super::plain::plain_meaning;
 use super::{answer, answer_of, blank, journal_of, journal_with, octets_at, put, with_octet};
-use crate::RecoverCause;
 use iol_disk::{MemoryDisk, SECTOR_OCTETS, SectorDisk};
+use iol_journal::{RecoverCause, plain_meaning};
 use std::alloc::Global;
 use std::process::Abort;
 

@@ -5,8 +5,8 @@ use super::{
     answer, answer_of, batch, begun, blank, journal_of, journal_on, journal_with, stepped,
     two_ports_four_slots,
 };
-use crate::{FormatFault, Progress, RecoverCause, Writing, format};
 use iol_disk::{DiskFault, MemoryDisk, Pick};
+use iol_journal::{FormatFault, Progress, RecoverCause, Writing, format};
 use std::alloc::Global;
 use std::process::Abort;
 

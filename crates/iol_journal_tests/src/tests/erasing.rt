@@ -3,9 +3,9 @@
 use super::{
     PICKS, answer, answer_of, blank, formatted, journal_of, journal_on, two_ports_four_slots,
 };
-use crate::{RecoverCause, erase, format};
 use iol_disk::DiskCall::{self, Read, Sync, Write};
 use iol_disk::{DiskFault, FaultDisk, MemoryDisk, RecordedDisk};
+use iol_journal::{RecoverCause, erase, format};
 use std::alloc::Global;
 use std::process::Abort;
 

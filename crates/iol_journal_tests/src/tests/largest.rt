@@ -1,8 +1,8 @@
 //! The largest journal: 32 ports and 256 slots.
 
 use super::{behind, configure, formatted_as, journal_on, recovered, revision};
-use crate::{Batch, Geometry, Journal};
 use iol_disk::MemoryDisk;
+use iol_journal::{Batch, Geometry, Journal};
 use iol_types::MasterState;
 use std::alloc::Global;
 use std::process::Abort;

@@ -4,9 +4,9 @@ use super::{
     PICKS, answer_of, batch, behind, formatted, formatted_as, journal_of, journal_on, recovered,
     revision,
 };
-use crate::{CheckpointProgress, Checkpointing, Geometry, Journal};
 use iol_disk::DiskCall::{self, Read, Sync, Write};
 use iol_disk::{DiskFault, FaultDisk, MemoryDisk, Pick, RecordedDisk, SectorDisk};
+use iol_journal::{CheckpointProgress, Checkpointing, Geometry, Journal};
 use std::alloc::Global;
 use std::process::Abort;
 

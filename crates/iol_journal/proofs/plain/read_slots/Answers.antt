@@ -4,7 +4,7 @@ use Rattle.iol_journal.specs.Meaning.{log_from}
 use Rattle.iol_journal.specs.Plain.{image_of}
 use Rattle.iol_journal.proofs.SlotLogs.{log-open, log-damaged, log-closed}
 use Rattle.iol_journal.proofs.Plainly.{gate_at_place, slot_reached, ok_log}
-use Rattle.iol_journal.proofs.tests.plain.read_slots.Goals as goal
+use Rattle.iol_journal.proofs.plain.read_slots.Goals as goal
 
 pub loop-place-init : goal.loop-place-init
 loop-place-init c = record {

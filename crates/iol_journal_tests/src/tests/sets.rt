@@ -7,10 +7,9 @@ use super::{
     PICKS, answer_of, begun, behind, config, configure, device, formatted, journal_of, journal_on,
     port, put, recovered,
 };
-use crate::numbers::array_at;
-use crate::{Batch, BeginCause, Journal, RecoverCause};
 use iol_disk::DiskCall::{Read, Sync, Write};
-use iol_disk::{MemoryDisk, Pick, RecordedDisk};
+use iol_disk::{MemoryDisk, Pick, RecordedDisk, SECTOR_OCTETS};
+use iol_journal::{Batch, BeginCause, Journal, RecoverCause};
 use iol_record::encode_port;
 use iol_types::{Command, DataSet, Key, MasterState, PortState, SetBuilder};
 use std::alloc::Global;
@@ -105,7 +104,9 @@ fn disk_with_port_one<R: Abort>(rt: &R, alloc: Global, mut record: Vec<u8>) -> M
     record.resize(4608, 0).expect(rt, "memory");
     let mut disk = formatted(rt, alloc);
     for place in 0..9 {
-        put(rt, &mut disk, 4 + place, &array_at(&record, 512 * place));
+        let mut octets = [0; SECTOR_OCTETS];
+        octets.copy_from_slice(&record[512 * place..512 * place + 512]);
+        put(rt, &mut disk, 4 + place, &octets);
     }
     disk
 }

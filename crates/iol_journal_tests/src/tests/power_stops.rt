@@ -5,8 +5,8 @@ use super::{
     PICKS, answer_of, batch, begun, blank, journal_of, recovered, revision, stepped,
     two_ports_four_slots,
 };
-use crate::{Progress, RecoverCause, Writing, format};
 use iol_disk::{MemoryDisk, Pick};
+use iol_journal::{Progress, RecoverCause, Writing, format};
 use std::alloc::Global;
 use std::process::Abort;
 

@@ -4,8 +4,8 @@ use super::{
     batch, begun, behind, blank, finished, formatted, journal_of, journal_on, octets_at, recovered,
     two_ports_four_slots,
 };
-use crate::{FormatFault, Geometry, format};
 use iol_disk::MemoryDisk;
+use iol_journal::{FormatFault, Geometry, format};
 use std::process::Abort;
 
 #[test]
