@@ -1,7 +1,7 @@
 //! Batches: how many commands one has, and which one is acknowledged.
 
 ghost use Rattle.std.specs.Prelude.{◌≡◌};
-ghost use Rattle.iol_core.specs.declared.tests.scene.TheConstants.{VENDOR, DEVICE};
+ghost use Rattle.iol_store_tests.specs.declared.core_calls.scene.TheConstants.{VENDOR, DEVICE};
 
 use super::scene::{
     DEVICE, VENDOR, clear, configure, core_of, device, empty_journal, port, publish, set,

@@ -1,7 +1,7 @@
 //! Uploads: who gets a permit, and what becomes of it.
 
 ghost use Rattle.std.specs.Prelude.{◌≡◌};
-ghost use Rattle.iol_core.specs.declared.tests.scene.TheConstants.{VENDOR, DEVICE};
+ghost use Rattle.iol_store_tests.specs.declared.core_calls.scene.TheConstants.{VENDOR, DEVICE};
 
 use super::scene::{DEVICE, VENDOR, clear, configure, core_of, device, port, set};
 use iol_core::{Core, FinishFault, PermitFault, StopCause, UploadPermit};
