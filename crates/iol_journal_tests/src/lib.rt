@@ -1,6 +1,8 @@
 //! Tests of the journal, through its door: disk calls and their order, power stops, faults, checkpoints, and images that are
-//! read by a plain program too.
+//! read by a plain program too; and of what is timed of it.
 #![tactic(auto)]
 
 #[cfg(test)]
 mod tests;
+#[cfg(test)]
+mod timing;

@@ -3,9 +3,9 @@
 use std::alloc::{AllocError, Global};
 use std::fmt;
 
-// What a journal took and what a plain file took, in nanoseconds.
+/// What a journal took and what a plain file took, in nanoseconds.
 #[derive(Clone, Copy, Debug, PartialEq, Eq)]
-pub(crate) struct Pair {
+pub struct Pair {
     pub journal: u64,
     pub plain: u64,
 }
@@ -30,10 +30,10 @@ impl Pair {
     }
 }
 
-// Several rounds: the medians of what one commit, checkpoint or recovery took, in nanoseconds, and of the rounds' ratios,
-// with the least and the greatest ratio, in thousandths.
+/// Several rounds: the medians of what one commit, checkpoint or recovery took, in nanoseconds, and of the rounds' ratios,
+/// with the least and the greatest ratio, in thousandths.
 #[derive(Clone, Copy, Debug, PartialEq, Eq)]
-pub(crate) struct Medians {
+pub struct Medians {
     journal: u64,
     plain: u64,
     ratio: u64,
@@ -42,8 +42,8 @@ pub(crate) struct Medians {
 }
 
 impl Medians {
-    // Of rounds that each made so many.
-    pub(crate) fn of(alloc: Global, rounds: &[Pair], count: u64) -> Result<Medians, AllocError> {
+    /// Of rounds that each made so many.
+    pub fn of(alloc: Global, rounds: &[Pair], count: u64) -> Result<Medians, AllocError> {
         let journal = sorted(rounds.iter().map(|pair| pair.journal).collect(alloc)?)?;
         let plain = sorted(rounds.iter().map(|pair| pair.plain).collect(alloc)?)?;
         let ratios = sorted(rounds.iter().map(|pair| pair.thousandths()).collect(alloc)?)?;

@@ -18,9 +18,9 @@ const SLOTS: u16 = 16;
 // The stretches of a round: 16 commits and a checkpoint, ten times.
 const STRETCHES: usize = 170;
 
-// The disk calls of one commit or one checkpoint.
+/// The disk calls of one commit or one checkpoint.
 #[derive(Debug, Drop)]
-pub(crate) struct Stretch {
+pub struct Stretch {
     pub kind: Kind,
     pub calls: Vec<DiskCall>,
 }
@@ -32,8 +32,8 @@ struct Costs {
     checkpoints: Pair,
 }
 
-// Times rounds of commits and checkpoints, and prints what one of each takes.
-pub(crate) fn measure(rt: &HostRuntime, folder: &str, rounds: usize) -> anyhow::Result<()> {
+/// Times rounds of commits and checkpoints, and prints what one of each takes.
+pub fn measure_commits(rt: &HostRuntime, folder: &str, rounds: usize) -> anyhow::Result<()> {
     let stretches = planned(rt.alloc())?;
     let mut commits = Vec::new(rt.alloc());
     let mut checkpoints = Vec::new(rt.alloc());
@@ -64,8 +64,8 @@ fn geometry() -> anyhow::Result<Geometry> {
     Geometry::new(PORTS, SLOTS).context("no geometry")
 }
 
-// The stretches of a round, recorded on a disk in memory: their calls are the same on every disk.
-pub(crate) fn planned(alloc: Global) -> anyhow::Result<Vec<Stretch>> {
+/// The stretches of a round, recorded on a disk in memory: their calls are the same on every disk.
+pub fn planned(alloc: Global) -> anyhow::Result<Vec<Stretch>> {
     let disk = MemoryDisk::new(alloc, geometry()?.sectors())?;
     let mut journal = new_journal(alloc, RecordedDisk::new(alloc, disk), geometry()?)?;
     let mut parts = Vec::new(alloc);

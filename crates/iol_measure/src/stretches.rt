@@ -6,9 +6,9 @@ use iol_journal::{Batch, CheckpointProgress, Geometry, Journal, Progress, Writin
 use iol_types::Command;
 use std::alloc::Global;
 
-// What a stretch of disk calls is for.
+/// What a stretch of disk calls is for.
 #[derive(Clone, Copy, Debug, PartialEq, Eq)]
-pub(crate) enum Kind {
+pub enum Kind {
     Commit,
     Checkpoint,
 }

@@ -11,9 +11,9 @@ use std::alloc::{AllocError, Global};
 use std::fs;
 use std::time::Instant;
 
-// Times recoveries, and prints them beside a plain read of the sectors that a recovery reads, and of all sectors, each a
-// sector at a time and in order.
-pub(crate) fn measure(rt: &HostRuntime, folder: &str, rounds: usize) -> anyhow::Result<()> {
+/// Times recoveries, and prints them beside a plain read of the sectors that a recovery reads, and of all sectors, each a
+/// sector at a time and in order.
+pub fn measure_recovery(rt: &HostRuntime, folder: &str, rounds: usize) -> anyhow::Result<()> {
     let path = format!(in rt.alloc(); "{folder}/iol_bench_largest.img")?;
     let sectors = geometry().context("no geometry")?.sectors();
     write_largest(rt.alloc(), ImageFile::create(rt, path.as_str(), sectors)?)?;

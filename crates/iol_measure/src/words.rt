@@ -1,18 +1,18 @@
 //! The words that the program is called with.
 
-// What the words ask for.
+/// What the words ask for.
 #[derive(Clone, Copy, Debug, PartialEq, Eq)]
-pub(crate) enum Asked<'a> {
-    // no words: how it is called
+pub enum Asked<'a> {
+    /// no words: how it is called
     Usage,
-    // times in this folder, in so many rounds
+    /// times in this folder, in so many rounds
     Measure { folder: &'a str, rounds: usize },
-    // words that ask for nothing
+    /// words that ask for nothing
     Nothing,
 }
 
-// What the words ask for, the first of which is the name of the program.
-pub(crate) fn read_words(words: &[String]) -> Asked<'_> {
+/// What the words ask for, the first of which is the name of the program.
+pub fn read_words(words: &[String]) -> Asked<'_> {
     match words {
         [] | [_] => Asked::Usage,
         [_, folder, rounds] => match rounds.as_str().parse::<usize>() {

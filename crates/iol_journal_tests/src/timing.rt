@@ -1,10 +1,7 @@
 //! What is timed, and what is said of it.
 
-use crate::commits::planned;
-use crate::statistics::{Medians, Pair};
-use crate::stretches::Kind;
-use crate::words::{Asked, read_words};
 use iol_disk::DiskCall::{Sync, Write};
+use iol_measure::{Asked, Kind, Medians, Pair, planned, read_words};
 use std::test::Fail;
 
 #[test]
