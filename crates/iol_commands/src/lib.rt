@@ -1,8 +1,9 @@
 //! The commands of `iolmaster`, the program of an IO-Link master's data storage, over writers.
 //!
 //! In comes a script in TOML: a geometry, simulated devices and steps. Its run formats a disk in memory, carries out the
-//! steps of clients, ports and the flusher, stops the power and recovers what the disk holds. Or in comes an image file, to be formatted or shown. Out go a line for
-//! each event and the recovered state, on standard output, or one line that says why not, on standard error.
+//! steps of clients, ports and the flusher, stops the power and recovers what the disk holds. Or in comes an image file,
+//! to be formatted or shown. Out go a line for each event and the recovered state, on standard output, or one line that
+//! says why not, on standard error.
 //!
 //! Modules in reading order: `geometry` judges a script's numbers; `disk` has the disk that a run is made on, `recovery`
 //! the journal on it, `devices` the devices at the ports, `steps` the steps of a script, and `run` runs it; `image`

@@ -4,13 +4,9 @@ use iol_dsindex::examples::{
     BROKEN_OFF, FURTHER_LIST, NAMED_TWICE, NO_KEY, ONE_KEY, ONE_KEY_AND_MORE, RESERVED_ENTRY,
     RESERVED_NEXT,
 };
-use iol_dsindex::{
-    DsCommand, ListFault, MOST_LISTED_KEYS, Next, State, StateProperty, read_index_list,
-    write_index_list,
-};
+use iol_dsindex::{ListFault, MOST_LISTED_KEYS, Next, read_index_list, write_index_list};
 use iol_types::Key;
 use std::alloc::Global;
-use std::test::Fail;
 
 // By itself the run meets no refusal of memory. With `rt try --test --fail-alloc N` it meets one, at the Nth growth, and
 // the second reading succeeds.
@@ -22,7 +18,7 @@ fn read_twice(alloc: Global, octets: &[u8]) -> Result<(Vec<Key>, Next), ListFaul
 }
 
 #[test]
-fn lists_say_so(rt: HostRuntime) -> Result<(), Fail> {
+fn lists_say_so(rt: HostRuntime) {
     let key = Key {
         index: 0x0040,
         subindex: 0,
@@ -36,32 +32,14 @@ fn lists_say_so(rt: HostRuntime) -> Result<(), Fail> {
         (&FURTHER_LIST, &[key], Next::List(0x1200)),
     ];
     for (octets, keys, next) in rows {
-        let answer = read_twice(rt.alloc(), octets)?;
-        assert_eq!(rt; answer.0.as_slice(), keys, "of {octets:?}");
-        assert_eq!(rt; answer.1, next, "of {octets:?}");
-    }
-    Ok(())
-}
-
-#[test]
-fn octets_that_are_no_list(rt: HostRuntime) {
-    let rows: [(&[u8], ListFault); 4] = [
-        (&[0x00], ListFault::Truncated),
-        (&BROKEN_OFF, ListFault::Truncated),
-        (&RESERVED_ENTRY, ListFault::ReservedKey),
-        (&RESERVED_NEXT, ListFault::ReservedKey),
-    ];
-    for (octets, fault) in rows {
-        assert_eq!(rt;
-            read_twice(rt.alloc(), octets).err(),
-            Some(fault),
-            "of {octets:?}"
-        );
+        let answer = read_twice(rt.alloc(), octets).expect(&rt, "memory");
+        assert!(rt; answer.0.as_slice() == keys, "of {octets:?}");
+        assert!(rt; answer.1 == next, "of {octets:?}");
     }
 }
 
 #[test]
-fn the_longest_list_is_written_and_read(rt: HostRuntime) -> Result<(), Fail> {
+fn the_longest_list_is_written_and_read(rt: HostRuntime) {
     let mut keys = [Key {
         index: 0x0100,
         subindex: 0,
@@ -73,27 +51,25 @@ fn the_longest_list_is_written_and_read(rt: HostRuntime) -> Result<(), Fail> {
         let free = keys.iter().all(|key| !key.is_reserved());
         assert!(rt; free);
         let octets = write_index_list(&keys, next);
-        assert_eq!(rt; octets.len(), 230);
-        let answer = read_twice(rt.alloc(), octets.as_slice())?;
-        assert_eq!(rt; answer.0.as_slice(), keys.as_slice());
-        assert_eq!(rt; answer.1, next);
+        assert!(rt; octets.len() == 230);
+        let answer = read_twice(rt.alloc(), octets.as_slice()).expect(&rt, "memory");
+        assert!(rt; answer.0.as_slice() == keys.as_slice());
+        assert!(rt; answer.1 == next);
     }
-    Ok(())
 }
 
 #[test]
-fn an_empty_list_is_written(rt: HostRuntime) {
-    assert_eq!(rt;
-        write_index_list(&[], Next::End).as_slice(),
-        NO_KEY.as_slice()
-    );
-}
-
-#[test]
-fn commands_and_properties(rt: HostRuntime) {
-    assert_eq!(rt; DsCommand::from_octet(0x05), Some(DsCommand::Break));
-    assert_eq!(rt; DsCommand::DownloadEnd.to_octet(), 0x04);
-    let property = StateProperty::read(0x86);
-    assert_eq!(rt; property.state(), State::Locked);
-    assert!(rt; property.flag());
+fn octets_that_are_no_list(rt: HostRuntime) {
+    let rows: [(&[u8], ListFault); 4] = [
+        (&[0x00], ListFault::Truncated),
+        (&BROKEN_OFF, ListFault::Truncated),
+        (&RESERVED_ENTRY, ListFault::ReservedKey),
+        (&RESERVED_NEXT, ListFault::ReservedKey),
+    ];
+    for (octets, fault) in rows {
+        assert!(rt;
+            read_twice(rt.alloc(), octets).err() == Some(fault),
+            "of {octets:?}"
+        );
+    }
 }

@@ -1,11 +1,9 @@
-//! Tests of what is spoken with devices, through the doors of its crates: ISDUs, identification, Index_Lists, links, uploads
-//! and downloads, simulated devices and ports.
+//! Tests of what is spoken with devices, through the doors of its crates: ISDUs, Index_Lists, links, uploads and downloads,
+//! simulated devices and ports.
 #![tactic(auto)]
 
 #[cfg(test)]
 mod dsindex;
-#[cfg(test)]
-mod ident;
 #[cfg(test)]
 mod isdu;
 #[cfg(test)]

@@ -1,4 +1,3 @@
-mod decisions;
 mod driver;
 mod endings;
 mod rows;

@@ -7,14 +7,14 @@ use std::test::Fail;
 #[test]
 fn a_round_is_ten_times_sixteen_commits_and_a_checkpoint(rt: HostRuntime) -> Result<(), Fail> {
     let stretches = planned(rt.alloc())?;
-    assert_eq!(rt; stretches.len(), 170);
+    assert!(rt; stretches.len() == 170);
     for (place, stretch) in stretches.iter().enumerate() {
         let kind = if place % 17 == 16 {
             Kind::Checkpoint
         } else {
             Kind::Commit
         };
-        assert_eq!(rt; stretch.kind, kind, "{place}");
+        assert!(rt; stretch.kind == kind, "{place}");
     }
     Ok(())
 }
@@ -25,10 +25,10 @@ fn the_calls_of_each_stretch_are_its_own(rt: HostRuntime) -> Result<(), Fail> {
     let stretches = planned(rt.alloc())?;
     for (stretch, slot) in stretches.iter().zip([76, 93, 110]) {
         let calls = [Write(slot + 1), Sync, Write(slot), Sync];
-        assert_eq!(rt; stretch.calls.as_slice(), calls.as_slice(), "{slot}");
+        assert!(rt; stretch.calls.as_slice() == calls.as_slice(), "{slot}");
     }
     for stretch in stretches.iter() {
-        assert_eq!(rt; stretch.calls.last(), Some(&Sync));
+        assert!(rt; stretch.calls.last() == Some(&Sync));
     }
     Ok(())
 }
@@ -41,7 +41,7 @@ fn medians_are_the_middle_of_the_rounds(rt: HostRuntime) -> Result<(), Fail> {
     }
     let medians = Medians::of(rt.alloc(), rounds.as_slice(), 2)?.to_string(rt.alloc())?;
     let text = "journal 6.000 us, plain 5.000 us, ratio 1.200 (1.000 to 3.000)";
-    assert_eq!(rt; medians.as_str(), text);
+    assert!(rt; medians.as_str() == text);
     Ok(())
 }
 
@@ -65,8 +65,8 @@ fn words_are_a_folder_and_rounds(rt: HostRuntime) -> Result<(), Fail> {
             },
             None => Asked::Nothing,
         };
-        assert_eq!(rt; read_words(words.as_slice()), asked, "{rounds}");
-        assert_eq!(rt; read_words(words.get(..1).unwrap_or(&[])), Asked::Usage);
+        assert!(rt; read_words(words.as_slice()) == asked, "{rounds}");
+        assert!(rt; read_words(words.get(..1).unwrap_or(&[])) == Asked::Usage);
     }
     Ok(())
 }

@@ -4,6 +4,4 @@ mod allocations;
 mod ample_memory;
 mod batches;
 mod commands;
-mod downloads;
 mod scene;
-mod uploads;

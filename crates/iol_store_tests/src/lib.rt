@@ -1,5 +1,5 @@
-//! Tests of what stands around the journal, through the doors of the crates: values, records, disks, slots, the front, the
-//! core and the flusher.
+//! Tests of what stands around the journal, through the doors of the crates: values, records, disks, the front, the core
+//! and the flusher.
 #![tactic(auto)]
 
 #[cfg(test)]
@@ -12,7 +12,5 @@ mod flush;
 mod front;
 #[cfg(test)]
 mod record;
-#[cfg(test)]
-mod slots;
 #[cfg(test)]
 mod types;

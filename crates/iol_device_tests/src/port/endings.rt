@@ -15,7 +15,6 @@ use iol_types::{Change, MasterState, Validation};
 use std::alloc::Global;
 use std::marker::Brand;
 use std::process::Abort;
-use std::test::Fail;
 
 const BREAK: Next<'static> = Next::Answer(&[0x25, 0x03, 0x01, 0x05, 0x22], &[0x52, 0x52]);
 
@@ -27,11 +26,10 @@ const END_REFUSED: Next<'static> = Next::Answer(
 const STARTED: [PortStatus; 2] = [PortStatus::Starting, PortStatus::Uploading];
 
 #[test]
-fn a_set_waits_for_room_in_the_queue(rt: HostRuntime) -> Result<(), Fail> {
+fn a_set_waits_for_room_in_the_queue(rt: HostRuntime) {
     let (journal, state) = empty_journal(&rt, rt.alloc());
-    let front = Front::new(rt.alloc(), journal.number(), &state)?;
+    let front = Front::new(rt.alloc(), journal.number(), &state).expect(&rt, "memory");
     wait_for_room::<Brand, _>(&rt, rt.alloc(), front, state, journal);
-    Ok(())
 }
 
 fn wait_for_room<F: Name, R: Abort>(
@@ -78,11 +76,10 @@ fn wait_for_room<F: Name, R: Abort>(
 }
 
 #[test]
-fn an_upload_comes_to_nothing(rt: HostRuntime) -> Result<(), Fail> {
-    let state = MasterState::new(rt.alloc(), 2)?;
-    let front = Front::new(rt.alloc(), 0, &state)?;
+fn an_upload_comes_to_nothing(rt: HostRuntime) {
+    let state = MasterState::new(rt.alloc(), 2).expect(&rt, "memory");
+    let front = Front::new(rt.alloc(), 0, &state).expect(&rt, "memory");
     come_to_nothing::<Brand, _>(&rt, rt.alloc(), front, state);
-    Ok(())
 }
 
 // Whether an upload that is configured over starts anew.

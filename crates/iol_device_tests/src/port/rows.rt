@@ -12,7 +12,6 @@ use iol_types::{MasterState, Validation};
 use std::alloc::Global;
 use std::marker::Brand;
 use std::process::Abort;
-use std::test::Fail;
 
 const BUSY: Next<'static> = Next::Answer(&[0xA4, 0x03, 0x02, 0xA5], &[0x01]);
 
@@ -94,11 +93,10 @@ const ROWS: [Row<'static>; 5] = [
 ];
 
 #[test]
-fn a_port_is_as_its_device_is(rt: HostRuntime) -> Result<(), Fail> {
-    let state = MasterState::new(rt.alloc(), 2)?;
-    let front = Front::new(rt.alloc(), 0, &state)?;
+fn a_port_is_as_its_device_is(rt: HostRuntime) {
+    let state = MasterState::new(rt.alloc(), 2).expect(&rt, "memory");
+    let front = Front::new(rt.alloc(), 0, &state).expect(&rt, "memory");
     play_rows::<Brand, _>(&rt, rt.alloc(), front, state);
-    Ok(())
 }
 
 // Whether a new machine of port 1 makes this of a script, to its end.
@@ -128,11 +126,10 @@ fn play_rows<F: Name, R: Abort>(rt: &R, alloc: Global, front: Front, state: Mast
 }
 
 #[test]
-fn a_request_for_an_upload_is_kept(rt: HostRuntime) -> Result<(), Fail> {
-    let state = MasterState::new(rt.alloc(), 2)?;
-    let front = Front::new(rt.alloc(), 0, &state)?;
+fn a_request_for_an_upload_is_kept(rt: HostRuntime) {
+    let state = MasterState::new(rt.alloc(), 2).expect(&rt, "memory");
+    let front = Front::new(rt.alloc(), 0, &state).expect(&rt, "memory");
     keep_request::<Brand, _>(&rt, rt.alloc(), front, state);
-    Ok(())
 }
 
 fn keep_request<F: Name, R: Abort>(rt: &R, alloc: Global, front: Front, state: MasterState)

@@ -12,7 +12,6 @@ use iol_types::{MasterState, Validation};
 use std::alloc::Global;
 use std::marker::Brand;
 use std::process::Abort;
-use std::test::Fail;
 
 const CHECKSUM: Next<'static> = Next::Answer(
     &[0xA4, 0x03, 0x04, 0xA3],
@@ -55,11 +54,10 @@ const REPLACEMENT: [Next<'static>; 9] = [
 ];
 
 #[test]
-fn a_replacement_gets_what_was_uploaded(rt: HostRuntime) -> Result<(), Fail> {
+fn a_replacement_gets_what_was_uploaded(rt: HostRuntime) {
     let (journal, state) = empty_journal(&rt, rt.alloc());
-    let front = Front::new(rt.alloc(), journal.number(), &state)?;
+    let front = Front::new(rt.alloc(), journal.number(), &state).expect(&rt, "memory");
     replace_device::<Brand, _>(&rt, rt.alloc(), front, state, journal);
-    Ok(())
 }
 
 fn replace_device<F: Name, R: Abort>(

@@ -18,7 +18,7 @@ fn ask<L: DeviceLink>(
 #[test]
 fn one_answer_is_given_once_then_the_device_is_lost(rt: HostRuntime) {
     let done = write_answer(&Answer::WriteOk);
-    assert_eq!(rt; done.as_slice(), WRITE_DONE.as_slice());
+    assert!(rt; done.as_slice() == WRITE_DONE.as_slice());
     let mut answers = Vec::new(rt.alloc());
     answers.push(done).expect(&rt, "an answer");
     let mut link = ScriptLink::new(rt.alloc(), answers).expect(&rt, "a script");
@@ -29,31 +29,27 @@ fn one_answer_is_given_once_then_the_device_is_lost(rt: HostRuntime) {
     });
 
     let (connection, answer) = ask(&mut link, request.as_slice());
-    assert_eq!(rt;
-        answer.ok().as_ref().map(|octets| octets.as_slice()),
-        Some(WRITE_DONE.as_slice())
+    assert!(rt;
+        answer.ok().as_ref().map(|octets| octets.as_slice()) == Some(WRITE_DONE.as_slice())
     );
-    assert_eq!(rt; connection, first);
+    assert!(rt; connection == first);
 
     for lost in 1..=3 {
         let (connection, answer) = ask(&mut link, &[0x93, 0xFF, 0x6C]);
-        assert_eq!(rt; answer, Err(Lost));
-        assert_eq!(rt; connection - first, lost);
+        assert!(rt; answer == Err(Lost));
+        assert!(rt; connection - first == lost);
     }
-    assert_eq!(rt; link.requests().len(), 1);
-    assert_eq!(rt;
-        link.requests()[0].as_slice(),
-        [0x93, 0x10, 0x83].as_slice()
-    );
+    assert!(rt; link.requests().len() == 1);
+    assert!(rt; link.requests()[0].as_slice() == [0x93, 0x10, 0x83].as_slice());
 }
 
 #[test]
 fn a_script_without_a_page_is_lost(rt: HostRuntime) {
     let mut link = ScriptLink::new(rt.alloc(), Vec::new(rt.alloc())).expect(&rt, "a script");
-    assert_eq!(rt; link.take_event(), None);
-    assert_eq!(rt; link.connection(), 0);
-    assert_eq!(rt; link.read_page(), Err(Lost));
-    assert_eq!(rt; link.connection(), 1);
+    assert!(rt; link.take_event() == None);
+    assert!(rt; link.connection() == 0);
+    assert!(rt; link.read_page() == Err(Lost));
+    assert!(rt; link.connection() == 1);
     runs_join::<ScriptLink>();
     a_script_answers_in_order();
 }
@@ -68,14 +64,14 @@ fn a_page_and_events_are_there_until_the_device_is_lost(rt: HostRuntime) {
         .expect(&rt, "a script")
         .with_page([0xA5; PAGE_OCTETS])
         .with_events(events);
-    assert_eq!(rt; link.read_page(), Ok([0xA5; PAGE_OCTETS]));
-    assert_eq!(rt; link.take_event(), Some(0x0000));
-    assert_eq!(rt; link.take_event(), Some(0xFF91));
-    assert_eq!(rt; link.read_page(), Ok([0xA5; PAGE_OCTETS]));
-    assert_eq!(rt; link.connection(), 0);
-    assert_eq!(rt; ask(&mut link, &[0x93, 0x10, 0x83]), (1, Err(Lost)));
-    assert_eq!(rt; link.take_event(), None);
-    assert_eq!(rt; link.read_page(), Err(Lost));
+    assert!(rt; link.read_page() == Ok([0xA5; PAGE_OCTETS]));
+    assert!(rt; link.take_event() == Some(0x0000));
+    assert!(rt; link.take_event() == Some(0xFF91));
+    assert!(rt; link.read_page() == Ok([0xA5; PAGE_OCTETS]));
+    assert!(rt; link.connection() == 0);
+    assert!(rt; ask(&mut link, &[0x93, 0x10, 0x83]) == (1, Err(Lost)));
+    assert!(rt; link.take_event() == None);
+    assert!(rt; link.read_page() == Err(Lost));
 }
 
 #[test]
@@ -88,5 +84,5 @@ fn a_long_script_is_answered_to_its_end(rt: HostRuntime) {
     for _ in 0..301 {
         let _ = link.exchange(&[0x93, 0x10, 0x83]);
     }
-    assert_eq!(rt; link.requests().len(), 300);
+    assert!(rt; link.requests().len() == 300);
 }

@@ -43,19 +43,19 @@ fn flag_read<L: DeviceLink>(link: &mut L) -> Option<bool> {
 #[test]
 fn one_device_follows_another(rt: HostRuntime) {
     let mut link = two_devices(&rt, rt.alloc(), 2, None);
-    assert_eq!(rt; device_on_page(&mut link), Some(0xCD));
-    assert_eq!(rt; link.exchange(&UPLOAD_START).is_ok(), true);
-    assert_eq!(rt; device_at(&rt, &link, 0).state(), State::Upload);
-    assert_eq!(rt; (link.connection(), link.place()), (0, 0));
-    assert_eq!(rt; device_on_page(&mut link), None);
-    assert_eq!(rt; (link.connection(), link.place()), (1, 1));
+    assert!(rt; device_on_page(&mut link) == Some(0xCD));
+    assert!(rt; link.exchange(&UPLOAD_START).is_ok() == true);
+    assert!(rt; device_at(&rt, &link, 0).state() == State::Upload);
+    assert!(rt; (link.connection(), link.place()) == (0, 0));
+    assert!(rt; device_on_page(&mut link) == None);
+    assert!(rt; (link.connection(), link.place()) == (1, 1));
     for _ in 0..5 {
-        assert_eq!(rt; device_on_page(&mut link), Some(0x01));
+        assert!(rt; device_on_page(&mut link) == Some(0x01));
     }
-    assert_eq!(rt; (link.connection(), link.place()), (1, 1));
+    assert!(rt; (link.connection(), link.place()) == (1, 1));
     let first = device_at(&rt, &link, 0);
-    assert_eq!(rt; first.state(), State::Inactive);
-    assert_eq!(rt; first.parameter(FIRST), Some([0x0A, 0x64].as_slice()));
+    assert!(rt; first.state() == State::Inactive);
+    assert!(rt; first.parameter(FIRST) == Some([0x0A, 0x64].as_slice()));
     runs_join::<SimLink>();
     a_call_steps_one_device();
     one_device_answers_on_a_connection();
@@ -64,28 +64,28 @@ fn one_device_follows_another(rt: HostRuntime) {
 #[test]
 fn a_device_without_answers_is_lost_at_once(rt: HostRuntime) {
     let mut link = two_devices(&rt, rt.alloc(), 0, Some(0));
-    assert_eq!(rt; link.take_event(), Some(DS_UPLOAD_REQUEST));
-    assert_eq!(rt; flag_read(&mut link), None);
+    assert!(rt; link.take_event() == Some(DS_UPLOAD_REQUEST));
+    assert!(rt; flag_read(&mut link) == None);
     assert!(rt; device_at(&rt, &link, 0).flag());
-    assert_eq!(rt; flag_read(&mut link), Some(false));
-    assert_eq!(rt; link.connection(), 1);
+    assert!(rt; flag_read(&mut link) == Some(false));
+    assert!(rt; link.connection() == 1);
 }
 
 #[test]
 fn an_event_comes_after_its_answer(rt: HostRuntime) {
     let mut link = two_devices(&rt, rt.alloc(), 3, Some(2));
-    assert_eq!(rt; flag_read(&mut link), Some(false));
-    assert_eq!(rt; link.take_event(), None);
-    assert_eq!(rt; flag_read(&mut link), Some(false));
-    assert_eq!(rt; flag_read(&mut link), Some(true));
-    assert_eq!(rt; link.take_event(), Some(DS_UPLOAD_REQUEST));
-    assert_eq!(rt; link.take_event(), None);
-    assert_eq!(rt; flag_read(&mut link), None);
-    assert_eq!(rt; link.take_event(), None);
+    assert!(rt; flag_read(&mut link) == Some(false));
+    assert!(rt; link.take_event() == None);
+    assert!(rt; flag_read(&mut link) == Some(false));
+    assert!(rt; flag_read(&mut link) == Some(true));
+    assert!(rt; link.take_event() == Some(DS_UPLOAD_REQUEST));
+    assert!(rt; link.take_event() == None);
+    assert!(rt; flag_read(&mut link) == None);
+    assert!(rt; link.take_event() == None);
 
     let mut link = two_devices(&rt, rt.alloc(), 2, Some(3));
     for _ in 0..3 {
-        assert_eq!(rt; link.take_event(), None);
+        assert!(rt; link.take_event() == None);
         let _ = link.read_page();
     }
     assert!(rt; !device_at(&rt, &link, 0).flag());
@@ -95,20 +95,20 @@ fn an_event_comes_after_its_answer(rt: HostRuntime) {
 fn no_device_is_there(rt: HostRuntime) {
     let mut link = SimLink::new(Vec::new(rt.alloc()));
     for connection in 0..3 {
-        assert_eq!(rt; link.connection(), connection);
-        assert_eq!(rt; link.take_event(), None);
-        assert_eq!(rt; link.exchange(&READ_PROPERTY), Err(Lost));
+        assert!(rt; link.connection() == connection);
+        assert!(rt; link.take_event() == None);
+        assert!(rt; link.exchange(&READ_PROPERTY) == Err(Lost));
     }
-    assert_eq!(rt; link.place(), 0);
+    assert!(rt; link.place() == 0);
 }
 
 #[test]
 fn nothing_is_answered_on_the_last_connection(rt: HostRuntime) {
     let mut link = two_devices(&rt, rt.alloc(), 1, Some(0)).at_connection(u64::MAX);
-    assert_eq!(rt; link.take_event(), None);
-    assert_eq!(rt; link.read_page(), Err(Lost));
-    assert_eq!(rt; link.exchange(&READ_PROPERTY), Err(Lost));
-    assert_eq!(rt; (link.connection(), link.place()), (u64::MAX, 0));
+    assert!(rt; link.take_event() == None);
+    assert!(rt; link.read_page() == Err(Lost));
+    assert!(rt; link.exchange(&READ_PROPERTY) == Err(Lost));
+    assert!(rt; (link.connection(), link.place()) == (u64::MAX, 0));
 }
 
 #[test]
@@ -117,15 +117,15 @@ fn a_device_is_changed_at_the_port(rt: HostRuntime) {
     if link.visits().len() != 2 {
         return;
     }
-    assert_eq!(rt; link.change(1, FIRST, &[0x0B, 0x65]), Err(Refusal::NoIndex));
-    assert_eq!(rt; link.take_event(), None);
-    assert_eq!(rt; link.change(0, FIRST, &[0x0B, 0x65]), Ok(()));
-    assert_eq!(rt; link.take_event(), Some(DS_UPLOAD_REQUEST));
-    assert_eq!(rt;
+    assert!(rt; link.change(1, FIRST, &[0x0B, 0x65]) == Err(Refusal::NoIndex));
+    assert!(rt; link.take_event() == None);
+    assert!(rt; link.change(0, FIRST, &[0x0B, 0x65]) == Ok(()));
+    assert!(rt; link.take_event() == Some(DS_UPLOAD_REQUEST));
+    assert!(rt;
         link.exchange(&[0x93, 0x40, 0xD3])
             .ok()
             .as_ref()
-            .map(|octets| octets.as_slice()),
-        Some([0xD4, 0x0B, 0x65, 0xBA].as_slice())
+            .map(|octets| octets.as_slice())
+            == Some([0xD4, 0x0B, 0x65, 0xBA].as_slice())
     );
 }

@@ -120,9 +120,9 @@ fn an_upload_from_a_device_gives_its_set(rt: HostRuntime) {
     let set = set_of_s(&rt, rt.alloc());
     assert!(rt; has(&set, FIRST, &[0x0A, 0x64]));
     assert!(rt; has(&set, SECOND, &[0x7F]));
-    assert_eq!(rt; set.len(), 2);
+    assert!(rt; set.len() == 2);
     let numbers = (set.vendor(), set.device().number(), set.checksum());
-    assert_eq!(rt; numbers, (0x01F4, 0x00ABCD, 0x0000024F));
+    assert!(rt; numbers == (0x01F4, 0x00ABCD, 0x0000024F));
 }
 
 // A link to a device like S whose values are zero.
@@ -140,7 +140,7 @@ fn a_download_writes_the_set(rt: HostRuntime) {
     let end = downloaded(&rt, &mut link, set, &DOWNLOAD);
     assert!(rt; matches!(end, DownloadStep::Whole));
     let set = uploaded(&rt, rt.alloc(), &mut link, &UPLOAD);
-    assert_eq!(rt; set.checksum(), 0x0000024F);
+    assert!(rt; set.checksum() == 0x0000024F);
 }
 
 // A link that answers these octets.
@@ -170,5 +170,5 @@ fn a_refused_entry_ends_the_download(rt: HostRuntime) {
         additional: 0x30,
     };
     assert!(rt; matches!(end, DownloadStep::Fault(fault) if fault == refused));
-    assert_eq!(rt; link.requests().len(), 2);
+    assert!(rt; link.requests().len() == 2);
 }

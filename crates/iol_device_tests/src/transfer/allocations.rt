@@ -3,7 +3,6 @@
 
 use super::conversations::{End, feed_all, upload};
 use iol_transfer::TransferFault;
-use std::test::Fail;
 
 // The answers of a whole upload, of one key.
 pub const ANSWERS: [&[u8]; 5] = [
@@ -15,8 +14,9 @@ pub const ANSWERS: [&[u8]; 5] = [
 ];
 
 #[test]
-fn an_upload_ends_whole_or_for_want_of_memory(rt: HostRuntime) -> Result<(), Fail> {
-    let end = feed_all(&mut upload(rt.alloc())?, &ANSWERS)?;
+fn an_upload_ends_whole_or_for_want_of_memory(rt: HostRuntime) {
+    let end = feed_all(&mut upload(rt.alloc()).expect(&rt, "memory"), &ANSWERS).expect(
+        &rt, "memory",
+    );
     assert!(rt; end == End::Whole || end == End::Fault(TransferFault::Memory));
-    Ok(())
 }

@@ -2,11 +2,11 @@
 
 use super::allocations::ANSWERS;
 use super::conversations::{End, feed_all, upload};
-use std::test::Fail;
 
 #[test]
-fn an_upload_is_whole(rt: HostRuntime) -> Result<(), Fail> {
-    let end = feed_all(&mut upload(rt.alloc())?, &ANSWERS)?;
+fn an_upload_is_whole(rt: HostRuntime) {
+    let end = feed_all(&mut upload(rt.alloc()).expect(&rt, "memory"), &ANSWERS).expect(
+        &rt, "memory",
+    );
     assert!(rt; end == End::Whole);
-    Ok(())
 }

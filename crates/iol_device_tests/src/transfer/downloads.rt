@@ -50,9 +50,8 @@ fn each_answer_leads_to_its_end(rt: HostRuntime) {
     ];
     for (exchanges, end) in rows {
         let mut download = download(&rt, rt.alloc());
-        assert_eq!(rt;
-            write_all(&rt, &mut download, exchanges),
-            end,
+        assert!(rt;
+            write_all(&rt, &mut download, exchanges) == end,
             "{exchanges:?}"
         );
     }
@@ -63,13 +62,7 @@ fn a_device_may_be_busy_fifteen_times(rt: HostRuntime) {
     let busy: Octets<'_> = (START, &[0x01]);
     let mut waits = download(&rt, rt.alloc());
     write_all(&rt, &mut waits, &[busy; 15]);
-    assert_eq!(rt;
-        write_all(&rt, &mut waits, &[(START, WRITE_DONE)]),
-        End::None
-    );
+    assert!(rt; write_all(&rt, &mut waits, &[(START, WRITE_DONE)]) == End::None);
     let mut ends = download(&rt, rt.alloc());
-    assert_eq!(rt;
-        write_all(&rt, &mut ends, &[busy; 16]),
-        End::Fault(TransferFault::Busy)
-    );
+    assert!(rt; write_all(&rt, &mut ends, &[busy; 16]) == End::Fault(TransferFault::Busy));
 }

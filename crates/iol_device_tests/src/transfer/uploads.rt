@@ -84,7 +84,7 @@ fn gives_its_set(rt: &impl Abort, upload: &mut Upload) -> bool {
 #[test]
 fn an_upload_makes_its_exchanges_and_gives_its_set(rt: HostRuntime) {
     let mut whole = begun(&rt, rt.alloc());
-    assert_eq!(rt; converse(&rt, &mut whole, &UPLOAD), End::Whole);
+    assert!(rt; converse(&rt, &mut whole, &UPLOAD) == End::Whole);
     let mut given = begun(&rt, rt.alloc());
     converse(&rt, &mut given, &UPLOAD[..5]);
     assert!(rt; gives_its_set(&rt, &mut given));
@@ -146,16 +146,13 @@ fn each_answer_leads_to_its_end(rt: HostRuntime) {
         ),
     ];
     for (answers, end) in rows {
-        assert_eq!(rt; end_of(&rt, rt.alloc(), answers), end, "{answers:?}");
+        assert!(rt; end_of(&rt, rt.alloc(), answers) == end, "{answers:?}");
     }
 }
 
 #[test]
 fn a_wrong_checksum_of_an_answer_is_told_before(rt: HostRuntime) {
-    assert_eq!(rt;
-        read_answer(&[0x44, 0x80, 0x11, 0xD4]).err(),
-        Some(IsduFault::Check)
-    );
+    assert!(rt; read_answer(&[0x44, 0x80, 0x11, 0xD4]).err() == Some(IsduFault::Check));
 }
 
 // Feeds an upload an answer so many times.
@@ -176,9 +173,9 @@ fn busy_before(rt: &impl Abort, alloc: Global, times: usize) -> (End, End) {
 
 #[test]
 fn a_device_may_be_busy_fifteen_times(rt: HostRuntime) {
-    assert_eq!(rt; busy_before(&rt, rt.alloc(), 15), (End::None, End::None));
+    assert!(rt; busy_before(&rt, rt.alloc(), 15) == (End::None, End::None));
     let sixteenth = busy_before(&rt, rt.alloc(), 16).0;
-    assert_eq!(rt; sixteenth, End::Fault(TransferFault::Busy));
+    assert!(rt; sixteenth == End::Fault(TransferFault::Busy));
 }
 
 // What a list leads to behind so many that name 0x1200.
@@ -199,9 +196,8 @@ fn a_sixteenth_list_ends_or_is_a_fault(rt: HostRuntime) {
         (15, [0xD4, 0x00, 0x00, 0xD4], End::None),
     ];
     for (times, list, end) in rows {
-        assert_eq!(rt;
-            list_behind(&rt, rt.alloc(), times, &list),
-            end,
+        assert!(rt;
+            list_behind(&rt, rt.alloc(), times, &list) == end,
             "behind {times}"
         );
     }
@@ -221,7 +217,7 @@ fn a_key_of_two_lists_is_read_once(rt: HostRuntime) {
         UPLOAD[5],
     ];
     let mut upload = begun(&rt, rt.alloc());
-    assert_eq!(rt; converse(&rt, &mut upload, &exchanges), End::Whole);
+    assert!(rt; converse(&rt, &mut upload, &exchanges) == End::Whole);
 }
 
 // An answer with the octets of a list: so many keys from an Index on, and behind them what is next, if that is said.
@@ -255,7 +251,7 @@ fn the_longest_lists_are_read_to_their_end(rt: HostRuntime) {
     for count in [0, 1, 76, 77] {
         let mut upload = listed(&rt, rt.alloc(), count);
         feed_times(&rt, &mut upload, 76 + usize::from(count), &[0xD2, 0xD2]);
-        assert_eq!(rt; feed(&rt, &mut upload, &CHECKSUM), End::Whole, "{count}");
+        assert!(rt; feed(&rt, &mut upload, &CHECKSUM) == End::Whole, "{count}");
     }
 }
 
@@ -279,9 +275,9 @@ fn last_value(rt: &impl Abort, alloc: Global, octets: usize) -> End {
 
 #[test]
 fn values_may_count_4096_octets(rt: HostRuntime) {
-    assert_eq!(rt; last_value(&rt, rt.alloc(), 80), End::None);
+    assert!(rt; last_value(&rt, rt.alloc(), 80) == End::None);
     for octets in [81, 232] {
         let end = last_value(&rt, rt.alloc(), octets);
-        assert_eq!(rt; end, End::Fault(TransferFault::Size), "{octets}");
+        assert!(rt; end == End::Fault(TransferFault::Size), "{octets}");
     }
 }

@@ -1,8 +1,7 @@
 //! Ends that are allowed where memory runs out. `./check` runs these tests with each growth refused in turn, by
 //! `rt try --test --fail-alloc`, until those of `ample_memory` meet no refusal.
 
-use super::changes::clear;
-use super::devices::{FIRST, SECOND, VALUES, Values, is_port, port_step};
+use super::devices::{FIRST, SECOND, VALUES, Values, clear, is_port, port_step};
 use super::downloads::UPLOAD_CALLS;
 use super::lines::{Line, count};
 use super::power::last_numbers;
@@ -166,8 +165,8 @@ pub fn replacement() -> [Step; 15] {
 pub fn changes<R: Abort>(rt: &R) -> [Step; 20] {
     let mut steps = [Step::Flush; 20];
     steps[0] = configure(rt, 1);
-    steps[1] = configure_under(rt, 1, 43981, Validation::Restore);
-    steps[10] = configure_under(rt, 1, 43981, Validation::TypeCompatibleV11);
+    steps[1] = configure_under(rt, 1, Validation::Restore);
+    steps[10] = configure_under(rt, 1, Validation::TypeCompatibleV11);
     steps[11] = clear();
     steps
 }

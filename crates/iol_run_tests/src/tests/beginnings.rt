@@ -21,14 +21,6 @@ pub const FIRST_READ: [Line<'static>; 5] = [
 /// The rest of them is read.
 pub const REST_READ: [Line<'static>; 2] = [SECOND_VALUE, SUM];
 
-/// The statuses of a port whose device is backed up.
-pub const STORED: [PortStatus; 4] = [
-    PortStatus::Starting,
-    PortStatus::Uploading,
-    PortStatus::Storing,
-    PortStatus::Ready,
-];
-
 /// The sensor with the stored set is lost.
 pub const LOST: [Line<'static>; 3] = [
     Line::Attended(Some(CHECKSUM)),

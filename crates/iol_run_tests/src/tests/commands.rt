@@ -6,11 +6,10 @@ use iol_disk::{DiskFault, FaultDisk, MemoryDisk};
 use iol_journal::{RecoverCause, RecoverFault};
 use iol_run::{RunFault, Step, run_schedule};
 use std::process::Abort;
-use std::test::Fail;
 
 #[test]
-fn a_configure_is_accepted_written_and_acknowledged(rt: HostRuntime) -> Result<(), Fail> {
-    let mut steps = vec![in rt.alloc(); Step::Flush; 8]?;
+fn a_configure_is_accepted_written_and_acknowledged(rt: HostRuntime) {
+    let mut steps = vec![in rt.alloc(); Step::Flush; 8].expect(&rt, "memory");
     steps[0] = configure(&rt, 1);
     let trace = run(&rt, rt.alloc(), formatted(&rt, rt.alloc(), 2), 2, &steps);
     assert!(rt; trace.events.len() == 2);
@@ -19,12 +18,11 @@ fn a_configure_is_accepted_written_and_acknowledged(rt: HostRuntime) -> Result<(
         let again = run(&rt, rt.alloc(), formatted(&rt, rt.alloc(), 2), 2, &steps);
         assert!(rt; recovered(&rt, rt.alloc(), again.disk.stop(pick)) == 1);
     }
-    Ok(())
 }
 
 #[test]
-fn a_failed_sync_stops_all_but_what_was_there(rt: HostRuntime) -> Result<(), Fail> {
-    let mut steps = vec![in rt.alloc(); configure(&rt, 1); 71]?;
+fn a_failed_sync_stops_all_but_what_was_there(rt: HostRuntime) {
+    let mut steps = vec![in rt.alloc(); configure(&rt, 1); 71].expect(&rt, "memory");
     for place in 65..70 {
         steps[place] = Step::Flush;
     }
@@ -37,12 +35,11 @@ fn a_failed_sync_stops_all_but_what_was_there(rt: HostRuntime) -> Result<(), Fai
     assert!(rt; told(&trace.events, 65) == ('!', 0));
     assert!(rt; refused(&trace.events, 66) == Some(SubmitFault::Stopped));
     assert!(rt; recovered(&rt, rt.alloc(), trace.disk.disk()) == 0);
-    Ok(())
 }
 
 #[test]
-fn a_disk_that_is_not_formatted_runs_nothing(rt: HostRuntime) -> Result<(), Fail> {
-    let disk = MemoryDisk::new(rt.alloc(), 178)?;
+fn a_disk_that_is_not_formatted_runs_nothing(rt: HostRuntime) {
+    let disk = MemoryDisk::new(rt.alloc(), 178).expect(&rt, "memory");
     match run_schedule(
         rt.alloc(),
         disk,
@@ -54,7 +51,6 @@ fn a_disk_that_is_not_formatted_runs_nothing(rt: HostRuntime) -> Result<(), Fail
         }
         _ => panic!(rt; "no run"),
     }
-    Ok(())
 }
 
 #[test]

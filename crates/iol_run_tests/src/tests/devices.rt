@@ -5,7 +5,7 @@ use iol_disk::MemoryDisk;
 use iol_link::DeviceLink;
 use iol_run::{Step, Trace};
 use iol_sim::{SimDevice, SimLink, Visit};
-use iol_types::{DeviceId, Key, MasterState, PortId, PortState, StoredSet};
+use iol_types::{Change, DeviceId, Key, MasterState, PortId, PortState, StoredSet};
 use std::alloc::Global;
 use std::process::Abort;
 
@@ -28,16 +28,10 @@ pub const VALUES: Values = ([0x0A, 0x64], 0x7F);
 
 pub const CHECKSUM: u32 = 0x024F;
 
-/// A sensor of these numbers, V1.1, with ISDUs and these values of its parameters.
-pub fn sensor_of<R: Abort>(
-    rt: &R,
-    alloc: Global,
-    vendor: u16,
-    device: u32,
-    values: Values,
-) -> SimDevice {
-    let device = DeviceId::new(device).expect(rt, "a DeviceID");
-    let mut sensor = SimDevice::new(alloc, vendor, device, 0x11, true);
+// A sensor, V1.1, with ISDUs and these values of its parameters.
+fn sensor_of<R: Abort>(rt: &R, alloc: Global, values: Values) -> SimDevice {
+    let device = DeviceId::new(43981).expect(rt, "a DeviceID");
+    let mut sensor = SimDevice::new(alloc, 500, device, 0x11, true);
     sensor.add(FIRST, &values.0).expect(rt, "a parameter");
     sensor.add(SECOND, &[values.1]).expect(rt, "a parameter");
     sensor
@@ -45,12 +39,12 @@ pub fn sensor_of<R: Abort>(
 
 /// The sensor that port 1 is configured for.
 pub fn sensor<R: Abort>(rt: &R, alloc: Global) -> SimDevice {
-    sensor_of(rt, alloc, 500, 43981, VALUES)
+    sensor_of(rt, alloc, VALUES)
 }
 
 /// Another one of its kind, with nothing set yet.
 pub fn blank_sensor<R: Abort>(rt: &R, alloc: Global) -> SimDevice {
-    sensor_of(rt, alloc, 500, 43981, ([0, 0], 0))
+    sensor_of(rt, alloc, ([0, 0], 0))
 }
 
 /// A link to this device, which answers so many calls.
@@ -90,40 +84,22 @@ pub fn add<R: Abort>(rt: &R, steps: &mut Vec<Step>, step: Step, times: usize) {
     }
 }
 
+/// A client deletes the set of port 1.
+pub fn clear() -> Step {
+    Step::Client(Change::Clear {
+        port: PortId::new(1).unwrap(),
+    })
+}
+
 /// A step of port 1.
 pub fn port_step() -> Step {
     Step::Port(PortId::new(1).unwrap())
 }
 
-/// Appends steps of the first so many ports in turn, so many of each.
-pub fn add_in_turn<R: Abort>(rt: &R, steps: &mut Vec<Step>, ports: u8, times: usize) {
-    for _ in 0..times {
-        add_round(rt, steps, ports);
-    }
-}
-
-// Appends a step of each of the first so many ports.
-fn add_round<R: Abort>(rt: &R, steps: &mut Vec<Step>, ports: u8) {
-    for number in 1..=ports {
-        let port = PortId::new(number).expect(rt, "a port");
-        add(rt, steps, Step::Port(port), 1);
-    }
-}
-
 /// Port 1 is configured, which the flusher's seven turns make durable; the port then makes so many steps.
 pub fn configured<R: Abort>(rt: &R, alloc: Global, port_steps: usize) -> Vec<Step> {
-    configured_by(rt, alloc, configure(rt, 1), port_steps)
-}
-
-/// A client's command, which the flusher's seven turns make durable; port 1 then makes so many steps.
-pub fn configured_by<R: Abort>(
-    rt: &R,
-    alloc: Global,
-    command: Step,
-    port_steps: usize,
-) -> Vec<Step> {
     let mut steps = Vec::new(alloc);
-    add(rt, &mut steps, command, 1);
+    add(rt, &mut steps, configure(rt, 1), 1);
     add(rt, &mut steps, Step::Flush, 7);
     add(rt, &mut steps, port_step(), port_steps);
     steps
@@ -131,20 +107,9 @@ pub fn configured_by<R: Abort>(
 
 /// Port 1 is configured, its sensor's 13 steps read the set, seven turns store it, and two steps end the upload.
 pub fn upload_steps<R: Abort>(rt: &R, alloc: Global) -> Vec<Step> {
-    upload_steps_at(rt, alloc, 1)
-}
-
-/// The same at each of the first so many ports, three at most, which make their steps in turn: their Configures are one
-/// batch, and their sets another.
-pub fn upload_steps_at<R: Abort>(rt: &R, alloc: Global, ports: u8) -> Vec<Step> {
-    let mut steps = Vec::new(alloc);
-    for number in 1..=ports {
-        add(rt, &mut steps, configure(rt, number), 1);
-    }
+    let mut steps = configured(rt, alloc, 13);
     add(rt, &mut steps, Step::Flush, 7);
-    add_in_turn(rt, &mut steps, ports, 13);
-    add(rt, &mut steps, Step::Flush, 7);
-    add_in_turn(rt, &mut steps, ports, 2);
+    add(rt, &mut steps, port_step(), 2);
     steps
 }
 

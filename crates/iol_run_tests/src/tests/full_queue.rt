@@ -45,8 +45,8 @@ fn a_set_is_filed_once_the_queue_has_room(rt: HostRuntime) {
     assert!(rt; number == 66 && has_values(&state));
 }
 
-/// Appends turns of the flusher, with a step of port 1 behind each.
-pub fn add_turns<R: Abort>(rt: &R, steps: &mut Vec<Step>, times: usize) {
+// Appends turns of the flusher, with a step of port 1 behind each.
+fn add_turns<R: Abort>(rt: &R, steps: &mut Vec<Step>, times: usize) {
     for _ in 0..times {
         add(rt, steps, Step::Flush, 1);
         add(rt, steps, port_step(), 1);

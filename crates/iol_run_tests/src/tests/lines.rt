@@ -65,8 +65,8 @@ fn is_same(one: Line<'_>, other: Line<'_>) -> bool {
     }
 }
 
-/// A run has told these lines, and no others, from this event on.
-pub fn assert_told<R: Abort>(rt: &R, events: &[Stamped], from: usize, lines: &[Line<'_>]) {
+// A run has told these lines, and no others, from this event on.
+fn assert_told<R: Abort>(rt: &R, events: &[Stamped], from: usize, lines: &[Line<'_>]) {
     let rest = events.get(from..).expect(rt, "so many events");
     for (place, stamped) in rest.iter().enumerate() {
         let told = line_of(&stamped.event);
@@ -88,15 +88,6 @@ pub fn assert_parts<R: Abort>(rt: &R, events: &[Stamped], from: usize, parts: &[
         rest = behind;
     }
     assert!(rt; rest.is_empty(), "{} events more", rest.len());
-}
-
-/// Whether a port has shown these statuses, and no others.
-pub fn has_shown(events: &[Stamped], number: u8, statuses: &[PortStatus]) -> bool {
-    let shown = events.iter().filter_map(|stamped| match &stamped.event {
-        Event::Status { port, status } if port.number() == number => Some(*status),
-        _ => None,
-    });
-    shown.eq(statuses.iter().copied())
 }
 
 /// How many lines like this one were told.

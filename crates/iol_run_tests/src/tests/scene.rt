@@ -15,23 +15,18 @@ pub const PICKS: [Pick; 4] = [Pick::Old, Pick::New, Pick::Zero, Pick::Pattern];
 
 /// A client configures a port for the sensor.
 pub fn configure<R: Abort>(rt: &R, port: u8) -> Step {
-    configure_for(rt, port, 43981)
+    configure_under(rt, port, Validation::BackupAndRestore)
 }
 
-/// A client configures a port for the device with this DeviceID.
-pub fn configure_for<R: Abort>(rt: &R, port: u8, device: u32) -> Step {
-    configure_under(rt, port, device, Validation::BackupAndRestore)
-}
-
-/// A client configures a port for the device with this DeviceID, under this validation.
-pub fn configure_under<R: Abort>(rt: &R, port: u8, device: u32, validation: Validation) -> Step {
+/// A client configures a port for the sensor, under this validation.
+pub fn configure_under<R: Abort>(rt: &R, port: u8, validation: Validation) -> Step {
     Step::Client(Change::Configure {
         port: PortId::new(port).expect(rt, "a port"),
         config: PortConfig {
             mode: PortMode::IolManual,
             validation,
             vendor: 500,
-            device: DeviceId::new(device).expect(rt, "a DeviceID"),
+            device: DeviceId::new(43981).expect(rt, "a DeviceID"),
         },
     })
 }

@@ -4,8 +4,6 @@ use super::beginnings::{CONFIGURED, FIRST_READ, REST_READ, found, stored_under};
 use super::devices::{has_values, link_to, run_from_empty, sensor, upload_steps};
 use super::lines::{Line, assert_parts};
 use super::messages::{FLAG_SET, SUM};
-use super::scene::{PICKS, found_on};
-use std::process::Abort;
 
 /// How many events a run tells that configures the port and backs up its sensor.
 pub const UPLOADED: usize = 20;
@@ -22,16 +20,4 @@ fn a_set_is_uploaded_and_stored(rt: HostRuntime) {
     assert_parts(&rt, &trace.events, 0, &parts);
     assert!(rt; trace.events.len() == UPLOADED);
     assert!(rt; has_values(&trace.state));
-}
-
-#[test]
-fn a_stored_set_is_recovered(rt: HostRuntime) {
-    let steps = upload_steps(&rt, rt.alloc());
-    for pick in PICKS {
-        let device = sensor(&rt, rt.alloc()).with_flag();
-        let link = link_to(&rt, rt.alloc(), device, None);
-        let trace = run_from_empty(&rt, rt.alloc(), link, &steps);
-        let (number, state) = found_on(&rt, rt.alloc(), trace.disk.stop(pick));
-        assert!(rt; number == 2 && has_values(&state), "{pick:?}");
-    }
 }

@@ -11,21 +11,19 @@ use iol_types::MasterState;
 use std::alloc::Global;
 use std::marker::Brand;
 use std::process::Abort;
-use std::test::Fail;
 
 // What was refused is asked for again: what it was asked of is as it was.
 #[test]
-fn a_core_outlives_refusals(rt: HostRuntime) -> Result<(), Fail> {
+fn a_core_outlives_refusals(rt: HostRuntime) {
     let state = match MasterState::new(rt.alloc(), 1) {
         Ok(state) => state,
-        Err(_) => MasterState::new(rt.alloc(), 1)?,
+        Err(_) => MasterState::new(rt.alloc(), 1).expect(&rt, "memory"),
     };
     let front = match Front::new(rt.alloc(), 7, &state) {
         Ok(front) => front,
-        Err(_) => Front::new(rt.alloc(), 7, &state)?,
+        Err(_) => Front::new(rt.alloc(), 7, &state).expect(&rt, "memory"),
     };
     calls_outlive_refusals::<Brand, _>(&rt, rt.alloc(), front, state);
-    Ok(())
 }
 
 // A core, made again where memory was refused.

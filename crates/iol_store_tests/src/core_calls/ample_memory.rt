@@ -9,15 +9,13 @@ use iol_journal::{Batch, MOST_RECORD_OCTETS};
 use iol_types::MasterState;
 use std::alloc::{AllocError, Global};
 use std::marker::Brand;
-use std::test::Fail;
 
 #[test]
-fn a_core_finds_memory(rt: HostRuntime) -> Result<(), Fail> {
-    let state = MasterState::new(rt.alloc(), 1)?;
-    let front = Front::new(rt.alloc(), 7, &state)?;
-    let batch = calls_find_memory::<Brand>(rt.alloc(), front, state)?;
+fn a_core_finds_memory(rt: HostRuntime) {
+    let state = MasterState::new(rt.alloc(), 1).expect(&rt, "memory");
+    let front = Front::new(rt.alloc(), 7, &state).expect(&rt, "memory");
+    let batch = calls_find_memory::<Brand>(rt.alloc(), front, state).expect(&rt, "memory");
     assert!(rt; batch.is_some());
-    Ok(())
 }
 
 fn calls_find_memory<F: Name>(

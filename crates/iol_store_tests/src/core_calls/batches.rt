@@ -15,14 +15,12 @@ use std::alloc::Global;
 use std::marker::Brand;
 use std::process::Abort;
 use std::sync::Arc;
-use std::test::Fail;
 
 #[test]
-fn two_of_the_largest_sets_are_two_batches(rt: HostRuntime) -> Result<(), Fail> {
+fn two_of_the_largest_sets_are_two_batches(rt: HostRuntime) {
     let (journal, state) = empty_journal(&rt, rt.alloc());
-    let front = Front::new(rt.alloc(), journal.number(), &state)?;
+    let front = Front::new(rt.alloc(), journal.number(), &state).expect(&rt, "memory");
     write_sets::<Brand, _>(&rt, rt.alloc(), front, state, journal);
-    Ok(())
 }
 
 // The next batch, of so many commands; then none is taken until it is acknowledged.
@@ -92,11 +90,10 @@ fn write_sets<F: Name, R: Abort>(
 }
 
 #[test]
-fn a_batch_of_other_commands_is_a_stranger(rt: HostRuntime) -> Result<(), Fail> {
+fn a_batch_of_other_commands_is_a_stranger(rt: HostRuntime) {
     let (journal, state) = empty_journal(&rt, rt.alloc());
-    let front = Front::new(rt.alloc(), journal.number(), &state)?;
+    let front = Front::new(rt.alloc(), journal.number(), &state).expect(&rt, "memory");
     meet_stranger::<Brand, _>(&rt, rt.alloc(), front, state, journal);
-    Ok(())
 }
 
 fn meet_stranger<F: Name, R: Abort>(

@@ -1,19 +1,20 @@
 //! Disks of which one call fails.
 
-use super::{FIRST, read, write};
+use super::{FIRST, ZEROS, disk_of, expect_sector, expect_written, read, write};
 use iol_disk::{DiskFault, Due, FaultDisk, MemoryDisk, Pick, SectorDisk};
 use std::alloc::Global;
-use std::test::Fail;
+use std::process::Abort;
 
 // A disk of two sectors of which the `n`-th call of a kind fails.
-fn failing(alloc: Global, kind: DiskFault, n: u64) -> Result<FaultDisk<MemoryDisk>, Fail> {
-    Ok(FaultDisk::new(MemoryDisk::new(alloc, 2)?, kind, n))
+fn failing<R: Abort>(rt: &R, alloc: Global, kind: DiskFault, n: u64) -> FaultDisk<MemoryDisk> {
+    FaultDisk::new(disk_of(rt, alloc, 2), kind, n)
 }
 
 // Which of a read, a write and a sync succeeds.
 fn call_each<D: SectorDisk>(disk: &mut D) -> [bool; 3] {
+    let mut octets = ZEROS;
     [
-        read(disk, 0).is_ok(),
+        read(disk, 0, &mut octets).is_ok(),
         write(disk, 0, &FIRST).is_ok(),
         disk.sync().is_ok(),
     ]
@@ -33,38 +34,36 @@ fn failing_rounds<D: SectorDisk>(disk: &mut D) -> [u64; 3] {
     rounds
 }
 
+const ROWS: [(DiskFault, u64, [u64; 3]); 6] = [
+    (DiskFault::Read, 1, [1, 0, 0]),
+    (DiskFault::Read, 3, [3, 0, 0]),
+    (DiskFault::Write, 2, [0, 2, 0]),
+    (DiskFault::Sync, 4, [0, 0, 4]),
+    (DiskFault::Sync, 5, [0, 0, 0]),
+    (DiskFault::Sync, 0, [0, 0, 0]),
+];
+
 #[test]
-fn the_call_that_is_due_fails_and_no_other(rt: HostRuntime) -> Result<(), Fail> {
-    let rows = [
-        (DiskFault::Read, 1, [1, 0, 0]),
-        (DiskFault::Read, 3, [3, 0, 0]),
-        (DiskFault::Write, 2, [0, 2, 0]),
-        (DiskFault::Sync, 4, [0, 0, 4]),
-        (DiskFault::Sync, 5, [0, 0, 0]),
-        (DiskFault::Sync, 0, [0, 0, 0]),
-    ];
-    for (kind, n, rounds) in rows {
-        let mut disk = failing(rt.alloc(), kind, n)?;
-        assert_eq!(rt; failing_rounds(&mut disk), rounds, "{kind:?} {n}");
+fn the_call_that_is_due_fails_and_no_other(rt: HostRuntime) {
+    for (kind, n, rounds) in ROWS {
+        let found = failing_rounds(&mut failing(&rt, rt.alloc(), kind, n));
+        assert!(rt; found == rounds, "{kind:?} {n}");
     }
-    Ok(())
 }
 
 #[test]
-fn a_write_that_fails_is_made(rt: HostRuntime) -> Result<(), Fail> {
-    let mut disk = failing(rt.alloc(), DiskFault::Write, 1)?;
-    assert_eq!(rt; write(&mut disk, 0, &FIRST), Err(DiskFault::Write));
-    assert_eq!(rt; disk.due(), Due::Past);
-    assert_eq!(rt; read(&mut disk, 0)?, FIRST);
-    Ok(())
+fn a_write_that_fails_is_made(rt: HostRuntime) {
+    let mut disk = failing(&rt, rt.alloc(), DiskFault::Write, 1);
+    assert!(rt; write(&mut disk, 0, &FIRST) == Err(DiskFault::Write));
+    assert!(rt; disk.due() == Due::Past);
+    expect_sector(&rt, &mut disk, 0, &FIRST, "it is made");
 }
 
 #[test]
-fn a_sync_that_fails_settles_nothing(rt: HostRuntime) -> Result<(), Fail> {
-    let mut disk = failing(rt.alloc(), DiskFault::Sync, 1)?;
-    write(&mut disk, 0, &FIRST)?;
-    assert_eq!(rt; disk.sync(), Err(DiskFault::Sync));
-    let mut stopped = disk.disk().stop(Pick::Old);
-    assert_eq!(rt; read(&mut stopped, 0)?, super::ZEROS);
-    Ok(())
+fn a_sync_that_fails_settles_nothing(rt: HostRuntime) {
+    let mut disk = failing(&rt, rt.alloc(), DiskFault::Sync, 1);
+    expect_written(&rt, &mut disk, 0, &FIRST);
+    assert!(rt; disk.sync() == Err(DiskFault::Sync));
+    let mut left = disk.disk().stop(Pick::Old);
+    expect_sector(&rt, &mut left, 0, &ZEROS, "nothing is settled");
 }

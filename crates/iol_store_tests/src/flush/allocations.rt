@@ -14,19 +14,17 @@ use iol_types::MasterState;
 use std::alloc::Global;
 use std::marker::Brand;
 use std::process::Abort;
-use std::test::Fail;
 
 // What was refused is asked for again: what it was asked of is as it was.
 #[test]
-fn a_flusher_outlives_refusals(rt: HostRuntime) -> Result<(), Fail> {
+fn a_flusher_outlives_refusals(rt: HostRuntime) {
     let disk = formatted_again(&rt, rt.alloc());
     let (journal, state) = recovered_again(&rt, rt.alloc(), disk);
     let front = match Front::new(rt.alloc(), journal.number(), &state) {
         Ok(front) => front,
-        Err(_) => Front::new(rt.alloc(), journal.number(), &state)?,
+        Err(_) => Front::new(rt.alloc(), journal.number(), &state).expect(&rt, "memory"),
     };
     steps_outlive_refusals::<Brand, _>(&rt, rt.alloc(), front, journal);
-    Ok(())
 }
 
 // A disk with an empty journal of one port and one slot. Where memory was refused nothing was written.
@@ -38,7 +36,7 @@ fn formatted_again<R: Abort>(rt: &R, alloc: Global) -> SteadyDisk {
     };
     let mut disk = SteadyDisk { disk };
     if let Err(fault) = format(alloc, &mut disk, geometry) {
-        assert_eq!(rt; fault, FormatFault::Memory);
+        assert!(rt; fault == FormatFault::Memory);
         format(alloc, &mut disk, geometry).expect(rt, "memory");
     }
     disk
@@ -55,7 +53,7 @@ fn recovered_again<R: Abort>(
     match Journal::recover(alloc, disk) {
         Ok(found) => found,
         Err(fault) => {
-            assert_eq!(rt; fault.cause, RecoverCause::Memory);
+            assert!(rt; fault.cause == RecoverCause::Memory);
             recovered(rt, alloc, fault.disk)
         }
     }
@@ -80,7 +78,7 @@ fn make_calls_again<D: SectorDisk, F: Name, R: Abort>(
             return made;
         }
         if let Err(fault) = flusher.disk_step() {
-            assert_eq!(rt; fault, FlushFault::Memory);
+            assert!(rt; fault == FlushFault::Memory);
             assert!(rt; flusher.needs() == Need::Disk);
             flusher.disk_step().expect(rt, "memory");
         }

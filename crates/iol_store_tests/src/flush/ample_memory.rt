@@ -12,18 +12,18 @@ use iol_journal::{Geometry, Journal, format};
 use std::alloc::Global;
 use std::marker::Brand;
 use std::process::Abort;
-use std::test::Fail;
 
 #[test]
-fn a_flusher_finds_memory(rt: HostRuntime) -> Result<(), Fail> {
-    let geometry = Geometry::new(1, 1).ok_or("no geometry")?;
-    let disk = MemoryDisk::new(rt.alloc(), geometry.sectors())?;
+fn a_flusher_finds_memory(rt: HostRuntime) {
+    let geometry = Geometry::new(1, 1)
+        .ok_or("no geometry")
+        .expect(&rt, "memory");
+    let disk = MemoryDisk::new(rt.alloc(), geometry.sectors()).expect(&rt, "memory");
     let mut disk = SteadyDisk { disk };
-    format(rt.alloc(), &mut disk, geometry)?;
+    format(rt.alloc(), &mut disk, geometry).expect(&rt, "memory");
     let (journal, state) = recovered(&rt, rt.alloc(), disk);
-    let front = Front::new(rt.alloc(), journal.number(), &state)?;
+    let front = Front::new(rt.alloc(), journal.number(), &state).expect(&rt, "memory");
     steps_find_memory::<Brand, _>(&rt, rt.alloc(), front, journal);
-    Ok(())
 }
 
 fn steps_find_memory<F: Name, R: Abort>(

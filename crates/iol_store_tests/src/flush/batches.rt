@@ -1,24 +1,22 @@
-//! Batches: brought through to their publishing, left before it, and refused for what they are.
+//! Batches: brought through to their publishing, and left before it.
 
 ghost use Rattle.std.specs.Prelude.{◌≡◌, []};
 ghost use Rattle.iol_flush.specs.Stages.{HasHistory};
 
 use super::scene::{batch, flusher_of, formatted, give, make_calls, publish, recovered};
-use iol_disk::{MemoryDisk, RecordedDisk};
-use iol_flush::{FlushEnd, FlushFault, Need};
+use iol_disk::MemoryDisk;
+use iol_flush::{FlushEnd, Need};
 use iol_front::{Front, Name};
 use iol_journal::Journal;
 use std::alloc::Global;
 use std::marker::Brand;
 use std::process::Abort;
-use std::test::Fail;
 
 #[test]
-fn a_batch_is_published_behind_its_last_disk_call(rt: HostRuntime) -> Result<(), Fail> {
+fn a_batch_is_published_behind_its_last_disk_call(rt: HostRuntime) {
     let (journal, state) = recovered(&rt, rt.alloc(), formatted(&rt, rt.alloc()));
-    let front = Front::new(rt.alloc(), journal.number(), &state)?;
+    let front = Front::new(rt.alloc(), journal.number(), &state).expect(&rt, "memory");
     bring_two::<Brand, _>(&rt, rt.alloc(), front, journal);
-    Ok(())
 }
 
 fn bring_two<F: Name, R: Abort>(rt: &R, alloc: Global, front: Front, journal: Journal<MemoryDisk>)
@@ -46,11 +44,10 @@ fn bring_two<F: Name, R: Abort>(rt: &R, alloc: Global, front: Front, journal: Jo
 }
 
 #[test]
-fn an_end_before_the_publishing_lacks_the_last_batch(rt: HostRuntime) -> Result<(), Fail> {
+fn an_end_before_the_publishing_lacks_the_last_batch(rt: HostRuntime) {
     let (journal, state) = recovered(&rt, rt.alloc(), formatted(&rt, rt.alloc()));
-    let front = Front::new(rt.alloc(), journal.number(), &state)?;
+    let front = Front::new(rt.alloc(), journal.number(), &state).expect(&rt, "memory");
     leave_unpublished::<Brand, _>(&rt, rt.alloc(), front, journal);
-    Ok(())
 }
 
 fn leave_unpublished<F: Name, R: Abort>(
@@ -72,64 +69,4 @@ fn leave_unpublished<F: Name, R: Abort>(
         }
         FlushEnd::Midway(_) | FlushEnd::Faulted(_, _) => panic!(rt; "the journal is at rest"),
     }
-}
-
-#[test]
-fn a_batch_that_does_not_follow_is_refused(rt: HostRuntime) -> Result<(), Fail> {
-    // How many batches of one Configure stand before it, its first number, how many Configures it has, and how many
-    // disk calls are made before it is refused: none, or those of a checkpoint, as no slot is free.
-    let table = [
-        (0, 2, 1, 0),
-        (0, 0, 1, 0),
-        (0, 1, 65, 0),
-        (1, 2, 0, 0),
-        (4, 5, 65, 0),
-        (4, 6, 1, 13),
-    ];
-    for row in table {
-        let disk = RecordedDisk::new(rt.alloc(), formatted(&rt, rt.alloc()));
-        let (journal, state) = recovered(&rt, rt.alloc(), disk);
-        let front = Front::new(rt.alloc(), journal.number(), &state)?;
-        meet_misfit::<Brand, _>(&rt, rt.alloc(), front, journal, row);
-    }
-    Ok(())
-}
-
-fn meet_misfit<F: Name, R: Abort>(
-    rt: &R,
-    alloc: Global,
-    front: Front,
-    journal: Journal<RecordedDisk<MemoryDisk>>,
-    row: (u8, u64, usize, u8),
-)
-    requires name { front ≡ F.front }
-    requires list { HasHistory front.start [] journal.history }
-{
-    let (before, first, count, calls) = row;
-    let mut flusher = flusher_of::<_, F>(front, journal);
-    for number in 0..before {
-        give(rt, &mut flusher, batch(rt, alloc, u64::from(number) + 1, 1));
-        assert!(rt; make_calls(rt, &mut flusher) == 4);
-        publish(rt, &mut flusher);
-    }
-    give(rt, &mut flusher, batch(rt, alloc, first, count));
-    for _ in 0..calls {
-        assert!(rt; flusher.needs() == Need::Disk);
-        flusher.disk_step().expect(rt, "a disk call");
-    }
-    for _ in 0..2 {
-        assert!(rt; flusher.needs() == Need::Disk);
-        let answer = flusher.disk_step();
-        assert_eq!(rt; answer, Err(FlushFault::Misfit), "{count} from {first}");
-    }
-    let FlushEnd::Midway(disk) = flusher.end() else {
-        panic!(rt; "the batch is not durable")
-    };
-    // 10 of the recovery, 4 of each batch before it, and those of a checkpoint.
-    let made = disk.calls().len();
-    assert_eq!(rt;
-        made,
-        10 + 4 * usize::from(before) + usize::from(calls),
-        "{count} from {first}"
-    );
 }

@@ -12,7 +12,6 @@ use iol_journal::Journal;
 use std::alloc::Global;
 use std::marker::Brand;
 use std::process::Abort;
-use std::test::Fail;
 
 // A checkpoint of two ports that fit a sector each and four slots, into area B, and behind it a batch of one Configure
 // in the first slot there (docs/FORMATS.md).
@@ -37,12 +36,11 @@ const CHECKPOINT_AND_BATCH: [DiskCall; 17] = [
 ];
 
 #[test]
-fn a_checkpoint_comes_before_the_fifth_batch(rt: HostRuntime) -> Result<(), Fail> {
+fn a_checkpoint_comes_before_the_fifth_batch(rt: HostRuntime) {
     let disk = RecordedDisk::new(rt.alloc(), formatted(&rt, rt.alloc()));
     let (journal, state) = recovered(&rt, rt.alloc(), disk);
-    let front = Front::new(rt.alloc(), journal.number(), &state)?;
+    let front = Front::new(rt.alloc(), journal.number(), &state).expect(&rt, "memory");
     fill_and_go_on::<Brand, _>(&rt, rt.alloc(), front, journal);
-    Ok(())
 }
 
 fn fill_and_go_on<F: Name, R: Abort>(

@@ -67,7 +67,7 @@ pub fn flusher_of<D: SectorDisk, F: Name>(front: Front, journal: Journal<D>) -> 
 
 /// Gives a batch, which is taken.
 pub fn give<D: SectorDisk, F: Name, R: Abort>(rt: &R, flusher: &mut Flusher<D, F>, batch: Batch) {
-    assert_eq!(rt; flusher.needs(), Need::Batch);
+    assert!(rt; flusher.needs() == Need::Batch);
     flusher.give(batch).expect(rt, "a batch that is taken");
 }
 
@@ -87,7 +87,7 @@ pub fn publish<D: SectorDisk, F: Name, R: Abort>(
     rt: &R,
     flusher: &mut Flusher<D, F>,
 ) -> (u64, usize) {
-    assert_eq!(rt; flusher.needs(), Need::Publish);
+    assert!(rt; flusher.needs() == Need::Publish);
     let committed = flusher.publish().expect(rt, "a batch that is published");
     (committed.first(), committed.len())
 }

@@ -20,7 +20,7 @@ fn a_front_outlives_refusals(rt: HostRuntime) -> Result<(), Fail> {
         Ok(front) => front,
         Err(_) => Front::new(rt.alloc(), 7, &state)?,
     };
-    assert_eq!(rt; state.ports(), 1);
+    assert!(rt; state.ports() == 1);
     passes_outlive_refusals::<Brand, _>(&rt, front)
 }
 
@@ -31,19 +31,19 @@ fn passes_outlive_refusals<F: Name, R: Abort>(rt: &R, front: Front) -> Result<()
     let mut pass = match publisher.pass() {
         Ok(pass) => pass,
         Err(_) => {
-            assert_eq!(rt; publisher.number(), 7);
+            assert!(rt; publisher.number() == 7);
             publisher.pass()?
         }
     };
     let mut another = match pass.another() {
         Ok(another) => another,
         Err(_) => {
-            assert_eq!(rt; pass.count(), 7);
+            assert!(rt; pass.count() == 7);
             pass.another()?
         }
     };
     assert!(rt; publisher.number() == 7 && pass.count() == 7 && another.count() == 7);
     another.meet(&mut pass);
-    assert_eq!(rt; another.look(), 7);
+    assert!(rt; another.look() == 7);
     Ok(())
 }

@@ -1,0 +1,28 @@
+# Words that the cases' commands use beside those of sh.
+
+iolmaster() {
+    "${IOLMASTER:?}" "$@"
+}
+
+# Runs a script with a stop behind its steps that keeps this: old, new, zero or pattern.
+run_keeping() {
+    { cat "$2" && printf '\n[[step]]\ndo = "stop"\nkeep = "%s"\n' "$1"; } >"keeping_$1.toml" && iolmaster run "keeping_$1.toml"
+}
+
+# Runs a script as it stands, and with each stop behind its steps. All have to say the same, which is said once.
+run_keeping_each() {
+    iolmaster run "$1" >said 2>told
+    status=$?
+    for keep in old new zero pattern; do
+        run_keeping "$keep" "$1" >"said_$keep" 2>"told_$keep"
+        [ $? -eq "$status" ] && cmp -s "said_$keep" said && cmp -s "told_$keep" told || cat "keeping_$keep.toml" "said_$keep"
+    done
+    cat said
+    cat told >&2
+    return "$status"
+}
+
+# Runs a script again and again, and stops it, or fails the disk, in another place each time.
+stops() {
+    "${TESTS:?}/stops" "$@"
+}
