@@ -3,7 +3,6 @@
 mod allocations;
 mod ample_memory;
 mod beginnings;
-mod commands;
 mod devices;
 mod downloads;
 mod full_queue;
@@ -11,6 +10,7 @@ mod hostile;
 mod lines;
 mod messages;
 mod power;
+mod refusals;
 mod restarts;
 mod scene;
 mod stopped_twice;

@@ -1,10 +1,6 @@
-//! Flushers over a journal in memory: what each call answers, which disk calls are made, how it ends, and memory that runs
-//! out.
+//! Flushers over a journal in memory, where memory runs out and where it does not.
 
 mod allocations;
 mod ample_memory;
-mod batches;
-mod checkpoints;
-mod faults;
 mod scene;
 mod steady_disk;

@@ -1,6 +1,5 @@
 //! Disks, steps, and what a run over them tells.
 
-use iol_core::SubmitFault;
 use iol_disk::{MemoryDisk, Pick, SectorDisk};
 use iol_journal::{Geometry, Journal, format};
 use iol_link::DeviceLink;
@@ -104,19 +103,6 @@ pub fn told(events: &[Stamped], place: usize) -> (char, u64) {
             _ => ('?', 0),
         },
         None => ('?', 0),
-    }
-}
-
-/// Why the command at a place was refused.
-pub fn refused(events: &[Stamped], place: usize) -> Option<SubmitFault> {
-    match events.get(place) {
-        Some(
-            Stamped {
-                event: Event::Refused(fault),
-                ..
-            },
-        ) => Some(*fault),
-        _ => None,
     }
 }
 

@@ -15,9 +15,7 @@ use std::process::Abort;
 
 #[test]
 fn a_flusher_finds_memory(rt: HostRuntime) {
-    let geometry = Geometry::new(1, 1)
-        .ok_or("no geometry")
-        .expect(&rt, "memory");
+    let geometry = Geometry::new(1, 1).expect(&rt, "a geometry");
     let disk = MemoryDisk::new(rt.alloc(), geometry.sectors()).expect(&rt, "memory");
     let mut disk = SteadyDisk { disk };
     format(rt.alloc(), &mut disk, geometry).expect(&rt, "memory");

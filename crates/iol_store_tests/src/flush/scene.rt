@@ -4,10 +4,10 @@ ghost use Rattle.std.specs.Prelude.{◌≡◌, [], ◌⊎◌};
 ghost use Rattle.iol_flush.specs.Stages.{HasHistory, need_of};
 ghost use Rattle.iol_flush.specs.declared.need.Need.TheVariants as need;
 
-use iol_disk::{MemoryDisk, SectorDisk};
+use iol_disk::SectorDisk;
 use iol_flush::{Flusher, Need};
 use iol_front::{Front, Name};
-use iol_journal::{Batch, Geometry, Journal, format};
+use iol_journal::{Batch, Journal};
 use iol_types::{Command, DeviceId, MasterState, PortConfig, PortId, PortMode, Validation};
 use std::alloc::Global;
 use std::process::Abort;
@@ -32,14 +32,6 @@ pub fn batch<R: Abort>(rt: &R, alloc: Global, first: u64, count: usize) -> Batch
         commands.push(configure()).expect(rt, "memory");
     }
     Batch { first, commands }
-}
-
-/// A disk with an empty journal of two ports and four slots.
-pub fn formatted<R: Abort>(rt: &R, alloc: Global) -> MemoryDisk {
-    let geometry = Geometry::new(2, 4).expect(rt, "a geometry");
-    let mut disk = MemoryDisk::new(alloc, geometry.sectors()).expect(rt, "a disk");
-    format(alloc, &mut disk, geometry).expect(rt, "a format");
-    disk
 }
 
 /// The journal that is recovered from a disk, and its state.
