@@ -21,7 +21,7 @@ impl Stoppable for MemoryDisk {
     }
 }
 
-// A disk of which the call fails that a script says, if it says one.
+// The disk of a run, of which one call fails where the script asks for that.
 pub(crate) fn failing<D: SectorDisk>(disk: D, fail: Option<FailingCall>) -> FaultDisk<D>
     ensures disk { inner result ≡ disk }
     ensures kind { IfSome fail (λ call. kind_of result ≡ fault_of call.kind) }
@@ -44,7 +44,7 @@ fn fault_of(kind: CallKind) -> DiskFault
     }
 }
 
-// What a stop leaves that keeps this.
+// What a stop leaves of the sectors that were not synced.
 pub(crate) fn pick_of(keep: Keep) -> Pick
     ensures { result ≡ pick_of keep }
 {

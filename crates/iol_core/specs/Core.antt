@@ -13,9 +13,9 @@ use Rattle.iol_core.specs.declared.permit.Grant.TheVariants.{Upload}
 use Rattle.iol_core.specs.declared.permit.UploadGrant.{UploadGrant}
 use Rattle.iol_core.specs.declared.stop.StopCause.{StopCause}
 
--- a core as contracts see it: the durable state and the number of its last command, the commands that wait for the
--- disk, how many of them are in flight, what each port's permit is for that is out, why no more is taken, and the list
--- that its own pass has seen (own)
+-- a core as contracts see it: the durable state and the number of its last command; the commands that wait for the
+-- disk, and how many of them are in flight. What each port's permit is for that is out, why no more is taken, and the
+-- list that its own pass has seen (own)
 pub record CoreView : Type 0 where
   pub durable : State
   pub number : ℕ
@@ -62,8 +62,8 @@ FitsAt state port (Some (Upload grant)) = (grant.port ≡ port) × IsSomeAnd (po
 FitsAt state port _ = Unit {0}
 
 -- what holds of a core, whose front has this start: the durable state is that after the first commands that its pass
--- has seen; each command that waits passes in the state that it meets; at most 64 wait, and no number is over 2^62;
--- each port has one place for a permit, and what a permit to upload is for fits its port in the live state (own)
+-- has seen. Each command that waits passes in the state that it meets, at most 64 wait, and no number is over 2^62.
+-- Each port has one place for a permit, and what a permit to upload is for fits its port in the live state (own)
 pub record IsCore (start : Start) (core : CoreView) : Type 0 where
   pub stands : Stands start core.seen core.number core.durable
   pub legal : legal core.durable core.queue ≡ true

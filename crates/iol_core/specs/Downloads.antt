@@ -24,7 +24,7 @@ durable_set core port = stored_at (port_numbered core.durable port)
 abbrev pub is_of_device : SetValue → ℕ → ℕ → Bool
 is_of_device set vendor device = (set.vendor == vendor) && (set.device == device)
 
--- why the durable set is not downloaded to a device with these numbers and this checksum, by the first cause: there is
+-- why the durable set is not downloaded to a device with these numbers and this checksum, by the first cause. There is
 -- none, or none in the live state; the port or the set names another device; a permit of the port is out; the device
 -- has the set's checksum (own)
 abbrev pub set_fault : PortConfig → Option Stored → Option Stored → ℕ → ℕ → ℕ → Bool → Option DownloadFault

@@ -226,9 +226,9 @@ pub record HasRestored (port : ℕ) (page : PageValue) (history : List Happening
   pub vendor : set.vendor ≡ page.vendor
   pub device : set.device ≡ page.device
 
--- by the last that happened the device with this page has what is stored for it: the page was read, and nothing is to be
--- restored; it was decided that the port is ready; the permit was returned under which a set was written to the device; or
--- it answered (+) to DS_UploadEnd, and what it uploaded is durable (own)
+-- by the last that happened a port is ready with this page. The page was read, and nothing is to be restored; or it was
+-- decided that the port is ready; or the permit was returned under which each write of a set was answered (+); or the
+-- device answered (+) to DS_UploadEnd, and what it uploaded is durable (own)
 abbrev pub IsRestored : ℕ → PageValue → List Happening → Type 0
 IsRestored port page [] = ⊥
 IsRestored port page (Did wants (input.Page connection octets) ∷ before) = (page ≡ page_of octets) × RestoresNothing before

@@ -155,7 +155,7 @@ fn return_of(held: Held) -> CoreCall
     }
 }
 
-// How a port is that is so far.
+// The status of a port at this stage.
 pub(crate) fn status(stage: &Stage) -> PortStatus
     ensures { result ≡ status_of (stage_of stage.now) }
 {

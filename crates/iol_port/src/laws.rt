@@ -142,10 +142,10 @@ pub fn a_port_settles_for_its_reason()
         → Happens old latest new → new.stage ≡ Settled own → (status_of old.stage ≡ status_of new.stage → ⊥) → IsJudged own (latest ∷ history) }
 {}
 
-/// A port becomes ready only where its device has what is stored for it: its page was read, and nothing is to be restored;
-/// or the device was found and examined, and it was decided so; or a permit to download is returned, and since it was given
-/// the set that came with it was written whole, each request answered (+); or the device answered (+) to DS_UploadEnd, and
-/// what it uploaded is durable. It becomes ready but locked, or ready and empty, only where that was decided. So no port
+/// A port becomes ready only for one of these reasons. Its page was read, and nothing is to be restored; or the device was
+/// found and examined, and it was decided so; or a permit to download is returned, and since it was given the set that came
+/// with it was written whole, each request answered (+); or the device answered (+) to DS_UploadEnd, and what it uploaded is
+/// durable. It becomes ready but locked, or ready and empty, only where that was decided. So no port
 /// becomes ready by a download or a DS_UploadEnd that its device refused, nor where a download was decided and not made.
 pub fn a_ready_port_has_its_set()
     ensures ready { (port : ℕ) (history : List Happening) (old new : PortValue) (latest : Happening) (page : PageValue) → HasLed port history old

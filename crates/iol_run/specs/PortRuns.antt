@@ -22,7 +22,7 @@ pub record IsCoreAfter (first : ℕ) (start : State) (events : List Stamp) (core
 
 module _ {L : Type 0} (number : L → ℕ) (steps : L → LinkCall → LinkAnswer → L → Type 0) (first : ℕ) (start : State) where
   -- the last step of a port's machine: it stood so before, was led there by what was told earlier, and made its step with its
-  -- link and with the core as it stood then; what it tells of that follows at once, and later nothing that is the port's own (own)
+  -- link and with the core as it stood then. What it tells of that follows at once, and later nothing of the port's own (own)
   pub record HasStepped (Led : PortValue → L → List Stamp → Type 0) (port : ℕ) (machine : PortValue) (link : L) (events : List Stamp) : Type 0 where
     pub before : PortValue
     pub linked : L

@@ -17,7 +17,7 @@ impl Model for Said {
     ghost also_owns = { λ _. ftrue };
 }
 
-// What it is read off.
+// The command whose value a `Said` takes.
 #[derive(Clone, Copy, Drop)]
 struct Source<'a> {
     command: &'a Command,

@@ -3,9 +3,9 @@ use Rattle.std.specs.Prelude.{ℕ, List, map, Option}
 use Rattle.iol_types.specs.Command.{CommandValue}
 use Rattle.iol_trace.specs.Statuses.{Refusal, Work, Status}
 
--- what happens in a run: a command is accepted under a number, or refused; a port reads its device's page, or exchanges a
--- request and an answer with it, or loses it, on a connection of its link; a port is told its work; its status changes;
--- commands up to a number are acknowledged; a disk call fails (own)
+-- what happens in a run. A command is accepted under a number, or refused. A port reads its device's page, or exchanges a
+-- request and an answer with it, or loses it, on a connection of its link; it is told its work; its status changes.
+-- Commands up to a number are acknowledged. A disk call fails (own)
 pub data Event : Type 0 where
   Accepted : (number : ℕ) (command : CommandValue) → Event
   Refused : (refusal : Refusal) → Event
