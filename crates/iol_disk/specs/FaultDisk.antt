@@ -1,6 +1,7 @@
 -- A disk of which one call fails.
-use Rattle.std.specs.Prelude.{ℕ, ◌+◌, ◌-◌, ◌==◌, ◌&&◌, Bool, true, false, if◌then◌else◌}
-use Rattle.iol_disk.specs.Disk.{Disk}
+use Rattle.std.specs.Prelude.{◌⊎◌, ℕ, ◌+◌, ◌-◌, ◌==◌, ◌&&◌, Bool, true, false, if◌then◌else◌, List}
+use Rattle.iol_disk.specs.Content.{wrote}
+use Rattle.iol_disk.specs.Disk.{Disk, After as Changed, HasFailed}
 use Rattle.iol_disk.specs.declared.fault.DiskFault.{DiskFault}
 use Rattle.iol_disk.specs.declared.fault.DiskFault.TheVariants as fault
 use Rattle.iol_disk.specs.declared.fault_disk.Due.{Due}
@@ -40,6 +41,10 @@ counted kind due called = if is_of kind called then one_nearer due else due
 abbrev pub made_to_fail : Due → ℕ
 made_to_fail Past = 1
 made_to_fail _ = 0
+
+-- a write was made with these octets, or it failed on the disk too (own)
+abbrev pub IsWriteMade : ℕ → List ℕ → Disk → Disk → Type 0
+IsWriteMade n octets old new = Changed (wrote n octets) old new ⊎ HasFailed old new
 
 -- the disk of which one call fails (own)
 abbrev pub inner : {D : Type 0} → FaultDisk D → D

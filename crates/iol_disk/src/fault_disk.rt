@@ -88,7 +88,7 @@ impl<D: SectorDisk> SectorDisk for FaultDisk<D> {
     ghost use Rattle.std.specs.Prelude.{◌≡◌, ◌<◌, true, false, Err, IsTrue, OnOk, OnErr};
     ghost use Rattle.iol_disk.specs.Content.{reads, wrote, synced};
     ghost use Rattle.iol_disk.specs.Disk.{After, Same, WroteSome, FailsOnlyAs};
-    ghost use Rattle.iol_disk.specs.FaultDisk.{as_disk, inner, kind_of, due_of, fails_now, counted};
+    ghost use Rattle.iol_disk.specs.FaultDisk.{as_disk, inner, kind_of, due_of, fails_now, counted, IsWriteMade};
 
     ghost disk = { as_disk D.disk };
 
@@ -105,6 +105,7 @@ impl<D: SectorDisk> SectorDisk for FaultDisk<D> {
         ensures fault { FailsOnlyAs DiskFault.Read (as_disk D.disk self.old) (as_disk D.disk self.new) result }
         ensures counted { due_of self.new ≡ counted (kind_of self.old) (due_of self.old) DiskFault.Read }
         ensures due { fails_now (kind_of self.old) (due_of self.old) DiskFault.Read ≡ true → result ≡ Err DiskFault.Read }
+        ensures not_made { fails_now (kind_of self.old) (due_of self.old) DiskFault.Read ≡ true → inner self.new ≡ inner self.old }
         ensures passed { fails_now (kind_of self.old) (due_of self.old) DiskFault.Read ≡ false
             → FailsOnlyAs DiskFault.Read (D.disk (inner self.old)) (D.disk (inner self.new)) result }
     {
@@ -122,6 +123,8 @@ impl<D: SectorDisk> SectorDisk for FaultDisk<D> {
         ensures fault { FailsOnlyAs DiskFault.Write (as_disk D.disk self.old) (as_disk D.disk self.new) result }
         ensures counted { due_of self.new ≡ counted (kind_of self.old) (due_of self.old) DiskFault.Write }
         ensures due { fails_now (kind_of self.old) (due_of self.old) DiskFault.Write ≡ true → result ≡ Err DiskFault.Write }
+        ensures made { fails_now (kind_of self.old) (due_of self.old) DiskFault.Write ≡ true
+            → IsWriteMade n octets.now (D.disk (inner self.old)) (D.disk (inner self.new)) }
         ensures passed { fails_now (kind_of self.old) (due_of self.old) DiskFault.Write ≡ false
             → FailsOnlyAs DiskFault.Write (D.disk (inner self.old)) (D.disk (inner self.new)) result }
     {
@@ -139,6 +142,7 @@ impl<D: SectorDisk> SectorDisk for FaultDisk<D> {
         ensures fault { FailsOnlyAs DiskFault.Sync (as_disk D.disk self.old) (as_disk D.disk self.new) result }
         ensures counted { due_of self.new ≡ counted (kind_of self.old) (due_of self.old) DiskFault.Sync }
         ensures due { fails_now (kind_of self.old) (due_of self.old) DiskFault.Sync ≡ true → result ≡ Err DiskFault.Sync }
+        ensures not_made { fails_now (kind_of self.old) (due_of self.old) DiskFault.Sync ≡ true → inner self.new ≡ inner self.old }
         ensures passed { fails_now (kind_of self.old) (due_of self.old) DiskFault.Sync ≡ false
             → FailsOnlyAs DiskFault.Sync (D.disk (inner self.old)) (D.disk (inner self.new)) result }
     {
