@@ -1,5 +1,5 @@
 -- A disk that records its calls.
-use Rattle.std.specs.Prelude.{List}
+use Rattle.std.specs.Prelude.{◌≡◌, ◌⊎◌, List, [], ◌∷◌, ◌++◌}
 use Rattle.iol_disk.specs.declared.recorded_disk.DiskCall.{DiskCall}
 use Rattle.iol_disk.specs.declared.recorded_disk.RecordedDisk.{RecordedDisk}
 
@@ -10,3 +10,7 @@ recorded_on recorded = recorded.disk
 -- the calls that are recorded so far (own)
 abbrev pub calls_of : {D : Type 0} → RecordedDisk D → List DiskCall
 calls_of recorded = recorded.calls.items
+
+-- the calls after one more: this one is behind them, or memory ran out and they are as they were (own)
+abbrev pub IsRecorded : DiskCall → List DiskCall → List DiskCall → Type 0
+IsRecorded call old new = (new ≡ old ++ call ∷ []) ⊎ (new ≡ old)

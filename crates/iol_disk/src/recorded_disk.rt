@@ -46,23 +46,49 @@ impl<D: SectorDisk + Drop> RecordedDisk<D> {
 }
 
 impl<D: SectorDisk> SectorDisk for RecordedDisk<D> {
+    ghost use Rattle.std.specs.Prelude.{◌<◌, IsTrue, OnOk, OnErr};
+    ghost use Rattle.iol_disk.specs.Content.{reads, wrote, synced};
+    ghost use Rattle.iol_disk.specs.Disk.{After, Same, WroteSome, FailsOnlyAs};
+    ghost use Rattle.iol_disk.specs.RecordedDisk.{IsRecorded};
+
     ghost disk = { λ d. D.disk d.disk };
 
     fn sectors(&self) -> usize {
         self.disk.sectors()
     }
 
-    fn read(&mut self, n: usize, octets: &mut [u8; SECTOR_OCTETS]) -> Result<(), DiskFault> {
+    /// Records the read and makes it.
+    fn read(&mut self, n: usize, octets: &mut [u8; SECTOR_OCTETS]) -> Result<(), DiskFault>
+        requires { n < (D.disk (recorded_on self.old)).sectors }
+        ensures read { OnOk result (IsTrue (D.disk (recorded_on self.old)).honest → octets.new ≡ reads (D.disk (recorded_on self.old)).content n) }
+        ensures kept { OnErr result (octets.new ≡ octets.old) }
+        ensures same { Same (D.disk (recorded_on self.old)) (D.disk (recorded_on self.new)) }
+        ensures fault { FailsOnlyAs DiskFault.Read (D.disk (recorded_on self.old)) (D.disk (recorded_on self.new)) result }
+        ensures recorded { IsRecorded (DiskCall.Read n) (calls_of self.old) (calls_of self.new) }
+    {
         let _ = self.calls.push(DiskCall::Read(n));
         self.disk.read(n, octets)
     }
 
-    fn write(&mut self, n: usize, octets: &[u8; SECTOR_OCTETS]) -> Result<(), DiskFault> {
+    /// Records the write and makes it.
+    fn write(&mut self, n: usize, octets: &[u8; SECTOR_OCTETS]) -> Result<(), DiskFault>
+        requires { n < (D.disk (recorded_on self.old)).sectors }
+        ensures wrote { OnOk result (After (wrote n octets.now) (D.disk (recorded_on self.old)) (D.disk (recorded_on self.new))) }
+        ensures wrote_some { OnErr result (WroteSome n (D.disk (recorded_on self.old)) (D.disk (recorded_on self.new))) }
+        ensures fault { FailsOnlyAs DiskFault.Write (D.disk (recorded_on self.old)) (D.disk (recorded_on self.new)) result }
+        ensures recorded { IsRecorded (DiskCall.Write n) (calls_of self.old) (calls_of self.new) }
+    {
         let _ = self.calls.push(DiskCall::Write(n));
         self.disk.write(n, octets)
     }
 
-    fn sync(&mut self) -> Result<(), DiskFault> {
+    /// Records the sync and makes it.
+    fn sync(&mut self) -> Result<(), DiskFault>
+        ensures synced { OnOk result (After synced (D.disk (recorded_on self.old)) (D.disk (recorded_on self.new))) }
+        ensures same { OnErr result (Same (D.disk (recorded_on self.old)) (D.disk (recorded_on self.new))) }
+        ensures fault { FailsOnlyAs DiskFault.Sync (D.disk (recorded_on self.old)) (D.disk (recorded_on self.new)) result }
+        ensures recorded { IsRecorded DiskCall.Sync (calls_of self.old) (calls_of self.new) }
+    {
         let _ = self.calls.push(DiskCall::Sync);
         self.disk.sync()
     }
