@@ -41,7 +41,8 @@ pub enum FlushEnd<D: SectorDisk, F: Name> {
     Closed(Journal<D>, Publisher<F>),
     /// A batch was given and is not yet durable. The disk may be recovered again.
     Midway(D),
-    /// A disk call had failed. The disk may be recovered again.
+    /// A disk call had failed. A disk of which a sync has failed is not gone on with: many systems drop the pages of a
+    /// failed sync and answer the next with success. Behind another fault the disk may be recovered again.
     Faulted(D, DiskFault),
 }
 

@@ -46,7 +46,8 @@ pub enum CheckpointProgress<D: SectorDisk> {
     More(Checkpointing<D>),
     /// The other area is in use, with all its slots free.
     Done(Journal<D>),
-    /// A call of the disk failed. The disk may be recovered again.
+    /// A call of the disk failed. A disk of which a sync has failed is not gone on with: many systems drop the pages of a
+    /// failed sync and answer the next with success. Behind another fault the disk may be recovered again.
     Failed(D, DiskFault),
 }
 

@@ -100,7 +100,8 @@ pub enum Progress<D: SectorDisk> {
     More(Writing<D>),
     /// The batch is durable.
     Done(Journal<D>, Written),
-    /// A call of the disk failed. The disk may be recovered again.
+    /// A call of the disk failed. A disk of which a sync has failed is not gone on with: many systems drop the pages of a
+    /// failed sync and answer the next with success. Behind another fault the disk may be recovered again.
     Failed(D, DiskFault),
 }
 
