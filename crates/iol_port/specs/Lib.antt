@@ -3,6 +3,7 @@ pub mod Faults
 pub mod Calls
 pub mod Stage
 pub mod Status
+pub mod Sameness
 pub mod Wanted
 pub mod Answers
 pub mod Heard

@@ -6,7 +6,7 @@
 //! [`decide`]s what to do with its parameters, uploads or downloads them under a permit, and says in a word how the port
 //! is ([`PortStatus`]).
 //!
-//! Modules in reading order: `fault` and `status`, the words; `decision`; `call` and `action`, what goes out and comes
+//! Modules in reading order: `fault`, `status` and `same_status`, the words; `decision`; `call` and `action`, what goes out and comes
 //! in; `stage`, how far a machine is; `acting`, what it does next; then what it makes of what it hears: `attending`,
 //! `paging`, `exchanging`, `uploading`, `downloading`, `losing`, `hearing`; `machine`, which puts them together; `laws`, for
 //! proofs of other crates; and `examples`, facts with values. What a machine wants stands in `specs/Wanted.antt`, and what
@@ -28,6 +28,7 @@ pub mod laws;
 mod losing;
 mod machine;
 mod paging;
+mod same_status;
 mod stage;
 mod status;
 mod uploading;

@@ -1,10 +1,11 @@
 //! How a port is, in a word.
 
 use crate::fault::PortFault;
+use crate::same_status::is_same_status;
 use iol_ident::IdentFault;
 
 /// How a port is.
-#[derive(Clone, Copy, Debug, PartialEq, Eq)]
+#[derive(Clone, Copy, Debug)]
 pub enum PortStatus {
     /// The port has no device to look after.
     Off,
@@ -28,4 +29,28 @@ pub enum PortStatus {
     Mismatch(IdentFault),
     /// What was begun has failed.
     Failed(PortFault),
+}
+
+/// Statuses are equal where they are one: that of a derive would not say so of the faults.
+impl PartialEq for PortStatus {
+    ghost use Rattle.std.specs.Prelude.{◌≡◌, ◌↔◌, IsTrue};
+    ghost use Rattle.std.specs.Cmp.{partial_equiv_from_equiv};
+    ghost use Rattle.iol_port.specs.Sameness.{same_status, same_status-laws};
+
+    ghost eq = { same_status };
+
+    ghost laws = { partial_equiv_from_equiv same_status-laws };
+
+    fn eq(&self, other: &PortStatus) -> bool
+        ensures test { result ≡ same_status self.now other.now }
+        ensures exactly { IsTrue result ↔ (self.now ≡ other.now) }
+    {
+        is_same_status(*self, *other)
+    }
+}
+
+impl Eq for PortStatus {
+    ghost use Rattle.iol_port.specs.Sameness.{same_status-laws};
+
+    ghost laws = { same_status-laws };
 }

@@ -18,7 +18,6 @@ mod port_step;
 mod ports;
 mod run;
 mod said;
-mod same_status;
 mod schedule;
 mod step;
 

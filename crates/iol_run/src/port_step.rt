@@ -15,7 +15,6 @@ ghost use Rattle.iol_run.specs.PortSteps.{Acts, IsReady, IsStatusTold, HasEvent,
 use crate::core_on_disk::CoreOnDisk;
 use crate::event::Event;
 use crate::said::Said;
-use crate::same_status::is_same_status;
 use arrayvec::ArrayVec;
 use iol_core::UploadGrant;
 use iol_disk::SectorDisk;
@@ -82,7 +81,7 @@ fn status_event(machine: &PortMachine, before: PortStatus) -> Option<Event>
     ensures { (old : PortValue) → status_of old.stage ≡ before → IsStatusTold old machine.now (told_of result) }
 {
     let status = machine.status();
-    if is_same_status(status, before) {
+    if status == before {
         return None;
     }
     let port = machine.port();

@@ -1,10 +1,11 @@
-//! Whether two statuses of a port are the same one.
+//! Whether two statuses of a port are one, case by case.
 
 ghost use Rattle.std.specs.Prelude.{◌≡◌, ◌↔◌, IsTrue};
 
-use iol_port::{PortFault, PortStatus};
+use crate::fault::PortFault;
+use crate::status::PortStatus;
 
-// Whether both are one status. Unlike that of `==`, its contract says so of the values.
+// Whether both are one status.
 pub(crate) fn is_same_status(one: PortStatus, other: PortStatus) -> bool
     ensures { IsTrue result ↔ (one ≡ other) }
 {
