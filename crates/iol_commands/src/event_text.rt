@@ -13,18 +13,13 @@ pub(crate) fn write_event<W: fmt::Write>(f: &mut fmt::Formatter<W>, event: &Even
         Event::Accepted { number, .. } => writeln!(f, "accepted {number}"),
         Event::Refused(fault) => writeln!(f, "refused {}", name_of(*fault)),
         Event::Page { port, octets, .. } => write_octets(f, *port, "page", octets),
-        Event::Exchange {
-            port,
-            request,
-            answer,
-            ..
-        } => {
-            write_octets(f, *port, ">", request.as_slice())?;
-            write_octets(f, *port, "<", answer.as_slice())
+        Event::Exchange { port, octets, .. } => {
+            write_octets(f, *port, ">", octets.request.as_slice())?;
+            write_octets(f, *port, "<", octets.answer.as_slice())
         }
-        Event::Lost { port, request, .. } => {
-            if let Some(request) = request {
-                write_octets(f, *port, ">", request.as_slice())?;
+        Event::Lost { port, octets, .. } => {
+            if let Some(octets) = octets {
+                write_octets(f, *port, ">", octets.request.as_slice())?;
             }
             writeln!(f, "port {} lost", port.number())
         }

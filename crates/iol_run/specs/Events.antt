@@ -13,8 +13,8 @@ abbrev pub event_of : Event → trace.Event
 event_of (Accepted number said) = trace.Accepted number said.command
 event_of (Refused fault) = trace.Refused (refusal_of fault)
 event_of (Page port connection octets) = trace.Page port connection octets
-event_of (Exchange port connection request answer) = trace.Exchange port connection request.items answer.items
-event_of (Lost port connection request) = trace.Lost port connection (option_map (λ octets. octets.items) request)
+event_of (Exchange port connection octets) = trace.Exchange port connection octets.value.request.items octets.value.answer.items
+event_of (Lost port connection octets) = trace.Lost port connection (option_map (λ sent. sent.value.request.items) octets)
 event_of (Attended port work) = trace.Attended port (work_told work)
 event_of (Status port status) = trace.Changed port (status_told status)
 event_of (Acknowledged number) = trace.Acknowledged number

@@ -1,5 +1,7 @@
 //! The events of a run.
 
+ghost use Rattle.std.specs.Prelude.{◌≡◌};
+
 use crate::said::Said;
 use arrayvec::ArrayVec;
 use iol_core::{SubmitFault, Work};
@@ -7,8 +9,35 @@ use iol_isdu::ISDU_OCTETS;
 use iol_link::PAGE_OCTETS;
 use iol_port::PortStatus;
 use iol_types::PortId;
+use std::alloc::{AllocError, Global};
 
-/// What happens in a run.
+/// The octets that a port has sent to its device, and those that the device has answered.
+#[derive(Drop)]
+pub struct Exchanged {
+    pub request: ArrayVec<u8, ISDU_OCTETS>,
+    pub answer: ArrayVec<u8, ISDU_OCTETS>,
+}
+
+impl Exchanged {
+    // Room for an exchange, with no octets in it.
+    pub(crate) fn room(alloc: Global) -> Result<Box<Exchanged>, AllocError> {
+        let octets = Exchanged {
+            request: ArrayVec::new(),
+            answer: ArrayVec::new(),
+        };
+        Ok(Box::new(alloc, octets)?)
+    }
+
+    // These octets in a room that was made before.
+    pub(crate) fn put(self, mut room: Box<Exchanged>) -> Box<Exchanged>
+        ensures { result.value ≡ self }
+    {
+        let _ = Box::replace(&mut room, self);
+        room
+    }
+}
+
+/// What happens in a run. It is small, since a run keeps each of its events: long octets lie in a box.
 #[derive(Drop)]
 pub enum Event {
     /// A command was accepted under this number.
@@ -28,14 +57,13 @@ pub enum Event {
     Exchange {
         port: PortId,
         connection: u64,
-        request: ArrayVec<u8, ISDU_OCTETS>,
-        answer: ArrayVec<u8, ISDU_OCTETS>,
+        octets: Box<Exchanged>,
     },
-    /// A port has lost its device, at the read of the page or at these octets.
+    /// A port has lost its device, at the read of the page or at the request of these octets, which has no answer.
     Lost {
         port: PortId,
         connection: u64,
-        request: Option<ArrayVec<u8, ISDU_OCTETS>>,
+        octets: Option<Box<Exchanged>>,
     },
     /// A port was told its work.
     Attended {

@@ -22,7 +22,7 @@ mod schedule;
 mod step;
 
 pub use core_on_disk::{CoreOnDisk, Turn, Turned};
-pub use event::Event;
+pub use event::{Event, Exchanged};
 pub use moment::Moment;
 pub use port_step::{PortTold, step_port};
 pub use ports::Ports;

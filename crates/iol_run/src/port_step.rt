@@ -13,7 +13,7 @@ ghost use Rattle.iol_run.specs.Events.{event_of, told_of};
 ghost use Rattle.iol_run.specs.PortSteps.{Acts, IsReady, IsStatusTold, HasEvent, PortStep, awake, HasPage, HasAnswer, HasReply, reply_told, store_in, command_said};
 
 use crate::core_on_disk::CoreOnDisk;
-use crate::event::Event;
+use crate::event::{Event, Exchanged};
 use crate::said::Said;
 use arrayvec::ArrayVec;
 use iol_core::UploadGrant;
@@ -25,19 +25,23 @@ use iol_port::{Action, CoreCall, Input, PortMachine, PortStatus, Reply};
 use iol_types::{Command, DataSet, PortId};
 use std::sync::Arc;
 
-/// What a step of a port tells: what came of what its machine wanted, and then its status, where that has changed.
+/// What a step of a port tells: what came of what its machine wanted, and then its status, where that has changed. The room
+/// that was handed in comes back where it was not needed.
 #[derive(Drop)]
 pub struct PortTold {
     pub called: Option<Event>,
     pub status: Option<Event>,
+    pub room: Option<Box<Exchanged>>,
 }
 
 /// One step of a port: an event of its device is noted, a settled machine is woken, and what the machine then wants is
-/// done once, by a call of the link or of the core.
+/// done once, by a call of the link or of the core. What is exchanged is told in the room that is handed in, so that a step
+/// takes no memory of its own.
 pub fn step_port<D: SectorDisk, L: DeviceLink, F: Name>(
     master: &mut CoreOnDisk<D, F>,
     machine: &mut PortMachine,
     link: &mut L,
+    room: Box<Exchanged>,
 ) -> PortTold
     requires ready { IsReady machine.old.stage }
     ensures step { PortStep L.number L.steps machine.old machine.new link.old link.new master.old.core master.new.core (told_of result.called) (told_of result.status) }
@@ -48,9 +52,13 @@ pub fn step_port<D: SectorDisk, L: DeviceLink, F: Name>(
     let before = machine.status();
     hear_event(machine, link);
     wake(machine);
-    let called = act(master, machine, link);
+    let (called, room) = act(master, machine, link, room);
     let status = status_event(machine, before);
-    PortTold { called, status }
+    PortTold {
+        called,
+        status,
+        room,
+    }
 }
 
 // Notes an event of the device, if there is one.
@@ -88,23 +96,24 @@ fn status_event(machine: &PortMachine, before: PortStatus) -> Option<Event>
     Some(Event::Status { port, status })
 }
 
-// What the machine wants is done.
+// What the machine wants is done. The room comes back where it was not needed.
 fn act<D: SectorDisk, L: DeviceLink, F: Name>(
     master: &mut CoreOnDisk<D, F>,
     machine: &mut PortMachine,
     link: &mut L,
-) -> Option<Event>
+    room: Box<Exchanged>,
+) -> (Option<Event>, Option<Box<Exchanged>>)
     requires ready { IsReady machine.old.stage }
     requires open { is_settled machine.old.stage ≡ false }
-    ensures acts { Acts L.number L.steps machine.old machine.new link.old link.new master.old.core master.new.core (told_of result) }
+    ensures acts { Acts L.number L.steps machine.old machine.new link.old link.new master.old.core master.new.core (told_of result.0) }
     ensures ready { IsReady machine.new.stage }
     ensures others { (master.new.flusher ≡ master.old.flusher) × (master.new.committed ≡ master.old.committed) }
     ensures run { KeepsRunning D.disk F.front.start master.old master.new }
 {
     match machine.action() {
-        Action::ReadPage => Some(read_page(machine, link)),
-        Action::Exchange(request) => Some(exchange(machine, link, &request)),
-        Action::Ask(call) => ask(master, machine, call),
+        Action::ReadPage => (Some(read_page(machine, link)), Some(room)),
+        Action::Exchange(request) => (Some(exchange(machine, link, &request, room)), None),
+        Action::Ask(call) => (ask(master, machine, call), Some(room)),
         Action::Idle => unreachable!(),
     }
 }
@@ -130,14 +139,19 @@ fn read_page<L: DeviceLink>(machine: &mut PortMachine, link: &mut L) -> Event
             Event::Lost {
                 port,
                 connection,
-                request: None,
+                octets: None,
             }
         }
     }
 }
 
 // Sends a request to the device.
-fn exchange<L: DeviceLink>(machine: &mut PortMachine, link: &mut L, request: &Request) -> Event
+fn exchange<L: DeviceLink>(
+    machine: &mut PortMachine,
+    link: &mut L,
+    request: &Request,
+    room: Box<Exchanged>,
+) -> Event
     requires wants { awaits_answer machine.old.stage ≡ true }
     ensures { HasAnswer L.number L.steps request.now machine.old machine.new link.old link.new (event_of result) }
 {
@@ -150,16 +164,16 @@ fn exchange<L: DeviceLink>(machine: &mut PortMachine, link: &mut L, request: &Re
             Event::Exchange {
                 port,
                 connection,
-                request,
-                answer,
+                octets: Exchanged { request, answer }.put(room),
             }
         }
         Err(Lost) => {
             machine.feed(Input::Lost);
+            let answer = ArrayVec::new();
             Event::Lost {
                 port,
                 connection,
-                request: Some(request),
+                octets: Some(Exchanged { request, answer }.put(room)),
             }
         }
     }

@@ -8,6 +8,7 @@ ghost use Rattle.iol_run.specs.Events.{told_of};
 ghost use Rattle.iol_run.specs.Ports.{ArePorts, StepsPort, StepsThere, new_machines};
 
 use crate::core_on_disk::CoreOnDisk;
+use crate::event::Exchanged;
 use crate::port_step::{PortTold, step_port};
 use iol_disk::SectorDisk;
 use iol_front::Name;
@@ -50,21 +51,24 @@ impl<L: DeviceLink + Drop> Ports<L> {
 }
 
 impl<L: DeviceLink> Ports<L> {
-    /// One step of a port. Of a port that the master does not have nothing is told, and nothing changes.
+    /// One step of a port, with room for an exchange. Of a port that the master does not have nothing is told, and nothing
+    /// changes.
     pub fn step<D: SectorDisk, F: Name>(
         &mut self,
         master: &mut CoreOnDisk<D, F>,
         port: PortId,
+        room: Box<Exchanged>,
     ) -> PortTold
         ensures steps { StepsPort L.number L.steps port master.old master.new self.old self.new (told_of result.called ++ told_of result.status) }
         ensures run { KeepsRunning D.disk F.front.start master.old master.new }
     {
         if port.place() < self.links.len() {
-            self.step_there(master, port)
+            self.step_there(master, port, room)
         } else {
             PortTold {
                 called: None,
                 status: None,
+                room: Some(room),
             }
         }
     }
@@ -74,13 +78,19 @@ impl<L: DeviceLink> Ports<L> {
         &mut self,
         master: &mut CoreOnDisk<D, F>,
         port: PortId,
+        room: Box<Exchanged>,
     ) -> PortTold
         requires there { port ≤ length self.old.links }
         ensures steps { StepsThere L.number L.steps port master.old master.new self.old self.new (told_of result.called ++ told_of result.status) }
         ensures run { KeepsRunning D.disk F.front.start master.old master.new }
     {
         let place = port.place();
-        step_port(master, &mut self.machines[place], &mut self.links[place])
+        step_port(
+            master,
+            &mut self.machines[place],
+            &mut self.links[place],
+            room,
+        )
     }
 
     /// Ends the ports: each permit that is held is returned. The links are handed out.

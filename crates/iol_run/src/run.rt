@@ -9,7 +9,7 @@ ghost use Rattle.iol_run.specs.Runs.{Did, IsTold, KeepsRun};
 ghost use Rattle.iol_run.specs.Schedules.{IsFresh};
 
 use crate::core_on_disk::{CoreOnDisk, Turned};
-use crate::event::Event;
+use crate::event::{Event, Exchanged};
 use crate::moment::Moment;
 use crate::ports::Ports;
 use crate::schedule::{Ended, Trace};
@@ -29,11 +29,16 @@ pub struct Stamped {
     pub moment: Moment,
 }
 
+// A run keeps all that it tells.
+const _: () = prove!(size_of::<Stamped>() <= 40);
+
 /// A run between its steps. A contract sees the record `RunView` of `specs/Runs.antt`.
 pub struct Run<D: SectorDisk, L: DeviceLink, F: Name> {
     master: CoreOnDisk<D, F>,
     ports: Ports<L>,
     events: Vec<Stamped>,
+    // room for the next exchange, if there is any
+    spare: Option<Box<Exchanged>>,
     begun: Moment,
 }
 
@@ -62,6 +67,17 @@ fn note<D: SectorDisk, F: Name>(
     if let Some(event) = event {
         let moment = Moment::of(master);
         events.push_reserved(Stamped { event, moment });
+    }
+}
+
+// The spare room for an exchange, or a new one where there is none.
+fn room_in(
+    spare: &mut Option<Box<Exchanged>>,
+    alloc: Global,
+) -> Result<Box<Exchanged>, AllocError> {
+    match spare.take() {
+        Some(room) => Ok(room),
+        None => Exchanged::room(alloc),
     }
 }
 
@@ -97,6 +113,7 @@ impl<D: SectorDisk, L: DeviceLink + Drop, F: Name> Run<D, L, F> {
             master,
             ports,
             events: Vec::new(alloc),
+            spare: None,
             begun,
         })
     }
@@ -117,6 +134,7 @@ impl<D: SectorDisk, L: DeviceLink, F: Name> Run<D, L, F> {
             master,
             ports,
             events,
+            spare: _,
             begun,
         } = self;
         let mut master = master;
@@ -144,12 +162,15 @@ impl<D: SectorDisk, L: DeviceLink, F: Name> Run<D, L, F> {
         ensures kept { KeepsRun D.disk F.front.start self.old self.new }
     {
         self.events.reserve(2)?;
+        let room = room_in(&mut self.spare, *self.events.allocator())?;
         self.master.is_in_step();
         let Told {
             turned,
             first,
             second,
-        } = make(&mut self.master, &mut self.ports, step);
+            room,
+        } = make(&mut self.master, &mut self.ports, step, room);
+        self.spare = room;
         note(&mut self.events, &self.master, first);
         note(&mut self.events, &self.master, second);
         Ok(turned)

@@ -7,7 +7,7 @@ ghost use Rattle.iol_run.specs.Events.{event_of, told_of};
 ghost use Rattle.iol_run.specs.Steps.{Does, Submits};
 
 use crate::core_on_disk::{CoreOnDisk, Turn, Turned};
-use crate::event::Event;
+use crate::event::{Event, Exchanged};
 use crate::port_step::PortTold;
 use crate::ports::Ports;
 use crate::said::Said;
@@ -33,6 +33,8 @@ pub(crate) struct Told {
     pub turned: Turned,
     pub first: Option<Event>,
     pub second: Option<Event>,
+    // the room that was handed in, where it was not needed
+    pub room: Option<Box<Exchanged>>,
 }
 
 // Makes a step.
@@ -40,6 +42,7 @@ pub(crate) fn make<D: SectorDisk, L: DeviceLink, F: Name>(
     master: &mut CoreOnDisk<D, F>,
     ports: &mut Ports<L>,
     step: &Step,
+    room: Box<Exchanged>,
 ) -> Told
     ensures does { Does D.disk L.number L.steps step.now master.old master.new ports.old ports.new (told_of result.first ++ told_of result.second) result.turned }
     ensures run { KeepsRunning D.disk F.front.start master.old master.new }
@@ -49,13 +52,19 @@ pub(crate) fn make<D: SectorDisk, L: DeviceLink, F: Name>(
             turned: Turned::Made,
             first: Some(submit(master, *change)),
             second: None,
+            room: Some(room),
         },
         Step::Port(port) => {
-            let PortTold { called, status } = ports.step(master, *port);
+            let PortTold {
+                called,
+                status,
+                room,
+            } = ports.step(master, *port, room);
             Told {
                 turned: Turned::Made,
                 first: called,
                 second: status,
+                room,
             }
         }
         Step::Flush => {
@@ -64,6 +73,7 @@ pub(crate) fn make<D: SectorDisk, L: DeviceLink, F: Name>(
                 turned,
                 first: event,
                 second: None,
+                room: Some(room),
             }
         }
     }

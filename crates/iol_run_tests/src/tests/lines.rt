@@ -29,16 +29,14 @@ fn line_of(event: &Event) -> Line<'_> {
         Event::Accepted { number, .. } => Line::Accepted(*number),
         Event::Refused(fault) => Line::Refused(*fault),
         Event::Page { .. } => Line::Page,
-        Event::Exchange {
-            request,
-            answer,
-            ..
-        } => Line::Exchange(request.as_slice(), answer.as_slice()),
-        Event::Lost { request: None, .. } => Line::Lost,
+        Event::Exchange { octets, .. } => {
+            Line::Exchange(octets.request.as_slice(), octets.answer.as_slice())
+        }
+        Event::Lost { octets: None, .. } => Line::Lost,
         Event::Lost {
-            request: Some(request),
+            octets: Some(octets),
             ..
-        } => Line::LostAt(request.as_slice()),
+        } => Line::LostAt(octets.request.as_slice()),
         Event::Attended { work, .. } => Line::Attended(work.checksum),
         Event::Status { status, .. } => Line::Status(*status),
         Event::Acknowledged { number } => Line::Acknowledged(*number),

@@ -4,6 +4,7 @@ use Rattle.iol_link.specs.Link.{Exchange, Octets}
 use Rattle.iol_port.specs.Heard.{IsFed}
 use Rattle.iol_port.specs.declared.action.Input.TheVariants as input
 use Rattle.iol_trace.specs.Events as trace
+use Rattle.iol_run.specs.declared.event.Exchanged.{Exchanged}
 use Rattle.iol_run.proofs.port_step.exchange.Goals as goal
 
 pub returns-in-Ok : goal.returns-in-Ok
@@ -20,7 +21,8 @@ returns-in-Ok g c =
       hears = (
         subst (λ (os : List ℕ). l.steps c.args.link.now (Exchange os) (Octets c.in-Ok.answer.items) c.exchange.new.self) c.as_slice.ensures.value c.in-Ok.ensures.step,
         c.in-Ok.ensures.connection,
-        ap (λ (p : ℕ). trace.Exchange p c.connection-connection.result sent c.in-Ok.answer.items ∷ []) c.port-port.ensures
+        ap (λ (e : Exchanged). trace.Exchange c.port-port.result c.connection-connection.result e.request.items e.answer.items ∷ []) c.put.ensures
+            ∙ ap (λ (p : ℕ). trace.Exchange p c.connection-connection.result sent c.in-Ok.answer.items ∷ []) c.port-port.ensures
             ∙ ap (λ (n : ℕ). trace.Exchange c.args.machine.now.port n sent c.in-Ok.answer.items ∷ []) c.connection-connection.ensures,
       );
     }
