@@ -1,21 +1,16 @@
 -- An Index_List read from an entry's place on, behind keys that are kept already.
 use Rattle.std.proofs.Common.{◌≡◌, ℕ, ◌≤◌, Bool, true, false, cond, not, ◌&&◌, ◌||◌, List, [], ◌∷◌, ◌++◌, length, get_or, take, drop, ◌-◌, refl, ap, sym, ◌∙◌, arith, append_assoc}
 use Rattle.std.specs.Prelude.{Result, Ok, Err, filter, ◌==◌}
-use Rattle.std.specs.List.{list_any}
 use Rattle.std.proofs.lemmas.List.{length-drop}
 use Rattle.std.proofs.lemmas.List.Folds.{list_any-append}
 use Rattle.std.proofs.Math.Seq.{take-length}
 use Rattle.iol_types.specs.Key.{same_key, is_reserved}
 use Rattle.iol_types.specs.declared.key.Key.{Key}
-use Rattle.iol_dsindex.specs.List.{Listing, index_of, key_of, listed_before, at_index, listing_of, first_places, at_first_places, reading_of, begins_with_key, kept_with}
+use Rattle.iol_dsindex.specs.List.{Listing, index_of, key_of, listed_before, at_index, listing_of, first_places, at_first_places, reading_of, begins_with_key, is_among, kept_with}
 use Rattle.iol_dsindex.specs.declared.list.Next.TheVariants as next
 use Rattle.iol_dsindex.specs.declared.list.ListFault.{ListFault}
 use Rattle.iol_dsindex.specs.declared.list.ListFault.TheVariants.{ReservedKey}
 use Rattle.iol_dsindex.proofs.Filtered.{same_key-true, filter-filter}
-
--- a key is among these
-abbrev pub is_among : List Key → Key → Bool
-is_among keys key = list_any (λ other. same_key other key) keys
 
 -- keys without those that are among others
 abbrev pub without : List Key → List Key → List Key

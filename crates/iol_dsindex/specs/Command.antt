@@ -1,7 +1,11 @@
 -- Commands to the Data Storage of a device, by their octets.
 use Rattle.std.specs.Prelude.{ℕ, ◌==◌, [], ◌∷◌, Option, find}
+use Rattle.iol_types.specs.declared.key.TheConstants.{DATA_STORAGE}
+use Rattle.iol_isdu.specs.declared.messages.Request.{Request}
+use Rattle.iol_isdu.specs.declared.messages.Request.TheVariants.{Write}
 use Rattle.iol_dsindex.specs.declared.command.DsCommand.{DsCommand}
 use Rattle.iol_dsindex.specs.declared.command.DsCommand.TheVariants.{UploadStart, UploadEnd, DownloadStart, DownloadEnd, Break}
+use Rattle.iol_dsindex.specs.declared.object.TheConstants.{DS_COMMAND}
 
 -- the octet of a command (standard, Data Storage object)
 abbrev pub ds_command_octet : DsCommand → ℕ
@@ -15,3 +19,7 @@ ds_command_octet Break = 5
 abbrev pub ds_command_of : ℕ → Option DsCommand
 ds_command_of octet =
     find (λ command. ds_command_octet command == octet) (UploadStart ∷ UploadEnd ∷ DownloadStart ∷ DownloadEnd ∷ Break ∷ [])
+
+-- the request to write one octet, a command, to DS_Command (standard, Data Storage object)
+abbrev pub commanded : DsCommand → Request
+commanded command = Write DATA_STORAGE DS_COMMAND (record { items = ds_command_octet command ∷ [] })

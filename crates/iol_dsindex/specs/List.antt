@@ -85,9 +85,13 @@ next_octets (next.List index) = two_octets index
 abbrev pub list_octets : List Key → Next → List ℕ
 list_octets keys next = flat_map key_octets keys ++ next_octets next
 
+-- a key is among these (own)
+abbrev pub is_among : List Key → Key → Bool
+is_among keys key = list_any (λ other. same_key other key) keys
+
 -- a key behind others, where it is not among them (own)
 abbrev pub kept_with : List Key → Key → List Key
-kept_with keys key = if list_any (λ other. same_key other key) keys then keys else keys ++ key ∷ []
+kept_with keys key = if is_among keys key then keys else keys ++ key ∷ []
 
 -- a list may name this as what is next: its end, or an Index that is not reserved (own)
 abbrev pub CanFollow : Next → Type 0

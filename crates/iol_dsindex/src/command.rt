@@ -1,6 +1,11 @@
 //! Commands to the Data Storage of a device.
 ghost use Rattle.std.specs.Prelude.{◌≡◌};
-ghost use Rattle.iol_dsindex.specs.Command.{ds_command_octet, ds_command_of};
+ghost use Rattle.iol_dsindex.specs.Command.{ds_command_octet, ds_command_of, commanded};
+
+use crate::object::DS_COMMAND;
+use arrayvec::ArrayVec;
+use iol_isdu::Request;
+use iol_types::DATA_STORAGE;
 
 /// What a master tells the Data Storage of a device (IO-Link V1.1, Data Storage object, DS_Command).
 #[derive(Clone, Copy, Debug, PartialEq, Eq)]
@@ -42,6 +47,19 @@ impl DsCommand {
             DsCommand::DownloadStart => 3,
             DsCommand::DownloadEnd => 4,
             DsCommand::Break => 5,
+        }
+    }
+
+    /// The request to write the command to the Data Storage of a device.
+    pub fn request(self) -> Request
+        ensures { result ≡ commanded self }
+    {
+        let mut octets = ArrayVec::new();
+        octets.push(self.to_octet());
+        Request::Write {
+            index: DATA_STORAGE,
+            subindex: DS_COMMAND,
+            octets,
         }
     }
 }

@@ -1,6 +1,6 @@
 //! Octets to an Index_List.
-ghost use Rattle.std.specs.Prelude.{◌≡◌, ◌⊎◌, ◌<◌, [], length, Ok, Err, IfOk, IfErr, OnOk, IsTrue};
-ghost use Rattle.iol_dsindex.specs.List.{listing_of, reading_of, AreReadKeys, begins_with_key, kept_with};
+ghost use Rattle.std.specs.Prelude.{◌≡◌, ◌⊎◌, ◌<◌, [], length, Ok, Err, IfOk, IfErr, OnOk, OnErr, IsTrue, false};
+ghost use Rattle.iol_dsindex.specs.List.{listing_of, reading_of, AreReadKeys, begins_with_key, is_among, kept_with};
 
 use crate::list::{ListFault, Next};
 use iol_types::Key;
@@ -66,10 +66,12 @@ fn next_in(octets: &[u8]) -> Result<Next, ListFault>
 /// its first place.
 ///
 /// # Errors
-/// `Memory` where it is to be kept and there is none.
+/// `Memory` where it is to be kept and there is none; the keys are then as they were.
 pub fn keep_key(keys: &mut Vec<Key>, key: Key) -> Result<(), ListFault>
     ensures kept { OnOk result (keys.new.items ≡ kept_with keys.old.items key) }
     ensures memory { IfErr result (λ fault. fault ≡ ListFault.Memory) }
+    ensures only_for_a_new_key { OnErr result (is_among keys.old.items key ≡ false) }
+    ensures unchanged { OnErr result (keys.new.items ≡ keys.old.items) }
 {
     if keys.contains(&key) {
         return Ok(());

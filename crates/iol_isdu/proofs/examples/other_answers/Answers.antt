@@ -1,7 +1,7 @@
 use Rattle.std.proofs.Common.{[], ◌∷◌, refl, lit≤}
 use Rattle.iol_isdu.proofs.Spelled.{short_isdu}
 use Rattle.iol_isdu.specs.declared.service.Access.TheVariants.{Read, Write}
-use Rattle.iol_isdu.specs.declared.service.Sign.TheVariants.{Minus}
+use Rattle.iol_isdu.specs.declared.service.Sign.TheVariants.{Plus, Minus}
 use Rattle.iol_isdu.specs.declared.service.Service.TheVariants.{Response}
 use Rattle.iol_isdu.proofs.examples.other_answers.Goals as goal
 
@@ -12,3 +12,6 @@ returns-clause-to_a_write c =
 pub returns-clause-to_a_read : goal.returns-clause-to_a_read
 returns-clause-to_a_read c =
     short_isdu (Response Read Minus) (0x80 ∷ 0x11 ∷ []) 0x55 (lit≤ tt) refl
+
+pub returns-clause-written : goal.returns-clause-written
+returns-clause-written c = short_isdu (Response Write Plus) [] 0x52 (lit≤ tt) refl
