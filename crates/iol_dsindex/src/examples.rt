@@ -1,12 +1,13 @@
 //! Octets of the Data Storage object, worked out by the check: a number that is wrong in a definition and in the code alike
 //! is refused here. The octets of lists are of docs/FORMATS.md, and the tests read them too.
 
-ghost use Rattle.std.specs.Prelude.{◌≡◌, [], ◌∷◌, map, Some, None, Ok, Err, true, false};
+ghost use Rattle.std.specs.Prelude.{◌≡◌, [], ◌∷◌, map, fold, Some, None, Ok, Err, true, false};
 ghost use Rattle.iol_types.specs.declared.key.Key.{Key};
 ghost use Rattle.iol_types.specs.declared.key.TheConstants.{DATA_STORAGE};
-ghost use Rattle.iol_dsindex.specs.Command.{ds_command_octet, ds_command_of};
+ghost use Rattle.iol_dsindex.specs.Command.{ds_command_octet, ds_command_of, commanded};
+ghost use Rattle.iol_isdu.specs.declared.messages.Request.TheVariants as request;
 ghost use Rattle.iol_dsindex.specs.Property.{property_of};
-ghost use Rattle.iol_dsindex.specs.List.{key_of, reading_of, list_octets};
+ghost use Rattle.iol_dsindex.specs.List.{key_of, reading_of, kept_with, list_octets};
 
 use crate::command::DsCommand;
 use crate::list::{ListFault, MOST_LISTED_KEYS, Next};
@@ -48,13 +49,19 @@ pub fn commands()
         ≡ map Some (DsCommand.UploadStart ∷ DsCommand.UploadEnd ∷ DsCommand.DownloadStart ∷ DsCommand.DownloadEnd
         ∷ DsCommand.Break ∷ []) }
     ensures none { map ds_command_of (0x00 ∷ 0x06 ∷ 0xFF ∷ []) ≡ None ∷ None ∷ None ∷ [] }
+    ensures requested { map commanded (DsCommand.UploadStart ∷ DsCommand.Break ∷ [])
+        ≡ request.Write 3 1 (record { items = 0x01 ∷ [] }) ∷ request.Write 3 1 (record { items = 0x05 ∷ [] }) ∷ [] }
 {}
 
 /// The state stands in bits 1 and 2, DS_UPLOAD_FLAG in bit 7, and the other bits are ignored.
 pub fn properties()
     ensures states { map (λ octet. (property_of octet).state) (0x00 ∷ 0x02 ∷ 0x04 ∷ 0x06 ∷ [])
         ≡ State.Inactive ∷ State.Upload ∷ State.Download ∷ State.Locked ∷ [] }
+    ensures bit_0 { map (λ octet. (property_of octet).state) (0x01 ∷ 0x03 ∷ 0x05 ∷ 0x07 ∷ [])
+        ≡ State.Inactive ∷ State.Upload ∷ State.Download ∷ State.Locked ∷ [] }
     ensures flag { property_of 0x80 ≡ record { state = State.Inactive; flag = true } }
+    ensures flag_and_locked { property_of 0x86 ≡ record { state = State.Locked; flag = true } }
+    ensures below_the_flag { property_of 0x7F ≡ record { state = State.Locked; flag = false } }
     ensures no_flag { property_of 0x79 ≡ record { state = State.Inactive; flag = false } }
     ensures all { property_of 0xFF ≡ record { state = State.Locked; flag = true } }
 {}
@@ -71,12 +78,27 @@ pub fn lists()
         ≡ Ok (key_of 0x00 0x41 0x01 ∷ key_of 0x00 0x40 0x00 ∷ key_of 0x00 0x41 0x02 ∷ [], Next.List 0x0001) }
 {}
 
+/// Index 0001 and 0004 are neither reserved nor the end.
+pub fn indices_beside_the_reserved_ones()
+    ensures entries { reading_of (0x00 ∷ 0x01 ∷ 0x00 ∷ 0x00 ∷ 0x04 ∷ 0x00 ∷ 0x00 ∷ 0x00 ∷ [])
+        ≡ Ok (key_of 0x00 0x01 0x00 ∷ key_of 0x00 0x04 0x00 ∷ [], Next.End) }
+    ensures next { reading_of (0x00 ∷ 0x04 ∷ []) ≡ Ok ([], Next.List 0x0004) }
+{}
+
+/// A key that another list names again is kept at its first place, and one with another Subindex is another key.
+pub fn keys_of_two_lists()
+    ensures { fold kept_with (key_of 0x00 0x40 0x00 ∷ key_of 0x00 0x41 0x01 ∷ [])
+        (key_of 0x00 0x41 0x02 ∷ key_of 0x00 0x40 0x00 ∷ [])
+        ≡ key_of 0x00 0x40 0x00 ∷ key_of 0x00 0x41 0x01 ∷ key_of 0x00 0x41 0x02 ∷ [] }
+{}
+
 /// Octets that are no list.
 pub fn list_faults()
     ensures one_octet { reading_of (0x00 ∷ []) ≡ Err ListFault.Truncated }
     ensures broken_off { reading_of BROKEN_OFF ≡ Err ListFault.Truncated }
     ensures reserved_entry { reading_of RESERVED_ENTRY ≡ Err ListFault.ReservedKey }
     ensures reserved_next { reading_of RESERVED_NEXT ≡ Err ListFault.ReservedKey }
+    ensures data_storage_next { reading_of (0x00 ∷ 0x03 ∷ []) ≡ Err ListFault.ReservedKey }
     ensures first_met { reading_of (0x00 ∷ 0x02 ∷ 0x00 ∷ 0x00 ∷ []) ≡ Err ListFault.ReservedKey }
 {}
 
