@@ -25,7 +25,8 @@ filter-filter {X} outer inner both is (x ∷ xs) =
     ∙ ap (λ (passes : Bool). cond passes (x ∷ filter both xs) (filter both xs)) (sym (is x))
   where
     by : (passes : Bool) → filter outer (filter inner xs) ≡ filter both xs
-        → filter outer (cond passes (x ∷ filter inner xs) (filter inner xs)) ≡ cond (passes && outer x) (x ∷ filter both xs) (filter both xs)
+        → filter outer (cond passes (x ∷ filter inner xs) (filter inner xs))
+        ≡ cond (passes && outer x) (x ∷ filter both xs) (filter both xs)
     by true rest = ap (λ (rest : List X). cond (outer x) (x ∷ rest) rest) rest
     by false rest = rest
 

@@ -5,7 +5,8 @@ use Rattle.std.specs.List.{AllByRecursion, IsDistinct}
 use Rattle.std.proofs.lemmas.List.Elements.{All-cons, All-filter}
 use Rattle.iol_types.specs.Key.{IsKey, same_key, is_reserved}
 use Rattle.iol_types.specs.declared.key.Key.{Key}
-use Rattle.iol_dsindex.specs.List.{Listing, index_of, key_of, listed_before, at_index, listing_of, first_places, at_first_places, reading_of, begins_with_key, AreReadKeys}
+use Rattle.iol_dsindex.specs.List.{Listing, index_of, key_of, listed_before, at_index, listing_of, first_places, at_first_places}
+use Rattle.iol_dsindex.specs.List.{reading_of, begins_with_key, AreReadKeys}
 use Rattle.iol_dsindex.specs.declared.list.Next.{Next}
 use Rattle.iol_dsindex.specs.declared.list.Next.TheVariants as next_is
 use Rattle.iol_dsindex.specs.declared.list.ListFault.{ListFault}
@@ -31,14 +32,17 @@ at_index-each P index said each = by (index == 0) (is_reserved (record { index =
 
 -- what holds of each key that is not reserved holds of those that are listed, where O holds of each octet
 listing_of-each : (O : ℕ → Type 0) (P : Key → Type 0) (octets : List ℕ) → ((i : ℕ) → O (get_or octets i 0))
-    → ((high low subindex : ℕ) → O high → O low → O subindex → is_reserved (key_of high low subindex) ≡ false → P (key_of high low subindex))
+    → ((high low subindex : ℕ) → O high → O low → O subindex → is_reserved (key_of high low subindex) ≡ false
+    → P (key_of high low subindex))
     → OfEachKey P (listing_of octets)
 listing_of-each O P [] fit holds = none P
 listing_of-each O P (octet ∷ []) fit holds = tt
-listing_of-each O P (high ∷ low ∷ []) fit holds = at_index-each P (index_of high low) (Ok ([], next_is.List (index_of high low))) (λ _. none P)
+listing_of-each O P (high ∷ low ∷ []) fit holds =
+    at_index-each P (index_of high low) (Ok ([], next_is.List (index_of high low))) (λ _. none P)
 listing_of-each O P (high ∷ low ∷ subindex ∷ behind) fit holds =
     at_index-each P (index_of high low) (listed_before key (listing_of behind))
-    (λ free. before (listing_of behind) (holds high low subindex (fit 0) (fit 1) (fit 2) free) (listing_of-each O P behind (λ i. fit (suc (suc (suc i)))) holds))
+    (λ free. before (listing_of behind) (holds high low subindex (fit 0) (fit 1) (fit 2) free)
+    (listing_of-each O P behind (λ i. fit (suc (suc (suc i)))) holds))
   where
     key : Key
     key = key_of high low subindex
@@ -92,12 +96,16 @@ apart-passed key (other ∷ keys) = by (same_key key other) refl (apart-passed k
 pub first_places-apart : (keys : List Key) → IsDistinct same_key (first_places keys)
 unfolding IsDistinct
 first_places-apart [] = tt
-first_places-apart (key ∷ keys) =
-    (apart-passed key (first_places keys), distinct-filter (λ other. not (same_key key other)) (first_places keys) (first_places-apart keys))
+first_places-apart (key ∷ keys) = (
+  apart-passed key (first_places keys),
+  distinct-filter (λ other. not (same_key key other)) (first_places keys)
+      (first_places-apart keys),
+)
 
 -- no key that is listed is reserved
 free_listed : (octets : List ℕ) → OfEachKey (λ key. is_reserved key ≡ false) (listing_of octets)
-free_listed octets = listing_of-each (λ _. Unit {0}) (λ key. is_reserved key ≡ false) octets (λ _. tt) (λ high low subindex h l s free. free)
+free_listed octets =
+    listing_of-each (λ _. Unit {0}) (λ key. is_reserved key ≡ false) octets (λ _. tt) (λ high low subindex h l s free. free)
 
 each_read : (said : Result Listing ListFault) → OfEachKey IsKey said → OfEachKey (λ key. is_reserved key ≡ false) said
     → IfOk (at_first_places said) (λ listing. AreReadKeys listing.0)
@@ -136,7 +144,8 @@ keys_in (Ok said) = said.0
 keys_in (Err fault) = []
 
 -- what says no key says none
-no_keys : (keys : List Key) (next other : Next) → (let said : Result Listing ListFault = Ok ([], other) in said) ≡ Ok (keys, next) → 0 < length keys → ⊥
+no_keys : (keys : List Key) (next other : Next) → (let said : Result Listing ListFault = Ok ([], other) in said) ≡ Ok (keys, next)
+    → 0 < length keys → ⊥
 no_keys [] next other said some = absurd (omega (arith, some))
 no_keys (key ∷ keys) next other said some = let none : [] ≡ key ∷ keys = ap keys_in said in cc
 

@@ -1,12 +1,14 @@
 -- An Index_List read from an entry's place on, behind keys that are kept already.
-use Rattle.std.proofs.Common.{◌≡◌, ℕ, ◌≤◌, Bool, true, false, cond, not, ◌&&◌, ◌||◌, List, [], ◌∷◌, ◌++◌, length, get_or, take, drop, ◌-◌, refl, ap, sym, ◌∙◌, arith, append_assoc}
+use Rattle.std.proofs.Common.{◌≡◌, ℕ, ◌≤◌, Bool, true, false, cond, not, ◌&&◌, ◌||◌, List, [], ◌∷◌, ◌++◌, length, get_or, take, drop, ◌-◌}
+use Rattle.std.proofs.Common.{refl, ap, sym, ◌∙◌, arith, append_assoc}
 use Rattle.std.specs.Prelude.{Result, Ok, Err, filter, ◌==◌}
 use Rattle.std.proofs.lemmas.List.{length-drop}
 use Rattle.std.proofs.lemmas.List.Folds.{list_any-append}
 use Rattle.std.proofs.Math.Seq.{take-length}
 use Rattle.iol_types.specs.Key.{same_key, is_reserved}
 use Rattle.iol_types.specs.declared.key.Key.{Key}
-use Rattle.iol_dsindex.specs.List.{Listing, index_of, key_of, listed_before, at_index, listing_of, first_places, at_first_places, reading_of, begins_with_key, is_among, kept_with}
+use Rattle.iol_dsindex.specs.List.{Listing, index_of, key_of, listed_before, at_index, listing_of, first_places, at_first_places}
+use Rattle.iol_dsindex.specs.List.{reading_of, begins_with_key, is_among, kept_with}
 use Rattle.iol_dsindex.specs.declared.list.Next.TheVariants as next
 use Rattle.iol_dsindex.specs.declared.list.ListFault.{ListFault}
 use Rattle.iol_dsindex.specs.declared.list.ListFault.TheVariants.{ReservedKey}
@@ -64,7 +66,8 @@ pub kept_more : (kept : List Key) (key : Key) (keys : List Key)
 kept_more kept key keys = by (is_among kept key) refl
   where
     by : (among : Bool) → is_among kept key ≡ among
-        → kept ++ cond (not among) (key ∷ without kept (filter (λ other. not (same_key key other)) keys)) (without kept (filter (λ other. not (same_key key other)) keys))
+        → kept ++ cond (not among) (key ∷ without kept (filter (λ other. not (same_key key other)) keys))
+        (without kept (filter (λ other. not (same_key key other)) keys))
         ≡ cond among kept (kept ++ key ∷ []) ++ without (cond among kept (kept ++ key ∷ [])) keys
     by true among = ap (λ (rest : List Key). kept ++ rest) (filter-filter _ _ _ (λ other. among_both kept key other among) keys)
     by false among =
@@ -94,13 +97,15 @@ read_behind-entry kept [] whole free = absurd (omega (arith, whole))
 read_behind-entry kept (high ∷ []) whole free = absurd (omega (arith, whole))
 read_behind-entry kept (high ∷ low ∷ []) whole free = absurd (omega (arith, whole))
 read_behind-entry kept (high ∷ low ∷ subindex ∷ more) whole free =
-    ap (λ (said : Result Listing ListFault). behind kept (at_first_places said)) (at_index-free (index_of high low) (listed_before key (listing_of more)) free)
+    ap (λ (said : Result Listing ListFault). behind kept (at_first_places said))
+    (at_index-free (index_of high low) (listed_before key (listing_of more)) free)
     ∙ by (listing_of more)
   where
     key : Key
     key = key_of high low subindex
 
-    by : (said : Result Listing ListFault) → behind kept (at_first_places (listed_before key said)) ≡ behind (kept_with kept key) (at_first_places said)
+    by : (said : Result Listing ListFault) → behind kept (at_first_places (listed_before key said))
+        ≡ behind (kept_with kept key) (at_first_places said)
     by (Ok said) =
         ap (λ (keys : List Key). let r : Result Listing ListFault = Ok (keys, said.1) in r) (kept_more kept key (first_places said.0))
     by (Err fault) = refl

@@ -4,7 +4,8 @@ use Rattle.std.specs.Prelude.{Result, Ok, filter}
 use Rattle.std.specs.List.{AllByRecursion, IsDistinct}
 use Rattle.iol_types.specs.Key.{same_key, is_reserved}
 use Rattle.iol_types.specs.declared.key.Key.{Key}
-use Rattle.iol_dsindex.specs.List.{Listing, index_of, listed_before, at_index, listing_of, first_places, at_first_places, reading_of, list_octets, CanFollow}
+use Rattle.iol_dsindex.specs.List.{Listing, index_of, listed_before, at_index, listing_of, first_places, at_first_places, reading_of}
+use Rattle.iol_dsindex.specs.List.{list_octets, CanFollow}
 use Rattle.iol_dsindex.specs.declared.list.Next.{Next}
 use Rattle.iol_dsindex.specs.declared.list.Next.TheVariants as next
 use Rattle.iol_dsindex.specs.declared.list.ListFault.{ListFault}
@@ -28,7 +29,8 @@ listing_of-list_octets [] next.End free can = refl
 listing_of-list_octets [] (next.List index) free can = at_two_octets index (λ (number : ℕ). Ok ([], next.List number)) can
 listing_of-list_octets (key ∷ keys) next free can =
     at_two_octets key.index
-    (λ (number : ℕ). listed_before (record { index = number; subindex = key.subindex }) (listing_of (list_octets keys next))) (free 0 key (omega arith))
+    (λ (number : ℕ). listed_before (record { index = number; subindex = key.subindex }) (listing_of (list_octets keys next)))
+    (free 0 key (omega arith))
     ∙ ap (λ (said : Result Listing ListFault). listed_before key said)
     (listing_of-list_octets keys next (λ k d below. free (suc k) d (omega (arith, below))) can)
 
@@ -45,7 +47,8 @@ first_places-distinct (key ∷ keys) distinct =
     apart [] all = tt
     apart (other ∷ others) all = (ap not all.0, apart others all.1)
 
-pub reading_of-list_octets : (keys : List Key) (next : Next) → All (λ key. is_reserved key ≡ false) keys → IsDistinct same_key keys → CanFollow next
+pub reading_of-list_octets : (keys : List Key) (next : Next) → All (λ key. is_reserved key ≡ false) keys → IsDistinct same_key keys
+    → CanFollow next
     → reading_of (list_octets keys next) ≡ Ok (keys, next)
 reading_of-list_octets keys next free distinct can =
     ap at_first_places (listing_of-list_octets keys next free can)

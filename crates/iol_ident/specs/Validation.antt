@@ -10,9 +10,8 @@ use Rattle.iol_ident.specs.declared.validation.IdentFault.TheVariants.{Vendor, D
 abbrev pub asks_from : ℕ → PortConfig → Bool
 asks_from octet config = nat_le octet (validation_octet config.validation)
 
--- the first cause why a device with this page is not the one that the configuration wants, if there is one: from
--- validation 1 on the vendor and then the device, from 2 on a RevisionID below 11, from 3 on ISDU that is not supported
--- (own)
+-- the first cause why a device with this page is not the one that the configuration wants, if there is one. From validation
+-- 1 on it is the vendor and then the device, from 2 on a RevisionID below 11, from 3 on ISDU that is not supported (own)
 abbrev pub ident_fault : PortConfig → PageValue → Option IdentFault
 ident_fault config page =
     if asks_from 1 config && not (page.vendor == config.vendor) then Some Vendor

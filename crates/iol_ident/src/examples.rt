@@ -44,7 +44,11 @@ pub fn one_fault()
     ensures wanted { faults_of (page_of EXAMPLE_PAGE) ≡ None ∷ None ∷ None ∷ None ∷ None ∷ [] }
     ensures vendor { faults_of (record (example_page 0x11 true) { vendor = 501 })
         ≡ None ∷ Some IdentFault.Vendor ∷ Some IdentFault.Vendor ∷ Some IdentFault.Vendor ∷ Some IdentFault.Vendor ∷ [] }
+    ensures lower_vendor { faults_of (record (example_page 0x11 true) { vendor = 499 })
+        ≡ None ∷ Some IdentFault.Vendor ∷ Some IdentFault.Vendor ∷ Some IdentFault.Vendor ∷ Some IdentFault.Vendor ∷ [] }
     ensures device { faults_of (record (example_page 0x11 true) { device = 43982 })
+        ≡ None ∷ Some IdentFault.Device ∷ Some IdentFault.Device ∷ Some IdentFault.Device ∷ Some IdentFault.Device ∷ [] }
+    ensures lower_device { faults_of (record (example_page 0x11 true) { device = 43980 })
         ≡ None ∷ Some IdentFault.Device ∷ Some IdentFault.Device ∷ Some IdentFault.Device ∷ Some IdentFault.Device ∷ [] }
     ensures revision { faults_of (example_page 0x10 true)
         ≡ None ∷ None ∷ Some IdentFault.Revision ∷ Some IdentFault.Revision ∷ Some IdentFault.Revision ∷ [] }
@@ -59,6 +63,8 @@ pub fn several_faults()
         ≡ None ∷ Some IdentFault.Vendor ∷ Some IdentFault.Vendor ∷ Some IdentFault.Vendor ∷ Some IdentFault.Vendor ∷ [] }
     ensures from_the_device { faults_of (record { vendor = 500; device = 43982; revision = 0x10; min_cycle_time = 0; has_isdu = false })
         ≡ None ∷ Some IdentFault.Device ∷ Some IdentFault.Device ∷ Some IdentFault.Device ∷ Some IdentFault.Device ∷ [] }
+    ensures vendor_and_isdu { faults_of (record (example_page 0x11 false) { vendor = 501 })
+        ≡ None ∷ Some IdentFault.Vendor ∷ Some IdentFault.Vendor ∷ Some IdentFault.Vendor ∷ Some IdentFault.Vendor ∷ [] }
     ensures from_the_revision { faults_of (example_page 0x10 false)
         ≡ None ∷ None ∷ Some IdentFault.Revision ∷ Some IdentFault.Revision ∷ Some IdentFault.Revision ∷ [] }
 {}

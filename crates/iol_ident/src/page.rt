@@ -36,9 +36,21 @@ impl Model for Page {
 
     ghost Value = { PageValue };
 
-    ghost view = { λ p. record { vendor = p.vendor; device = p.device; revision = p.revision; min_cycle_time = p.min_cycle_time; has_isdu = p.has_isdu } };
+    ghost view = { λ p. record {
+      vendor = p.vendor;
+      device = p.device;
+      revision = p.revision;
+      min_cycle_time = p.min_cycle_time;
+      has_isdu = p.has_isdu;
+    } };
 
-    ghost inverse = { λ v. record { vendor = v.vendor; device = v.device; revision = v.revision; min_cycle_time = v.min_cycle_time; has_isdu = v.has_isdu } };
+    ghost inverse = { λ v. record {
+      vendor = v.vendor;
+      device = v.device;
+      revision = v.revision;
+      min_cycle_time = v.min_cycle_time;
+      has_isdu = v.has_isdu;
+    } };
 }
 
 impl Page {

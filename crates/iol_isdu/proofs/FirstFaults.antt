@@ -8,7 +8,8 @@ use Rattle.std.proofs.lemmas.Bool.Decides.{nat_tests}
 use Rattle.iol_isdu.specs.Isdu.{xor_of}
 use Rattle.iol_isdu.specs.Service.{service_at, is_request, carries}
 use Rattle.iol_isdu.specs.Faults.{i_service, is_reserved, is_counted, carried_count, fault_among, request_fault, answer_fault}
-use Rattle.iol_isdu.specs.Reading.{service_in, carried_in, enclosed, request_by, answer_by, request_of, answer_of, request_with, answer_with, ◌>>=◌}
+use Rattle.iol_isdu.specs.Reading.{service_in, carried_in, enclosed, request_by, answer_by, request_of, answer_of, request_with}
+use Rattle.iol_isdu.specs.Reading.{answer_with, ◌>>=◌}
 use Rattle.iol_isdu.proofs.IsduParts.{HasService, service_in_ok}
 use Rattle.iol_isdu.specs.declared.messages.Answer.{Answer}
 use Rattle.iol_isdu.specs.declared.messages.Answer.TheVariants.{Busy}

@@ -1,5 +1,6 @@
 -- An ISDU's parts are read from its octets, and from no others.
-use Rattle.std.proofs.Common.{◌≡◌, ◌≢◌, ℕ, ◌+◌, ◌-◌, ◌/◌, ◌%◌, ◌<◌, ◌≤◌, Bool, true, false, cond, ◌&&◌, ◌||◌, not, List, [], ◌∷◌, ◌++◌, length, take, refl, ap, sym, ◌∙◌, subst, inl, inr, arith, length-append}
+use Rattle.std.proofs.Common.{◌≡◌, ◌≢◌, ℕ, ◌+◌, ◌-◌, ◌/◌, ◌%◌, ◌<◌, ◌≤◌, Bool, true, false, cond, ◌&&◌, ◌||◌, not, List, [], ◌∷◌, ◌++◌}
+use Rattle.std.proofs.Common.{length, take, refl, ap, sym, ◌∙◌, subst, inl, inr, arith, length-append}
 use Rattle.std.specs.Prelude.{Ok, ◌==◌, nat_lt, nat_le, Option, Some, None, is_none, ◌⊎◌}
 use Rattle.std.specs.Option.{ok_or}
 use Rattle.std.proofs.lemmas.Bool.Decides.{nat_tests}
@@ -14,6 +15,7 @@ use Rattle.iol_isdu.proofs.Lists.{parted}
 use Rattle.iol_isdu.proofs.Steps.{passed, ok_is, not_false, or_false, and_true, and_rest}
 use Rattle.iol_isdu.specs.declared.service.Service.{Service}
 use Rattle.iol_isdu.specs.declared.faults.IsduFault.TheVariants as fault
+use Rattle.iol_isdu.specs.declared.parts.TheConstants.{ISDU_OCTETS, SMALLEST_EXT_LENGTH}
 
 -- octets that begin with a service
 pub record HasService (octets : List ℕ) (s : Service) : Type 0 where
@@ -122,10 +124,10 @@ long_found first extended more s h c xor =
     let l = stated (first ∷ extended ∷ more) s h in
     let there : has_ext_length (first ∷ extended ∷ more) ≡ true =
     grind (arith, nat_tests, c.there) in
-    let bounds = or_false (nat_lt extended 17) (nat_lt 238 extended)
+    let bounds = or_false (nat_lt extended SMALLEST_EXT_LENGTH) (nat_lt ISDU_OCTETS extended)
     (and_rest _ _ there (l.extended c.marked)) in
-    let low : 17 ≤ extended = grind (arith, nat_tests, bounds.0) in
-    let high : extended ≤ 238 = grind (arith, nat_tests, bounds.1) in
+    let low : SMALLEST_EXT_LENGTH ≤ extended = grind (arith, nat_tests, bounds.0) in
+    let high : extended ≤ ISDU_OCTETS = grind (arith, nat_tests, bounds.1) in
     let count : extended ≡ length (first ∷ extended ∷ more) = c.count in
     let many : nat_le (length (first ∷ extended ∷ more)) 15 ≡ false =
     grind (arith, nat_tests, low, count) in
@@ -268,8 +270,8 @@ long_reads first extended carried check s b xor fits =
     let octets = first ∷ extended ∷ (carried ++ check ∷ []) in
     let n : length octets ≡ length carried + 3 = omega (arith, length-checked carried check) in
     let low : first % 16 ≡ 1 = omega (arith, b.0) in
-    let above : nat_lt extended 17 ≡ false = grind (arith, nat_tests, b.1, b.2) in
-    let below : nat_lt 238 extended ≡ false = grind (arith, nat_tests, b.1, b.3) in
+    let above : nat_lt extended SMALLEST_EXT_LENGTH ≡ false = grind (arith, nat_tests, b.1, b.2) in
+    let below : nat_lt ISDU_OCTETS extended ≡ false = grind (arith, nat_tests, b.1, b.3) in
     let there : has_ext_length octets ≡ true = grind (arith, nat_tests, n) in
     let marked : (length_field octets == 1) ≡ true = grind (arith, nat_tests, low) in
     let same : (ext_length octets == length octets) ≡ true = grind (arith, nat_tests, b.1) in

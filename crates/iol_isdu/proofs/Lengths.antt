@@ -1,6 +1,7 @@
 -- How long ISDUs are: each states its own length, and of a request's the one in the shortest form
 -- has the fewest octets.
-use Rattle.std.proofs.Common.{◌≡◌, ◌≢◌, ℕ, ◌+◌, ◌%◌, ◌<◌, ◌≤◌, Bool, true, false, cond, List, [], ◌∷◌, ◌++◌, length, get_or, refl, ap, sym, ◌∙◌, subst, inl, inr, arith, length-append}
+use Rattle.std.proofs.Common.{◌≡◌, ◌≢◌, ℕ, ◌+◌, ◌%◌, ◌<◌, ◌≤◌, Bool, true, false, cond, List, [], ◌∷◌, ◌++◌, length, get_or, refl, ap, sym}
+use Rattle.std.proofs.Common.{◌∙◌, subst, inl, inr, arith, length-append}
 use Rattle.std.specs.Prelude.{◌==◌, nat_lt}
 use Rattle.std.proofs.lemmas.Bool.Decides.{nat_tests}
 use Rattle.std.proofs.lemmas.List.{get_or_append_left, nil_from_length, append-nil}
@@ -17,6 +18,7 @@ use Rattle.iol_isdu.specs.declared.service.IndexForm.{IndexForm}
 use Rattle.iol_isdu.specs.declared.service.IndexForm.TheVariants.{Index8, Index8Subindex, Index16Subindex}
 use Rattle.iol_isdu.specs.declared.service.Service.{Service}
 use Rattle.iol_isdu.specs.declared.service.Service.TheVariants as service
+use Rattle.iol_isdu.specs.declared.messages.TheConstants.{DATA_OCTETS}
 
 -- an ISDU has two or three octets beside what it carries
 pub data HasLength (count carried : ℕ) : Type 0 where
@@ -104,7 +106,7 @@ shortest_read octets index subindex h =
     }
 
 pub shortest_write : (octets : List ℕ) (index subindex : ℕ) (values : ArrayVec ℕ)
-    → length values.items ≤ 232
+    → length values.items ≤ DATA_OCTETS
     → IsIsduOf octets (service.Request Write (shortest_form index subindex))
     (address (shortest_form index subindex) index subindex ++ values.items)
     → IsShortestRequest octets (request.Write index subindex values)

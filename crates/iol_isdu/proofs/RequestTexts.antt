@@ -1,5 +1,6 @@
 -- A request is read from its octets, and from no others.
-use Rattle.std.proofs.Common.{◌≡◌, ℕ, ◌+◌, ◌*◌, ◌/◌, ◌%◌, ◌<◌, ◌≤◌, true, List, [], ◌∷◌, ◌++◌, length, drop, refl, ap, sym, ◌∙◌, subst, arith, length-append, length-drop}
+use Rattle.std.proofs.Common.{◌≡◌, ℕ, ◌+◌, ◌*◌, ◌/◌, ◌%◌, ◌<◌, ◌≤◌, true, List, [], ◌∷◌, ◌++◌, length, drop, refl, ap, sym, ◌∙◌, subst}
+use Rattle.std.proofs.Common.{arith, length-append, length-drop}
 use Rattle.std.specs.Prelude.{Result, Ok, Err, nat_le, IfOk}
 use Rattle.std.proofs.lemmas.Bool.Decides.{nat_tests}
 use Rattle.std.proofs.lemmas.List.{nil_from_length, append-nil}
@@ -21,6 +22,7 @@ use Rattle.iol_isdu.specs.declared.service.IndexForm.TheVariants.{Index8, Index8
 use Rattle.iol_isdu.specs.declared.service.Service.{Service}
 use Rattle.iol_isdu.specs.declared.service.Service.TheVariants as service
 use Rattle.iol_isdu.specs.declared.faults.IsduFault.{IsduFault}
+use Rattle.iol_isdu.specs.declared.messages.TheConstants.{DATA_OCTETS}
 
 -- octets that begin with an address
 pub record Addressed (form : IndexForm) (carried : List ℕ) : Type 0 where
@@ -61,9 +63,9 @@ with_found Read form octets carried all h fits =
     (a.fits_form, subst (IsIsduOf octets (service.Request Read form)) whole h)
 with_found Write form octets carried all h fits =
     let both = and_true (nat_le (address_count form) (length carried))
-    (nat_le (length carried) (address_count form + 232)) fits in
+    (nat_le (length carried) (address_count form + DATA_OCTETS)) fits in
     let low : address_count form ≤ length carried = grind (arith, nat_tests, both.0) in
-    let high : length carried ≤ address_count form + 232 = grind (arith, nat_tests, both.1) in
+    let high : length carried ≤ address_count form + DATA_OCTETS = grind (arith, nat_tests, both.1) in
     let a = addressed form carried low all in (
       a.fits_form,
       subst (IsIsduOf octets (service.Request Write form)) a.parts h,
@@ -127,7 +129,7 @@ form_reads form octets (request.Write index subindex values) h =
     ) in
     let low : nat_le (address_count form) (length carried) ≡ true =
     grind (arith, nat_tests, count) in
-    let high : nat_le (length carried) (address_count form + 232) ≡ true =
+    let high : nat_le (length carried) (address_count form + DATA_OCTETS) ≡ true =
     grind (arith, nat_tests, count, h.2) in
     served_reads request_by (request_with Write form) _ octets carried refl h.1
     (rw (low, high) refl)

@@ -3,6 +3,7 @@ use Rattle.std.proofs.Common.{◌≡◌, ℕ, ◌+◌, ◌*◌, ◌≤◌, List,
 use Rattle.iol_isdu.specs.Isdu.{IsIsduOf, xor_of}
 use Rattle.iol_isdu.specs.Service.{code_of}
 use Rattle.iol_isdu.specs.declared.service.Service.{Service}
+use Rattle.iol_isdu.specs.declared.parts.TheConstants.{CARRIED_OCTETS}
 
 -- up to 13 octets: Length counts all
 pub short_isdu : (s : Service) (carried : List ℕ) (check : ℕ) → length carried ≤ 13
@@ -22,7 +23,7 @@ short_isdu s carried check few xor =
 
 -- 14 to 235 octets: ExtLength counts all
 pub long_isdu : (s : Service) (carried : List ℕ) (check : ℕ) → 14 ≤ length carried
-    → length carried ≤ 235
+    → length carried ≤ CARRIED_OCTETS
     → xor_of ((16 * code_of s + 1) ∷ (length carried + 3) ∷ (carried ++ check ∷ [])) ≡ 0
     → IsIsduOf ((16 * code_of s + 1) ∷ (length carried + 3) ∷ (carried ++ check ∷ [])) s carried
 long_isdu s carried check many few xor =

@@ -15,9 +15,8 @@ use Rattle.iol_isdu.specs.declared.messages.Answer.TheVariants.{ReadOk, ReadFaul
 abbrev pub xor_of : List ℕ → ℕ
 xor_of octets = fold bit_xor 0 octets
 
--- An ISDU of so many octets begins so: I-Service in bits 4 to 7 of the first octet, and in bits 0
--- to 3 Length, which is the count, from 2 to 15, or 1 where the next octet, ExtLength, is the
--- count, from 17 to 238 (standard, ISDU)
+-- An ISDU of so many octets begins so: I-Service in bits 4 to 7 of the first octet, and Length in bits 0 to 3. Length is the
+-- count, from 2 to 15, or it is 1 and the next octet, ExtLength, is the count, from 17 to 238 (standard, ISDU)
 abbrev pub Begins : Service → ℕ → List ℕ → Type 0
 Begins service count [] = ⊥
 Begins service count (first ∷ []) =

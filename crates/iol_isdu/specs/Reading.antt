@@ -1,5 +1,6 @@
 -- The steps of reading.
-use Rattle.std.specs.Prelude.{ℕ, ◌+◌, ◌*◌, ◌-◌, ◌==◌, ◌&&◌, not, nat_le, List, length, take, drop, slice_index, if◌then◌else◌, Result, Ok, Err}
+use Rattle.std.specs.Prelude.{ℕ, ◌+◌, ◌*◌, ◌-◌, ◌==◌, ◌&&◌, not, nat_le, List, length, take, drop, slice_index, if◌then◌else◌, Result, Ok}
+use Rattle.std.specs.Prelude.{Err}
 use Rattle.std.specs.Option.{ok_or}
 use Rattle.iol_isdu.specs.Isdu.{xor_of}
 use Rattle.iol_isdu.specs.Service.{service_at, address_count, carries}

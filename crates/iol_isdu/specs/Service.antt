@@ -1,5 +1,6 @@
 -- The services of ISDUs, and what each carries (IO-Link V1.1, ISDU: I-Service).
-use Rattle.std.specs.Prelude.{ℕ, ◌+◌, ◌<◌, ◌≡◌, ◌/◌, ◌%◌, ◌==◌, ◌&&◌, Bool, true, false, nat_le, nat_lt, if◌then◌else◌, List, [], ◌∷◌, Option, find}
+use Rattle.std.specs.Prelude.{ℕ, ◌+◌, ◌<◌, ◌≡◌, ◌/◌, ◌%◌, ◌==◌, ◌&&◌, Bool, true, false, nat_le, nat_lt, if◌then◌else◌, List, [], ◌∷◌}
+use Rattle.std.specs.Prelude.{Option, find}
 use Rattle.iol_isdu.specs.declared.service.Access.TheVariants.{Read, Write}
 use Rattle.iol_isdu.specs.declared.service.IndexForm.{IndexForm}
 use Rattle.iol_isdu.specs.declared.service.IndexForm.TheVariants.{Index8, Index8Subindex, Index16Subindex}
@@ -61,9 +62,9 @@ address_count Index8 = 1
 address_count Index8Subindex = 2
 address_count Index16Subindex = 3
 
--- A service carries so many octets between the count and CHKPDU: a request its address, and to
--- write up to 232 octets of data too; a positive response to a read up to 232 octets of data, to
--- a write none; a negative response its two codes (standard, ISDU)
+-- A service carries so many octets between the count and CHKPDU. A request carries its address, and to write up to 232
+-- octets of data too. A positive response carries up to 232 octets of data to a read, and none to a write. A negative
+-- response carries its two codes (standard, ISDU)
 abbrev pub carries : Service → ℕ → Bool
 carries (Request Read form) count = count == address_count form
 carries (Request Write form) count =

@@ -1,5 +1,6 @@
 -- An answer at which an upload ends whole ends a finished upload of its set.
-use Rattle.std.proofs.Common.{◌≡◌, ℕ, ◌+◌, Bool, true, false, not, cond, List, [], ◌∷◌, ◌++◌, length, is_some, refl, ap, sym, ◌∙◌, subst, arith}
+use Rattle.std.proofs.Common.{◌≡◌, ℕ, ◌+◌, Bool, true, false, not, cond, List, [], ◌∷◌, ◌++◌, length, is_some, refl, ap, sym, ◌∙◌, subst}
+use Rattle.std.proofs.Common.{arith}
 use Rattle.std.proofs.lemmas.List.{append-nil}
 use Rattle.std.specs.Prelude.{nat_lt, ◌==◌, Result, Ok, Err}
 use Rattle.std.specs.Map.{keys_of}
@@ -32,7 +33,8 @@ goes-not-whole : (test : Bool) (after : Machine) (set : SetValue) (why : Transfe
 goes-not-whole true after set why is = cc
 goes-not-whole false after set why is = cc
 
-fault-not-whole : (test : Bool) (after : Machine) (set : SetValue) (why : TransferFault) → cond test (Fault why) (More after) ≡ Whole set → ⊥
+fault-not-whole : (test : Bool) (after : Machine) (set : SetValue) (why : TransferFault) → cond test (Fault why) (More after) ≡ Whole set
+    → ⊥
 fault-not-whole true after set why is = cc
 fault-not-whole false after set why is = cc
 
@@ -50,16 +52,19 @@ list-not-whole : (machine : Machine) (lists : ℕ) (keys : List Key) (said : Res
     → after_list machine lists keys said ≡ Whole set → ⊥
 list-not-whole machine lists keys (Err why) set is = cc
 list-not-whole machine lists keys (Ok (listed, next_is.End)) set is = cc
-list-not-whole machine lists keys (Ok (listed, next_is.List further)) set is = goes-not-whole (nat_lt (lists + 1) MOST_LISTS) _ set fault.List is
+list-not-whole machine lists keys (Ok (listed, next_is.List further)) set is =
+    goes-not-whole (nat_lt (lists + 1) MOST_LISTS) _ set fault.List is
 
-whole-first : (test : Bool) (one set : SetValue) (why : TransferFault) → cond test (Whole one) (Fault why) ≡ Whole set → (test ≡ true) × (one ≡ set)
+whole-first : (test : Bool) (one set : SetValue) (why : TransferFault) → cond test (Whole one) (Fault why) ≡ Whole set
+    → (test ≡ true) × (one ≡ set)
 whole-first true one set why is = (refl, cc)
 whole-first false one set why is = cc
 
 -- ---- the checksum is read
 
 -- the exchanges of an upload that asked for the checksum, with four octets
-checksum-finishes : (vendor device busy : ℕ) (entries : List Entry) (octets : List ℕ) (conversation : List Exchange) → IsAsking conversation (Checksum entries) busy
+checksum-finishes : (vendor device busy : ℕ) (entries : List Entry) (octets : List ℕ) (conversation : List Exchange)
+    → IsAsking conversation (Checksum entries) busy
     → length octets ≡ 4 → IsSet (record { entries = entries; vendor = vendor; device = device; checksum = number_of octets })
     → IsFinished vendor device (conversation ++ read_of DATA_STORAGE PARAMETER_CHECKSUM octets ∷ [])
     (record { entries = entries; vendor = vendor; device = device; checksum = number_of octets })
@@ -70,7 +75,8 @@ checksum-finishes vendor device busy entries octets conversation asking four set
     ap (λ c. c ++ exchange ∷ []) (sym asking.is) in
     record {
       settled = asking.settled ++ exchange ∷ [];
-      follows = subst (λ c. Follows c (asking.settled ++ exchange ∷ [])) same (follows-more asking.before asking.settled busy exchange asking.follows asking.few);
+      follows = subst (λ c. Follows c (asking.settled ++ exchange ∷ [])) same
+          (follows-more asking.before asking.settled busy exchange asking.follows asking.few);
       upload = record {
         size = has.size;
         lists = has.lists;
@@ -90,17 +96,21 @@ checksum-finishes vendor device busy entries octets conversation asking four set
     }
 
 -- an answer at which an upload is whole
-ends-whole : (vendor device busy : ℕ) (asks : Asks) (answer : Answer) (conversation : List Exchange) (set : SetValue) → IsAsking conversation asks busy
+ends-whole : (vendor device busy : ℕ) (asks : Asks) (answer : Answer) (conversation : List Exchange) (set : SetValue)
+    → IsAsking conversation asks busy
     → step (upload_at vendor device asks busy) answer ≡ Whole set → IsSet set
     → IsFinished vendor device (conversation ++ with_answer asks answer ∷ []) set
-ends-whole vendor device busy asks Busy conversation set asking is good = absurd (goes-not-whole (nat_lt (busy + 1) MOST_REQUESTS) _ set fault.Busy is)
+ends-whole vendor device busy asks Busy conversation set asking is good =
+    absurd (goes-not-whole (nat_lt (busy + 1) MOST_REQUESTS) _ set fault.Busy is)
 ends-whole vendor device busy Start WriteOk conversation set asking is good = cc
 ends-whole vendor device busy Size WriteOk conversation set asking is good = cc
 ends-whole vendor device busy (IndexList index subindex lists keys) WriteOk conversation set asking is good = cc
 ends-whole vendor device busy (Value entries key behind) WriteOk conversation set asking is good = cc
 ends-whole vendor device busy (Checksum entries) WriteOk conversation set asking is good = cc
-ends-whole vendor device busy asks (ReadFault error additional) conversation set asking is good = absurd (refusal-not-whole (not (is_write asks)) error additional set is)
-ends-whole vendor device busy asks (WriteFault error additional) conversation set asking is good = absurd (refusal-not-whole (is_write asks) error additional set is)
+ends-whole vendor device busy asks (ReadFault error additional) conversation set asking is good =
+    absurd (refusal-not-whole (not (is_write asks)) error additional set is)
+ends-whole vendor device busy asks (WriteFault error additional) conversation set asking is good =
+    absurd (refusal-not-whole (is_write asks) error additional set is)
 ends-whole vendor device busy Start (ReadOk values) conversation set asking is good = cc
 ends-whole vendor device busy Size (ReadOk values) conversation set asking is good =
     absurd (size-not-whole (not (length values.items == 4)) (nat_lt MOST_SET_OCTETS (number_of values.items)) _ set is)

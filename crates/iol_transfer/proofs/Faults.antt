@@ -1,5 +1,6 @@
 -- An answer at which an upload ends in a fault is the cause of that fault.
-use Rattle.std.proofs.Common.{◌≡◌, ◌≢◌, ℕ, ◌+◌, ◌<◌, ◌≤◌, ◌⊎◌, inl, inr, suc, Bool, true, false, not, cond, List, [], ◌∷◌, ◌++◌, length, All, Some, None, is_some, refl, ap, sym, ◌∙◌, subst, arith}
+use Rattle.std.proofs.Common.{◌≡◌, ◌≢◌, ℕ, ◌+◌, ◌<◌, ◌≤◌, ◌⊎◌, inl, inr, suc, Bool, true, false, not, cond, List, [], ◌∷◌, ◌++◌, length}
+use Rattle.std.proofs.Common.{All, Some, None, is_some, refl, ap, sym, ◌∙◌, subst, arith}
 use Rattle.std.proofs.lemmas.List.Elements.{All-append}
 use Rattle.std.specs.Prelude.{nat_lt, ◌==◌, Result, Ok, Err}
 use Rattle.std.specs.List.{IsDistinct}
@@ -27,27 +28,32 @@ use Rattle.iol_transfer.specs.declared.repeats.TheConstants.{MOST_REQUESTS}
 use Rattle.iol_transfer.specs.declared.upload.TheConstants.{MOST_LISTS}
 use Rattle.iol_transfer.specs.Exchanges.{Exchange}
 use Rattle.iol_transfer.specs.Upload.{number_of, AreLists, FollowsList}
-use Rattle.iol_transfer.specs.Asked.{Asks, Start, Size, IndexList, Value, Checksum, HasRead, IsAsking, is_write, refusal, answers, IsCause, IsShort, NeedsMemory, EndsIn}
-use Rattle.iol_transfer.specs.Machine.{Machine, More, Whole, Fault, begun, after_size, after_list, after_value, after_checksum, after_refusal, step, Leads}
+use Rattle.iol_transfer.specs.Asked.{Asks, Start, Size, IndexList, Value, Checksum, HasRead, IsAsking, is_write, refusal, answers, IsCause}
+use Rattle.iol_transfer.specs.Asked.{IsShort, NeedsMemory, EndsIn}
+use Rattle.iol_transfer.specs.Machine.{Machine, More, Whole, Fault, begun, after_size, after_list, after_value, after_checksum}
+use Rattle.iol_transfer.specs.Machine.{after_refusal, step, Leads}
 use Rattle.iol_transfer.proofs.Order.{upload_at}
 use Rattle.iol_transfer.proofs.GoingOn.{under-way}
 
 -- ---- the keys of an upload's lists
 
 -- none of them is reserved
-lists-free : (index subindex : ℕ) (lists : List Exchange) (keys : List Key) → AreLists index subindex lists keys → All (λ key. is_reserved key ≡ false) keys
+lists-free : (index subindex : ℕ) (lists : List Exchange) (keys : List Key) → AreLists index subindex lists keys
+    → All (λ key. is_reserved key ≡ false) keys
 lists-free index subindex [] keys are = absurd are
 lists-free index subindex (exchange ∷ lists) keys are =
     by are.2 are.4 are.5 (λ further others them. lists-free further 0 lists others them)
   where
     by : (next : Next) → reading_of are.0 ≡ Ok (are.1, next)
-        → FollowsList next ((lists ≡ []) × (keys ≡ are.1)) (λ further. (others : List Key) × AreLists further 0 lists others × (keys ≡ are.1 ++ others))
+        → FollowsList next ((lists ≡ []) × (keys ≡ are.1))
+        (λ further. (others : List Key) × AreLists further 0 lists others × (keys ≡ are.1 ++ others))
         → ((further : ℕ) (others : List Key) → AreLists further 0 lists others → All (λ key. is_reserved key ≡ false) others)
         → All (λ key. is_reserved key ≡ false) keys
     by next_is.End is ends again = subst (All (λ key. is_reserved key ≡ false)) (sym ends.1) (reading_of-free are.0 are.1 next_is.End is)
     by (next_is.List further) is names again =
         subst (All (λ key. is_reserved key ≡ false)) (sym names.2)
-        (All-append (λ key. is_reserved key ≡ false) are.1 names.0 (reading_of-free are.0 are.1 (next_is.List further) is) (again further names.0 names.1))
+        (All-append (λ key. is_reserved key ≡ false) are.1 names.0 (reading_of-free are.0 are.1 (next_is.List further) is)
+        (again further names.0 names.1))
 
 -- the next key that is left is not reserved, and its value was not read yet
 pub record IsFresh (entries : List Entry) (key : Key) : Type 0 where
@@ -58,7 +64,8 @@ middle : {A : Type 0} (P : A → Type 0) (before : List A) (item : A) (behind : 
 middle P [] item behind all = all 0 item (omega arith)
 middle P (first ∷ before) item behind all = middle P before item behind (λ i d below. all (suc i) d (omega (arith, below)))
 
-fresh : (entries : List Entry) (key : Key) (behind : List Key) (settled : List Exchange) → HasRead entries (key ∷ behind) settled → IsFresh entries key
+fresh : (entries : List Entry) (key : Key) (behind : List Key) (settled : List Exchange) → HasRead entries (key ∷ behind) settled
+    → IsFresh entries key
 fresh entries key behind settled has = record {
   free =
       middle (λ k. is_reserved k ≡ false) (keys_of entries) key behind
@@ -77,7 +84,8 @@ too-large entries key octets is short refused =
   where
     by : (reserved long there large : Bool) → reserved ≡ false → long ≡ false → there ≡ false
         → nat_lt MOST_SET_OCTETS (octets_of entries + ENTRY_HEAD_OCTETS + length octets) ≡ large
-        → is_some (cond reserved (Some ReservedKey) (cond long (Some EntryTooLong) (cond there (Some Duplicate) (cond large (Some SetTooLarge) None)))) ≡ true
+        → is_some (cond reserved (Some ReservedKey)
+        (cond long (Some EntryTooLong) (cond there (Some Duplicate) (cond large (Some SetTooLarge) None)))) ≡ true
         → MOST_SET_OCTETS < octets_of entries + ENTRY_HEAD_OCTETS + length octets
     by true long there large r l t s refused = cc
     by false true there large r l t s refused = cc
@@ -91,15 +99,18 @@ same-fault : (one two : TransferFault) → Fault one ≡ Fault two → one ≡ t
 same-fault one two is = cc
 
 -- where one of two outcomes goes on or is whole and the other is a fault, it is the fault
-fault-second : (test : Bool) (after : Machine) (why told : TransferFault) → cond test (More after) (Fault why) ≡ Fault told → (test ≡ false) × (why ≡ told)
+fault-second : (test : Bool) (after : Machine) (why told : TransferFault) → cond test (More after) (Fault why) ≡ Fault told
+    → (test ≡ false) × (why ≡ told)
 fault-second true after why told is = cc
 fault-second false after why told is = (refl, same-fault _ _ is)
 
-fault-first : (test : Bool) (after : Machine) (why told : TransferFault) → cond test (Fault why) (More after) ≡ Fault told → (test ≡ true) × (why ≡ told)
+fault-first : (test : Bool) (after : Machine) (why told : TransferFault) → cond test (Fault why) (More after) ≡ Fault told
+    → (test ≡ true) × (why ≡ told)
 fault-first true after why told is = (refl, same-fault _ _ is)
 fault-first false after why told is = cc
 
-whole-or-fault : (test : Bool) (set : SetValue) (why told : TransferFault) → cond test (Whole set) (Fault why) ≡ Fault told → (test ≡ false) × (why ≡ told)
+whole-or-fault : (test : Bool) (set : SetValue) (why told : TransferFault) → cond test (Whole set) (Fault why) ≡ Fault told
+    → (test ≡ false) × (why ≡ told)
 whole-or-fault true set why told is = cc
 whole-or-fault false set why told is = (refl, same-fault _ _ is)
 
@@ -112,8 +123,10 @@ not-equal one two test = λ same. let yes : (one == two) ≡ true = grind (arith
 refused-cause : (right : Bool) (asks : Asks) (busy : ℕ) (answer : Answer) (error additional : ℕ) (why : TransferFault)
     → (right ≡ true → answer ≡ refusal (is_write asks) error additional) → (right ≡ false → answers (is_write asks) answer → ⊥)
     → after_refusal right error additional ≡ Fault why → IsCause asks busy answer why
-refused-cause true asks busy answer error additional why to_it other told = subst (IsCause asks busy answer) (same-fault _ _ told) (to_it refl)
-refused-cause false asks busy answer error additional why to_it other told = subst (IsCause asks busy answer) (same-fault _ _ told) (inl (other refl))
+refused-cause true asks busy answer error additional why to_it other told =
+    subst (IsCause asks busy answer) (same-fault _ _ told) (to_it refl)
+refused-cause false asks busy answer error additional why to_it other told =
+    subst (IsCause asks busy answer) (same-fault _ _ told) (inl (other refl))
 
 differ : true ≡ false → ⊥
 differ same = cc
@@ -131,29 +144,36 @@ size-cause vendor device busy octets why is =
     by (length octets == 4) (nat_lt MOST_SET_OCTETS (number_of octets)) refl refl is
   where
     by : (four large : Bool) → (length octets == 4) ≡ four → nat_lt MOST_SET_OCTETS (number_of octets) ≡ large
-        → cond (not four) (Fault fault.Unexpected) (cond large (Fault fault.Size) (More (upload_at vendor device (IndexList DATA_STORAGE INDEX_LIST 0 []) 0))) ≡ Fault why
+        → cond (not four) (Fault fault.Unexpected)
+        (cond large (Fault fault.Size) (More (upload_at vendor device (IndexList DATA_STORAGE INDEX_LIST 0 []) 0))) ≡ Fault why
         → IsCause Size busy (ReadOk (record { items = octets })) why
-    by false large f l is = subst (IsCause Size busy (ReadOk (record { items = octets }))) (same-fault _ _ is) (inr (refl, octets, refl, not-equal (length octets) 4 f))
+    by false large f l is =
+        subst (IsCause Size busy (ReadOk (record { items = octets }))) (same-fault _ _ is)
+        (inr (refl, octets, refl, not-equal (length octets) 4 f))
     by true true f l is =
         let four : length octets ≡ 4 = grind (arith, nat_tests, f) in
         subst (IsCause Size busy (ReadOk (record { items = octets }))) (same-fault _ _ is) (octets, refl, (four, ltb-true _ _ l))
     by true false f l is = cc
 
 -- a list; fewer than sixteen were read before it
-list-cause : (vendor device busy index subindex lists : ℕ) (keys : List Key) (octets : List ℕ) (why : TransferFault) (said : Result Listing ListFault)
+list-cause : (vendor device busy index subindex lists : ℕ) (keys : List Key) (octets : List ℕ) (why : TransferFault)
+    (said : Result Listing ListFault)
     → reading_of octets ≡ said → lists < MOST_LISTS
     → after_list (upload_at vendor device (IndexList index subindex lists keys) busy) lists keys said ≡ Fault why
     → IsCause (IndexList index subindex lists keys) busy (ReadOk (record { items = octets })) why
 list-cause vendor device busy index subindex lists keys octets why (Err cause) read few is =
-    subst (IsCause (IndexList index subindex lists keys) busy (ReadOk (record { items = octets }))) (same-fault _ _ is) (octets, refl, inl (cause, read))
+    subst (IsCause (IndexList index subindex lists keys) busy (ReadOk (record { items = octets }))) (same-fault _ _ is)
+    (octets, refl, inl (cause, read))
 list-cause vendor device busy index subindex lists keys octets why (Ok (listed, next_is.End)) read few is = cc
 list-cause vendor device busy index subindex lists keys octets why (Ok (listed, next_is.List further)) read few is =
     let chosen = fault-second (nat_lt (lists + 1) MOST_LISTS) _ fault.List why is in
     let last : lists + 1 ≡ MOST_LISTS = omega (arith, few, ltb-false _ _ chosen.0) in
-    subst (IsCause (IndexList index subindex lists keys) busy (ReadOk (record { items = octets }))) chosen.1 (octets, refl, inr (listed, further, read, last))
+    subst (IsCause (IndexList index subindex lists keys) busy (ReadOk (record { items = octets }))) chosen.1
+    (octets, refl, inr (listed, further, read, last))
 
 -- a value
-value-cause : (vendor device busy : ℕ) (entries : List Entry) (key : Key) (behind : List Key) (octets : List ℕ) (why : TransferFault) → IsFresh entries key
+value-cause : (vendor device busy : ℕ) (entries : List Entry) (key : Key) (behind : List Key) (octets : List ℕ) (why : TransferFault)
+    → IsFresh entries key
     → length octets ≤ MOST_ENTRY_OCTETS
     → after_value (upload_at vendor device (Value entries key behind) busy) entries key behind octets ≡ Fault why
     → IsCause (Value entries key behind) busy (ReadOk (record { items = octets })) why
@@ -168,7 +188,8 @@ checksum-cause : (vendor device busy : ℕ) (entries : List Entry) (octets : Lis
     → IsCause (Checksum entries) busy (ReadOk (record { items = octets })) why
 checksum-cause vendor device busy entries octets why is =
     let chosen = whole-or-fault (length octets == 4) _ fault.Unexpected why is in
-    subst (IsCause (Checksum entries) busy (ReadOk (record { items = octets }))) chosen.1 (inr (refl, octets, refl, not-equal (length octets) 4 chosen.0))
+    subst (IsCause (Checksum entries) busy (ReadOk (record { items = octets }))) chosen.1
+    (inr (refl, octets, refl, not-equal (length octets) 4 chosen.0))
 
 -- what is answered to the other service
 unexpected : (asks : Asks) (busy : ℕ) (answer : Answer) (why : TransferFault) → (answers (is_write asks) answer → ⊥)
@@ -176,7 +197,8 @@ unexpected : (asks : Asks) (busy : ℕ) (answer : Answer) (why : TransferFault) 
 unexpected asks busy answer why not_to_it is = subst (IsCause asks busy answer) (same-fault _ _ is) (inl not_to_it)
 
 -- each answer at which an upload ends in a fault
-cause-of : (vendor device busy : ℕ) (asks : Asks) (answer : Answer) (conversation : List Exchange) (why : TransferFault) → IsAsking conversation asks busy
+cause-of : (vendor device busy : ℕ) (asks : Asks) (answer : Answer) (conversation : List Exchange) (why : TransferFault)
+    → IsAsking conversation asks busy
     → IsShort answer → step (upload_at vendor device asks busy) answer ≡ Fault why → IsCause asks busy answer why
 cause-of vendor device busy asks Busy conversation why asking short is =
     let chosen = fault-second (nat_lt (busy + 1) MOST_REQUESTS) _ fault.Busy why is in
@@ -184,9 +206,12 @@ cause-of vendor device busy asks Busy conversation why asking short is =
     subst (IsCause asks busy Busy) chosen.1 (refl, last)
 cause-of vendor device busy Start WriteOk conversation why asking short is = cc
 cause-of vendor device busy Size WriteOk conversation why asking short is = unexpected Size busy WriteOk why (λ wrong. cc) is
-cause-of vendor device busy (IndexList index subindex lists keys) WriteOk conversation why asking short is = unexpected (IndexList index subindex lists keys) busy WriteOk why (λ wrong. cc) is
-cause-of vendor device busy (Value entries key behind) WriteOk conversation why asking short is = unexpected (Value entries key behind) busy WriteOk why (λ wrong. cc) is
-cause-of vendor device busy (Checksum entries) WriteOk conversation why asking short is = unexpected (Checksum entries) busy WriteOk why (λ wrong. cc) is
+cause-of vendor device busy (IndexList index subindex lists keys) WriteOk conversation why asking short is =
+    unexpected (IndexList index subindex lists keys) busy WriteOk why (λ wrong. cc) is
+cause-of vendor device busy (Value entries key behind) WriteOk conversation why asking short is =
+    unexpected (Value entries key behind) busy WriteOk why (λ wrong. cc) is
+cause-of vendor device busy (Checksum entries) WriteOk conversation why asking short is =
+    unexpected (Checksum entries) busy WriteOk why (λ wrong. cc) is
 cause-of vendor device busy asks (ReadFault error additional) conversation why asking short is =
     refused-cause (not (is_write asks)) asks busy (ReadFault error additional) error additional why
     (λ right. ap (λ write. refusal write error additional) (sym (turned (is_write asks) true right)))
@@ -194,13 +219,15 @@ cause-of vendor device busy asks (ReadFault error additional) conversation why a
 cause-of vendor device busy asks (WriteFault error additional) conversation why asking short is =
     refused-cause (is_write asks) asks busy (WriteFault error additional) error additional why
     (λ right. ap (λ write. refusal write error additional) (sym right)) (λ wrong to_write. differ (sym to_write ∙ wrong)) is
-cause-of vendor device busy Start (ReadOk values) conversation why asking short is = unexpected Start busy (ReadOk values) why (λ wrong. cc) is
+cause-of vendor device busy Start (ReadOk values) conversation why asking short is =
+    unexpected Start busy (ReadOk values) why (λ wrong. cc) is
 cause-of vendor device busy Size (ReadOk values) conversation why asking short is = size-cause vendor device busy values.items why is
 cause-of vendor device busy (IndexList index subindex lists keys) (ReadOk values) conversation why asking short is =
     list-cause vendor device busy index subindex lists keys values.items why (reading_of values.items) refl asking.asked.few is
 cause-of vendor device busy (Value entries key behind) (ReadOk values) conversation why asking short is =
     value-cause vendor device busy entries key behind values.items why (fresh entries key behind asking.settled asking.asked) short is
-cause-of vendor device busy (Checksum entries) (ReadOk values) conversation why asking short is = checksum-cause vendor device busy entries values.items why is
+cause-of vendor device busy (Checksum entries) (ReadOk values) conversation why asking short is =
+    checksum-cause vendor device busy entries values.items why is
 
 -- where the exchanges since an upload began are known, an answer at which it ends in a fault, or at which memory runs out
 -- that is needed, is the fault's cause
@@ -211,7 +238,8 @@ ends-in vendor device conversation machine answer why leads short told =
     let way = under-way vendor device conversation machine leads in
     record { asks = machine.asks; busy = machine.busy; asking = way.asking; cause = by told way.asking }
   where
-    by : (step machine answer ≡ Fault why) ⊎ ((why ≡ fault.Memory) × NeedsMemory machine.asks answer) → IsAsking conversation machine.asks machine.busy
+    by : (step machine answer ≡ Fault why) ⊎ ((why ≡ fault.Memory) × NeedsMemory machine.asks answer)
+        → IsAsking conversation machine.asks machine.busy
         → IsCause machine.asks machine.busy answer why
     by (inl is) asking = cause-of machine.vendor machine.device machine.busy machine.asks answer conversation why asking short is
     by (inr needed) asking = subst (IsCause machine.asks machine.busy answer) (sym needed.0) needed.1

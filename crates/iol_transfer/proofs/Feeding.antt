@@ -19,7 +19,8 @@ use Rattle.iol_transfer.proofs.Finishing.{finished-whole}
 use Rattle.iol_transfer.proofs.Faults.{ends-in}
 
 -- a stage that octets lead to, once it is gone on to, is the outcome
-pub stage-outcome : (old between new : Machine) (answer : Answer) (next : Result Stage TransferFault) (result : UploadStep) (outcome : Outcome)
+pub stage-outcome : (old between new : Machine) (answer : Answer) (next : Result Stage TransferFault) (result : UploadStep)
+    (outcome : Outcome)
     → between.vendor ≡ old.vendor → between.device ≡ old.device → GoesOn between next result new → IsStageAfter old answer next outcome
     → IsOutcome old answer result new outcome
 stage-outcome old between new answer (Ok stage) step_is.More outcome vendor device goes is =
@@ -37,27 +38,37 @@ stage-outcome old between new answer (Err why) (step_is.Fault other) outcome ven
 pub next-is : (vendor device : ℕ) (conversation : List Exchange) (machine : Machine) → IsSinceBegin vendor device conversation machine
     → IsNext conversation (asked machine)
 next-is vendor device conversation machine since =
-    record { asks = machine.asks; busy = machine.busy; asking = (under-way vendor device conversation machine since).asking; request_is = refl }
+    record {
+      asks = machine.asks;
+      busy = machine.busy;
+      asking =
+          (under-way vendor device conversation machine since).asking;
+      request_is = refl;
+    }
 
 leads-on : (conversation : List Exchange) (first last after : Machine) (exchange : Exchange) → Leads first conversation last
     → exchange.request ≡ asked last → step last exchange.answer ≡ More after → Leads first (conversation ++ exchange ∷ []) after
 leads-on [] first last after exchange leads asks goes =
-    subst (λ m. (exchange.request ≡ asked m) × (next : Machine) × (step m exchange.answer ≡ More next) × (next ≡ after)) (sym leads) (asks, after, goes, refl)
+    subst (λ m. (exchange.request ≡ asked m) × (next : Machine) × (step m exchange.answer ≡ More next) × (next ≡ after)) (sym leads)
+    (asks, after, goes, refl)
 leads-on (one ∷ more) first last after exchange leads asks goes =
     (leads.0, leads.1, leads.2, leads-on more leads.1 last after exchange leads.3 asks goes)
 
 pub fed-more : (old new : Machine) (answer : Answer) (result : UploadStep) → IsOutcome old answer result new (step old answer)
     → IfMore result ((vendor device : ℕ) (conversation : List Exchange) → IsSinceBegin vendor device conversation old
     → IsSinceBegin vendor device (conversation ++ answered old answer ∷ []) new)
-fed-more old new answer step_is.More is = λ vendor device conversation since. leads-on conversation (begun vendor device) old new (answered old answer) since refl is
+fed-more old new answer step_is.More is =
+    λ vendor device conversation since. leads-on conversation (begun vendor device) old new (answered old answer) since refl is
 fed-more old new answer (step_is.Whole set) is = tt
 fed-more old new answer (step_is.Fault why) is = tt
 
-pub fed-whole : (old new : Machine) (answer : Answer) (result : UploadStep) → IsOutcome old answer result new (step old answer) → IfWhole result IsSet
+pub fed-whole : (old new : Machine) (answer : Answer) (result : UploadStep) → IsOutcome old answer result new (step old answer)
+    → IfWhole result IsSet
     → IfWhole result (λ set. (vendor device : ℕ) (conversation : List Exchange) → IsSinceBegin vendor device conversation old
     → IsFinished vendor device (conversation ++ answered old answer ∷ []) set)
 fed-whole old new answer step_is.More is good = tt
-fed-whole old new answer (step_is.Whole set) is good = λ vendor device conversation since. whole-finished vendor device conversation old answer set since is good
+fed-whole old new answer (step_is.Whole set) is good =
+    λ vendor device conversation since. whole-finished vendor device conversation old answer set since is good
 fed-whole old new answer (step_is.Fault why) is good = tt
 
 pub fed-only : (old new : Machine) (answer : Answer) (result : UploadStep) → IsOutcome old answer result new (step old answer)
@@ -74,8 +85,11 @@ fed-only old new answer result is vendor device conversation set since finished 
     by (step_is.Fault why) (inl is) = let both = sym is ∙ whole in cc
     by (step_is.Fault why) (inr memory) = memory.0
 
-pub fed-fault : (old new : Machine) (answer : Answer) (result : UploadStep) → IsOutcome old answer result new (step old answer) → IsShort answer
-    → IfFault result (λ why. (vendor device : ℕ) (conversation : List Exchange) → IsSinceBegin vendor device conversation old → EndsIn conversation answer why)
+pub fed-fault : (old new : Machine) (answer : Answer) (result : UploadStep) → IsOutcome old answer result new (step old answer)
+    → IsShort answer
+    → IfFault result (λ why. (vendor device : ℕ) (conversation : List Exchange) → IsSinceBegin vendor device conversation old
+    → EndsIn conversation answer why)
 fed-fault old new answer step_is.More is short = tt
 fed-fault old new answer (step_is.Whole set) is short = tt
-fed-fault old new answer (step_is.Fault why) is short = λ vendor device conversation since. ends-in vendor device conversation old answer why since short is
+fed-fault old new answer (step_is.Fault why) is short =
+    λ vendor device conversation since. ends-in vendor device conversation old answer why since short is

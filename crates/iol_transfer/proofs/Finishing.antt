@@ -1,5 +1,6 @@
 -- A finished upload makes its upload whole.
-use Rattle.std.proofs.Common.{◌≡◌, ℕ, zero, suc, ◌+◌, ◌<◌, ◌≤◌, true, false, not, cond, List, [], ◌∷◌, ◌++◌, length, map, fold, is_some, ap, sym, ◌∙◌, subst, arith, append_assoc}
+use Rattle.std.proofs.Common.{◌≡◌, ℕ, zero, suc, ◌+◌, ◌<◌, ◌≤◌, true, false, not, cond, List, [], ◌∷◌, ◌++◌, length, map, fold, is_some, ap}
+use Rattle.std.proofs.Common.{sym, ◌∙◌, subst, arith, append_assoc}
 use Rattle.std.proofs.lemmas.List.{append-nil}
 use Rattle.std.specs.Prelude.{nat_lt, ◌==◌, Result, Ok}
 use Rattle.std.specs.Map.{keys_of}
@@ -50,7 +51,8 @@ talk-on (first ∷ more) machine last exchange leads =
     ap (λ outcome. on_step outcome (λ after. talk after (more ++ exchange ∷ [])) (ended (more ++ exchange ∷ []))) leads.2
     ∙ talk-on more leads.1 last exchange leads.3
 
-last-whole : (outcome : Outcome) (set : SetValue) → on_step outcome (λ after. More after) (λ whole. Whole whole) ≡ Whole set → outcome ≡ Whole set
+last-whole : (outcome : Outcome) (set : SetValue) → on_step outcome (λ after. More after) (λ whole. Whole whole) ≡ Whole set
+    → outcome ≡ Whole set
 last-whole (More machine) set is = cc
 last-whole (Whole whole) set is = is
 last-whole (Fault why) set is = cc
@@ -61,9 +63,12 @@ busy-talk : (times vendor device busy : ℕ) (asks : Asks) (request : Request) (
 busy-talk zero vendor device busy asks request rest few = ap (λ count. talk (upload_at vendor device asks count) rest) (omega arith)
 busy-talk (suc times) vendor device busy asks request rest few =
     let again : nat_lt (busy + 1) MOST_REQUESTS ≡ true = grind (arith, nat_tests, few) in
-    let on : talk (upload_at vendor device asks busy) (busy_times (suc times) request ++ rest) ≡ talk (upload_at vendor device asks (busy + 1)) (busy_times times request ++ rest) =
-    ap (λ test. on_step (cond test (More (upload_at vendor device asks (busy + 1))) (Fault fault.Busy)) (λ after. talk after (busy_times times request ++ rest)) (ended (busy_times times request ++ rest))) again in
-    on ∙ busy-talk times vendor device (busy + 1) asks request rest (omega (arith, few)) ∙ ap (λ count. talk (upload_at vendor device asks count) rest) (omega arith)
+    let on : talk (upload_at vendor device asks busy) (busy_times (suc times) request ++ rest)
+    ≡ talk (upload_at vendor device asks (busy + 1)) (busy_times times request ++ rest) =
+    ap (λ test. on_step (cond test (More (upload_at vendor device asks (busy + 1))) (Fault fault.Busy))
+    (λ after. talk after (busy_times times request ++ rest)) (ended (busy_times times request ++ rest))) again in
+    on ∙ busy-talk times vendor device (busy + 1) asks request rest (omega (arith, few))
+    ∙ ap (λ count. talk (upload_at vendor device asks count) rest) (omega arith)
 
 -- ---- the lists
 
@@ -79,22 +84,29 @@ lists-talk : (lists tail : List Exchange) (vendor device index subindex read : �
     ≡ talk (upload_at vendor device (reading [] (first_places (before ++ listed))) 0) rest)
 lists-talk [] tail vendor device index subindex read before listed conversation follows are few = absurd are
 lists-talk (exchange ∷ lists) tail vendor device index subindex read before listed conversation follows are few =
-    by are.2 are.4 are.5 (λ further others low. lists-talk lists tail vendor device further 0 (read + 1) (before ++ are.1) others follows.1 follows.4 low)
+    by are.2 are.4 are.5 (λ further others low. lists-talk lists tail vendor device further 0 (read + 1)
+    (before ++ are.1) others follows.1 follows.4 low)
   where
     asks : Asks
     asks = IndexList index subindex read (first_places before)
 
     here : (said : Result Listing ListFault) → reading_of are.0 ≡ said
         → talk (upload_at vendor device (IndexList index subindex read (first_places before)) 0) conversation
-        ≡ on_step (after_list (upload_at vendor device (IndexList index subindex read (first_places before)) 0) read (first_places before) said) (λ after. talk after follows.1) (ended follows.1)
+        ≡ on_step (after_list (upload_at vendor device (IndexList index subindex read (first_places before)) 0) read
+        (first_places before) said) (λ after. talk after follows.1) (ended follows.1)
     here said is =
         ap (talk (upload_at vendor device (IndexList index subindex read (first_places before)) 0)) follows.3
-        ∙ busy-talk follows.0 vendor device 0 (IndexList index subindex read (first_places before)) exchange.request (exchange ∷ follows.1) (omega (arith, follows.2))
-        ∙ ap (λ (e : Exchange). on_step (step (upload_at vendor device (IndexList index subindex read (first_places before)) (0 + follows.0)) e.answer) (λ after. talk after follows.1) (ended follows.1)) are.3
-        ∙ ap (λ result. on_step (after_list (upload_at vendor device (IndexList index subindex read (first_places before)) 0) read (first_places before) result) (λ after. talk after follows.1) (ended follows.1)) is
+        ∙ busy-talk follows.0 vendor device 0 (IndexList index subindex read (first_places before)) exchange.request (exchange ∷ follows.1)
+        (omega (arith, follows.2))
+        ∙ ap (λ (e : Exchange). on_step
+        (step (upload_at vendor device (IndexList index subindex read (first_places before)) (0 + follows.0)) e.answer)
+        (λ after. talk after follows.1) (ended follows.1)) are.3
+        ∙ ap (λ result. on_step (after_list (upload_at vendor device (IndexList index subindex read (first_places before)) 0) read
+        (first_places before) result) (λ after. talk after follows.1) (ended follows.1)) is
 
     by : (next : Next) → reading_of are.0 ≡ Ok (are.1, next)
-        → FollowsList next ((lists ≡ []) × (listed ≡ are.1)) (λ further. (others : List Key) × AreLists further 0 lists others × (listed ≡ are.1 ++ others))
+        → FollowsList next ((lists ≡ []) × (listed ≡ are.1))
+        (λ further. (others : List Key) × AreLists further 0 lists others × (listed ≡ are.1 ++ others))
         → ((further : ℕ) (others : List Key) → AreLists further 0 lists others → read + 1 + length lists ≤ MOST_LISTS
         → (rest : List Exchange) × Follows rest tail
         × (talk (upload_at vendor device (IndexList further 0 (read + 1) (first_places (before ++ are.1))) 0) follows.1
@@ -116,8 +128,11 @@ lists-talk (exchange ∷ lists) tail vendor device index subindex read before li
         let go : talk (upload_at vendor device (IndexList index subindex read (first_places before)) 0) conversation
         ≡ talk (upload_at vendor device (IndexList further 0 (read + 1) (first_places (before ++ are.1))) 0) follows.1 =
         here _ is
-        ∙ ap (λ test. on_step (cond test (More (upload_at vendor device (IndexList further 0 (read + 1) (fold kept_with (first_places before) are.1)) 0)) (Fault fault.List)) (λ after. talk after follows.1) (ended follows.1)) low
-        ∙ ap (λ keys. talk (upload_at vendor device (IndexList further 0 (read + 1) keys) 0) follows.1) (first_places-more before are.1) in (
+        ∙ ap (λ test. on_step (cond test
+        (More (upload_at vendor device (IndexList further 0 (read + 1) (fold kept_with (first_places before) are.1)) 0)) (Fault fault.List))
+        (λ after. talk after follows.1) (ended follows.1)) low
+        ∙ ap (λ keys. talk (upload_at vendor device (IndexList further 0 (read + 1) keys) 0) follows.1)
+        (first_places-more before are.1) in (
           on.0,
           on.1,
           go ∙ on.2 ∙ ap (λ keys. talk (upload_at vendor device (reading [] (first_places keys)) 0) on.0)
@@ -126,20 +141,27 @@ lists-talk (exchange ∷ lists) tail vendor device index subindex read before li
 
 -- ---- the values
 
-values-talk : (entries read : List Entry) (tail : List Exchange) (vendor device : ℕ) (conversation : List Exchange) → Follows conversation (map entry_read entries ++ tail)
+values-talk : (entries read : List Entry) (tail : List Exchange) (vendor device : ℕ) (conversation : List Exchange)
+    → Follows conversation (map entry_read entries ++ tail)
     → AreEntries (read ++ entries)
     → (rest : List Exchange) × Follows rest tail
-    × (talk (upload_at vendor device (reading read (keys_of entries)) 0) conversation ≡ talk (upload_at vendor device (Checksum (read ++ entries)) 0) rest)
+    × (talk (upload_at vendor device (reading read (keys_of entries)) 0) conversation
+    ≡ talk (upload_at vendor device (Checksum (read ++ entries)) 0) rest)
 values-talk [] read tail vendor device conversation follows are =
     (conversation, follows, ap (λ e. talk (upload_at vendor device (Checksum e) 0) conversation) (sym (append-nil read)))
 values-talk (entry ∷ entries) read tail vendor device conversation follows are =
-    let on = values-talk entries (read ++ entry ∷ []) tail vendor device follows.1 follows.4 (subst AreEntries (sym (append_assoc read (entry ∷ []) entries)) are) in
-    let free : is_some (add_fault read entry.0 entry.1) ≡ false = ap is_some (none-added read entry.0 entry.1 (may-stand read entry entries are).1) in
+    let on = values-talk entries (read ++ entry ∷ []) tail vendor device follows.1 follows.4
+    (subst AreEntries (sym (append_assoc read (entry ∷ []) entries)) are) in
+    let free : is_some (add_fault read entry.0 entry.1)
+    ≡ false = ap is_some (none-added read entry.0 entry.1 (may-stand read entry entries are).1) in
     let asks : Asks = Value read entry.0 (keys_of entries) in
-    let go : talk (upload_at vendor device asks 0) conversation ≡ talk (upload_at vendor device (reading (read ++ entry ∷ []) (keys_of entries)) 0) follows.1 =
+    let go : talk (upload_at vendor device asks 0) conversation
+    ≡ talk (upload_at vendor device (reading (read ++ entry ∷ []) (keys_of entries)) 0) follows.1 =
     ap (talk (upload_at vendor device asks 0)) follows.3
     ∙ busy-talk follows.0 vendor device 0 asks (entry_read entry).request (entry_read entry ∷ follows.1) (omega (arith, follows.2))
-    ∙ ap (λ test. on_step (cond test (Fault fault.Size) (More (upload_at vendor device (reading (read ++ (entry.0, entry.1) ∷ []) (keys_of entries)) 0))) (λ after. talk after follows.1) (ended follows.1)) free in
+    ∙ ap (λ test. on_step (cond test (Fault fault.Size)
+    (More (upload_at vendor device (reading (read ++ (entry.0, entry.1) ∷ []) (keys_of entries)) 0))) (λ after. talk after follows.1)
+    (ended follows.1)) free in
     (on.0, on.1, go ∙ on.2 ∙ ap (λ e. talk (upload_at vendor device (Checksum e) 0) on.0) (append_assoc read (entry ∷ []) entries))
 
 -- ---- a whole conversation
@@ -159,12 +181,18 @@ finished-talk vendor device conversation set finished =
     let sized = follows.4 in
     let four : not (length upload.size == 4) ≡ false = grind (arith, nat_tests, upload.declared.four) in
     let fits : nat_lt MOST_SET_OCTETS (number_of upload.size) ≡ false = grind (arith, nat_tests, upload.declared.fits) in
-    let sizes : talk (upload_at vendor device Size 0) follows.1 ≡ talk (upload_at vendor device (IndexList DATA_STORAGE INDEX_LIST 0 []) 0) sized.1 =
+    let sizes : talk (upload_at vendor device Size 0) follows.1
+    ≡ talk (upload_at vendor device (IndexList DATA_STORAGE INDEX_LIST 0 []) 0) sized.1 =
     ap (talk (upload_at vendor device Size 0)) sized.3 ∙ busy-talk sized.0 vendor device 0 Size _ _ (omega (arith, sized.2))
-    ∙ ap (λ test. on_step (cond test (Fault fault.Unexpected) (cond (nat_lt MOST_SET_OCTETS (number_of upload.size)) (Fault fault.Size) (More (upload_at vendor device (IndexList DATA_STORAGE INDEX_LIST 0 []) 0)))) (λ after. talk after sized.1) (ended sized.1)) four
-    ∙ ap (λ test. on_step (cond test (Fault fault.Size) (More (upload_at vendor device (IndexList DATA_STORAGE INDEX_LIST 0 []) 0))) (λ after. talk after sized.1) (ended sized.1)) fits in
-    let lists = lists-talk upload.lists tail vendor device DATA_STORAGE INDEX_LIST 0 [] upload.listed sized.1 sized.4 upload.chain (omega (arith, upload.few)) in
-    let keyed : talk (upload_at vendor device (reading [] (first_places upload.listed)) 0) lists.0 ≡ talk (upload_at vendor device (reading [] (keys_of set.entries)) 0) lists.0 =
+    ∙ ap (λ test. on_step (cond test (Fault fault.Unexpected)
+    (cond (nat_lt MOST_SET_OCTETS (number_of upload.size)) (Fault fault.Size)
+    (More (upload_at vendor device (IndexList DATA_STORAGE INDEX_LIST 0 []) 0)))) (λ after. talk after sized.1) (ended sized.1)) four
+    ∙ ap (λ test. on_step (cond test (Fault fault.Size) (More (upload_at vendor device (IndexList DATA_STORAGE INDEX_LIST 0 []) 0)))
+    (λ after. talk after sized.1) (ended sized.1)) fits in
+    let lists = lists-talk upload.lists tail vendor device DATA_STORAGE INDEX_LIST 0 [] upload.listed sized.1 sized.4 upload.chain
+    (omega (arith, upload.few)) in
+    let keyed : talk (upload_at vendor device (reading [] (first_places upload.listed)) 0) lists.0
+    ≡ talk (upload_at vendor device (reading [] (keys_of set.entries)) 0) lists.0 =
     ap (λ keys. talk (upload_at vendor device (reading [] keys) 0) lists.0) (sym upload.keys) in
     let values = values-talk set.entries [] (checksum ∷ []) vendor device lists.0 lists.1 upload.set_is.entries in
     let last = values.1 in
@@ -172,10 +200,16 @@ finished-talk vendor device conversation set finished =
     let right : (length upload.checksum == 4) ≡ true = grind (arith, nat_tests, upload.four) in
     let ends : talk (upload_at vendor device (Checksum set.entries) 0) values.0 ≡ Whole read =
     ap (talk (upload_at vendor device (Checksum set.entries) 0)) last.3
-    ∙ busy-talk last.0 vendor device 0 (Checksum set.entries) (Read DATA_STORAGE PARAMETER_CHECKSUM) (checksum ∷ last.1) (omega (arith, last.2))
+    ∙ busy-talk last.0 vendor device 0 (Checksum set.entries) (Read DATA_STORAGE PARAMETER_CHECKSUM) (checksum ∷ last.1)
+    (omega (arith, last.2))
     ∙ ap (λ test. on_step (cond test (Whole read) (Fault fault.Unexpected)) (λ after. talk after last.1) (ended last.1)) right
     ∙ ap (λ rest. ended rest read) last.4 in
-    let is : read ≡ set = λ j. record { entries = set.entries; vendor = sym finished.vendor_is j; device = sym finished.device_is j; checksum = sym upload.sum j } in
+    let is : read ≡ set = λ j. record {
+      entries = set.entries;
+      vendor = sym finished.vendor_is j;
+      device = sym finished.device_is j;
+      checksum = sym upload.sum j;
+    } in
     begins ∙ sizes ∙ lists.2 ∙ keyed ∙ values.2 ∙ ends ∙ ap Whole is
 
 -- where the exchanges since an upload began are known, and the next finishes an upload of a set, it makes it whole

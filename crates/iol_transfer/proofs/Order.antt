@@ -1,5 +1,6 @@
 -- An upload that goes on has kept to the order.
-use Rattle.std.proofs.Common.{◌≡◌, ℕ, ◌+◌, ◌<◌, List, [], ◌∷◌, ◌++◌, map, fold, refl, ap, sym, ◌∙◌, subst, arith, append_assoc, length-append, lit<}
+use Rattle.std.proofs.Common.{◌≡◌, ℕ, ◌+◌, ◌<◌, List, [], ◌∷◌, ◌++◌, map, fold, refl, ap, sym, ◌∙◌, subst, arith, append_assoc}
+use Rattle.std.proofs.Common.{length-append, lit<}
 use Rattle.std.proofs.lemmas.List.{map-append, append-nil}
 use Rattle.std.specs.Prelude.{Ok}
 use Rattle.std.specs.Map.{keys_of}
@@ -33,8 +34,13 @@ follows-more before [] times exchange is few = (times, [], few, ap (λ b. b ++ b
 follows-more before (first ∷ settled) times exchange follows few =
     let whole : before ++ busy_times times exchange.request ++ exchange ∷ []
     ≡ busy_times follows.0 first.request ++ first ∷ (follows.1 ++ busy_times times exchange.request ++ exchange ∷ []) =
-    rw follows.3 (simp append_assoc) in
-    (follows.0, follows.1 ++ busy_times times exchange.request ++ exchange ∷ [], follows.2, whole, follows-more follows.1 settled times exchange follows.4 few)
+    rw follows.3 (simp append_assoc) in (
+      follows.0,
+      follows.1 ++ busy_times times exchange.request ++ exchange ∷ [],
+      follows.2,
+      whole,
+      follows-more follows.1 settled times exchange follows.4 few,
+    )
 
 -- a list that ends, behind those that lead to it
 leads-end : (index subindex : ℕ) (reads : List Exchange) (to_index to_subindex : ℕ) (keys : List Key) (octets : List ℕ) (listed : List Key)
@@ -48,11 +54,17 @@ leads-end index subindex (exchange ∷ reads) to_index to_subindex keys octets l
   next_is.List leads.2,
   leads.4,
   leads.5,
-  (leads.3 ++ listed, leads-end leads.2 0 reads to_index to_subindex leads.3 octets listed leads.6 is, ap (λ k. k ++ listed) leads.7 ∙ append_assoc leads.1 leads.3 listed),
+  (
+    leads.3 ++ listed,
+    leads-end leads.2 0 reads to_index to_subindex leads.3 octets listed leads.6 is,
+    ap (λ k. k ++ listed) leads.7
+        ∙ append_assoc leads.1 leads.3 listed,
+  ),
 )
 
 -- a list that names another, behind those that lead to it
-leads-more : (index subindex : ℕ) (reads : List Exchange) (to_index to_subindex : ℕ) (keys : List Key) (octets : List ℕ) (listed : List Key) (further : ℕ)
+leads-more : (index subindex : ℕ) (reads : List Exchange) (to_index to_subindex : ℕ) (keys : List Key) (octets : List ℕ) (listed : List Key)
+    (further : ℕ)
     → LeadsTo index subindex reads to_index to_subindex keys → reading_of octets ≡ Ok (listed, next_is.List further)
     → LeadsTo index subindex (reads ++ read_of to_index to_subindex octets ∷ []) further 0 (keys ++ listed)
 leads-more index subindex [] to_index to_subindex keys octets listed further leads is =
@@ -69,7 +81,8 @@ leads-more index subindex (exchange ∷ reads) to_index to_subindex keys octets 
 )
 
 -- with entries read, the first key that is left is asked next, or the checksum
-pub asked-reading : (entries : List Entry) (left : List Key) (settled : List Exchange) → HasRead entries left settled → IsAskedAfter settled (reading entries left)
+pub asked-reading : (entries : List Entry) (left : List Key) (settled : List Exchange) → HasRead entries left settled
+    → IsAskedAfter settled (reading entries left)
 asked-reading entries [] settled has = has
 asked-reading entries (key ∷ behind) settled has = has
 
@@ -79,13 +92,15 @@ pub advance : (asks next : Asks) (busy : ℕ) (answer : Answer) (conversation : 
     → IsAsking (conversation ++ with_answer asks answer ∷ []) next 0
 advance asks next busy answer conversation asking leads =
     let exchange = with_answer asks answer in
-    let same : asking.before ++ busy_times busy (request_of asks) ++ exchange ∷ [] ≡ conversation ++ exchange ∷ [] = ap (λ c. c ++ exchange ∷ []) (sym asking.is) in
+    let same : asking.before ++ busy_times busy (request_of asks) ++ exchange ∷ []
+    ≡ conversation ++ exchange ∷ [] = ap (λ c. c ++ exchange ∷ []) (sym asking.is) in
     record {
       settled = asking.settled ++ exchange ∷ [];
       before = conversation ++ exchange ∷ [];
       is = sym (append-nil (conversation ++ exchange ∷ []));
       few = lit< tt;
-      follows = subst (λ c. Follows c (asking.settled ++ exchange ∷ [])) same (follows-more asking.before asking.settled busy exchange asking.follows asking.few);
+      follows = subst (λ c. Follows c (asking.settled ++ exchange ∷ [])) same
+          (follows-more asking.before asking.settled busy exchange asking.follows asking.few);
       asked = leads asking.settled asking.asked;
     }
 
@@ -105,7 +120,8 @@ size-read octets size settled is = record {
 }
 
 -- a list that ends
-pub list-ends : (index subindex lists : ℕ) (keys : List Key) (octets : List ℕ) (listed : List Key) → reading_of octets ≡ Ok (listed, next_is.End)
+pub list-ends : (index subindex lists : ℕ) (keys : List Key) (octets : List ℕ) (listed : List Key)
+    → reading_of octets ≡ Ok (listed, next_is.End)
     → (settled : List Exchange) → HasListed index subindex lists keys settled
     → HasRead [] (fold kept_with keys listed) (settled ++ read_of index subindex octets ∷ [])
 list-ends index subindex lists keys octets listed is settled has =
@@ -122,7 +138,8 @@ list-ends index subindex lists keys octets listed is settled has =
     }
 
 -- a list that names another
-pub list-further : (index subindex lists : ℕ) (keys : List Key) (octets : List ℕ) (listed : List Key) (further : ℕ) → reading_of octets ≡ Ok (listed, next_is.List further)
+pub list-further : (index subindex lists : ℕ) (keys : List Key) (octets : List ℕ) (listed : List Key) (further : ℕ)
+    → reading_of octets ≡ Ok (listed, next_is.List further)
     → lists + 1 < MOST_LISTS → (settled : List Exchange) → HasListed index subindex lists keys settled
     → HasListed further 0 (lists + 1) (fold kept_with keys listed) (settled ++ read_of index subindex octets ∷ [])
 list-further index subindex lists keys octets listed further is few settled has =
@@ -140,7 +157,8 @@ list-further index subindex lists keys octets listed further is few settled has 
     }
 
 -- a value
-pub value-read : (entries : List Entry) (key : Key) (behind : List Key) (octets : List ℕ) (settled : List Exchange) → HasRead entries (key ∷ behind) settled
+pub value-read : (entries : List Entry) (key : Key) (behind : List Key) (octets : List ℕ) (settled : List Exchange)
+    → HasRead entries (key ∷ behind) settled
     → HasRead (entries ++ (key, octets) ∷ []) behind (settled ++ read_of key.index key.subindex octets ∷ [])
 value-read entries key behind octets settled has =
     let read = read_of key.index key.subindex octets in
@@ -155,5 +173,6 @@ value-read entries key behind octets settled has =
       declared = has.declared;
       chain = has.chain;
       few = has.few;
-      keys = ap (λ k. k ++ behind) (map-append (λ (e : Entry). e.0) entries ((key, octets) ∷ [])) ∙ append_assoc (keys_of entries) (key ∷ []) behind ∙ has.keys;
+      keys = ap (λ k. k ++ behind) (map-append (λ (e : Entry). e.0) entries ((key, octets) ∷ []))
+          ∙ append_assoc (keys_of entries) (key ∷ []) behind ∙ has.keys;
     }

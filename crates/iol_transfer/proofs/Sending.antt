@@ -1,5 +1,6 @@
 -- What `feed` of a download ensures of the exchanges since it began, from what it does to the download.
-use Rattle.std.proofs.Common.{◌≡◌, ◌≢◌, ℕ, zero, suc, ◌+◌, ◌<◌, ◌⊎◌, inl, inr, List, [], ◌∷◌, ◌++◌, map, length, drop, get_or, refl, ap, sym, ◌∙◌, subst, arith, append_assoc, lit<}
+use Rattle.std.proofs.Common.{◌≡◌, ◌≢◌, ℕ, zero, suc, ◌+◌, ◌<◌, ◌⊎◌, inl, inr, List, [], ◌∷◌, ◌++◌, map, length, drop, get_or, refl, ap}
+use Rattle.std.proofs.Common.{sym, ◌∙◌, subst, arith, append_assoc, lit<}
 use Rattle.std.proofs.lemmas.List.{map-append, append-nil, replicate_more, drop_more}
 use Rattle.std.proofs.lemmas.Option.{slice_get_within, get_or_from_slice_get}
 use Rattle.std.specs.Prelude.{Some, None, slice_get}
@@ -13,7 +14,9 @@ use Rattle.iol_transfer.specs.declared.repeats.TheConstants.{MOST_REQUESTS}
 use Rattle.iol_transfer.specs.declared.download.DownloadStep.{DownloadStep}
 use Rattle.iol_transfer.specs.declared.download.DownloadStep.TheVariants as step_is
 use Rattle.iol_transfer.specs.Exchanges.{Exchange, done, busy_times, Follows}
-use Rattle.iol_transfer.specs.Download.{Sends, Opening, Parameter, Closing, Sender, sent_by, behind_of, sends_after, writing, writes_of, order_of, entry_written, answered_to, IsDownload, IsDownloadCause, IsDownloading, IsDownloadStep, IfGoesOn, IfDone}
+use Rattle.iol_transfer.specs.Download.{Sends, Opening, Parameter, Closing, Sender, sent_by, behind_of, sends_after, writing, writes_of}
+use Rattle.iol_transfer.specs.Download.{order_of, entry_written, answered_to, IsDownload, IsDownloadCause, IsDownloading, IsDownloadStep}
+use Rattle.iol_transfer.specs.Download.{IfGoesOn, IfDone}
 use Rattle.iol_transfer.proofs.Order.{follows-more}
 
 behind-after : (set : SetValue) (sends : Sends) → sends ≢ Closing
@@ -40,7 +43,8 @@ fed-on old new answer step_is.More is = λ set conversation since. by is set con
         → IsDownloading set (conversation ++ answered_to old answer ∷ []) new
     waits busy set conversation since =
         let exchange : Exchange = answered_to old Busy in
-        let here : IsDownloading set (conversation ++ exchange ∷ []) (record { set = old.set; sends = old.sends; busy = old.busy + 1 }) = record {
+        let here : IsDownloading set (conversation ++ exchange ∷ [])
+        (record { set = old.set; sends = old.sends; busy = old.busy + 1 }) = record {
           set_is = since.set_is;
           sent = since.sent;
           before = since.before;
@@ -60,17 +64,22 @@ fed-on old new answer step_is.More is = λ set conversation since. by is set con
     on written set conversation since =
         let request = sent_by old.sends in
         let exchange : Exchange = done request in
-        let order : order_of set ≡ (since.sent ++ request ∷ []) ++ sent_by (sends_after old.set old.sends) ∷ behind_of set (sends_after old.set old.sends) =
+        let order : order_of set
+        ≡ (since.sent ++ request ∷ []) ++ sent_by (sends_after old.set old.sends) ∷ behind_of set (sends_after old.set old.sends) =
         since.order
         ∙ ap (λ s. since.sent ++ request ∷ behind_of s old.sends) (sym since.set_is)
         ∙ ap (λ b. since.sent ++ request ∷ b) (behind-after old.set old.sends written.1)
-        ∙ ap (λ s. since.sent ++ request ∷ sent_by (sends_after old.set old.sends) ∷ behind_of s (sends_after old.set old.sends)) since.set_is
+        ∙ ap (λ s. since.sent ++ request ∷ sent_by (sends_after old.set old.sends) ∷ behind_of s
+        (sends_after old.set old.sends)) since.set_is
         ∙ sym (append_assoc since.sent (request ∷ []) _) in
-        let same : since.before ++ busy_times old.busy request ++ exchange ∷ [] ≡ conversation ++ exchange ∷ [] = ap (λ c. c ++ exchange ∷ []) (sym since.is) in
+        let same : since.before ++ busy_times old.busy request ++ exchange ∷ []
+        ≡ conversation ++ exchange ∷ [] = ap (λ c. c ++ exchange ∷ []) (sym since.is) in
         let follows : Follows (conversation ++ exchange ∷ []) (map done (since.sent ++ request ∷ [])) =
         subst (Follows (conversation ++ exchange ∷ [])) (sym (map-append done since.sent (request ∷ [])))
-        (subst (λ c. Follows c (map done since.sent ++ exchange ∷ [])) same (follows-more since.before (map done since.sent) old.busy exchange since.follows since.few)) in
-        let here : IsDownloading set (conversation ++ exchange ∷ []) (record { set = old.set; sends = sends_after old.set old.sends; busy = 0 }) = record {
+        (subst (λ c. Follows c (map done since.sent ++ exchange ∷ [])) same
+        (follows-more since.before (map done since.sent) old.busy exchange since.follows since.few)) in
+        let here : IsDownloading set (conversation ++ exchange ∷ [])
+        (record { set = old.set; sends = sends_after old.set old.sends; busy = 0 }) = record {
           set_is = since.set_is;
           sent = since.sent ++ request ∷ [];
           before = conversation ++ exchange ∷ [];
@@ -99,9 +108,11 @@ whole-is set conversation old since last =
     let exchange : Exchange = done request in
     let none : behind_of set old.sends ≡ [] = ap (behind_of set) last in
     let order : order_of set ≡ since.sent ++ request ∷ [] = since.order ∙ ap (λ b. since.sent ++ request ∷ b) none in
-    let same : since.before ++ busy_times old.busy request ++ exchange ∷ [] ≡ conversation ++ exchange ∷ [] = ap (λ c. c ++ exchange ∷ []) (sym since.is) in
+    let same : since.before ++ busy_times old.busy request ++ exchange ∷ []
+    ≡ conversation ++ exchange ∷ [] = ap (λ c. c ++ exchange ∷ []) (sym since.is) in
     subst (Follows (conversation ++ exchange ∷ [])) (sym (map-append done since.sent (request ∷ [])) ∙ ap (map done) (sym order))
-    (subst (λ c. Follows c (map done since.sent ++ exchange ∷ [])) same (follows-more since.before (map done since.sent) old.busy exchange since.follows since.few))
+    (subst (λ c. Follows c (map done since.sent ++ exchange ∷ [])) same
+    (follows-more since.before (map done since.sent) old.busy exchange since.follows since.few))
 
 pub fed-done : (old new : Sender) (answer : Answer) (result : DownloadStep) → IsDownloadStep old answer result new
     → IfDone result ((set : SetValue) (conversation : List Exchange) → IsDownloading set conversation old
@@ -128,7 +139,8 @@ same-busy (suc times) zero request rest more is = absurd (done-not-busy (sym (sa
 same-busy (suc times) (suc others) request rest more is = same-busy times others request rest more (same-head _ _ _ _ is).1
 
 -- what follows some requests and others goes on from those with the others
-follows-rest : (sent left : List Request) (before rest : List Exchange) → Follows before (map done sent) → Follows (before ++ rest) (map done (sent ++ left))
+follows-rest : (sent left : List Request) (before rest : List Exchange) → Follows before (map done sent)
+    → Follows (before ++ rest) (map done (sent ++ left))
     → Follows rest (map done left)
 follows-rest [] left before rest first all = subst (λ b. Follows (b ++ rest) (map done left)) first all
 follows-rest (request ∷ sent) left before rest first all =
@@ -141,7 +153,8 @@ follows-rest (request ∷ sent) left before rest first all =
 last-of : (times busy : ℕ) (request : Request) (answer : Answer) (left : List Request) (rest : List Exchange)
     → busy_times busy request ++ record { request = request; answer = answer } ∷ [] ≡ busy_times times request ++ done request ∷ rest
     → Follows rest (map done left) → (answer ≡ WriteOk) × (left ≡ [])
-last-of zero zero request answer left rest is follows = let parts = same-head _ _ [] rest is in (parts.0, none left (subst (λ r. Follows r (map done left)) (sym parts.1) follows))
+last-of zero zero request answer left rest is follows =
+    let parts = same-head _ _ [] rest is in (parts.0, none left (subst (λ r. Follows r (map done left)) (sym parts.1) follows))
   where
     none : (left : List Request) → Follows [] (map done left) → left ≡ []
     none [] follows = refl
@@ -156,7 +169,8 @@ last-of (suc times) zero request answer left rest is follows = absurd (empty tim
     empty : (times : ℕ) → [] ≡ busy_times times request ++ done request ∷ rest → ⊥
     empty zero is = cc
     empty (suc times) is = cc
-last-of (suc times) (suc busy) request answer left rest is follows = last-of times busy request answer left rest (same-head _ _ _ _ is).1 follows
+last-of (suc times) (suc busy) request answer left rest is follows =
+    last-of times busy request answer left rest (same-head _ _ _ _ is).1 follows
 
 none-behind : (set : SetValue) (sends : Sends) → behind_of set sends ≡ [] → sends ≡ Closing
 none-behind set Opening is = absurd (some set.entries is)
@@ -177,11 +191,13 @@ pub last-answer : (set : SetValue) (conversation : List Exchange) (old : Sender)
 last-answer set conversation old answer since all =
     let request = sent_by old.sends in
     let exchange = answered_to old answer in
-    let whole : Follows (since.before ++ (busy_times old.busy request ++ exchange ∷ [])) (map done (since.sent ++ request ∷ behind_of set old.sends)) =
+    let whole : Follows (since.before ++ (busy_times old.busy request ++ exchange ∷ []))
+    (map done (since.sent ++ request ∷ behind_of set old.sends)) =
     subst (λ c. Follows c (map done (since.sent ++ request ∷ behind_of set old.sends)))
     (ap (λ c. c ++ exchange ∷ []) since.is ∙ append_assoc since.before (busy_times old.busy request) (exchange ∷ []))
     (subst (λ o. Follows (conversation ++ exchange ∷ []) (map done o)) since.order all) in
-    let left = follows-rest since.sent (request ∷ behind_of set old.sends) since.before (busy_times old.busy request ++ exchange ∷ []) since.follows whole in
+    let left = follows-rest since.sent (request ∷ behind_of set old.sends) since.before
+    (busy_times old.busy request ++ exchange ∷ []) since.follows whole in
     let last = last-of left.0 old.busy request answer (behind_of set old.sends) left.1 left.3 left.4 in
     (last.0, none-behind set old.sends last.1)
 
@@ -198,7 +214,8 @@ fed-last old new answer result is set conversation since all = by result is
     by step_is.More is = absurd (more is)
       where
         more : ((answer ≡ Busy) × (old.busy + 1 < MOST_REQUESTS) × (new ≡ record { set = old.set; sends = old.sends; busy = old.busy + 1 }))
-            ⊎ ((answer ≡ WriteOk) × (old.sends ≢ Closing) × (new ≡ record { set = old.set; sends = sends_after old.set old.sends; busy = 0 })) → ⊥
+            ⊎ ((answer ≡ WriteOk) × (old.sends ≢ Closing)
+            × (new ≡ record { set = old.set; sends = sends_after old.set old.sends; busy = 0 })) → ⊥
         more (inl busy) = done-not-busy (sym last.0 ∙ busy.0)
         more (inr written) = written.1 last.1
     by (step_is.Fault why) is = absurd (never why (subst (λ a. IsDownloadCause old.busy a why) last.0 is))
@@ -214,12 +231,16 @@ fed-last old new answer result is set conversation since all = by result is
 -- ---- what is written next
 
 -- at the place of an entry it is the next, and behind the last there is none
-pub writing-entry : (entries : List Entry) (place : ℕ) (entry : Entry) → Some entry ≡ slice_get entries place → sent_by (writing (drop place entries)) ≡ entry_written entry
+pub writing-entry : (entries : List Entry) (place : ℕ) (entry : Entry) → Some entry ≡ slice_get entries place
+    → sent_by (writing (drop place entries)) ≡ entry_written entry
 writing-entry entries place entry there =
     let below = slice_get_within entries place entry (sym there) in
-    ap (λ left. sent_by (writing left)) (drop_more entries place entry below ∙ ap (λ e. e ∷ drop (place + 1) entries) (get_or_from_slice_get entries place entry entry (sym there)))
+    ap (λ left. sent_by (writing left))
+    (drop_more entries place entry below
+    ∙ ap (λ e. e ∷ drop (place + 1) entries) (get_or_from_slice_get entries place entry entry (sym there)))
 
-pub writing-end : (entries : List Entry) (place : ℕ) → None ≡ slice_get entries place → sent_by (writing (drop place entries)) ≡ sent_by Closing
+pub writing-end : (entries : List Entry) (place : ℕ) → None ≡ slice_get entries place
+    → sent_by (writing (drop place entries)) ≡ sent_by Closing
 writing-end [] zero none = refl
 writing-end [] (suc place) none = refl
 writing-end (entry ∷ entries) zero none = cc
@@ -230,7 +251,8 @@ parameter-open entry behind same = cc
 
 -- and the next place is behind it
 pub writing-next : (set : SetValue) (place : ℕ) → place < length set.entries
-    → (writing (drop place set.entries) ≢ Closing) × (writing (drop (place + 1) set.entries) ≡ sends_after set (writing (drop place set.entries)))
+    → (writing (drop place set.entries) ≢ Closing)
+    × (writing (drop (place + 1) set.entries) ≡ sends_after set (writing (drop place set.entries)))
 writing-next set place below = by set.entries below
   where
     by : (entries : List Entry) → place < length entries
@@ -239,5 +261,6 @@ writing-next set place below = by set.entries below
     by (entry ∷ entries) below =
         let next = get_or (entry ∷ entries) place entry in
         let behind = drop (place + 1) (entry ∷ entries) in
-        let is : writing (drop place (entry ∷ entries)) ≡ Parameter next behind = ap writing (drop_more (entry ∷ entries) place entry below) in
+        let is : writing (drop place (entry ∷ entries))
+        ≡ Parameter next behind = ap writing (drop_more (entry ∷ entries) place entry below) in
         (λ closing. parameter-open next behind (sym is ∙ closing), ap (sends_after set) (sym is))

@@ -14,15 +14,17 @@ use Rattle.iol_dsindex.specs.declared.command.DsCommand.TheVariants.{UploadStart
 use Rattle.iol_dsindex.specs.declared.list.Next.TheVariants as next
 use Rattle.iol_dsindex.specs.declared.list.ListFault.{ListFault}
 use Rattle.iol_dsindex.specs.declared.object.TheConstants.{DATA_STORAGE_SIZE, PARAMETER_CHECKSUM, INDEX_LIST}
-use Rattle.iol_transfer.specs.Exchanges.{Exchange, carried, commanded, done, read_of, busy_times, Follows}
+use Rattle.iol_dsindex.specs.Command.{commanded}
+use Rattle.iol_transfer.specs.Exchanges.{Exchange, carried, done, read_of, busy_times, Follows}
 use Rattle.iol_transfer.specs.Upload.{IsSize, number_of, AreLists, opening, entry_read}
 use Rattle.iol_transfer.specs.declared.fault.TransferFault.{TransferFault}
 use Rattle.iol_transfer.specs.declared.fault.TransferFault.TheVariants as fault
 use Rattle.iol_transfer.specs.declared.repeats.TheConstants.{MOST_REQUESTS}
 use Rattle.iol_transfer.specs.declared.upload.TheConstants.{MOST_LISTS}
 
--- what an upload asks next, with what it knows by then: that it starts; the size; a list at an address, the lists read and
--- their keys; a key's value, the entries read and the keys behind it; the checksum, and the entries (own)
+-- what an upload asks next, with what it knows by then. It asks to start, and for the size. It asks for a list at an
+-- address, with the lists read and their keys. It asks for a key's value, with the entries read and the keys behind it, and
+-- for the checksum, with the entries (own)
 pub data Asks : Type 0 where
   Start : Asks
   Size : Asks

@@ -6,7 +6,8 @@ use Rattle.iol_isdu.specs.declared.messages.Request.TheVariants.{Write}
 use Rattle.iol_isdu.specs.declared.messages.Answer.{Answer}
 use Rattle.iol_isdu.specs.declared.messages.Answer.TheVariants.{WriteOk, WriteFault, Busy}
 use Rattle.iol_dsindex.specs.declared.command.DsCommand.TheVariants.{DownloadStart, DownloadEnd}
-use Rattle.iol_transfer.specs.Exchanges.{Exchange, carried, commanded, done, busy_times, Follows}
+use Rattle.iol_dsindex.specs.Command.{commanded}
+use Rattle.iol_transfer.specs.Exchanges.{Exchange, carried, done, busy_times, Follows}
 use Rattle.iol_transfer.specs.Asked.{answers}
 use Rattle.iol_transfer.specs.declared.fault.TransferFault.{TransferFault}
 use Rattle.iol_transfer.specs.declared.fault.TransferFault.TheVariants as fault
@@ -36,7 +37,7 @@ abbrev pub IsDownload : SetValue → List Exchange → Type 0
 IsDownload set conversation = Follows conversation (map done (order_of set))
 
 -- after this conversation a download of a set sends this request, which was answered Device busy so many times in a row,
--- fewer than 16: those before it in the order were sent and answered (+), and nothing else was sent (own)
+-- fewer than 16. Those before it in the order were sent and answered (+), and nothing else was sent (own)
 pub record IsSending (set : SetValue) (conversation : List Exchange) (request : Request) (busy : ℕ) : Type 0 where
   pub sent : List Request
   pub left : List Request
@@ -89,7 +90,8 @@ sends_of entries (Writing place) = writing (drop place entries)
 
 -- a download in memory (own)
 abbrev pub sender_of : Inside → Sender
-sender_of download = record { set = download.set.value; sends = sends_of download.set.value.entries download.progress; busy = download.repeats }
+sender_of download =
+    record { set = download.set.value; sends = sends_of download.set.value.entries download.progress; busy = download.repeats }
 
 -- the request that it sends (standard, Data Storage object)
 abbrev pub sent_by : Sends → Request

@@ -1,14 +1,10 @@
 -- Conversations with a device: requests, each with its answer.
 use Rattle.std.specs.Prelude.{◌≡◌, ℕ, ◌<◌, ◌∷◌, [], ◌++◌, List, replicate}
 use Rattle.arrayvec.specs.ArrayVec.{ArrayVec}
-use Rattle.iol_types.specs.declared.key.TheConstants.{DATA_STORAGE}
 use Rattle.iol_isdu.specs.declared.messages.Request.{Request}
-use Rattle.iol_isdu.specs.declared.messages.Request.TheVariants.{Read, Write}
+use Rattle.iol_isdu.specs.declared.messages.Request.TheVariants.{Read}
 use Rattle.iol_isdu.specs.declared.messages.Answer.{Answer}
 use Rattle.iol_isdu.specs.declared.messages.Answer.TheVariants.{ReadOk, WriteOk, Busy}
-use Rattle.iol_dsindex.specs.Command.{ds_command_octet}
-use Rattle.iol_dsindex.specs.declared.command.DsCommand.{DsCommand}
-use Rattle.iol_dsindex.specs.declared.object.TheConstants.{DS_COMMAND}
 use Rattle.iol_transfer.specs.declared.repeats.TheConstants.{MOST_REQUESTS}
 
 -- a request, and what the device answered (standard, ISDU)
@@ -19,10 +15,6 @@ pub record Exchange : Type 0 where
 -- octets that a message carries (own)
 abbrev pub carried : List ℕ → ArrayVec ℕ
 carried octets = record { items = octets }
-
--- the request to write one octet, a command, to DS_Command (standard, Data Storage object)
-abbrev pub commanded : DsCommand → Request
-commanded command = Write DATA_STORAGE DS_COMMAND (carried (ds_command_octet command ∷ []))
 
 -- a write that is answered (+) (standard, ISDU)
 abbrev pub done : Request → Exchange

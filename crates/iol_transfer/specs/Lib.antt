@@ -4,3 +4,4 @@ pub mod Asked
 pub mod Machine
 pub mod Fields
 pub mod Download
+pub mod Examples

@@ -1,5 +1,6 @@
 -- An upload, answer by answer.
-use Rattle.std.specs.Prelude.{◌≡◌, ℕ, ◌+◌, ◌==◌, nat_lt, not, Bool, if◌then◌else◌, List, [], ◌∷◌, ◌++◌, length, fold, Result, Ok, Err, is_some}
+use Rattle.std.specs.Prelude.{◌≡◌, ℕ, ◌+◌, ◌==◌, nat_lt, not, Bool, if◌then◌else◌, List, [], ◌∷◌, ◌++◌, length, fold, Result, Ok, Err}
+use Rattle.std.specs.Prelude.{is_some}
 use Rattle.iol_types.specs.DataSet.{Entry, SetValue, add_fault}
 use Rattle.iol_types.specs.declared.key.Key.{Key}
 use Rattle.iol_types.specs.declared.key.TheConstants.{DATA_STORAGE}

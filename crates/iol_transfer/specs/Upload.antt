@@ -11,7 +11,8 @@ use Rattle.iol_dsindex.specs.declared.command.DsCommand.TheVariants.{UploadStart
 use Rattle.iol_dsindex.specs.declared.list.Next.{Next}
 use Rattle.iol_dsindex.specs.declared.list.Next.TheVariants as next
 use Rattle.iol_dsindex.specs.declared.object.TheConstants.{DATA_STORAGE_SIZE, PARAMETER_CHECKSUM, INDEX_LIST}
-use Rattle.iol_transfer.specs.Exchanges.{Exchange, commanded, done, read_of, Follows}
+use Rattle.iol_dsindex.specs.Command.{commanded}
+use Rattle.iol_transfer.specs.Exchanges.{Exchange, done, read_of, Follows}
 use Rattle.iol_transfer.specs.declared.upload.TheConstants.{MOST_LISTS}
 
 -- the number of four octets, most significant octet first (standard, Data Storage object)

@@ -7,7 +7,6 @@ ghost use Rattle.iol_transfer.specs.Download.{entry_written};
 
 use crate::fault::TransferFault;
 use crate::repeats::Repeats;
-use crate::upload::command;
 use arrayvec::ArrayVec;
 use iol_dsindex::DsCommand;
 use iol_isdu::{Answer, DATA_OCTETS, Request};
@@ -55,7 +54,8 @@ impl Model for Download {
 }
 
 impl Download {
-    ghost use Rattle.iol_transfer.specs.Download.{IsDownload, IsSending, DownloadEndsIn, begun_download, sent_by, writing, answered_to, IsDownloading, IsDownloadStep, IfGoesOn, IfDone, IfEnds};
+    ghost use Rattle.iol_transfer.specs.Download.{IsDownload, IsSending, DownloadEndsIn, begun_download, sent_by, writing, answered_to};
+    ghost use Rattle.iol_transfer.specs.Download.{IsDownloading, IsDownloadStep, IfGoesOn, IfDone, IfEnds};
 
     /// A download of this set.
     pub fn begin(set: Arc<DataSet>) -> Download
@@ -105,10 +105,10 @@ impl Download {
         ensures { result ≡ sent_by self.now.sends }
     {
         match &self.progress {
-            Progress::Starting => command(DsCommand::DownloadStart),
+            Progress::Starting => DsCommand::DownloadStart.request(),
             Progress::Writing { place } => match self.set.entry(*place) {
                 Some((key, octets)) => write(key, octets),
-                None => command(DsCommand::DownloadEnd),
+                None => DsCommand::DownloadEnd.request(),
             },
         }
     }

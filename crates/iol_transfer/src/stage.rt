@@ -114,7 +114,8 @@ pub(crate) fn value_read(
     octets: &[u8],
 ) -> Result<Stage, TransferFault>
     requires { place < length keys.items }
-    ensures stage { (machine : Machine) (key : Key) (behind : List Key) → drop place keys.items ≡ key ∷ behind → machine.asks ≡ Value entries key behind
+    ensures stage { (machine : Machine) (key : Key) (behind : List Key) → drop place keys.items ≡ key ∷ behind
+        → machine.asks ≡ Value entries key behind
         → IsStageAfter machine (ReadOk (carried octets.now)) result (after_value machine entries key behind octets.now) }
     ensures ranges { IfOk result IsStage }
 {

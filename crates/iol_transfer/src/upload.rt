@@ -2,7 +2,7 @@
 ghost use Rattle.std.specs.Prelude.{IfOk, ◌≡◌, ℕ, List, [], ◌∷◌, ◌++◌, not};
 ghost use Rattle.iol_types.specs.DataSet.{SetValue, IsSet};
 ghost use Rattle.iol_isdu.specs.declared.messages.Answer.TheVariants as answer;
-ghost use Rattle.iol_transfer.specs.Exchanges.{Exchange, carried, commanded};
+ghost use Rattle.iol_transfer.specs.Exchanges.{Exchange, carried};
 ghost use Rattle.iol_transfer.specs.Upload.{IsFinished};
 ghost use Rattle.iol_transfer.specs.Machine.{Machine, after_refusal};
 ghost use Rattle.iol_transfer.specs.Fields.{IsOutcome, IfWhole};
@@ -10,8 +10,7 @@ ghost use Rattle.iol_transfer.specs.Fields.{IsOutcome, IfWhole};
 use crate::fault::TransferFault;
 use crate::repeats::Repeats;
 use crate::stage::{Stage, list_read, number, size_read, value_read};
-use arrayvec::ArrayVec;
-use iol_dsindex::{DATA_STORAGE_SIZE, DS_COMMAND, DsCommand, PARAMETER_CHECKSUM};
+use iol_dsindex::{DATA_STORAGE_SIZE, DsCommand, PARAMETER_CHECKSUM};
 use iol_isdu::{Answer, Request};
 use iol_types::{DATA_STORAGE, DataSet, DeviceId, SetBuilder};
 use std::alloc::Global;
@@ -93,11 +92,14 @@ impl Upload {
         ensures step { IsOutcome self.old answer result self.new (step self.old answer) }
         ensures more { IfMore result ((vendor device : ℕ) (conversation : List Exchange) → IsSinceBegin vendor device conversation self.old
             → IsSinceBegin vendor device (conversation ++ answered self.old answer ∷ []) self.new) }
-        ensures whole { IfWhole result (λ set. (vendor device : ℕ) (conversation : List Exchange) → IsSinceBegin vendor device conversation self.old
+        ensures whole { IfWhole result (λ set. (vendor device : ℕ) (conversation : List Exchange)
+            → IsSinceBegin vendor device conversation self.old
             → IsFinished vendor device (conversation ++ answered self.old answer ∷ []) set) }
-        ensures only { (vendor device : ℕ) (conversation : List Exchange) (set : SetValue) → IsSinceBegin vendor device conversation self.old
+        ensures only { (vendor device : ℕ) (conversation : List Exchange) (set : SetValue)
+            → IsSinceBegin vendor device conversation self.old
             → IsFinished vendor device (conversation ++ answered self.old answer ∷ []) set → IsWholeOrMemory result set }
-        ensures fault { IfFault result (λ why. (vendor device : ℕ) (conversation : List Exchange) → IsSinceBegin vendor device conversation self.old
+        ensures fault { IfFault result (λ why. (vendor device : ℕ) (conversation : List Exchange)
+            → IsSinceBegin vendor device conversation self.old
             → EndsIn conversation answer why) }
     {
         self.take(answer)
@@ -108,7 +110,7 @@ impl Upload {
         ensures { result ≡ asked self.now }
     {
         match &self.stage {
-            Stage::Starting => command(DsCommand::UploadStart),
+            Stage::Starting => DsCommand::UploadStart.request(),
             Stage::Sizing => Request::Read {
                 index: DATA_STORAGE,
                 subindex: DATA_STORAGE_SIZE,
@@ -182,7 +184,8 @@ impl Upload {
 
     // After octets that were read.
     fn read(&mut self, octets: &[u8]) -> UploadStep
-        ensures step { IsOutcome self.old (answer.ReadOk (carried octets.now)) result self.new (after_read self.old self.old.asks octets.now) }
+        ensures step { IsOutcome self.old (answer.ReadOk (carried octets.now)) result self.new
+            (after_read self.old self.old.asks octets.now) }
         ensures set { IfWhole result IsSet }
     {
         match std::mem::replace(&mut self.stage, Stage::Starting) {
@@ -225,7 +228,8 @@ impl Upload {
 
     // Ends with the set of these entries, where the octets are a checksum.
     fn end(&mut self, entries: SetBuilder, octets: &[u8]) -> UploadStep
-        ensures step { IsOutcome self.old (answer.ReadOk (carried octets.now)) result self.new (after_checksum self.old entries octets.now) }
+        ensures step { IsOutcome self.old (answer.ReadOk (carried octets.now)) result self.new
+            (after_checksum self.old entries octets.now) }
         ensures set { IfWhole result IsSet }
     {
         match number(octets) {
@@ -244,18 +248,5 @@ fn refused(right: bool, error: u8, additional: u8) -> UploadStep
         UploadStep::Fault(TransferFault::Refused { error, additional })
     } else {
         UploadStep::Fault(TransferFault::Unexpected)
-    }
-}
-
-// The request to write a command to the Data Storage of the device.
-pub(crate) fn command(command: DsCommand) -> Request
-    ensures { result ≡ commanded command }
-{
-    let mut octets = ArrayVec::new();
-    octets.push(command.to_octet());
-    Request::Write {
-        index: DATA_STORAGE,
-        subindex: DS_COMMAND,
-        octets,
     }
 }

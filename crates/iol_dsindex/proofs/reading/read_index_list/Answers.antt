@@ -18,7 +18,8 @@ loop-rest-preserved c =
     let rest = c.loop-rest.rest.now in
     let key = λ (index : ℕ). let key : Key = record { index = index; subindex = get_or rest 2 0 } in key in
     let free : is_reserved (key_in rest) ≡ false =
-    ap (λ (index : ℕ). is_reserved (key index)) (sym c.from_be_bytes-index.ensures) ∙ sym c.is_reserved.ensures.reserved ∙ c.if-is_reserved.false in
+    ap (λ (index : ℕ). is_reserved (key index)) (sym c.from_be_bytes-index.ensures) ∙ sym c.is_reserved.ensures.reserved
+    ∙ c.if-is_reserved.false in
     let kept : c.keep_key.new.keys.items ≡ kept_with c.loop-rest.keys.items (key_in rest) =
     c.in_ok-keep_key.ensures.kept ∙ ap (λ (index : ℕ). kept_with c.loop-rest.keys.items (key index)) c.from_be_bytes-index.ensures in
     record {
@@ -33,7 +34,8 @@ pub returns-then-index-eq0-clause-read : goal.returns-then-index-eq0-clause-read
 returns-then-index-eq0-clause-read c = grind (arith, common_steps)
 
 pub returns-then-index-eq0-clause-keys : goal.returns-then-index-eq0-clause-keys
-returns-then-index-eq0-clause-keys c = reading_of-keys c.args.octets.now _ _ (λ i. omega (arith, c.type_inv.octets i)) (returns-then-index-eq0-clause-read c)
+returns-then-index-eq0-clause-keys c =
+    reading_of-keys c.args.octets.now _ _ (λ i. omega (arith, c.type_inv.octets i)) (returns-then-index-eq0-clause-read c)
 
 pub returns-clause-read : goal.returns-clause-read
 returns-clause-read c = grind (arith, common_steps)

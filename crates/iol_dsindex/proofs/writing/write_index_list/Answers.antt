@@ -9,4 +9,5 @@ returns-clause-octets c = grind (arith, common_steps)
 
 pub returns-clause-read_back : goal.returns-clause-read_back
 returns-clause-read_back c =
-    λ distinct can. ap reading_of (returns-clause-octets c) ∙ reading_of-list_octets c.args.keys.now c.args.next c.requires.free distinct can
+    λ distinct can. ap reading_of (returns-clause-octets c)
+    ∙ reading_of-list_octets c.args.keys.now c.args.next c.requires.free distinct can

@@ -15,7 +15,7 @@ returns-in-Some c =
 
 pub returns-in-None : goal.returns-in-None
 returns-in-None c =
-    c.command-in-None.ensures
+    c.request-in-None.ensures
     ∙ sym (writing-end _ c.in-Writing.place c.in-None.ensures.entry)
     ∙ ap (λ (set : SetValue). sent_by (sends_of set.entries (Writing c.in-Writing.place))) c.deref.ensures
     ∙ ap (λ progress. sent_by (sends_of c.self.inside.set.value.entries progress)) (sym c.in-Writing.is)

@@ -21,5 +21,6 @@ returns-then-place-len c =
       refl,
       λ closing. next.0 (sym sends ∙ closing),
       c.go_on-then-place-len.ensures.sender
-          ∙ ap (λ (s : Sends). let sender : Sender = record { set = now.set; sends = s; busy = 0 } in sender) (next.1 ∙ ap (sends_after now.set) (sym sends)),
+          ∙ ap (λ (s : Sends). let sender : Sender = record { set = now.set; sends = s; busy = 0 } in sender)
+          (next.1 ∙ ap (sends_after now.set) (sym sends)),
     ))

@@ -17,10 +17,18 @@ returns-then-place-len-clause-step c =
     let key : Key = get_or keys place (record { index = 0; subindex = 0 }) in
     let left : drop place keys ≡ key ∷ drop (place + 1) keys = drop_more keys place _ (omega (arith, c.if-place-len.true, c.len.ensures)) in
     let asks : c.args.self.now.asks ≡ Value c.in-Reading.entries key (drop (place + 1) keys) =
-    ap (λ (machine : Machine). machine.asks) (sym c.self.view_is) ∙ ap asks_of (sym c.in-Reading.ensures.value) ∙ ap (reading c.in-Reading.entries) left in
-    let after : IsStageAfter c.args.self.now (ReadOk (carried octets)) c.value_read.result (after_read c.args.self.now c.args.self.now.asks octets) =
+    ap (λ (machine : Machine). machine.asks) (sym c.self.view_is) ∙ ap asks_of (sym c.in-Reading.ensures.value)
+    ∙ ap (reading c.in-Reading.entries) left in
+    let after : IsStageAfter c.args.self.now (ReadOk (carried octets)) c.value_read.result
+    (after_read c.args.self.now c.args.self.now.asks octets) =
     subst (λ a. IsStageAfter c.args.self.now (ReadOk (carried octets)) c.value_read.result (after_read c.args.self.now a octets)) (sym asks)
     (c.value_read.ensures.stage c.args.self.now key (drop (place + 1) keys) left asks) in
-    let start : Machine = record { vendor = c.self.inside.vendor; device = c.self.inside.device; asks = Start; busy = c.self.inside.repeats } in
-    stage-outcome c.args.self.now start _ _ _ _ _ (ap (λ (machine : Machine). machine.vendor) c.self.view_is) (ap (λ (machine : Machine). machine.device) c.self.view_is)
+    let start : Machine = record {
+      vendor = c.self.inside.vendor;
+      device = c.self.inside.device;
+      asks = Start;
+      busy = c.self.inside.repeats;
+    } in
+    stage-outcome c.args.self.now start _ _ _ _ _ (ap (λ (machine : Machine). machine.vendor) c.self.view_is)
+    (ap (λ (machine : Machine). machine.device) c.self.view_is)
     c.go_on-then-place-len.ensures after
