@@ -1,7 +1,8 @@
 //! What a link to the devices of a port does.
 
 ghost use Rattle.std.specs.Prelude.{◌≡◌, ℕ, IsErr, IsNone};
-ghost use Rattle.iol_link.specs.Link.{LinkCall, TakeEvent, ReadPage, Exchange, LinkAnswer, event_answer, page_answer, exchange_answer, connection_after, last_connection};
+ghost use Rattle.iol_link.specs.Link.{LinkCall, TakeEvent, ReadPage, Exchange, LinkAnswer, event_answer, page_answer, exchange_answer};
+ghost use Rattle.iol_link.specs.Link.{connection_after, last_connection};
 
 use arrayvec::ArrayVec;
 use iol_isdu::ISDU_OCTETS;
