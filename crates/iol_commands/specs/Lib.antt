@@ -5,3 +5,4 @@ pub mod Stop
 pub mod Devices
 pub mod Steps
 pub mod Images
+pub mod Texts

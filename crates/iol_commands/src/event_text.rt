@@ -1,9 +1,9 @@
 //! The lines of an event (docs/FORMATS.md, "Texts").
 
+use crate::names::refusal_name;
 use crate::status_text::StatusText;
-use iol_core::SubmitFault;
 use iol_run::Event;
-use iol_types::{CommandFault, PortId};
+use iol_types::PortId;
 use std::fmt;
 
 // The lines of an event: one, or two for an exchange and for a request that was lost. What the core answers to a port
@@ -11,7 +11,7 @@ use std::fmt;
 pub(crate) fn write_event<W: fmt::Write>(f: &mut fmt::Formatter<W>, event: &Event) -> fmt::Result {
     match event {
         Event::Accepted { number, .. } => writeln!(f, "accepted {number}"),
-        Event::Refused(fault) => writeln!(f, "refused {}", name_of(*fault)),
+        Event::Refused(fault) => writeln!(f, "refused {}", refusal_name(*fault)),
         Event::Page { port, octets, .. } => write_octets(f, *port, "page", octets),
         Event::Exchange { port, octets, .. } => {
             write_octets(f, *port, ">", octets.request.as_slice())?;
@@ -44,18 +44,4 @@ fn write_octets<W: fmt::Write>(
         write!(f, " {octet:02X}")?;
     }
     f.write_str("\n")
-}
-
-// What the trace calls a refusal.
-fn name_of(fault: SubmitFault) -> &'static str {
-    match fault {
-        SubmitFault::Stopped => "Stopped",
-        SubmitFault::Command(CommandFault::UnknownPort) => "UnknownPort",
-        SubmitFault::Command(CommandFault::RevisionSpent) => "RevisionSpent",
-        SubmitFault::Command(CommandFault::NotAllowed) => "NotAllowed",
-        SubmitFault::Command(CommandFault::StaleRevision) => "StaleRevision",
-        SubmitFault::Command(CommandFault::WrongDevice) => "WrongDevice",
-        SubmitFault::QueueFull => "QueueFull",
-        SubmitFault::Exhausted => "Exhausted",
-    }
 }

@@ -7,10 +7,11 @@
 //!
 //! Modules in reading order: `geometry` judges a script's numbers; `disk` has the disk that a run is made on, `recovery`
 //! the journal on it, `devices` the devices at the ports, `steps` the steps of a script, and `run` runs it; `image`
-//! formats and shows the disk of an image file; `trace_text`, `event_text`, `status_text` and `state_text` have the
-//! lines, and `fault` why a command fails; `commands` and `image_commands` are the commands over writers, `words` what
-//! the words of the command line ask for, and `arguments` carries it out. Which texts can be run is defined in
-//! `specs/Runs.antt`, what the steps of a script are in `specs/Steps.antt`.
+//! formats and shows the disk of an image file; `trace_text`, `event_text`, `status_text`, `names` and `state_text` have
+//! the lines, and `fault` why a command fails; `commands` and `image_commands` are the commands over writers, `words`
+//! what the words of the command line ask for, and `arguments` carries it out;
+//! `examples` has words of a trace, worked out. Which texts can be run is defined in `specs/Runs.antt`, what the steps of
+//! a script are in `specs/Steps.antt`, and the words of a trace in `specs/Texts.antt`.
 #![tactic(auto)]
 
 mod arguments;
@@ -18,10 +19,12 @@ mod commands;
 mod devices;
 mod disk;
 mod event_text;
+pub mod examples;
 mod fault;
 mod geometry;
 mod image;
 mod image_commands;
+mod names;
 mod recovery;
 mod run;
 mod state_text;

@@ -1,6 +1,6 @@
 //! The words for the status of a port (docs/FORMATS.md, "Texts").
 
-use iol_ident::IdentFault;
+use crate::names::{failure_name, mismatch_name};
 use iol_port::{PortFault, PortStatus};
 use std::fmt;
 
@@ -9,6 +9,12 @@ use std::fmt;
 pub(crate) struct StatusText(pub(crate) PortStatus);
 
 impl fmt::Display for StatusText {
+    ghost use Rattle.std.specs.Prelude.{Some};
+    ghost use Rattle.iol_port.specs.Telling.{status_told};
+    ghost use Rattle.iol_commands.specs.Texts.{status_text};
+
+    ghost output = { λ status. Some (status_text (status_told status.0)) };
+
     fn fmt<W: fmt::Write>(&self, f: &mut fmt::Formatter<W>) -> fmt::Result {
         match self.0 {
             PortStatus::Off => f.write_str("off"),
@@ -20,44 +26,30 @@ impl fmt::Display for StatusText {
             PortStatus::Uploading => f.write_str("uploading"),
             PortStatus::Storing => f.write_str("storing"),
             PortStatus::Downloading => f.write_str("downloading"),
-            PortStatus::Mismatch(fault) => write!(f, "mismatch {}", mismatch_of(fault)),
-            PortStatus::Failed(PortFault::Refused { error, additional }) => {
-                write!(f, "failed Refused {error:02X} {additional:02X}")
-            }
-            PortStatus::Failed(fault) => write!(f, "failed {}", name_of(fault)),
+            PortStatus::Mismatch(fault) => write!(f, "mismatch {}", mismatch_name(fault)),
+            PortStatus::Failed(fault) => write!(f, "failed {}", FailureText(fault)),
         }
     }
 }
 
-// What is not as the port wants it.
-fn mismatch_of(fault: IdentFault) -> &'static str {
-    match fault {
-        IdentFault::Vendor => "vendor",
-        IdentFault::Device => "device",
-        IdentFault::Revision => "revision",
-        IdentFault::NoIsdu => "isdu",
-    }
-}
+// Why a port has failed, in words.
+#[derive(Drop)]
+struct FailureText(PortFault);
 
-// What the trace calls the fault of a port.
-fn name_of(fault: PortFault) -> &'static str {
-    match fault {
-        PortFault::Refused { .. } => "Refused",
-        PortFault::Unexpected => "Unexpected",
-        PortFault::Size => "Size",
-        PortFault::List => "List",
-        PortFault::Busy => "Busy",
-        PortFault::Memory => "Memory",
-        PortFault::Empty => "Empty",
-        PortFault::Reserved => "Reserved",
-        PortFault::WrongService => "WrongService",
-        PortFault::Length => "Length",
-        PortFault::Check => "Check",
-        PortFault::Stopped => "Stopped",
-        PortFault::NotAllowed => "NotAllowed",
-        PortFault::WrongDevice => "WrongDevice",
-        PortFault::Taken => "Taken",
-        PortFault::Same => "Same",
-        PortFault::Exhausted => "Exhausted",
+impl fmt::Display for FailureText {
+    ghost use Rattle.std.specs.Prelude.{Some};
+    ghost use Rattle.iol_port.specs.Telling.{failure_told};
+    ghost use Rattle.iol_commands.specs.Texts.{failure_text};
+
+    ghost output = { λ failure. Some (failure_text (failure_told failure.0)) };
+
+    #[tactic(auto, using(std::proofs::lemmas::Fmt::hex_byte))]
+    fn fmt<W: fmt::Write>(&self, f: &mut fmt::Formatter<W>) -> fmt::Result {
+        match self.0 {
+            PortFault::Refused { error, additional } => {
+                write!(f, "Refused {error:02X} {additional:02X}")
+            }
+            fault => f.write_str(failure_name(fault)),
+        }
     }
 }
