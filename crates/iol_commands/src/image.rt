@@ -11,10 +11,9 @@ ghost use Rattle.iol_commands.specs.Fault.{status_of};
 ghost use Rattle.iol_commands.specs.Images.{IsFileCause, TellsWhy};
 
 use crate::fault::Fault;
-use crate::recovery::recover;
 use crate::state_text::Recovered;
 use iol_disk::{DiskFault, ImageFault, ImageFile, SectorDisk};
-use iol_journal::Geometry;
+use iol_journal::{Geometry, Journal, RecoverFault};
 use std::alloc::Global;
 use std::fs::OpenFile;
 use std::os::unix::fs::FileExt;
@@ -103,19 +102,33 @@ fn erase_if_forced<D: SectorDisk>(disk: &mut D, force: bool) -> Result<(), DiskF
     }
 }
 
-// What is recovered of a disk.
-//
-// # Errors
-// `NotFormatted`, `Damaged`, `Disk` or `Memory`, as first met.
-pub fn show_disk<D: SectorDisk + Drop>(alloc: Global, disk: D) -> Result<Recovered, Fault<'static>>
-    ensures found { IfOk result (λ found. Shows (D.disk disk)
+// What is recovered of a disk, or why nothing is, and the disk behind the recovery.
+#[derive(Drop)]
+pub struct Shown<D: SectorDisk> {
+    pub recovered: Result<Recovered, Fault<'static>>,
+    pub disk: D,
+}
+
+// What is recovered of a disk; or `NotFormatted`, `Damaged`, `Disk` or `Memory`, as first met.
+pub fn show_disk<D: SectorDisk>(alloc: Global, disk: D) -> Shown<D>
+    ensures found { IfOk result.recovered (λ found. Shows (D.disk disk)
         (λ image. meaning (D.disk disk).sectors image ≡ Ok (record { number = found.number; state = found.state }))) }
-    ensures cause { IfErr result (λ fault. Shows (D.disk disk) (λ image. TellsWhy (standing_in (D.disk disk).sectors image) fault)) }
-    ensures status { IfErr result (λ fault. status_of fault ≡ 1) }
+    ensures cause { IfErr result.recovered (λ fault. Shows (D.disk disk) (λ image. TellsWhy (standing_in (D.disk disk).sectors image) fault)) }
+    // It leaves only what was there: each image is one of those before.
+    ensures any_moment { LeavesOnly (D.disk disk) (D.disk result.disk) (IsImage (D.disk disk).content) }
+    ensures status { IfErr result.recovered (λ fault. status_of fault ≡ 1) }
 {
-    let (journal, state) = recover(alloc, disk)?;
-    Ok(Recovered {
-        number: journal.number(),
-        state,
-    })
+    match Journal::recover(alloc, disk) {
+        Ok((journal, state)) => {
+            let number = journal.number();
+            Shown {
+                recovered: Ok(Recovered { number, state }),
+                disk: journal.disk(),
+            }
+        }
+        Err(RecoverFault { cause, disk }) => Shown {
+            recovered: Err(Fault::from(cause)),
+            disk,
+        },
+    }
 }

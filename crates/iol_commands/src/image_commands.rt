@@ -7,7 +7,7 @@ ghost use Rattle.iol_commands.specs.Images.{IsFormatCause, formatted_text};
 
 use crate::commands::{print, report};
 use crate::fault::Fault;
-use crate::image::{format_disk, opened, opened_or_made, show_disk};
+use crate::image::{Shown, format_disk, opened, opened_or_made, show_disk};
 use iol_journal::Geometry;
 use std::fs::OpenFile;
 use std::io::Write;
@@ -85,6 +85,6 @@ fn text_of_show<'a, F: FileExt + OpenFile + Drop, R: Files<File = F> + AllocGlob
     ensures { IfErr result (λ fault. status_of fault ≡ 1) }
 {
     let disk = opened(rt, path)?;
-    let recovered = show_disk(rt.alloc(), disk)?;
-    Ok(recovered.to_string(rt.alloc())?)
+    let Shown { recovered, disk: _ } = show_disk(rt.alloc(), disk);
+    Ok(recovered?.to_string(rt.alloc())?)
 }

@@ -37,6 +37,6 @@ pub use arguments::{run_program, run_words};
 pub use commands::{report, run_text};
 pub use fault::Fault;
 pub use geometry::geometry_of;
-pub use image::{format_disk, show_disk};
+pub use image::{Shown, format_disk, show_disk};
 pub use image_commands::{format_image, show_image};
 pub use state_text::Recovered;
