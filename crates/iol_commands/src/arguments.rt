@@ -3,6 +3,7 @@
 use crate::commands::{print, report, run_text};
 use crate::fault::Fault;
 use crate::image_commands::{format_image, show_image};
+use crate::version::version_text;
 use crate::words::{Asked, read_words};
 use clap::Error;
 use clap::error::ErrorKind;
@@ -14,7 +15,7 @@ use std::os::unix::fs::FileExt;
 use std::rt::{Env, Files};
 
 // Carries out the command that the program's words name, and answers the exit status: 2 where the words are wrong, 0
-// for help, and else that of the command.
+// for help and the version, and else that of the command.
 pub fn run_program<
     F: FileExt + OpenFile + Drop,
     R: Env + Files<File = F> + AllocGlobal,
@@ -42,7 +43,10 @@ pub fn run_words<
     W: Write,
     E: Write,
 >(rt: &R, words: &[String], out: &mut W, err: &mut E) -> u8 {
-    match read_words(rt.alloc(), words) {
+    let Ok(version) = version_text(rt.alloc()) else {
+        return report(err, &Fault::Memory);
+    };
+    match read_words(rt.alloc(), words, version.as_str()) {
         Ok(Asked::Run { script }) => run_file(rt, script, out, err),
         Ok(
             Asked::Format {
@@ -57,7 +61,7 @@ pub fn run_words<
     }
 }
 
-// Shows what clap answers in place of a command: why the words are wrong, or the help.
+// Shows what clap answers in place of a command: why the words are wrong, the help, or the version.
 fn answer<W: Write, E: Write>(alloc: Global, error: &Error, out: &mut W, err: &mut E) -> u8 {
     if error.kind() == ErrorKind::OutOfMemory {
         return report(err, &Fault::Memory);

@@ -9,7 +9,7 @@
 //! the journal on it, `devices` the devices at the ports, `steps` the steps of a script, and `run` runs it; `image`
 //! formats and shows the disk of an image file; `trace_text`, `event_text`, `status_text`, `names` and `state_text` have
 //! the lines, and `fault` why a command fails; `commands` and `image_commands` are the commands over writers, `words`
-//! what the words of the command line ask for, and `arguments` carries it out;
+//! what the words of the command line ask for, `version` what `--version` answers, and `arguments` carries it out;
 //! `examples` has words of a trace, worked out. Which texts can be run is defined in `specs/Runs.antt`, what the steps of
 //! a script are in `specs/Steps.antt`, and the words of a trace in `specs/Texts.antt`.
 #![tactic(auto)]
@@ -31,6 +31,7 @@ mod state_text;
 mod status_text;
 mod steps;
 mod trace_text;
+mod version;
 mod words;
 
 pub use arguments::{run_program, run_words};

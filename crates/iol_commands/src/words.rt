@@ -22,10 +22,15 @@ pub(crate) enum Asked<'a> {
 // The command that these words name, the first of which is the name of the program.
 //
 // # Errors
-// What is wrong with the words, or the help that they ask for.
-pub(crate) fn read_words(alloc: Global, words: &[String]) -> Result<Asked<'_>, Error> {
+// What is wrong with the words, or the help or version that they ask for.
+pub(crate) fn read_words<'a>(
+    alloc: Global,
+    words: &'a [String],
+    version: &'a str,
+) -> Result<Asked<'a>, Error> {
     let program = Command::new(alloc, "iolmaster")
         .about("The data storage of an IO-Link master")
+        .version(version)
         .subcommand_required(true)
         .subcommand(run(alloc)?)?
         .subcommand(format(alloc)?)?
@@ -82,6 +87,9 @@ fn format<'a>(alloc: Global) -> Result<Command<'a>, Error> {
     Ok(
         Command::new(alloc, "format")
             .about("Formats an image file, which is made if there is none")
+            .after_help(
+                "A file that is there and holds no journal is overwritten, whatever it holds.",
+            )
             .arg(image(alloc))?
             .arg(count(alloc, "ports").help("How many ports the master has, 1 to 32"))?
             .arg(count(alloc, "slots").help("How many batches each area holds, 1 to 256"))?

@@ -1,0 +1,16 @@
+//! The version of the program, and the toolchain that it is proved with.
+ghost use Rattle.std.specs.Prelude.{◌≡◌, ◌++◌, codes, IfOk, string_bytes};
+
+use std::alloc::{AllocError, Global};
+
+const VERSION: &str = "0.1.0";
+
+// The toolchain that proves and builds the program, as `rt version` names it.
+const TOOLCHAIN: &str = "rattle-kit-13b logic dac8208d650f15bf";
+
+// What is printed behind the program's name: its version, and the toolchain on a line of its own.
+pub(crate) fn version_text(alloc: Global) -> Result<String, AllocError>
+    ensures { IfOk result (λ text. string_bytes text ≡ VERSION.now ++ (codes "\n" ++ TOOLCHAIN.now)) }
+{
+    format!(in alloc; "{VERSION}\n{TOOLCHAIN}")
+}
