@@ -1,6 +1,6 @@
 //! What ports and clients learn of a port.
 
-ghost use Rattle.std.specs.Prelude.{◌≡◌, IfOk, OnOk, OnErr};
+ghost use Rattle.std.specs.Prelude.{◌≡◌, IsSome, IfOk, OnOk, OnErr};
 ghost use mathlib.Core.List.{IsPrefix};
 ghost use Rattle.iol_core.specs.Standing.{Stands};
 ghost use Rattle.std.specs.Option.{option_map};
@@ -55,7 +55,7 @@ impl<F: Name> Core<F> {
     /// core's own, so that it has then seen each durable command.
     ///
     /// # Errors
-    /// `AllocError` where it is out of memory; nothing changes.
+    /// `AllocError` where it is out of memory; nothing changes. A port without a durable set takes none.
     pub fn view(&mut self, port: PortId, pass: &mut Pass<F>) -> Result<Option<View>, AllocError>
         ensures view { IfOk result (λ view. view ≡ view_at self.old port) }
         ensures others { self.new ≡ record self.old { seen = self.new.seen } }
@@ -63,6 +63,7 @@ impl<F: Name> Core<F> {
         ensures met { OnOk result (IsPrefix self.new.seen pass.new) }
         ensures stands { Stands F.front.start self.new.seen self.new.number self.new.durable }
         ensures unchanged { OnErr result ((self.new ≡ self.old) × (pass.new ≡ pass.old)) }
+        ensures memory { OnErr result (IsSome (durable_set self.old port)) }
     {
         let view = match self.durable.port(port) {
             Some(state) => Some(View {

@@ -1,5 +1,5 @@
 -- Commands to a master, and the changes that a client may ask for.
-use Rattle.std.specs.Prelude.{ℕ, ◌≤◌}
+use Rattle.std.specs.Prelude.{ℕ, ◌≤◌, Option, Some, None}
 use Rattle.iol_types.specs.Numbers.{IsPortNumber}
 use Rattle.iol_types.specs.Config.{IsConfig}
 use Rattle.iol_types.specs.DataSet.{SetValue, IsSet}
@@ -22,6 +22,12 @@ abbrev pub value_of : Command → CommandValue
 value_of (command.Configure port config) = Configure port config
 value_of (command.Clear port) = Clear port
 value_of (command.Store port revision set) = Store port revision set.value
+
+-- the set that a command carries: a Store has one, and no other command does (own)
+abbrev pub set_in : CommandValue → Option SetValue
+set_in (Configure port config) = None
+set_in (Clear port) = None
+set_in (Store port revision set) = Some set
 
 -- the command that a change is (own)
 abbrev pub command_of : Change → CommandValue

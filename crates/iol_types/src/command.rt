@@ -29,15 +29,16 @@ pub enum Command {
 }
 
 impl Command {
-    ghost use Rattle.std.specs.Prelude.{◌≡◌, IfOk};
-    ghost use Rattle.iol_types.specs.Command.{value_of};
+    ghost use Rattle.std.specs.Prelude.{◌≡◌, IsSome, IfOk, OnErr};
+    ghost use Rattle.iol_types.specs.Command.{value_of, set_in};
 
     /// An equal command; a set is shared with it.
     ///
     /// # Errors
-    /// `AllocError` where it is out of memory.
+    /// `AllocError` where it is out of memory; a command without a set takes none.
     pub fn copy(&self) -> Result<Command, AllocError>
-        ensures { IfOk result (λ command. value_of command ≡ value_of self.now) }
+        ensures copy { IfOk result (λ command. value_of command ≡ value_of self.now) }
+        ensures memory { OnErr result (IsSome (set_in (value_of self.now))) }
     {
         match self {
             Command::Configure { port, config } => Ok(Command::Configure {

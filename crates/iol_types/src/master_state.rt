@@ -1,5 +1,5 @@
 //! The state of a master's ports, and what commands do to it.
-ghost use Rattle.std.specs.Prelude.{◌≡◌, ◌≤◌, List, length, IfOk, IfErr, OnOk, None, Some};
+ghost use Rattle.std.specs.Prelude.{◌≡◌, ◌≤◌, List, length, IfOk, IfErr, OnOk, OnErr, None, Some};
 ghost use Rattle.std.specs.Option.{option_copied};
 ghost use Rattle.iol_types.specs.declared.port_id.TheConstants.{PORTS};
 
@@ -36,10 +36,11 @@ impl MasterState {
     /// and revision 0.
     ///
     /// # Errors
-    /// `AllocError` where it is out of memory.
+    /// `AllocError` where it is out of memory; a master without ports takes none.
     pub fn new(alloc: Global, ports: u8) -> Result<MasterState, AllocError>
         requires { ports ≤ PORTS }
-        ensures { IfOk result (λ state. state ≡ empty_state ports) }
+        ensures empty { IfOk result (λ state. state ≡ empty_state ports) }
+        ensures memory { OnErr result (1 ≤ ports) }
     {
         let mut blank = Vec::with_capacity(alloc, usize::from(ports))?;
         for _ in 0..ports {
@@ -51,9 +52,10 @@ impl MasterState {
     /// An equal state, under the same allocator.
     ///
     /// # Errors
-    /// `AllocError` where it is out of memory.
+    /// `AllocError` where it is out of memory; a master without ports takes none.
     pub fn copy(&self) -> Result<MasterState, AllocError>
-        ensures { IfOk result (λ state. state ≡ self.now) }
+        ensures copy { IfOk result (λ state. state ≡ self.now) }
+        ensures memory { OnErr result (1 ≤ length self.now) }
     {
         let mut ports = Vec::with_capacity(*self.ports.allocator(), self.ports.len())?;
         for port in &self.ports {

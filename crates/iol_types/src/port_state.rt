@@ -1,5 +1,5 @@
 //! What a master keeps for one port.
-ghost use Rattle.std.specs.Prelude.{◌≡◌, ◌<◌, ◌↔◌, None, true, IsSome, IfSome, IfOk};
+ghost use Rattle.std.specs.Prelude.{◌≡◌, ◌<◌, ◌↔◌, None, true, IsSome, IfSome, IfOk, OnErr};
 ghost use Rattle.std.specs.Option.{option_map};
 ghost use Rattle.iol_types.specs.Config.{may_store_set};
 ghost use Rattle.iol_types.specs.declared.port_state.TheConstants.{LAST_REVISION};
@@ -139,9 +139,10 @@ impl PortState {
     /// An equal port; a set is shared with it.
     ///
     /// # Errors
-    /// `AllocError` where it is out of memory.
+    /// `AllocError` where it is out of memory; a port without a set takes none.
     pub fn copy(&self) -> Result<PortState, AllocError>
-        ensures { IfOk result (λ port. port ≡ self.now) }
+        ensures copy { IfOk result (λ port. port ≡ self.now) }
+        ensures memory { OnErr result (IsSome self.now.stored) }
     {
         let stored = match &self.stored {
             Some(stored) => Some(stored.copy()?),

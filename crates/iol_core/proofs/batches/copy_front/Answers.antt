@@ -14,4 +14,4 @@ loop-place-preserved c =
     ap values c.in_ok-push.ensures.items
     ∙ (map-append value_of c.loop-place.commands.items (copied ∷ [])
     ∙ (ap (λ (front : List CommandValue). front ++ value_of copied ∷ []) c.loop-place.invariant
-    ∙ (ap (λ (last : CommandValue). take i (values queue) ++ last ∷ []) c.in_ok-copy.ensures ∙ sym more)))
+    ∙ (ap (λ (last : CommandValue). take i (values queue) ++ last ∷ []) c.in_ok-copy.ensures.copy ∙ sym more)))

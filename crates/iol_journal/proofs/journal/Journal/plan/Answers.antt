@@ -16,7 +16,7 @@ use Rattle.iol_journal.proofs.journal.Journal.plan.Given
 use Rattle.iol_journal.proofs.journal.Journal.plan.Goals as goal
 
 passes : (g : Given.Over) (c : goal.After-len-sectors g) → legal c.self.inside.state (values c.args.batch.now.commands.items) ≡ true
-passes g c = rw (← c.in_ok-next.ensures, ← c.deref-3.ensures.value, ← c.in_ok-apply_all.ensures.legal) c.if-branch.true
+passes g c = rw (← c.in_ok-next.ensures.copy, ← c.deref-3.ensures.value, ← c.in_ok-apply_all.ensures.legal) c.if-branch.true
 
 pub returns-then-branch-clause-follows : goal.returns-then-branch-clause-follows
 returns-then-branch-clause-follows g c =
@@ -33,7 +33,7 @@ returns-else-branch-clause-cause g c =
     let commands = values c.args.batch.now.commands.items in
     subst (λ (v : JournalView g.row.D.Denot). batch_refusal v.standing c.args.batch.now.first commands ≡ Some Misfit) c.self.view_is
     (refused (standing_at j.place j.number j.state) c.args.batch.now.first commands (ap (λ (commands : List Command). is_too_large (values commands)) (sym c.deref.ensures.value) ∙ sym c.is_too_large.ensures ∙ c.if-is_too_large.false) (omega arith)
-    (rw (← c.in_ok-next.ensures, ← c.deref-3.ensures.value, ← c.in_ok-apply_all.ensures.legal) c.if-branch.false))
+    (rw (← c.in_ok-next.ensures.copy, ← c.deref-3.ensures.value, ← c.in_ok-apply_all.ensures.legal) c.if-branch.false))
 
 -- the body that was made is that of the batch
 spelled : (g : Given.Over) (c : goal.After-len-sectors g)
@@ -67,7 +67,7 @@ returns-then-branch-clause-planned g c =
     let plan : IsPlan s commands made = record {
       body = spelled g c;
       sectors = omega (arith, c.len-sectors.ensures, c.in_ok-body.body.ok, whole, ap (λ (b : List ℕ). length b) (spelled g c));
-      next = rw (← c.in_ok-next.ensures, ← c.deref-3.ensures.value) (c.in_ok-apply_all.ensures.after c.if-branch.true);
+      next = rw (← c.in_ok-next.ensures.copy, ← c.deref-3.ensures.value) (c.in_ok-apply_all.ensures.after c.if-branch.true);
     } in
     subst (λ (v : JournalView g.row.D.Denot). IsPlanned (g.D.SectorDisk.disk v.disk) v.standing commands (Body 0) × IsPlan v.standing commands made × (c.args.batch.now.first ≡ v.standing.number + 1)) c.self.view_is
     (planned, plan, next)
