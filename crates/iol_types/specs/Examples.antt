@@ -1,7 +1,7 @@
 -- The configuration, the set and the states that examples speak of.
-use Rattle.std.specs.Prelude.{ℕ, [], ◌∷◌, Some, None}
-use Rattle.iol_types.specs.DataSet.{SetValue}
-use Rattle.iol_types.specs.State.{State, Port}
+use Rattle.std.specs.Prelude.{ℕ, List, [], ◌∷◌, replicate, Some, None}
+use Rattle.iol_types.specs.DataSet.{Entry, SetValue}
+use Rattle.iol_types.specs.State.{State, Stored, Port}
 use Rattle.iol_types.specs.declared.config.PortConfig.{PortConfig}
 use Rattle.iol_types.specs.declared.config.PortMode.TheVariants.{IolManual}
 use Rattle.iol_types.specs.declared.config.Validation.TheVariants.{BackupAndRestore}
@@ -25,6 +25,14 @@ example_set = record {
   checksum = 591;
 }
 
+-- for worked examples: 17 entries of 232 octets, which count 4,012 (own)
+abbrev pub nearly_full : List Entry
+nearly_full = replicate 17 (record { index = 64; subindex = 0 }, replicate 232 7)
+
+-- for worked examples: the set, taken under the configuration (own)
+abbrev pub example_stored : Stored
+example_stored = record { set = example_set; recorded = example_config }
+
 -- for worked examples: a port with this configuration and revision, and no set (own)
 abbrev pub port_of : PortConfig → ℕ → Port
 port_of config revision = record { config = config; revision = revision; stored = None }
@@ -35,4 +43,4 @@ one_port config revision = port_of config revision ∷ []
 
 -- for worked examples: a port with this configuration, revision 1, and the set, taken under the same configuration (own)
 abbrev pub example_port : Port
-example_port = record { config = example_config; revision = 1; stored = Some (record { set = example_set; recorded = example_config }) }
+example_port = record { config = example_config; revision = 1; stored = Some example_stored }

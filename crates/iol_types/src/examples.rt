@@ -3,22 +3,25 @@
 
 ghost use Rattle.std.specs.Prelude.{◌≡◌, ℕ, [], ◌∷◌, ◌++◌, map, replicate, true, false};
 ghost use Rattle.iol_types.specs.Numbers.{IsPortNumber, IsDeviceNumber};
-ghost use Rattle.iol_types.specs.Config.{mode_octet, mode_of, validation_octet, validation_of, keeps_set};
-ghost use Rattle.iol_types.specs.Command.{Configure, Store};
-ghost use Rattle.iol_types.specs.DataSet.{octets_of, add_fault};
-ghost use Rattle.iol_types.specs.State.{check, apply};
-ghost use Rattle.iol_types.specs.Examples.{example_config, example_set, port_of, one_port};
+ghost use Rattle.iol_types.specs.Config.{mode_octet, mode_of, validation_octet, validation_of, IsConfig};
+ghost use Rattle.iol_types.specs.Config.{may_store_set, may_keep_set, keeps_set};
+ghost use Rattle.iol_types.specs.Command.{Configure, Clear, Store, IsCommand, command_of, set_in};
+ghost use Rattle.iol_types.specs.DataSet.{IsEntry, AreEntries, IsSet, octets_of, data_at, add_fault};
+ghost use Rattle.iol_types.specs.State.{IsPort, empty_state, port_numbered, may_have, check, apply, after, legal};
+ghost use Rattle.iol_types.specs.Examples.{example_config, example_set, nearly_full, example_stored, example_port, port_of, one_port};
 ghost use Rattle.iol_types.specs.declared.config.PortConfig.{PortConfig};
-ghost use Rattle.iol_types.specs.Key.{is_reserved};
+ghost use Rattle.iol_types.specs.Key.{IsKey, is_reserved};
 ghost use Rattle.iol_types.specs.declared.key.TheConstants.{DIRECT_PARAMETER_PAGE, SYSTEM_COMMAND, DATA_STORAGE};
 ghost use Rattle.iol_types.specs.declared.data_set.TheConstants.{MOST_ENTRY_OCTETS, ENTRY_HEAD_OCTETS, MOST_SET_OCTETS};
+ghost use Rattle.iol_types.specs.declared.port_id.TheConstants.{PORTS};
 
-use crate::command::CommandFault;
+use crate::command::{Change, CommandFault};
 use crate::config::{PortMode, Validation};
 use crate::set_builder::AddFault;
 
 /// A port has a number from 1 to 32.
 pub fn port_numbers()
+    ensures ports { PORTS ≡ 32 }
     ensures first { IsPortNumber 1 }
     ensures last { IsPortNumber 32 }
     ensures below { ¬ IsPortNumber 0 }
@@ -65,10 +68,38 @@ pub fn last_revisions()
         ≡ one_port new 18446744073709551615 }
 {}
 
-/// From Backup and Restore to Restore a parameter set stays, and under the same configuration; not
-/// under another vendor, device or mode, nor where Restore is given up.
+/// A VendorID has two octets, an Index two, and a Subindex one.
+pub fn ranges()
+    ensures config { IsConfig (record example_config { vendor = 65535; device = 16777215 }) }
+    ensures vendor { ¬ IsConfig (record example_config { vendor = 65536 }) }
+    ensures device { ¬ IsConfig (record example_config { device = 16777216 }) }
+    ensures key { IsKey (record { index = 65535; subindex = 255 }) }
+    ensures index { ¬ IsKey (record { index = 65536; subindex = 0 }) }
+    ensures subindex { ¬ IsKey (record { index = 64; subindex = 256 }) }
+{}
+
+/// Of the five modes IOL_MANUAL alone may store a set and may have one; of the five validations Backup
+/// and Restore may store one, and that and Restore may have one.
+pub fn rights_to_a_set()
+    ensures modes_store { map (λ mode. may_store_set (record example_config { mode = mode })) (PortMode.Deactivated
+        ∷ PortMode.IolManual ∷ PortMode.IolAutostart ∷ PortMode.DigitalInput ∷ PortMode.DigitalOutput ∷ [])
+        ≡ false ∷ true ∷ false ∷ false ∷ false ∷ [] }
+    ensures modes_keep { map (λ mode. may_keep_set (record example_config { mode = mode })) (PortMode.Deactivated
+        ∷ PortMode.IolManual ∷ PortMode.IolAutostart ∷ PortMode.DigitalInput ∷ PortMode.DigitalOutput ∷ [])
+        ≡ false ∷ true ∷ false ∷ false ∷ false ∷ [] }
+    ensures validations_store { map (λ validation. may_store_set (record example_config { validation = validation }))
+        (Validation.NoCheck ∷ Validation.TypeCompatibleV10 ∷ Validation.TypeCompatibleV11
+        ∷ Validation.BackupAndRestore ∷ Validation.Restore ∷ []) ≡ false ∷ false ∷ false ∷ true ∷ false ∷ [] }
+    ensures validations_keep { map (λ validation. may_keep_set (record example_config { validation = validation }))
+        (Validation.NoCheck ∷ Validation.TypeCompatibleV10 ∷ Validation.TypeCompatibleV11
+        ∷ Validation.BackupAndRestore ∷ Validation.Restore ∷ []) ≡ false ∷ false ∷ false ∷ true ∷ true ∷ [] }
+{}
+
+/// From Backup and Restore to Restore a parameter set stays, the other way round, and under the same
+/// configuration; not under another vendor, device or mode, nor where Restore is given up.
 pub fn sets_kept()
     ensures to_restore { keeps_set example_config (record example_config { validation = Validation.Restore }) ≡ true }
+    ensures from_restore { keeps_set (record example_config { validation = Validation.Restore }) example_config ≡ true }
     ensures again { keeps_set example_config example_config ≡ true }
     ensures without_restore { keeps_set (record example_config { validation = Validation.Restore })
         (record example_config { validation = Validation.TypeCompatibleV11 }) ≡ false }
@@ -78,15 +109,104 @@ pub fn sets_kept()
     ensures another_mode { keeps_set example_config (record example_config { mode = PortMode.IolAutostart }) ≡ false }
 {}
 
-/// A set is stored under IOL_MANUAL with Backup and Restore, at the port's revision, for its device.
+/// A set does not stay where the configuration before it might not have one.
+pub fn sets_not_kept_from()
+    ensures validation { keeps_set (record example_config { validation = Validation.TypeCompatibleV11 }) example_config ≡ false }
+    ensures mode { keeps_set (record example_config { mode = PortMode.IolAutostart }) example_config ≡ false }
+{}
+
+/// A port may have a set that was taken under a configuration with Backup and Restore for the set's
+/// device and that outlives the change to the present one. Each of these alone refuses it: a set of
+/// another vendor or device, one that was taken under Restore, another vendor now.
+pub fn rights_to_what_is_stored()
+    ensures same { may_have example_config example_stored ≡ true }
+    ensures restore { may_have (record example_config { validation = Validation.Restore }) example_stored ≡ true }
+    ensures vendor { may_have example_config (record example_stored { set = record example_set { vendor = 501 } }) ≡ false }
+    ensures device { may_have example_config (record example_stored { set = record example_set { device = 43982 } }) ≡ false }
+    ensures recorded { may_have example_config
+        (record example_stored { recorded = record example_config { validation = Validation.Restore } }) ≡ false }
+    ensures since { may_have (record example_config { vendor = 501 }) example_stored ≡ false }
+{}
+
+/// A master begins with ports that are DEACTIVATED, and its ports are counted from 1.
+pub fn new_ports()
+    ensures empty { empty_state 2 ≡ replicate 2
+        (port_of (record { mode = PortMode.Deactivated; validation = Validation.NoCheck; vendor = 0; device = 0 }) 0) }
+    ensures first { port_numbered (example_port ∷ port_of example_config 2 ∷ []) 1 ≡ Some example_port }
+    ensures second { port_numbered (example_port ∷ port_of example_config 2 ∷ []) 2 ≡ Some (port_of example_config 2) }
+    ensures none_before { port_numbered (example_port ∷ []) 0 ≡ None }
+    ensures none_behind { port_numbered (example_port ∷ []) 2 ≡ None }
+{}
+
+/// A command of a port that is not there is refused, and a Clear of one that is there passes, with a
+/// set or without.
+pub fn unknown_ports()
+    ensures configure { check (example_port ∷ []) (Configure 2 example_config) ≡ Some CommandFault.UnknownPort }
+    ensures clear { check (example_port ∷ []) (Clear 2) ≡ Some CommandFault.UnknownPort }
+    ensures store { check (example_port ∷ []) (Store 2 1 example_set) ≡ Some CommandFault.UnknownPort }
+    ensures cleared { check (example_port ∷ []) (Clear 1) ≡ None }
+    ensures blank { check (empty_state 1) (Clear 1) ≡ None }
+{}
+
+/// Configure gives a port the configuration and the next revision. The set stays with the configuration
+/// that it was taken under where the port keeps it, and is gone else. The other port stays.
+pub fn ports_configured()
+    ensures kept { apply (example_port ∷ []) (Configure 1 (record example_config { validation = Validation.Restore }))
+        ≡ record (port_of (record example_config { validation = Validation.Restore }) 2) { stored = Some example_stored } ∷ [] }
+    ensures deleted { apply (example_port ∷ []) (Configure 1 (record example_config { vendor = 501 }))
+        ≡ one_port (record example_config { vendor = 501 }) 2 }
+    ensures one_of_two { apply (example_port ∷ example_port ∷ []) (Configure 2 (record example_config { device = 1 }))
+        ≡ example_port ∷ one_port (record example_config { device = 1 }) 2 }
+{}
+
+/// Clear deletes the set of its port, and leaves its configuration, its revision and the other port.
+pub fn ports_cleared()
+    ensures cleared { apply (example_port ∷ []) (Clear 1) ≡ one_port example_config 1 }
+    ensures none { apply (one_port example_config 7) (Clear 1) ≡ one_port example_config 7 }
+    ensures one_of_two { apply (example_port ∷ example_port ∷ []) (Clear 2) ≡ example_port ∷ one_port example_config 1 }
+{}
+
+/// A set is stored under IOL_MANUAL with Backup and Restore, at the port's revision, for its device; the
+/// first cause is said where several hold.
 pub fn sets_stored()
-    ensures stored { apply (one_port example_config 1) (Store 1 1 example_set)
-        ≡ record (port_of example_config 1) { stored = Some (record { set = example_set; recorded = example_config }) } ∷ [] }
+    ensures passes { check (one_port example_config 1) (Store 1 1 example_set) ≡ None }
     ensures not_allowed { check (one_port (record example_config { validation = Validation.Restore }) 2) (Store 1 1 example_set)
         ≡ Some CommandFault.NotAllowed }
+    ensures another_mode { check (one_port (record example_config { mode = PortMode.IolAutostart }) 1) (Store 1 1 example_set)
+        ≡ Some CommandFault.NotAllowed }
     ensures stale { check (one_port (record example_config { vendor = 501 }) 2) (Store 1 1 example_set) ≡ Some CommandFault.StaleRevision }
-    ensures wrong_device { check (one_port (record example_config { vendor = 501 }) 1) (Store 1 1 example_set) ≡ Some CommandFault.WrongDevice }
-    ensures passes { check (one_port example_config 1) (Store 1 1 example_set) ≡ None }
+    ensures ahead { check (one_port example_config 1) (Store 1 2 example_set) ≡ Some CommandFault.StaleRevision }
+    ensures wrong_vendor { check (one_port (record example_config { vendor = 501 }) 1) (Store 1 1 example_set)
+        ≡ Some CommandFault.WrongDevice }
+    ensures wrong_device { check (one_port (record example_config { device = 1 }) 1) (Store 1 1 example_set) ≡ Some CommandFault.WrongDevice }
+{}
+
+/// A set that is stored stands in place of any before, under the port's present configuration, and
+/// changes neither its revision nor the other port.
+pub fn sets_in_place()
+    ensures first { apply (one_port example_config 1) (Store 1 1 example_set)
+        ≡ record (port_of example_config 1) { stored = Some (record { set = example_set; recorded = example_config }) } ∷ [] }
+    ensures again { apply (example_port ∷ []) (Store 1 1 (record example_set { checksum = 592 }))
+        ≡ record example_port { stored = Some (record { set = record example_set { checksum = 592 }; recorded = example_config }) } ∷ [] }
+    ensures one_of_two { apply (port_of example_config 1 ∷ port_of example_config 1 ∷ []) (Store 2 1 example_set)
+        ≡ port_of example_config 1 ∷ example_port ∷ [] }
+{}
+
+/// Each command is judged in the state that those before it make.
+pub fn commands_in_a_row()
+    ensures legal { legal (empty_state 1) (Configure 1 example_config ∷ Store 1 1 example_set ∷ []) ≡ true }
+    ensures later { legal (empty_state 1) (Store 1 1 example_set ∷ Configure 1 example_config ∷ []) ≡ false }
+    ensures state { after (empty_state 1) (Configure 1 example_config ∷ Store 1 1 example_set ∷ []) ≡ example_port ∷ [] }
+    ensures cleared { after (empty_state 1) (Configure 1 example_config ∷ Store 1 1 example_set ∷ Clear 1 ∷ [])
+        ≡ one_port example_config 1 }
+{}
+
+/// A change is the command of its words, and a Store alone carries a set.
+pub fn words_of_commands()
+    ensures configure { (config : PortConfig) → command_of (Change.Configure 1 config) ≡ Configure 1 config }
+    ensures clear { command_of (Change.Clear 1) ≡ Clear 1 }
+    ensures sets { map set_in (Configure 1 example_config ∷ Clear 1 ∷ Store 1 1 example_set ∷ [])
+        ≡ None ∷ None ∷ Some example_set ∷ [] }
 {}
 
 /// The set of the examples counts 11 octets, and what it refuses: a reserved Index before a length,
@@ -97,6 +217,45 @@ pub fn entries_added()
     ensures too_long { add_fault example_set.entries (record { index = 64; subindex = 0 }) (replicate 233 0) ≡ Some AddFault.EntryTooLong }
     ensures duplicate { add_fault example_set.entries (record { index = 64; subindex = 0 }) [] ≡ Some AddFault.Duplicate }
     ensures another { add_fault example_set.entries (record { index = 64; subindex = 1 }) (replicate 232 0) ≡ None }
+{}
+
+/// Entries count 4,096 octets at most; a double key is told before that.
+pub fn full_sets()
+    ensures octets { octets_of nearly_full ≡ 4012 }
+    ensures fits { add_fault nearly_full (record { index = 65; subindex = 0 }) (replicate 80 0) ≡ None }
+    ensures too_large { add_fault nearly_full (record { index = 65; subindex = 0 }) (replicate 81 0) ≡ Some AddFault.SetTooLarge }
+    ensures duplicate { add_fault nearly_full (record { index = 64; subindex = 0 }) (replicate 81 0) ≡ Some AddFault.Duplicate }
+{}
+
+/// What a set holds is in its ranges: an entry has 232 octets at most, and no key is reserved or stands
+/// twice.
+pub fn what_is_a_set()
+    ensures set { IsSet example_set }
+    ensures longest { IsEntry (record { index = 64; subindex = 0 }, replicate 232 0) }
+    ensures too_long { ¬ IsEntry (record { index = 64; subindex = 0 }, replicate 233 0) }
+    ensures reserved { ¬ IsEntry (record { index = 3; subindex = 0 }, []) }
+    ensures too_large { ¬ AreEntries (nearly_full ++ (record { index = 65; subindex = 0 }, replicate 81 0) ∷ []) }
+    ensures twice { ¬ AreEntries ((record { index = 65; subindex = 0 }, []) ∷ (record { index = 65; subindex = 0 }, []) ∷ []) }
+    ensures vendor { ¬ IsSet (record example_set { vendor = 65536 }) }
+    ensures device { ¬ IsSet (record example_set { device = 16777216 }) }
+    ensures checksum { ¬ IsSet (record example_set { checksum = 4294967296 }) }
+{}
+
+/// A command names a port from 1 to 32, and its set is one; a port may have what is stored for it.
+pub fn what_is_a_command()
+    ensures configure { IsCommand (Configure 32 example_config) }
+    ensures clear { ¬ IsCommand (Clear 33) }
+    ensures store { ¬ IsCommand (Store 1 18446744073709551616 example_set) }
+    ensures port { IsPort example_port }
+    ensures without_right { ¬ IsPort (record example_port { config = record example_config { vendor = 501 } }) }
+{}
+
+/// A key has the octets of its own entry: of its Index and its Subindex.
+pub fn octets_by_key()
+    ensures first { data_at example_set.entries (record { index = 64; subindex = 0 }) ≡ Some (10 ∷ 100 ∷ []) }
+    ensures second { data_at example_set.entries (record { index = 65; subindex = 1 }) ≡ Some (127 ∷ []) }
+    ensures another_subindex { data_at example_set.entries (record { index = 64; subindex = 1 }) ≡ None }
+    ensures another_index { data_at example_set.entries (record { index = 66; subindex = 1 }) ≡ None }
 {}
 
 /// The Indexes that no set holds: Direct Parameter page 1, the System Command, the Data Storage object.
