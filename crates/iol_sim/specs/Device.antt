@@ -151,13 +151,17 @@ respond device (Write index subindex octets) =
     let written = write_of device (record { index = index; subindex = subindex }) octets.items in
     (write_answer written, after_write device written)
 
+-- No Service, the octet 00 alone (standard, ISDU)
+abbrev pub no_service : List ℕ
+no_service = 0x00 ∷ []
+
 -- A device answers octets by octets, and is then another: a request by the answer to it, and what is
--- no request by the octet 00, No Service (own)
+-- no request by No Service (own)
 pub record Answers (old : Device) (octets answer : List ℕ) (new : Device) : Type 0 where
   pub request :
       (request : Request) → IsRequest octets request
       → IsAnswer answer (respond old request).0 × (new ≡ (respond old request).1)
-  pub others : IfSome (request_fault octets) (λ _. (answer ≡ 0x00 ∷ []) × (new ≡ old))
+  pub others : IfSome (request_fault octets) (λ _. (answer ≡ no_service) × (new ≡ old))
 
 -- a device that wants an upload: its flag is set, and its event pending (own)
 abbrev pub raised : Device → Device

@@ -1,10 +1,10 @@
 //! What a simulated device reads of written octets, and the messages that it answers.
 
-ghost use Rattle.std.specs.Prelude.{◌≡◌, ◌≤◌, ◌∷◌, [], Ok, Err, length, OnOk, IfOk, IfErr};
+ghost use Rattle.std.specs.Prelude.{◌≡◌, ◌≤◌, Ok, Err, length, OnOk, IfOk, IfErr};
 ghost use Rattle.iol_isdu.specs.declared.messages.TheConstants.{DATA_OCTETS};
 ghost use Rattle.iol_isdu.specs.declared.messages.Answer.TheVariants as answer;
 ghost use Rattle.iol_sim.specs.Refusal.{code_of};
-ghost use Rattle.iol_sim.specs.Device.{command_in, read_answer};
+ghost use Rattle.iol_sim.specs.Device.{command_in, read_answer, no_service};
 
 use crate::refusal::{DEVICE_APPLICATION_ERROR, Refusal};
 use arrayvec::ArrayVec;
@@ -50,9 +50,9 @@ pub(crate) fn write_response(written: Result<(), Refusal>) -> Answer
     }
 }
 
-// The octet 00, No Service.
+// No Service, the octet 00 alone.
 pub(crate) fn no_service() -> ArrayVec<u8, ISDU_OCTETS>
-    ensures { result.items ≡ 0x00 ∷ [] }
+    ensures { result.items ≡ no_service }
 {
     let mut octets = ArrayVec::new();
     octets.push(0x00);

@@ -1,7 +1,7 @@
 //! A simulated device, worked out by the check: a number that is wrong in a definition and in the
 //! code alike is refused here. The tests read the same octets.
 
-ghost use Rattle.std.specs.Prelude.{◌≡◌, [], ◌∷◌, map, replicate, Some, None, Ok, Err, true, false};
+ghost use Rattle.std.specs.Prelude.{◌≡◌, ℕ, List, [], ◌∷◌, map, replicate, Some, None, Ok, Err, true, false};
 ghost use Rattle.iol_types.specs.DataSet.{octets_of};
 ghost use Rattle.iol_types.specs.declared.key.TheConstants.{DATA_STORAGE};
 ghost use Rattle.iol_isdu.specs.declared.messages.Request.TheVariants as request;
@@ -9,7 +9,7 @@ ghost use Rattle.iol_isdu.specs.declared.messages.Answer.TheVariants as answer;
 ghost use Rattle.iol_link.specs.Link.{last_connection};
 ghost use Rattle.iol_sim.specs.Parameters.{add_fault, checksum_of};
 ghost use Rattle.iol_sim.specs.Refusal.{code_of};
-ghost use Rattle.iol_sim.specs.Device.{page_of, property_octet, object_read, object_written, read_of, write_of, respond, commanded, raised, change_of, told, after_told, lost_device};
+ghost use Rattle.iol_sim.specs.Device.{page_of, property_octet, object_read, object_written, read_of, write_of, respond, Device, Answers, commanded, raised, change_of, told, after_told, lost_device};
 ghost use Rattle.iol_sim.specs.SimLink.{visit_of, after_answer, has_answer, present, after_loss};
 ghost use Rattle.iol_sim.specs.Script.{lost};
 ghost use Rattle.iol_sim.specs.Examples.{example_device, in_state, key, with_first, alike, link_at, script_at};
@@ -122,6 +122,7 @@ pub fn answers()
         ≡ (answer.WriteOk, in_state state.Download false) }
     ensures write_refused { respond example_device (request.Write 0x0040 0 (record { items = 0x01 ∷ [] }))
         ≡ (answer.WriteFault 0x80 0x34, example_device) }
+    ensures no_request { (answer : List ℕ) (new : Device) → Answers example_device [] answer new → answer ≡ 0x00 ∷ [] }
 {}
 
 /// A change at the device itself sets the flag and raises the event FF91, which is told once; also at a locked device.

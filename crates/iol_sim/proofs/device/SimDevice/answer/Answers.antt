@@ -1,9 +1,9 @@
-use Rattle.std.proofs.Common.{refl, ◌≡◌, [], ◌∷◌, Option, ap, ◌∙◌, subst}
+use Rattle.std.proofs.Common.{refl, ◌≡◌, Option, ap, ◌∙◌, subst}
 use Rattle.std.specs.Prelude.{IfSome}
 use Rattle.iol_isdu.specs.Isdu.{IsAnswer}
 use Rattle.iol_isdu.specs.declared.messages.Request.{Request}
 use Rattle.iol_isdu.specs.declared.faults.IsduFault.{IsduFault}
-use Rattle.iol_sim.specs.Device.{respond}
+use Rattle.iol_sim.specs.Device.{respond, no_service}
 use Rattle.iol_sim.proofs.device.SimDevice.answer.Goals as goal
 
 pub returns-in-Ok : goal.returns-in-Ok
@@ -18,7 +18,7 @@ returns-in-Ok c =
             subst (λ (r : Request). IsAnswer octets (respond old r).0) same answered,
             c.respond.ensures.device ∙ ap (λ (r : Request). (respond old r).1) same,
           );
-      others = subst (λ (fault : Option IsduFault). IfSome fault (λ _. (octets ≡ 0x00 ∷ []) × (c.respond.new.self ≡ old))) c.in-Ok.ensures.fault tt;
+      others = subst (λ (fault : Option IsduFault). IfSome fault (λ _. (octets ≡ no_service) × (c.respond.new.self ≡ old))) c.in-Ok.ensures.fault tt;
     }
 
 pub returns-in-Err : goal.returns-in-Err
@@ -27,5 +27,5 @@ returns-in-Err c =
     record {
       request = λ request is.
           let only = c.in-Err.ensures.only request is in absurd cc;
-      others = subst (λ (fault : Option IsduFault). IfSome fault (λ _. (c.no_service.result.items ≡ 0x00 ∷ []) × (old ≡ old))) c.in-Err.ensures.fault (c.no_service.ensures, refl);
+      others = subst (λ (fault : Option IsduFault). IfSome fault (λ _. (c.no_service.result.items ≡ no_service) × (old ≡ old))) c.in-Err.ensures.fault (c.no_service.ensures, refl);
     }
