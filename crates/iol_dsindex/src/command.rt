@@ -8,7 +8,7 @@ use iol_isdu::Request;
 use iol_types::DATA_STORAGE;
 
 /// What a master tells the Data Storage of a device (IO-Link V1.1, Data Storage object, DS_Command).
-#[derive(Clone, Copy, Debug, PartialEq, Eq)]
+#[derive(Clone, Copy)]
 pub enum DsCommand {
     /// DS_UploadStart, octet 1.
     UploadStart,

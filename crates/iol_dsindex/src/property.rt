@@ -19,7 +19,7 @@ pub enum State {
 
 /// What State_Property says (IO-Link V1.1, Data Storage object). A contract sees the record `PropertyValue` of
 /// `specs/Property.antt`.
-#[derive(Clone, Copy, Debug, PartialEq, Eq)]
+#[derive(Clone, Copy)]
 pub struct StateProperty {
     state: State,
     flag: bool,

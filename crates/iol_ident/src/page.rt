@@ -22,7 +22,7 @@ const DEVICE_ID: usize = 0x09;
 
 /// What Direct Parameter page 1 says of a device (IO-Link V1.1, Direct Parameter page 1). A contract sees the record
 /// `PageValue` of `specs/Page.antt`.
-#[derive(Clone, Copy, Debug, PartialEq, Eq)]
+#[derive(Clone, Copy, PartialEq, Eq)]
 pub struct Page {
     vendor: u16,
     device: DeviceId,

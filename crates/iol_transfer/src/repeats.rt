@@ -26,7 +26,7 @@ impl Model for Repeats {
 }
 
 impl Repeats {
-    // Of a request that was not answered yet.
+    // No Device busy yet, at a new request.
     pub(crate) fn none() -> Repeats
         ensures { result ≡ 0 }
     {
