@@ -8,6 +8,7 @@ pub mod PortRuns
 pub mod Steps
 pub mod Runs
 pub mod Schedules
+pub mod Causes
 pub mod Flushed
 pub mod Stopped
 pub mod Failures

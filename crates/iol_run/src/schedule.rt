@@ -16,6 +16,7 @@ ghost use Rattle.iol_run.specs.Events.{stamp_of};
 ghost use Rattle.iol_run.specs.Flushed.{AllFlushed, queue_turns};
 ghost use Rattle.iol_run.specs.PortRuns.{ArePortRuns};
 ghost use Rattle.iol_run.specs.Runs.{KeepsRun};
+ghost use Rattle.iol_run.specs.Causes.{FailsFor};
 ghost use Rattle.iol_run.specs.Clocks.{ClocksRise};
 ghost use Rattle.iol_run.specs.Failures.{TellsFailures};
 ghost use Rattle.iol_run.specs.Stopped.{NoneOnceFailed};
@@ -104,7 +105,9 @@ pub fn run_schedule<D: SectorDisk, L: DeviceLink + Drop>(
     // accepted acknowledged.
     ensures flushed { IfOk result (λ trace. Shows (D.disk disk) (λ image. (journal : Standing) → standing_in (D.disk disk).sectors image ≡ Ok journal
         → AllFlushed (128 * total journal.layout) steps.now journal.number trace.ended trace.waits (map stamp_of trace.events.items))) }
-    // Where no run began, a stop leaves what it might have left before.
+    // Where no run began, the first thing that was wrong is said.
+    ensures cause { IfErr result (λ fault. FailsFor D.disk disk (vec_len links) fault) }
+    // A stop then leaves what it might have left before.
     ensures fault { IfErr result (λ fault. LeavesOnly (D.disk disk) (D.disk (fault_disk fault)) (IsImage (D.disk disk).content)) }
 {
     match Journal::recover(alloc, disk) {
@@ -147,7 +150,7 @@ fn carry_out<D: SectorDisk, L: DeviceLink + Drop, F: Name>(
         (map stamp_of trace.events.items)) }
     ensures crash_prefix { IsRunAtRest D.disk (begun (clock (D.disk journal.disk).content) front.start.number front.start.state) journal
         → IfOk result (λ trace. CrashPrefix (D.disk trace.disk) trace.begun front.start.number front.start.state (map stamp_of trace.events.items)) }
-    ensures fault { IfErr result (λ fault. fault_disk fault ≡ journal.disk) }
+    ensures fault { IfErr result (λ fault. fault ≡ RunFault.Memory journal.disk) }
 {
     match Run::<D, L, F>::begin(alloc, front, journal, state, links) {
         Ok(mut run) => {

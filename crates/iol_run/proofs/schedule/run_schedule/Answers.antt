@@ -1,16 +1,29 @@
-use Rattle.std.proofs.Common.{◌≡◌, ℕ, map, IfOk, sym, ap, ◌∙◌, subst}
+use Rattle.std.proofs.Common.{◌≡◌, ℕ, map, length, vec_len, IfOk, sym, ap, ◌∙◌, subst, rules}
+use Rattle.std.proofs.lemmas.Result.{IfErr-weaker}
 use Rattle.iol_types.specs.State.{State}
 use Rattle.iol_disk.specs.Content.{clock, reads}
 use Rattle.iol_front.specs.Fronts.{Start}
 use Rattle.iol_journal.specs.Runs.{begun}
 use Rattle.iol_journal.specs.Running.{IsRunAtRest}
 use Rattle.iol_trace.specs.CrashPrefix.{CrashPrefix}
+use Rattle.iol_run.specs.Causes.{FailsFor}
 use Rattle.iol_run.specs.Events.{stamp_of}
 use Rattle.iol_run.specs.PortRuns.{ArePortRuns}
 use Rattle.iol_run.proofs.Crash.{means_is, of_trace}
 use Rattle.iol_run.proofs.Failures.{trace_tells}
 use Rattle.iol_run.proofs.Layouts.{shown_flushed, shown_trace}
 use Rattle.iol_run.proofs.schedule.run_schedule.Goals as goal
+
+-- a fault of a run that was begun is want of memory
+pub returns-in-Ok-new-clause-cause : goal.returns-in-Ok-new-clause-cause
+returns-in-Ok-new-clause-cause g c =
+    let disk = g.D.SectorDisk.disk in
+    let links = vec_len c.args.links in
+    let journal = c.in-Ok.journal in
+    let count : links ≡ length journal.standing.state = search rules in
+    IfErr-weaker c.carry_out.result _ (λ fault. FailsFor disk c.args.disk links fault)
+    (λ fault is. subst (λ f. FailsFor disk c.args.disk links f) (sym is) (λ honest. (journal.standing, c.in-Ok.ensures.found honest, count)))
+    c.carry_out.ensures.fault
 
 pub returns-in-Ok-new-clause-crash_prefix : goal.returns-in-Ok-new-clause-crash_prefix
 returns-in-Ok-new-clause-crash_prefix g c =
