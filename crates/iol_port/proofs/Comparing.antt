@@ -56,7 +56,8 @@ pages_are one other is =
     let revision = equal_is one.revision other.revision second.1 in
     let cycle = equal_is one.min_cycle_time other.min_cycle_time third.1 in
     let isdu = flag_is one.has_isdu other.has_isdu fourth.1 in
-    fields_are one.vendor other.vendor one.device other.device one.revision other.revision one.min_cycle_time other.min_cycle_time one.has_isdu other.has_isdu
+    fields_are one.vendor other.vendor one.device other.device one.revision other.revision one.min_cycle_time other.min_cycle_time
+    one.has_isdu other.has_isdu
     vendor device revision cycle isdu
 
 kept_is : (own : Rest) (page : PageValue) → settled_with own page ≡ true → page_at own ≡ Some page
@@ -73,7 +74,8 @@ abbrev Keeps : PageValue → Stage → Type 0
 Keeps page (Settled own) = (own ≡ rest.Off) ⊎ (page_at own ≡ Some page)
 Keeps page stage = Unit {0}
 
-keeps_of : (page : PageValue) (stage : Stage) (own : Rest) → stage ≡ Settled own → Keeps page stage → (own ≡ rest.Off) ⊎ (page_at own ≡ Some page)
+keeps_of : (page : PageValue) (stage : Stage) (own : Rest) → stage ≡ Settled own → Keeps page stage
+    → (own ≡ rest.Off) ⊎ (page_at own ≡ Some page)
 keeps_of page stage own settles keeps = subst (Keeps page) settles keeps
 
 abbrev GoesKeeping : PageValue → Next → Type 0
@@ -83,7 +85,9 @@ GoesKeeping page (Start work) = Unit {0}
 found_keeps : (work : Work) (connection : ℕ) (page : PageValue) → Keeps page (found_by work connection page)
 found_keeps work connection page = by (restores work.config.validation)
   where
-    by : (test : Bool) → Keeps page (if test then Exchanging (exchange.ReadingState (record { work = work; page = page; connection = connection }) MOST_REQUESTS) else Settled (rest.Ready page))
+    by : (test : Bool) → Keeps page
+        (if test then Exchanging (exchange.ReadingState (record { work = work; page = page; connection = connection }) MOST_REQUESTS)
+        else Settled (rest.Ready page))
     by true = tt
     by false = inr refl
 
@@ -115,15 +119,21 @@ paging_only port (Returning (held.Download permit) own) wants = absurd cc
 paging_only port stage wants = absurd cc
 
 pub a_settled_port_keeps_its_page : (connection : ℕ) (octets : List ℕ) (old new : PortValue) (own : Rest)
-    → Happens old (Did ThePage (input.Page connection octets)) new → new.stage ≡ Settled own → (own ≡ rest.Off) ⊎ (page_at own ≡ Some (page_of octets))
-a_settled_port_keeps_its_page connection octets old new own happens settles = by old.stage (paging_only old.port old.stage happens.0) happens.2
+    → Happens old (Did ThePage (input.Page connection octets)) new → new.stage ≡ Settled own
+    → (own ≡ rest.Off) ⊎ (page_at own ≡ Some (page_of octets))
+a_settled_port_keeps_its_page connection octets old new own happens settles =
+    by old.stage (paging_only old.port old.stage happens.0) happens.2
   where
     by : (stage : Stage) → (what : PageFor) × (stage ≡ Paging what)
-        → new ≡ fed (record { port = old.port; under = old.under; kept = old.kept; stage = after_action stage }) (input.Page connection octets)
+        → new ≡ fed (record { port = old.port; under = old.under; kept = old.kept; stage = after_action stage })
+        (input.Page connection octets)
         → (own ≡ rest.Off) ⊎ (page_at own ≡ Some (page_of octets))
     by stage (what, at) same =
         let value : PortValue = record { port = old.port; under = old.under; kept = old.kept; stage = Paging what } in
         let is : new ≡ moved value (page_heard what connection (page_of octets)) =
-        same ∙ ap (λ (at : Stage). fed (record { port = old.port; under = old.under; kept = old.kept; stage = after_action at }) (input.Page connection octets)) at in
+        same ∙ ap (λ (at : Stage). fed (record { port = old.port; under = old.under; kept = old.kept; stage = after_action at })
+        (input.Page connection octets)) at in
         keeps_of (page_of octets) new.stage own settles
-        (subst (λ (value : PortValue). Keeps (page_of octets) value.stage) (sym is) (moved_keeps (page_of octets) value (page_heard what connection (page_of octets)) (heard_keeps what connection (page_of octets))))
+        (subst (λ (value : PortValue). Keeps (page_of octets) value.stage) (sym is)
+        (moved_keeps (page_of octets) value (page_heard what connection (page_of octets))
+        (heard_keeps what connection (page_of octets))))

@@ -82,65 +82,86 @@ backs_restores : (kind : Validation) → backs_up kind ≡ true → restores kin
 backs_restores validation.BackupAndRestore backs nay = cc
 backs_restores kind backs nay = cc
 
-upload_download : (kind : Validation) (at : State) (flag : Bool) (checksum : ℕ) (stored : Option ℕ) → Says kind at flag checksum stored decision.Upload
+upload_download : (kind : Validation) (at : State) (flag : Bool) (checksum : ℕ) (stored : Option ℕ)
+    → Says kind at flag checksum stored decision.Upload
     → Says kind at flag checksum stored decision.Download → ⊥
 upload_download kind at flag checksum stored (backs, free, inl none) (does, frees, unless, (other, some, differs)) = cc
-upload_download kind at flag checksum stored (backs, free, inr asks) (does, frees, unless, (other, some, differs)) = let nay = unless backs in cc
+upload_download kind at flag checksum stored (backs, free, inr asks) (does, frees, unless, (other, some, differs)) =
+    let nay = unless backs in cc
 
-upload_ready : (kind : Validation) (at : State) (flag : Bool) (checksum : ℕ) (stored : Option ℕ) → Says kind at flag checksum stored decision.Upload
+upload_ready : (kind : Validation) (at : State) (flag : Bool) (checksum : ℕ) (stored : Option ℕ)
+    → Says kind at flag checksum stored decision.Upload
     → Says kind at flag checksum stored decision.Ready → ⊥
 upload_ready kind at flag checksum stored (backs, free, why) (inl nay) = backs_restores kind backs nay
 upload_ready kind at flag checksum stored (backs, free, inl none) (inr (frees, unless, some)) = cc
 upload_ready kind at flag checksum stored (backs, free, inr asks) (inr (frees, unless, some)) = let nay = unless backs in cc
 
-download_ready : (kind : Validation) (at : State) (flag : Bool) (checksum : ℕ) (stored : Option ℕ) → Says kind at flag checksum stored decision.Download
+download_ready : (kind : Validation) (at : State) (flag : Bool) (checksum : ℕ) (stored : Option ℕ)
+    → Says kind at flag checksum stored decision.Download
     → Says kind at flag checksum stored decision.Ready → ⊥
 download_ready kind at flag checksum stored (does, free, unless, (other, some, differs)) (inl nay) = cc
 download_ready kind at flag checksum stored (does, free, unless, (other, some, differs)) (inr (frees, unlessed, same)) = differs cc
 
-ready_locked : (kind : Validation) (at : State) (flag : Bool) (checksum : ℕ) (stored : Option ℕ) → Says kind at flag checksum stored decision.Ready
+ready_locked : (kind : Validation) (at : State) (flag : Bool) (checksum : ℕ) (stored : Option ℕ)
+    → Says kind at flag checksum stored decision.Ready
     → Says kind at flag checksum stored decision.ReadyLocked → ⊥
 ready_locked kind at flag checksum stored (inl nay) (does, locked) = cc
 ready_locked kind at flag checksum stored (inr (free, unless, some)) (does, locked) = free locked
 
-ready_empty : (kind : Validation) (at : State) (flag : Bool) (checksum : ℕ) (stored : Option ℕ) → Says kind at flag checksum stored decision.Ready
+ready_empty : (kind : Validation) (at : State) (flag : Bool) (checksum : ℕ) (stored : Option ℕ)
+    → Says kind at flag checksum stored decision.Ready
     → Says kind at flag checksum stored decision.ReadyEmpty → ⊥
 ready_empty kind at flag checksum stored (inl nay) (does, backs, free, none) = cc
 ready_empty kind at flag checksum stored (inr (frees, unless, some)) (does, backs, free, none) = cc
 
-download_empty : (kind : Validation) (at : State) (flag : Bool) (checksum : ℕ) (stored : Option ℕ) → Says kind at flag checksum stored decision.Download
+download_empty : (kind : Validation) (at : State) (flag : Bool) (checksum : ℕ) (stored : Option ℕ)
+    → Says kind at flag checksum stored decision.Download
     → Says kind at flag checksum stored decision.ReadyEmpty → ⊥
 download_empty kind at flag checksum stored (does, free, unless, (other, some, differs)) (doing, backs, frees, none) = cc
 
-upload_empty : (kind : Validation) (at : State) (flag : Bool) (checksum : ℕ) (stored : Option ℕ) → Says kind at flag checksum stored decision.Upload
+upload_empty : (kind : Validation) (at : State) (flag : Bool) (checksum : ℕ) (stored : Option ℕ)
+    → Says kind at flag checksum stored decision.Upload
     → Says kind at flag checksum stored decision.ReadyEmpty → ⊥
 upload_empty kind at flag checksum stored (backs, free, why) (does, nay, frees, none) = cc
 
-one_alone : (kind : Validation) (at : State) (flag : Bool) (checksum : ℕ) (stored : Option ℕ) (one other : Decision) → Says kind at flag checksum stored one
+one_alone : (kind : Validation) (at : State) (flag : Bool) (checksum : ℕ) (stored : Option ℕ) (one other : Decision)
+    → Says kind at flag checksum stored one
     → Says kind at flag checksum stored other → one ≡ other
 one_alone kind at flag checksum stored decision.Upload decision.Upload is also = refl
-one_alone kind at flag checksum stored decision.Upload decision.Download is also = absurd (upload_download kind at flag checksum stored is also)
+one_alone kind at flag checksum stored decision.Upload decision.Download is also =
+    absurd (upload_download kind at flag checksum stored is also)
 one_alone kind at flag checksum stored decision.Upload decision.Ready is also = absurd (upload_ready kind at flag checksum stored is also)
 one_alone kind at flag checksum stored decision.Upload decision.ReadyLocked is also = absurd (is.1 also.1)
-one_alone kind at flag checksum stored decision.Upload decision.ReadyEmpty is also = absurd (upload_empty kind at flag checksum stored is also)
-one_alone kind at flag checksum stored decision.Download decision.Upload is also = absurd (upload_download kind at flag checksum stored also is)
+one_alone kind at flag checksum stored decision.Upload decision.ReadyEmpty is also =
+    absurd (upload_empty kind at flag checksum stored is also)
+one_alone kind at flag checksum stored decision.Download decision.Upload is also =
+    absurd (upload_download kind at flag checksum stored also is)
 one_alone kind at flag checksum stored decision.Download decision.Download is also = refl
-one_alone kind at flag checksum stored decision.Download decision.Ready is also = absurd (download_ready kind at flag checksum stored is also)
+one_alone kind at flag checksum stored decision.Download decision.Ready is also =
+    absurd (download_ready kind at flag checksum stored is also)
 one_alone kind at flag checksum stored decision.Download decision.ReadyLocked is also = absurd (is.1 also.1)
-one_alone kind at flag checksum stored decision.Download decision.ReadyEmpty is also = absurd (download_empty kind at flag checksum stored is also)
+one_alone kind at flag checksum stored decision.Download decision.ReadyEmpty is also =
+    absurd (download_empty kind at flag checksum stored is also)
 one_alone kind at flag checksum stored decision.Ready decision.Upload is also = absurd (upload_ready kind at flag checksum stored also is)
-one_alone kind at flag checksum stored decision.Ready decision.Download is also = absurd (download_ready kind at flag checksum stored also is)
+one_alone kind at flag checksum stored decision.Ready decision.Download is also =
+    absurd (download_ready kind at flag checksum stored also is)
 one_alone kind at flag checksum stored decision.Ready decision.Ready is also = refl
-one_alone kind at flag checksum stored decision.Ready decision.ReadyLocked is also = absurd (ready_locked kind at flag checksum stored is also)
-one_alone kind at flag checksum stored decision.Ready decision.ReadyEmpty is also = absurd (ready_empty kind at flag checksum stored is also)
+one_alone kind at flag checksum stored decision.Ready decision.ReadyLocked is also =
+    absurd (ready_locked kind at flag checksum stored is also)
+one_alone kind at flag checksum stored decision.Ready decision.ReadyEmpty is also =
+    absurd (ready_empty kind at flag checksum stored is also)
 one_alone kind at flag checksum stored decision.ReadyLocked decision.Upload is also = absurd (also.1 is.1)
 one_alone kind at flag checksum stored decision.ReadyLocked decision.Download is also = absurd (also.1 is.1)
-one_alone kind at flag checksum stored decision.ReadyLocked decision.Ready is also = absurd (ready_locked kind at flag checksum stored also is)
+one_alone kind at flag checksum stored decision.ReadyLocked decision.Ready is also =
+    absurd (ready_locked kind at flag checksum stored also is)
 one_alone kind at flag checksum stored decision.ReadyLocked decision.ReadyLocked is also = refl
 one_alone kind at flag checksum stored decision.ReadyLocked decision.ReadyEmpty is also = absurd (also.2 is.1)
-one_alone kind at flag checksum stored decision.ReadyEmpty decision.Upload is also = absurd (upload_empty kind at flag checksum stored also is)
-one_alone kind at flag checksum stored decision.ReadyEmpty decision.Download is also = absurd (download_empty kind at flag checksum stored also is)
-one_alone kind at flag checksum stored decision.ReadyEmpty decision.Ready is also = absurd (ready_empty kind at flag checksum stored also is)
+one_alone kind at flag checksum stored decision.ReadyEmpty decision.Upload is also =
+    absurd (upload_empty kind at flag checksum stored also is)
+one_alone kind at flag checksum stored decision.ReadyEmpty decision.Download is also =
+    absurd (download_empty kind at flag checksum stored also is)
+one_alone kind at flag checksum stored decision.ReadyEmpty decision.Ready is also =
+    absurd (ready_empty kind at flag checksum stored also is)
 one_alone kind at flag checksum stored decision.ReadyEmpty decision.ReadyLocked is also = absurd (is.2 also.1)
 one_alone kind at flag checksum stored decision.ReadyEmpty decision.ReadyEmpty is also = refl
 

@@ -8,7 +8,8 @@ use Rattle.iol_core.specs.declared.upload.FinishFault.TheVariants as finish
 use Rattle.iol_port.specs.Calls.{IsUnder, HandsBack, IsHandedBack}
 use Rattle.iol_port.specs.Heard.{Fits}
 use Rattle.iol_port.specs.History.{ComesOf, is_at_hand}
-use Rattle.iol_port.specs.Stage.{Stage, Settled, Paging, Attending, BeginningUpload, BeginningDownload, Exchanging, Uploading, Filing, Filed, Storing, Downloading, Breaking, Returning, Returned, IsStage}
+use Rattle.iol_port.specs.Stage.{Stage, Settled, Paging, Attending, BeginningUpload, BeginningDownload, Exchanging, Uploading, Filing}
+use Rattle.iol_port.specs.Stage.{Filed, Storing, Downloading, Breaking, Returning, Returned, IsStage}
 use Rattle.iol_port.specs.Wanted.{wanted, after_action}
 use Rattle.iol_port.specs.declared.action.Input.{Input}
 use Rattle.iol_port.specs.declared.action.Input.TheVariants as input
@@ -18,7 +19,8 @@ use Rattle.iol_port.specs.declared.stage.Held.TheVariants as held
 under-back : (grant permit : UploadGrant) (set back : SetValue) → IsUnder grant set → permit ≡ grant → back ≡ set → IsUnder permit back
 under-back grant permit set back is same all = subst (λ p. IsUnder p back) (sym same) (subst (λ s. IsUnder grant s) (sym all) is)
 
-hands_back : (grant : UploadGrant) (set : SetValue) (finished : Result ℕ FinishFault) → IsUnder grant set → IsHandedBack grant set finished → HandsBack finished
+hands_back : (grant : UploadGrant) (set : SetValue) (finished : Result ℕ FinishFault) → IsUnder grant set
+    → IsHandedBack grant set finished → HandsBack finished
 hands_back grant set (Ok number) is back = tt
 hands_back grant set (Err finish.Stopped) is back = tt
 hands_back grant set (Err finish.ConfigChanged) is back = tt
@@ -46,7 +48,8 @@ fits port (Exchanging what) heard holds hand comes = absurd comes
 fits port (Uploading grant page upload) (input.Octets octets) holds hand comes = refl
 fits port (Uploading grant page upload) input.Lost holds hand comes = refl
 fits port (Uploading grant page upload) heard holds hand comes = absurd comes
-fits port (Filing grant page set) (input.Reply (reply.FinishedUpload finished)) holds hand comes = (refl, hands_back grant set finished holds comes)
+fits port (Filing grant page set) (input.Reply (reply.FinishedUpload finished)) holds hand comes =
+    (refl, hands_back grant set finished holds comes)
 fits port (Filing grant page set) heard holds hand comes = absurd comes
 fits port (Filed page) heard holds hand comes = absurd cc
 fits port (Storing number page) (input.Reply (reply.Ticket state)) holds hand comes = refl

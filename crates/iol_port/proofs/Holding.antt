@@ -1,5 +1,5 @@
 -- A permit that is out is held by its machine, or is with the core.
-use Rattle.std.proofs.Common.{◌≡◌, inl, inr, ℕ, Bool, true, false, if◌then◌else◌, nat_lt, refl, ap, ◌∙◌, subst}
+use Rattle.std.proofs.Common.{◌≡◌, ℕ, Bool, true, false, if◌then◌else◌, nat_lt, refl, ap, ◌∙◌, subst}
 use Rattle.std.specs.Prelude.{Option, Some, None, Result, Ok, Err, ◌&&◌, ◌==◌, not, length}
 use Rattle.iol_types.specs.Config.{is_manual, restores}
 use Rattle.iol_isdu.specs.Reading.{answer_of}
@@ -12,11 +12,13 @@ use Rattle.iol_transfer.specs.Machine.{Machine, Outcome, More, Whole, Fault, ste
 use Rattle.iol_transfer.specs.Download.{Sender}
 use Rattle.iol_core.specs.declared.permit.UploadGrant.{UploadGrant}
 use Rattle.iol_core.specs.declared.port.Work.{Work}
-use Rattle.iol_port.specs.Answers.{state_read, checksum_read, upload_ended, exchanged, uploaded, upload_answered, Sent, GoesOn, Done, Ends, sent, downloaded, download_answered, RunsOut}
+use Rattle.iol_port.specs.Answers.{state_read, checksum_read, upload_ended, exchanged, uploaded, upload_answered, Sent, GoesOn, Done, Ends}
+use Rattle.iol_port.specs.Answers.{sent, downloaded, download_answered, RunsOut}
 use Rattle.iol_port.specs.Decision.{decide}
-use Rattle.iol_port.specs.Heard.{page_heard, settled_with, judged, resumed, is_under, decided, attended, IsFed, fed, moved, at_stage}
+use Rattle.iol_port.specs.Heard.{page_heard, settled_with, judged, resumed, is_under, decided, attended, fed, moved, at_stage}
 use Rattle.iol_port.specs.History.{ComesOf, Did, Happens}
-use Rattle.iol_port.specs.Stage.{Stage, Settled, Paging, Attending, BeginningUpload, BeginningDownload, Exchanging, Uploading, Filing, Filed, Storing, Downloading, Breaking, Returning, Returned, PortValue, Next, To, Start}
+use Rattle.iol_port.specs.Stage.{Stage, Settled, Paging, Attending, BeginningUpload, BeginningDownload, Exchanging, Uploading, Filing}
+use Rattle.iol_port.specs.Stage.{Filed, Storing, Downloading, Breaking, Returning, Returned, PortValue, Next, To, Start}
 use Rattle.iol_port.specs.Wanted.{Wanted, wanted, after_action}
 use Rattle.iol_port.specs.declared.action.Input.{Input}
 use Rattle.iol_port.specs.declared.decision.Decision.{Decision}
@@ -35,6 +37,7 @@ use Rattle.iol_port.specs.declared.stage.ExchangeFor.TheVariants as exchange
 use Rattle.iol_port.specs.declared.stage.Held.TheVariants as held
 use Rattle.iol_port.specs.Laws.{held_by}
 use Rattle.iol_port.specs.Permits.{IsOfLink}
+use Rattle.iol_port.proofs.Feeding.{fed_is}
 
 -- ---- what the link says
 
@@ -114,7 +117,8 @@ attended_free under kept (attend.Waking own) (Some work) = free_if (is_under und
     by (rest.Failed why) = tt
     by own = refl
 attended_free under kept (attend.Confirming found property checksum) (Some work) =
-    free_if (found.work.revision == work.revision) _ _ (by (decide work.config.validation property.state property.flag checksum work.checksum)) tt
+    free_if (found.work.revision == work.revision) _ _
+    (by (decide work.config.validation property.state property.flag checksum work.checksum)) tt
   where
     by : (now : Decision) → held_by (decided found checksum now) ≡ None
     by decision.Ready = refl
@@ -124,13 +128,15 @@ attended_free under kept (attend.Confirming found property checksum) (Some work)
     by decision.Download = refl
 attended_free under kept attend.Restarting (Some work) = tt
 
-link_holds : (port : ℕ) (under : Option ℕ) (kept : Bool) (stage : Stage) (heard : Input) → IsAtHand stage → IsOfLink heard → ComesOf (wanted port stage) heard
+link_holds : (port : ℕ) (under : Option ℕ) (kept : Bool) (stage : Stage) (heard : Input) → IsAtHand stage → IsOfLink heard
+    → ComesOf (wanted port stage) heard
     → held_by (fed (record { port = port; under = under; kept = kept; stage = after_action stage }) heard).stage ≡ held_by stage
 link_holds port under kept stage (input.Reply heard) hand link comes = absurd link
 link_holds port under kept (Settled own) input.Wake hand link comes = refl
 link_holds port under kept (Settled own) heard hand link comes = absurd comes
 link_holds port under kept (Paging what) (input.Page connection octets) hand link comes =
-    moved_holds (record { port = port; under = under; kept = kept; stage = Paging what }) (page_heard what connection (page_of octets)) (page_free what connection (page_of octets))
+    moved_holds (record { port = port; under = under; kept = kept; stage = Paging what }) (page_heard what connection (page_of octets))
+    (page_free what connection (page_of octets))
 link_holds port under kept (Paging what) input.Lost hand link comes = refl
 link_holds port under kept (Paging what) heard hand link comes = absurd comes
 link_holds port under kept (Attending what) heard hand link comes = absurd comes
@@ -139,13 +145,15 @@ link_holds port under kept (BeginningDownload found checksum) heard hand link co
 link_holds port under kept (Exchanging what) (input.Octets octets) hand link comes = exchanged_holds what (answer_of octets.items)
 link_holds port under kept (Exchanging what) input.Lost hand link comes = refl
 link_holds port under kept (Exchanging what) heard hand link comes = absurd comes
-link_holds port under kept (Uploading grant page upload) (input.Octets octets) hand link comes = upload_holds grant page upload (answer_of octets.items)
+link_holds port under kept (Uploading grant page upload) (input.Octets octets) hand link comes =
+    upload_holds grant page upload (answer_of octets.items)
 link_holds port under kept (Uploading grant page upload) input.Lost hand link comes = refl
 link_holds port under kept (Uploading grant page upload) heard hand link comes = absurd comes
 link_holds port under kept (Filing grant page set) heard hand link comes = absurd comes
 link_holds port under kept (Filed page) heard hand link comes = absurd cc
 link_holds port under kept (Storing number page) heard hand link comes = absurd comes
-link_holds port under kept (Downloading permit page download) (input.Octets octets) hand link comes = download_holds permit page download (answer_of octets.items)
+link_holds port under kept (Downloading permit page download) (input.Octets octets) hand link comes =
+    download_holds permit page download (answer_of octets.items)
 link_holds port under kept (Downloading permit page download) input.Lost hand link comes = refl
 link_holds port under kept (Downloading permit page download) heard hand link comes = absurd comes
 link_holds port under kept (Breaking holder why) (input.Octets octets) hand link comes = refl
@@ -159,29 +167,18 @@ runs_out_holds : (stage : Stage) (heard : Result Answer IsduFault) (new : Stage)
 runs_out_holds (Uploading grant page upload) heard new out = ap held_by out.1
 runs_out_holds stage heard new out = absurd out
 
-after_holds : (port : ℕ) (stage : Stage) (heard : Result Answer IsduFault) (new : Stage) → RunsOut (after_action stage) heard new → held_by (after_action stage) ≡ held_by stage
+after_holds : (port : ℕ) (stage : Stage) (heard : Result Answer IsduFault) (new : Stage) → RunsOut (after_action stage) heard new
+    → held_by (after_action stage) ≡ held_by stage
 after_holds port (Uploading grant page upload) heard new out = refl
 after_holds port (Filing grant page set) heard new out = absurd out
 after_holds port (Returning holder own) heard new out = absurd out
 after_holds port stage heard new out = absurd out
 
-pub link_keeps : (old new : PortValue) (wants : Wanted) (heard : Input) → IsAtHand old.stage → IsOfLink heard → Happens old (Did wants heard) new
+pub link_keeps : (old new : PortValue) (wants : Wanted) (heard : Input) → IsAtHand old.stage → IsOfLink heard
+    → Happens old (Did wants heard) new
     → held_by new.stage ≡ held_by old.stage
-link_keeps old new wants heard hand link happens = by heard link (subst (λ w. ComesOf w heard) happens.0 happens.1) happens.2
-  where
-    whole : (heard : Input) → IsOfLink heard → ComesOf (wanted old.port old.stage) heard → new ≡ fed (at_stage old (after_action old.stage)) heard
-        → held_by new.stage ≡ held_by old.stage
-    whole heard link comes same =
-        ap (λ (value : PortValue). held_by value.stage) same ∙ link_holds old.port old.under old.kept old.stage heard hand link comes
-
-    by : (heard : Input) → IsOfLink heard → ComesOf (wanted old.port old.stage) heard → IsFed (at_stage old (after_action old.stage)) heard new
-        → held_by new.stage ≡ held_by old.stage
-    by (input.Octets octets) link comes (inl same) = whole (input.Octets octets) link comes same
-    by (input.Octets octets) link comes (inr (stage, out, same)) =
-        ap (λ (value : PortValue). held_by value.stage) same ∙ runs_out_holds (after_action old.stage) (answer_of octets.items) stage out
-        ∙ after_holds old.port old.stage (answer_of octets.items) stage out
-    by input.Wake link comes same = whole input.Wake link comes same
-    by (input.Event code) link comes same = whole (input.Event code) link comes same
-    by (input.Page connection octets) link comes same = whole (input.Page connection octets) link comes same
-    by input.Lost link comes same = whole input.Lost link comes same
-    by (input.Reply heard) link comes same = absurd link
+link_keeps old new wants heard hand link happens =
+    fed_is (λ value. held_by value.stage ≡ held_by old.stage) (at_stage old (after_action old.stage)) new heard happens.2
+    (link_holds old.port old.under old.kept old.stage heard hand link (subst (λ w. ComesOf w heard) happens.0 happens.1))
+    (λ octets stage out. runs_out_holds (after_action old.stage) (answer_of octets.items) stage out
+    ∙ after_holds old.port old.stage (answer_of octets.items) stage out)

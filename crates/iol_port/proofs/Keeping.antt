@@ -1,5 +1,5 @@
 -- No permit is with the core between two happenings.
-use Rattle.std.proofs.Common.{◌≡◌, inl, inr, ℕ, Bool, true, false, if◌then◌else◌, nat_lt, refl, ap, ◌∙◌, subst}
+use Rattle.std.proofs.Common.{◌≡◌, ℕ, Bool, true, false, if◌then◌else◌, nat_lt, refl, ap, ◌∙◌, subst}
 use Rattle.std.specs.Prelude.{Option, Some, None, Result, Ok, Err, ◌&&◌, ◌==◌, not, length}
 use Rattle.iol_types.specs.Config.{is_manual, restores}
 use Rattle.iol_isdu.specs.Reading.{answer_of}
@@ -16,12 +16,14 @@ use Rattle.iol_core.specs.declared.port.Work.{Work}
 use Rattle.iol_core.specs.declared.upload.FinishFault.{FinishFault}
 use Rattle.iol_core.specs.declared.upload.FinishFault.TheVariants as finish
 use Rattle.iol_core.specs.declared.ticket.TicketState.TheVariants as ticket
-use Rattle.iol_port.specs.Answers.{again, state_read, checksum_read, upload_ended, exchanged, uploaded, upload_answered, Sent, GoesOn, Done, Ends, sent, downloaded, download_answered, answered, RunsOut}
+use Rattle.iol_port.specs.Answers.{again, state_read, checksum_read, upload_ended, exchanged, uploaded, upload_answered, Sent, GoesOn, Done}
+use Rattle.iol_port.specs.Answers.{Ends, sent, downloaded, download_answered, answered, RunsOut}
 use Rattle.iol_port.specs.Decision.{decide}
 use Rattle.iol_port.specs.Heard.{IsFed, fed, moved, at_stage}
 use Rattle.iol_port.specs.History.{ComesOf, Happening, Raised, Did, Happens, is_at_hand}
-use Rattle.iol_port.specs.Stage.{Stage, Settled, Paging, Attending, BeginningUpload, BeginningDownload, Exchanging, Uploading, Filing, Filed, Storing, Downloading, Breaking, Returning, Returned, PortValue, Next, To, Start}
-use Rattle.iol_port.specs.Wanted.{Wanted, Nothing, ThePage, AnswerTo, ReplyTo, wanted, after_action}
+use Rattle.iol_port.specs.Stage.{Stage, Settled, Paging, Attending, BeginningUpload, BeginningDownload, Exchanging, Uploading, Filing}
+use Rattle.iol_port.specs.Stage.{Filed, Storing, Downloading, Breaking, Returning, Returned, PortValue, Next, To, Start}
+use Rattle.iol_port.specs.Wanted.{wanted, after_action}
 use Rattle.iol_port.specs.declared.action.Input.{Input}
 use Rattle.iol_port.specs.declared.action.Input.TheVariants as input
 use Rattle.iol_port.specs.declared.call.Reply.TheVariants as reply
@@ -42,7 +44,9 @@ use Rattle.iol_core.specs.declared.upload.PermitFault.{PermitFault}
 use Rattle.iol_core.specs.declared.download.DownloadBegun.{DownloadBegun}
 use Rattle.iol_core.specs.declared.download.DownloadFault.{DownloadFault}
 use Rattle.iol_dsindex.specs.Property.{PropertyValue}
-use Rattle.iol_port.specs.Heard.{page_heard, paged, settled_with, found_by, judged, resumed, is_under, decided, attended, told, upload_begun, download_begun, upload_finished, ticket_told, lost}
+use Rattle.iol_port.specs.Heard.{page_heard, paged, settled_with, found_by, judged, resumed, is_under, decided, attended, told}
+use Rattle.iol_port.specs.Heard.{upload_begun, download_begun, upload_finished, ticket_told, lost}
+use Rattle.iol_port.proofs.Feeding.{fed_is}
 
 -- no permit is with the core: this is said of a stage, and of where a machine goes
 abbrev pub IsAtHand : Stage → Type 0
@@ -68,7 +72,8 @@ state_hand found left (Ok (answer.ReadOk octets)) = either (length octets.items 
 state_hand found left (Ok answer.Busy) = again_hand left _
 state_hand found left other = refl
 
-checksum_hand : (found : Found) (property : PropertyValue) (left : ℕ) (heard : Result Answer IsduFault) → IsAtHand (checksum_read found property left heard)
+checksum_hand : (found : Found) (property : PropertyValue) (left : ℕ) (heard : Result Answer IsduFault)
+    → IsAtHand (checksum_read found property left heard)
 checksum_hand found property left (Ok (answer.ReadOk octets)) = either (length octets.items == 4) _ _ refl refl
 checksum_hand found property left (Ok answer.Busy) = again_hand left _
 checksum_hand found property left other = refl
@@ -89,7 +94,8 @@ uploaded_hand grant page (More upload) = refl
 uploaded_hand grant page (Whole set) = refl
 uploaded_hand grant page (Fault why) = refl
 
-upload_hand : (grant : UploadGrant) (page : PageValue) (upload : Machine) (heard : Result Answer IsduFault) → IsAtHand (upload_answered grant page upload heard)
+upload_hand : (grant : UploadGrant) (page : PageValue) (upload : Machine) (heard : Result Answer IsduFault)
+    → IsAtHand (upload_answered grant page upload heard)
 upload_hand grant page upload (Ok heard) = uploaded_hand grant page (step upload heard)
 upload_hand grant page upload (Err why) = refl
 
@@ -98,7 +104,8 @@ downloaded_hand port page (GoesOn download) = refl
 downloaded_hand port page Done = refl
 downloaded_hand port page (Ends why) = refl
 
-download_hand : (port : ℕ) (page : PageValue) (download : Sender) (heard : Result Answer IsduFault) → IsAtHand (download_answered port page download heard)
+download_hand : (port : ℕ) (page : PageValue) (download : Sender) (heard : Result Answer IsduFault)
+    → IsAtHand (download_answered port page download heard)
 download_hand port page download (Ok heard) = downloaded_hand port page (sent download heard)
 download_hand port page download (Err why) = refl
 
@@ -145,7 +152,8 @@ attended_hand : (under : Option ℕ) (kept : Bool) (what : AttendFor) (work : Op
 attended_hand under kept what None = refl
 attended_hand under kept (attend.Waking own) (Some work) = goes (is_under under work.revision && not kept) _ _ (resumed_hand own work) tt
 attended_hand under kept (attend.Confirming found property checksum) (Some work) =
-    goes (found.work.revision == work.revision) _ _ (decided_hand found checksum (decide work.config.validation property.state property.flag checksum work.checksum)) tt
+    goes (found.work.revision == work.revision) _ _
+    (decided_hand found checksum (decide work.config.validation property.state property.flag checksum work.checksum)) tt
 attended_hand under kept attend.Restarting (Some work) = tt
 
 told_hand : (under : Option ℕ) (kept : Bool) (stage : Stage) (work : Option Work) → IsAtHand stage → GoesAtHand (told under kept stage work)
@@ -189,19 +197,25 @@ comes_by : (port : ℕ) (under : Option ℕ) (kept : Bool) (stage : Stage) (hear
     → IsAtHand (fed (record { port = port; under = under; kept = kept; stage = after_action stage }) heard).stage
 comes_by port under kept (Settled own) input.Wake hand comes = refl
 comes_by port under kept (Settled own) heard hand comes = absurd comes
-comes_by port under kept (Paging what) (input.Page connection octets) hand comes = moved_hand (record { port = port; under = under; kept = kept; stage = Paging what }) (page_heard what connection (page_of octets)) (page_hand what connection (page_of octets))
+comes_by port under kept (Paging what) (input.Page connection octets) hand comes =
+    moved_hand (record { port = port; under = under; kept = kept; stage = Paging what }) (page_heard what connection (page_of octets))
+    (page_hand what connection (page_of octets))
 comes_by port under kept (Paging what) input.Lost hand comes = refl
 comes_by port under kept (Paging what) heard hand comes = absurd comes
-comes_by port under kept (Attending what) (input.Reply (reply.Attended work)) hand comes = moved_hand (record { port = port; under = under; kept = kept; stage = Attending what }) (attended under kept what work) (attended_hand under kept what work)
+comes_by port under kept (Attending what) (input.Reply (reply.Attended work)) hand comes =
+    moved_hand (record { port = port; under = under; kept = kept; stage = Attending what }) (attended under kept what work)
+    (attended_hand under kept what work)
 comes_by port under kept (Attending what) heard hand comes = absurd comes
 comes_by port under kept (BeginningUpload found) (input.Reply (reply.BegunUpload begins)) hand comes = upload_begun_hand found.page begins
 comes_by port under kept (BeginningUpload found) heard hand comes = absurd comes
-comes_by port under kept (BeginningDownload found checksum) (input.Reply (reply.BegunDownload begins)) hand comes = download_begun_hand found.page begins
+comes_by port under kept (BeginningDownload found checksum) (input.Reply (reply.BegunDownload begins)) hand comes =
+    download_begun_hand found.page begins
 comes_by port under kept (BeginningDownload found checksum) heard hand comes = absurd comes
 comes_by port under kept (Exchanging what) (input.Octets octets) hand comes = exchanged_hand what (answer_of octets.items)
 comes_by port under kept (Exchanging what) input.Lost hand comes = refl
 comes_by port under kept (Exchanging what) heard hand comes = absurd comes
-comes_by port under kept (Uploading grant page upload) (input.Octets octets) hand comes = upload_hand grant page upload (answer_of octets.items)
+comes_by port under kept (Uploading grant page upload) (input.Octets octets) hand comes =
+    upload_hand grant page upload (answer_of octets.items)
 comes_by port under kept (Uploading grant page upload) input.Lost hand comes = refl
 comes_by port under kept (Uploading grant page upload) heard hand comes = absurd comes
 comes_by port under kept (Filing grant page set) (input.Reply (reply.FinishedUpload finished)) hand comes = finished_hand page finished
@@ -209,7 +223,8 @@ comes_by port under kept (Filing grant page set) heard hand comes = absurd comes
 comes_by port under kept (Filed page) heard hand comes = absurd cc
 comes_by port under kept (Storing number page) (input.Reply (reply.Ticket state)) hand comes = ticket_hand number page state
 comes_by port under kept (Storing number page) heard hand comes = absurd comes
-comes_by port under kept (Downloading permit page download) (input.Octets octets) hand comes = download_hand permit page download (answer_of octets.items)
+comes_by port under kept (Downloading permit page download) (input.Octets octets) hand comes =
+    download_hand permit page download (answer_of octets.items)
 comes_by port under kept (Downloading permit page download) input.Lost hand comes = refl
 comes_by port under kept (Downloading permit page download) heard hand comes = absurd comes
 comes_by port under kept (Breaking holder why) (input.Octets octets) hand comes = refl
@@ -229,20 +244,9 @@ comes_hand value heard hand comes = comes_by value.port value.under value.kept v
 -- and so does the machine that heard it, also where memory ran out
 pub fed_hand : (old new : PortValue) (heard : Input) → IsAtHand old.stage → ComesOf (wanted old.port old.stage) heard
     → IsFed (at_stage old (after_action old.stage)) heard new → IsAtHand new.stage
-fed_hand old new (input.Octets octets) hand comes (inl is) = ap (λ (value : PortValue). is_at_hand value.stage) is ∙ comes_hand old (input.Octets octets) hand comes
-fed_hand old new (input.Octets octets) hand comes (inr (stage, out, is)) =
-    ap (λ (value : PortValue). is_at_hand value.stage) is ∙ runs_out_hand (after_action old.stage) (answer_of octets.items) stage out
-fed_hand old new input.Wake hand comes is = ap (λ (value : PortValue). is_at_hand value.stage) is ∙ comes_hand old input.Wake hand comes
-fed_hand old new (input.Event code) hand comes is = absurd (never (wanted old.port old.stage) comes)
-  where
-    never : (wants : Wanted) → ComesOf wants (input.Event code) → ⊥
-    never Nothing comes = comes
-    never ThePage comes = comes
-    never (AnswerTo request) comes = comes
-    never (ReplyTo call) comes = comes
-fed_hand old new (input.Page connection octets) hand comes is = ap (λ (value : PortValue). is_at_hand value.stage) is ∙ comes_hand old (input.Page connection octets) hand comes
-fed_hand old new input.Lost hand comes is = ap (λ (value : PortValue). is_at_hand value.stage) is ∙ comes_hand old input.Lost hand comes
-fed_hand old new (input.Reply heard) hand comes is = ap (λ (value : PortValue). is_at_hand value.stage) is ∙ comes_hand old (input.Reply heard) hand comes
+fed_hand old new heard hand comes is =
+    fed_is (λ value. IsAtHand value.stage) (at_stage old (after_action old.stage)) new heard is (comes_hand old heard hand comes)
+    (λ octets stage out. runs_out_hand (after_action old.stage) (answer_of octets.items) stage out)
 
 -- whatever happens
 pub happens_hand : (old new : PortValue) (latest : Happening) → IsAtHand old.stage → Happens old latest new → IsAtHand new.stage

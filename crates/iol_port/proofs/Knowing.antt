@@ -1,5 +1,6 @@
 -- What is known of the device of a port at each stage, by the history.
-use Rattle.iol_port.specs.Stage.{Stage, Settled, Paging, Attending, BeginningUpload, BeginningDownload, Exchanging, Uploading, Filing, Filed, Storing, Downloading, Breaking, Returning, Returned, Next, To, Start}
+use Rattle.iol_port.specs.Stage.{Stage, Settled, Paging, Attending, BeginningUpload, BeginningDownload, Exchanging, Uploading, Filing}
+use Rattle.iol_port.specs.Stage.{Filed, Storing, Downloading, Breaking, Returning, Returned, Next, To, Start}
 use Rattle.iol_port.specs.Wanted.{Wanted, AnswerTo}
 use Rattle.iol_port.specs.History.{Happening, Raised, Did}
 use Rattle.iol_transfer.specs.Exchanges.{Exchange}
@@ -95,7 +96,8 @@ abbrev pub IsOtherReply : Reply → Type 0
 IsOtherReply (reply.Attended work) = ⊥
 IsOtherReply _ = Unit {0}
 
-other_work : (wants : Wanted) (heard : Reply) (before : List Happening) → IsOtherReply heard → last_work (Did wants (input.Reply heard) ∷ before) ≡ last_work before
+other_work : (wants : Wanted) (heard : Reply) (before : List Happening) → IsOtherReply heard
+    → last_work (Did wants (input.Reply heard) ∷ before) ≡ last_work before
 other_work wants (reply.Attended work) before other = absurd other
 other_work wants (reply.BegunUpload begins) before other = refl
 other_work wants (reply.FinishedUpload finished) before other = refl
@@ -104,7 +106,8 @@ other_work wants (reply.Ticket state) before other = refl
 other_work wants (reply.BegunDownload begins) before other = refl
 other_work wants reply.EndedDownload before other = refl
 
-other_said : (work : Work) (wants : Wanted) (heard : Reply) (before : List Happening) → IsOtherReply heard → HasSaid work before → HasSaid work (Did wants (input.Reply heard) ∷ before)
+other_said : (work : Work) (wants : Wanted) (heard : Reply) (before : List Happening) → IsOtherReply heard → HasSaid work before
+    → HasSaid work (Did wants (input.Reply heard) ∷ before)
 other_said work wants (reply.Attended own) before other is = absurd other
 other_said work wants (reply.BegunUpload begins) before other is = is
 other_said work wants (reply.FinishedUpload finished) before other is = is
@@ -128,7 +131,8 @@ known_replied page wants heard before other is = record {
   revision = is.revision;
 }
 
-pub known_answered : (page : PageValue) (request : Request) (octets : ArrayVec ℕ) (said : Answer) (before : List Happening) → IsKnown page before
+pub known_answered : (page : PageValue) (request : Request) (octets : ArrayVec ℕ) (said : Answer) (before : List Happening)
+    → IsKnown page before
     → answer_of octets.items ≡ Ok said → IsKnown page (Did (AnswerTo request) (input.Octets octets) ∷ before)
 known_answered page request octets said before is read = record {
   connection = is.connection;
@@ -157,7 +161,8 @@ known_raised page code before is = record {
   revision = is.revision;
 }
 
-pub found_answered : (found : Found) (request : Request) (octets : ArrayVec ℕ) (said : Answer) (before : List Happening) → IsFound found before
+pub found_answered : (found : Found) (request : Request) (octets : ArrayVec ℕ) (said : Answer) (before : List Happening)
+    → IsFound found before
     → answer_of octets.items ≡ Ok said → IsFound found (Did (AnswerTo request) (input.Octets octets) ∷ before)
 found_answered found request octets said before is read = record {
   conversation = is.conversation ++ record { request = request; answer = said } ∷ [];
@@ -168,7 +173,8 @@ found_answered found request octets said before is read = record {
 }
 
 pub found_raised : (found : Found) (code : ℕ) (before : List Happening) → IsFound found before → IsFound found (Raised code ∷ before)
-found_raised found code before is = record { conversation = is.conversation; shown = is.shown; manual = is.manual; wanted = is.wanted; said = is.said }
+found_raised found code before is =
+    record { conversation = is.conversation; shown = is.shown; manual = is.manual; wanted = is.wanted; said = is.said }
 
 -- what the core has last said it has once said
 pub last_said : (work : Work) (history : List Happening) → last_work history ≡ Some work → HasSaid work history
@@ -194,12 +200,14 @@ raised_paging : (history : List Happening) (code : ℕ) (what : PageFor) → Kno
 raised_paging history code (page_for.Comparing work own) is = is
 raised_paging history code (page_for.Identifying work) is = is
 
-raised_attending : (history : List Happening) (code : ℕ) (what : AttendFor) → KnownAttending history what → KnownAttending (Raised code ∷ history) what
+raised_attending : (history : List Happening) (code : ℕ) (what : AttendFor) → KnownAttending history what
+    → KnownAttending (Raised code ∷ history) what
 raised_attending history code (attend.Waking own) is = tt
 raised_attending history code (attend.Confirming found property checksum) is = found_raised found code history is
 raised_attending history code attend.Restarting is = tt
 
-raised_exchanging : (history : List Happening) (code : ℕ) (what : ExchangeFor) → KnownExchanging history what → KnownExchanging (Raised code ∷ history) what
+raised_exchanging : (history : List Happening) (code : ℕ) (what : ExchangeFor) → KnownExchanging history what
+    → KnownExchanging (Raised code ∷ history) what
 raised_exchanging history code (exchange.ReadingState found left) is = found_raised found code history is
 raised_exchanging history code (exchange.ReadingChecksum found property left) is = found_raised found code history is
 raised_exchanging history code (exchange.EndingUpload page left) is = known_raised page code history is

@@ -1,5 +1,5 @@
 -- Whatever happens to a machine leaves what holds at its stage.
-use Rattle.std.proofs.Common.{◌≡◌, inl, inr, ℕ, Bool, true, false, if◌then◌else◌, List, [], ◌∷◌, refl, sym, ap, ◌∙◌, subst}
+use Rattle.std.proofs.Common.{◌≡◌, ℕ, Bool, true, false, if◌then◌else◌, List, [], ◌∷◌, refl, sym, ap, ◌∙◌, subst}
 use Rattle.std.specs.Prelude.{Option, Result}
 use Rattle.iol_types.specs.Config.{is_manual}
 use Rattle.iol_isdu.specs.Reading.{answer_of}
@@ -11,7 +11,8 @@ use Rattle.iol_port.specs.Answers.{RunsOut}
 use Rattle.iol_port.proofs.Keeping.{IsAtHand}
 use Rattle.iol_port.specs.Heard.{IsFed, fed, moved, at_stage}
 use Rattle.iol_port.specs.History.{ComesOf, Happening, Raised, Did, Happens, HasLed, is_at_hand}
-use Rattle.iol_port.specs.Stage.{Stage, Settled, Paging, Attending, BeginningUpload, BeginningDownload, Exchanging, Uploading, Filing, Filed, Storing, Downloading, Breaking, Returning, Returned, PortValue, IsStage, Next, To, Start}
+use Rattle.iol_port.specs.Stage.{Stage, Settled, Paging, Attending, BeginningUpload, BeginningDownload, Exchanging, Uploading, Filing}
+use Rattle.iol_port.specs.Stage.{Filed, Storing, Downloading, Breaking, Returning, Returned, PortValue, IsStage, Next, To, Start}
 use Rattle.iol_port.specs.Wanted.{ThePage, ReplyTo, wanted, after_action}
 use Rattle.iol_port.specs.declared.action.Input.{Input}
 use Rattle.iol_port.specs.declared.action.Input.TheVariants as input
@@ -23,9 +24,13 @@ use Rattle.iol_port.specs.Heard.{page_heard, paged, attended, replied}
 use Rattle.iol_port.proofs.Keeping.{happens_hand}
 use Rattle.iol_port.specs.Calls.{Attend}
 use Rattle.iol_port.proofs.Stages.{StageIs, raised_is}
-use Rattle.iol_port.proofs.Telling.{NextIs, exchanged_told, upload_told, download_told, page_told, attended_told, begun_told, download_begun_told, finished_told, ticket_told_is}
+use Rattle.iol_port.proofs.Examining.{exchanged_told}
+use Rattle.iol_port.proofs.Telling.{NextIs, upload_told, download_told, page_told, attended_told, begun_told}
+use Rattle.iol_port.proofs.Telling.{download_begun_told, finished_told, ticket_told_is}
+use Rattle.iol_port.proofs.Feeding.{fed_is}
 
-moved_is : (port : ℕ) (value : PortValue) (next : Next) (history : List Happening) → NextIs port history next → StageIs port history (moved value next).stage
+moved_is : (port : ℕ) (value : PortValue) (next : Next) (history : List Happening) → NextIs port history next
+    → StageIs port history (moved value next).stage
 moved_is port value (To stage) history is = is
 moved_is port value (Start work) history is = by (is_manual work.config.mode)
   where
@@ -34,10 +39,12 @@ moved_is port value (Start work) history is = by (is_manual work.config.mode)
     by false = tt
 
 -- what comes of what was wanted
-comes_told : (port : ℕ) (under : Option ℕ) (kept : Bool) (stage : Stage) (heard : Input) (before : List Happening) → StageIs port before stage → IsAtHand stage
+comes_told : (port : ℕ) (under : Option ℕ) (kept : Bool) (stage : Stage) (heard : Input) (before : List Happening)
+    → StageIs port before stage → IsAtHand stage
     → ComesOf (wanted port stage) heard
     → IsStage (fed (record { port = port; under = under; kept = kept; stage = after_action stage }) heard).stage
-    → StageIs port (Did (wanted port stage) heard ∷ before) (fed (record { port = port; under = under; kept = kept; stage = after_action stage }) heard).stage
+    → StageIs port (Did (wanted port stage) heard ∷ before)
+    (fed (record { port = port; under = under; kept = kept; stage = after_action stage }) heard).stage
 comes_told port under kept (Settled own) input.Wake before is hand comes good = tt
 comes_told port under kept (Settled own) heard before is hand comes good = absurd comes
 comes_told port under kept (Paging what) (input.Page connection octets) before is hand comes good =
@@ -49,7 +56,8 @@ comes_told port under kept (Attending what) (input.Reply (reply.Attended work)) 
     moved_is port (record { port = port; under = under; kept = kept; stage = Attending what }) (attended under kept what work)
     (Did (ReplyTo (Attend port)) (input.Reply (reply.Attended work)) ∷ before) (attended_told port under kept what work before is)
 comes_told port under kept (Attending what) heard before is hand comes good = absurd comes
-comes_told port under kept (BeginningUpload found) (input.Reply (reply.BegunUpload begins)) before is hand comes good = begun_told port found begins before comes
+comes_told port under kept (BeginningUpload found) (input.Reply (reply.BegunUpload begins)) before is hand comes good =
+    begun_told port found begins before comes
 comes_told port under kept (BeginningUpload found) heard before is hand comes good = absurd comes
 comes_told port under kept (BeginningDownload found checksum) (input.Reply (reply.BegunDownload begins)) before is hand comes good =
     download_begun_told port found checksum begins before comes
@@ -65,7 +73,8 @@ comes_told port under kept (Filing grant page set) (input.Reply (reply.FinishedU
     finished_told port grant page set finished before is comes
 comes_told port under kept (Filing grant page set) heard before is hand comes good = absurd comes
 comes_told port under kept (Filed page) heard before is hand comes good = absurd cc
-comes_told port under kept (Storing number page) (input.Reply (reply.Ticket state)) before is hand comes good = ticket_told_is port number page state before is
+comes_told port under kept (Storing number page) (input.Reply (reply.Ticket state)) before is hand comes good =
+    ticket_told_is port number page state before is
 comes_told port under kept (Storing number page) heard before is hand comes good = absurd comes
 comes_told port under kept (Downloading permit page download) (input.Octets octets) before is hand comes good =
     download_told port permit page download before octets (answer_of octets.items) is refl
@@ -93,7 +102,8 @@ fed_port value (input.Octets octets) = refl
 fed_port value input.Lost = refl
 fed_port value (input.Reply heard) = moved_port value (replied value.under value.kept value.stage heard)
 
-runs_out_is : (port : ℕ) (stage : Stage) (heard : Result Answer IsduFault) (new : Stage) (history : List Happening) → RunsOut stage heard new
+runs_out_is : (port : ℕ) (stage : Stage) (heard : Result Answer IsduFault) (new : Stage) (history : List Happening)
+    → RunsOut stage heard new
     → StageIs port history new
 runs_out_is port (Uploading grant page upload) heard new history out = subst (StageIs port history) (sym out.1) tt
 runs_out_is port stage heard new history out = absurd out
@@ -104,42 +114,37 @@ pub record IsLed (port : ℕ) (history : List Happening) (value : PortValue) : T
   pub hand : IsAtHand value.stage
   pub stage : StageIs port history value.stage
 
-did_is : (port : ℕ) (before : List Happening) (old new : PortValue) (heard : Input) → IsLed port before old → ComesOf (wanted old.port old.stage) heard
+did_is : (port : ℕ) (before : List Happening) (old new : PortValue) (heard : Input) → IsLed port before old
+    → ComesOf (wanted old.port old.stage) heard
     → IsFed (at_stage old (after_action old.stage)) heard new → IsStage new.stage
     → (new.port ≡ port) × StageIs port (Did (wanted old.port old.stage) heard ∷ before) new.stage
-did_is port before old new heard led comes is good = by heard comes is
+did_is port before old new heard led comes is good =
+    fed_is (λ value. IsStage value.stage → (value.port ≡ port)
+    × StageIs port history value.stage) (at_stage old (after_action old.stage)) new heard is
+    whole out good
   where
-    whole : (heard : Input) → ComesOf (wanted old.port old.stage) heard → new ≡ fed (at_stage old (after_action old.stage)) heard
-        → (new.port ≡ port) × StageIs port (Did (wanted old.port old.stage) heard ∷ before) new.stage
-    whole heard comes is =
-        let here : StageIs old.port before old.stage = subst (λ p. StageIs p before old.stage) (sym led.port_is) led.stage in
-        let there : StageIs old.port (Did (wanted old.port old.stage) heard ∷ before) (fed (at_stage old (after_action old.stage)) heard).stage =
-        comes_told old.port old.under old.kept old.stage heard before here led.hand comes (subst (λ (value : PortValue). IsStage value.stage) is good) in (
-          ap (λ (value : PortValue). value.port) is ∙ fed_port (at_stage old (after_action old.stage)) heard ∙ led.port_is,
-          subst (λ p. StageIs p (Did (wanted old.port old.stage) heard ∷ before) new.stage) led.port_is
-              (subst (λ (value : PortValue). StageIs old.port (Did (wanted old.port old.stage) heard ∷ before) value.stage) (sym is) there),
-        )
+    history : List Happening
+    history = Did (wanted old.port old.stage) heard ∷ before
 
-    out : (octets : ArrayVec ℕ)
-        → (stage : Stage) × RunsOut (after_action old.stage) (answer_of octets.items) stage × (new ≡ at_stage (at_stage old (after_action old.stage)) stage)
-        → (new.port ≡ port) × StageIs port (Did (wanted old.port old.stage) (input.Octets octets) ∷ before) new.stage
-    out octets (stage, runs, is) = (
-      ap (λ (value : PortValue). value.port) is ∙ led.port_is,
-      subst (λ (value : PortValue). StageIs port (Did (wanted old.port old.stage) (input.Octets octets) ∷ before) value.stage) (sym is)
-          (runs_out_is port (after_action old.stage) (answer_of octets.items) stage (Did (wanted old.port old.stage) (input.Octets octets) ∷ before) runs),
+    after : PortValue
+    after = fed (at_stage old (after_action old.stage)) heard
+
+    here : StageIs old.port before old.stage
+    here = subst (λ p. StageIs p before old.stage) (sym led.port_is) led.stage
+
+    whole : IsStage after.stage → (after.port ≡ port) × StageIs port history after.stage
+    whole fits = (
+      fed_port (at_stage old (after_action old.stage)) heard ∙ led.port_is,
+      subst (λ p. StageIs p history after.stage) led.port_is
+          (comes_told old.port old.under old.kept old.stage heard before here led.hand comes fits),
     )
 
-    by : (heard : Input) → ComesOf (wanted old.port old.stage) heard → IsFed (at_stage old (after_action old.stage)) heard new
-        → (new.port ≡ port) × StageIs port (Did (wanted old.port old.stage) heard ∷ before) new.stage
-    by (input.Octets octets) comes (inl is) = whole (input.Octets octets) comes is
-    by (input.Octets octets) comes (inr is) = out octets is
-    by input.Wake comes is = whole input.Wake comes is
-    by (input.Event code) comes is = whole (input.Event code) comes is
-    by (input.Page connection octets) comes is = whole (input.Page connection octets) comes is
-    by input.Lost comes is = whole input.Lost comes is
-    by (input.Reply heard) comes is = whole (input.Reply heard) comes is
+    out : (octets : ArrayVec ℕ) (stage : Stage) → RunsOut (after_action old.stage) (answer_of octets.items) stage
+        → IsStage stage → (old.port ≡ port) × StageIs port history stage
+    out octets stage runs fits = (led.port_is, runs_out_is port (after_action old.stage) (answer_of octets.items) stage history runs)
 
-happens_is : (port : ℕ) (before : List Happening) (old new : PortValue) (latest : Happening) → IsLed port before old → Happens old latest new
+happens_is : (port : ℕ) (before : List Happening) (old new : PortValue) (latest : Happening) → IsLed port before old
+    → Happens old latest new
     → (new.port ≡ port) × StageIs port (latest ∷ before) new.stage
 happens_is port before old new (Raised code) led is = (
   ap (λ (value : PortValue). value.port) is ∙ led.port_is,

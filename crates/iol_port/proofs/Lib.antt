@@ -1,7 +1,9 @@
 pub mod Reading
+pub mod Feeding
 pub mod Fitting
 pub mod Keeping
 pub mod Stages
+pub mod Examining
 pub mod Telling
 pub mod Leading
 pub mod Deciding
@@ -14,5 +16,6 @@ pub mod Settling
 pub mod SettlingLaws
 pub mod UploadEnds
 pub mod PortLaws
+pub mod Written
 pub mod Writing
 pub mod Restoring

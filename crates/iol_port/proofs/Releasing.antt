@@ -11,7 +11,8 @@ use Rattle.iol_core.specs.declared.download.DownloadFault.{DownloadFault}
 use Rattle.iol_core.specs.declared.ticket.TicketState.{TicketState}
 use Rattle.iol_port.specs.Heard.{attended, upload_begun, download_begun, upload_finished, ticket_told, fed}
 use Rattle.iol_port.specs.History.{Did, Happens}
-use Rattle.iol_port.specs.Stage.{Stage, Settled, Paging, Attending, BeginningUpload, BeginningDownload, Exchanging, Uploading, Filing, Filed, Storing, Downloading, Breaking, Returning, Returned, PortValue}
+use Rattle.iol_port.specs.Stage.{Stage, Settled, Paging, Attending, BeginningUpload, BeginningDownload, Exchanging, Uploading, Filing}
+use Rattle.iol_port.specs.Stage.{Filed, Storing, Downloading, Breaking, Returning, Returned, PortValue}
 use Rattle.iol_port.specs.Wanted.{Wanted, ReplyTo, wanted, after_action}
 use Rattle.iol_port.specs.declared.call.Reply.{Reply}
 use Rattle.iol_port.specs.declared.stage.Held.{Held}
@@ -60,7 +61,8 @@ there (one ∷ permits) zero below = (one, refl)
 there (one ∷ permits) (suc place) below = there permits place (omega (arith, below))
 
 -- a port that is there has a place for its permit
-place_of : (start : FrontStart) (core : CoreView) (port : ℕ) (found : Port) → IsCore start core → port_numbered (live core) port ≡ Some found
+place_of : (start : FrontStart) (core : CoreView) (port : ℕ) (found : Port) → IsCore start core
+    → port_numbered (live core) port ≡ Some found
     → port - 1 < length core.permits
 place_of start core port found is numbered = by (nat_le 1 port) numbered
   where
@@ -72,7 +74,8 @@ place_of start core port found is numbered = by (nat_le 1 port) numbered
         omega (arith, within, same, places)
     by false there = absurd cc
 
-permit_some : (start : FrontStart) (core : CoreView) (port : ℕ) (found : Port) (grant : Grant) → IsCore start core → port_numbered (live core) port ≡ Some found
+permit_some : (start : FrontStart) (core : CoreView) (port : ℕ) (found : Port) (grant : Grant) → IsCore start core
+    → port_numbered (live core) port ≡ Some found
     → permit_at (with_permit core port (Some grant)) port ≡ Some grant
 permit_some start core port found grant is numbered =
     let place = there core.permits (port - 1) (place_of start core port found is numbered) in
@@ -80,7 +83,8 @@ permit_some start core port found grant is numbered =
 
 -- ---- permits that are given
 
-upload_there : (core : CoreView) (port vendor device : ℕ) → upload_fault core port vendor device ≡ None → (found : Port) × (port_numbered (live core) port ≡ Some found)
+upload_there : (core : CoreView) (port vendor device : ℕ) → upload_fault core port vendor device ≡ None
+    → (found : Port) × (port_numbered (live core) port ≡ Some found)
 upload_there core port vendor device none = by (is_stopped core) (port_numbered (live core) port) refl none
   where
     by : (stopped : Bool) (found : Option Port) → port_numbered (live core) port ≡ found
@@ -112,9 +116,11 @@ same_self grant =
       eq-eqb grant.connection grant.connection refl,
     ) refl
 
-pub released_out : (core : CoreView) (port : ℕ) (holder : Held) → HasOut core port (Some holder) → permit_at (released core holder) port ≡ None
+pub released_out : (core : CoreView) (port : ℕ) (holder : Held) → HasOut core port (Some holder)
+    → permit_at (released core holder) port ≡ None
 released_out core port (held.Upload grant) (out, own) =
-    let is : is_out core grant ≡ true = ap (λ p. is_upload (permit_at core p) grant) own ∙ ap (λ o. is_upload o grant) out ∙ same_self grant in
+    let is : is_out core grant ≡ true = ap (λ p. is_upload (permit_at core p) grant) own ∙ ap (λ o. is_upload o grant) out
+    ∙ same_self grant in
     ap (λ test. permit_at (if test then with_permit core grant.port None else core) port) is
     ∙ ap (λ p. permit_at (with_permit core p None) port) own ∙ none_written core.permits (port - 1)
 released_out core port (held.Download permit) (out, own) =
@@ -145,7 +151,8 @@ abbrev pub RepliesTo : Wanted → CoreView → CoreView → Reply → Type 0
 RepliesTo (ReplyTo call) before after heard = Replies call before after heard
 RepliesTo _ before after heard = ⊥
 
-upload_given : (start : FrontStart) (port vendor device connection : ℕ) (page : PageValue) (before after : CoreView) (begins : Result UploadGrant PermitFault)
+upload_given : (start : FrontStart) (port vendor device connection : ℕ) (page : PageValue) (before after : CoreView)
+    (begins : Result UploadGrant PermitFault)
     → IsCore start before → permit_at before port ≡ None → IsBeginUpload before port vendor device connection after begins
     → HasOut after port (held_by (upload_begun page begins))
 upload_given start port vendor device connection page before after (Ok grant) is out (none, same, now) =
@@ -153,30 +160,40 @@ upload_given start port vendor device connection page before after (Ok grant) is
       ap (λ (core : CoreView). permit_at core port) now ∙ permit_some start before port found.0 (Upload grant) is found.1,
       ap (λ (own : UploadGrant). own.port) same,
     )
-upload_given start port vendor device connection page before after (Err why) is out (why_is, now) = ap (λ (core : CoreView). permit_at core port) now ∙ out
+upload_given start port vendor device connection page before after (Err why) is out (why_is, now) =
+    ap (λ (core : CoreView). permit_at core port) now ∙ out
 
-download_given : (start : FrontStart) (port vendor device checksum : ℕ) (page : PageValue) (before after : CoreView) (begins : Result DownloadBegun DownloadFault)
+download_given : (start : FrontStart) (port vendor device checksum : ℕ) (page : PageValue) (before after : CoreView)
+    (begins : Result DownloadBegun DownloadFault)
     → IsCore start before → permit_at before port ≡ None → IsBeginDownload before port vendor device checksum after begins
     → HasOut after port (held_by (download_begun page begins))
 download_given start port vendor device checksum page before after (Ok begins) is out given =
     let found = download_there before port vendor device checksum given.0 in
     (ap (λ (core : CoreView). permit_at core port) given.3 ∙ permit_some start before port found.0 Download is found.1, given.1)
-download_given start port vendor device checksum page before after (Err refusal.Memory) is out given = ap (λ (core : CoreView). permit_at core port) given.1 ∙ out
-download_given start port vendor device checksum page before after (Err refusal.NotAllowed) is out given = ap (λ (core : CoreView). permit_at core port) given.1 ∙ out
-download_given start port vendor device checksum page before after (Err refusal.Empty) is out given = ap (λ (core : CoreView). permit_at core port) given.1 ∙ out
-download_given start port vendor device checksum page before after (Err refusal.WrongDevice) is out given = ap (λ (core : CoreView). permit_at core port) given.1 ∙ out
-download_given start port vendor device checksum page before after (Err refusal.Taken) is out given = ap (λ (core : CoreView). permit_at core port) given.1 ∙ out
-download_given start port vendor device checksum page before after (Err refusal.Same) is out given = ap (λ (core : CoreView). permit_at core port) given.1 ∙ out
+download_given start port vendor device checksum page before after (Err refusal.Memory) is out given =
+    ap (λ (core : CoreView). permit_at core port) given.1 ∙ out
+download_given start port vendor device checksum page before after (Err refusal.NotAllowed) is out given =
+    ap (λ (core : CoreView). permit_at core port) given.1 ∙ out
+download_given start port vendor device checksum page before after (Err refusal.Empty) is out given =
+    ap (λ (core : CoreView). permit_at core port) given.1 ∙ out
+download_given start port vendor device checksum page before after (Err refusal.WrongDevice) is out given =
+    ap (λ (core : CoreView). permit_at core port) given.1 ∙ out
+download_given start port vendor device checksum page before after (Err refusal.Taken) is out given =
+    ap (λ (core : CoreView). permit_at core port) given.1 ∙ out
+download_given start port vendor device checksum page before after (Err refusal.Same) is out given =
+    ap (λ (core : CoreView). permit_at core port) given.1 ∙ out
 
 -- a permit that is handed back is still out
-back_out : (port : ℕ) (grant permit : UploadGrant) (before after : CoreView) → HasOut before port (Some (held.Upload grant)) → permit ≡ grant → after ≡ before
+back_out : (port : ℕ) (grant permit : UploadGrant) (before after : CoreView) → HasOut before port (Some (held.Upload grant))
+    → permit ≡ grant → after ≡ before
     → HasOut after port (Some (held.Upload permit))
 back_out port grant permit before after out same now =
     subst (λ (p : UploadGrant). HasOut after port (Some (held.Upload p))) (sym same)
     (subst (λ (core : CoreView). HasOut core port (Some (held.Upload grant))) (sym now) out)
 
 set_filed : (port : ℕ) (grant : UploadGrant) (page : PageValue) (set : SetValue) (before after : CoreView) (finished : Result ℕ FinishFault)
-    → HasOut before port (Some (held.Upload grant)) → IsFinish before grant set after finished → HasOut after port (held_by (upload_finished page finished))
+    → HasOut before port (Some (held.Upload grant)) → IsFinish before grant set after finished
+    → HasOut after port (held_by (upload_finished page finished))
 set_filed port grant page set before after (Ok number) out is =
     ap (λ (core : CoreView). permit_at core port) is.3
     ∙ ap (λ p. permit_at (with_permit (queued before (store_of grant set)) p None) port) out.1 ∙ none_written before.permits (port - 1)
@@ -184,8 +201,10 @@ set_filed port grant page set before after (Err finish.Stopped) out is =
     ap (λ (core : CoreView). permit_at core port) is.1 ∙ released_out before port (held.Upload grant) out
 set_filed port grant page set before after (Err finish.ConfigChanged) out is =
     ap (λ (core : CoreView). permit_at core port) is.1 ∙ released_out before port (held.Upload grant) out
-set_filed port grant page set before after (Err (finish.QueueFull permit back)) out is = back_out port grant permit before after out is.2 is.4
-set_filed port grant page set before after (Err (finish.Exhausted permit back)) out is = back_out port grant permit before after out is.2 is.4
+set_filed port grant page set before after (Err (finish.QueueFull permit back)) out is =
+    back_out port grant permit before after out is.2 is.4
+set_filed port grant page set before after (Err (finish.Exhausted permit back)) out is =
+    back_out port grant permit before after out is.2 is.4
 set_filed port grant page set before after (Err (finish.Memory permit back)) out is = back_out port grant permit before after out is.2 is.4
 
 ticket_free : (number : ℕ) (page : PageValue) (state : TicketState) → held_by (ticket_told number page state) ≡ None
@@ -193,12 +212,15 @@ ticket_free number page ticket.Waiting = refl
 ticket_free number page ticket.Durable = refl
 ticket_free number page ticket.Unsure = refl
 
-core_holds : (start : FrontStart) (before after : CoreView) (port : ℕ) (under : Option ℕ) (kept : Bool) (stage : Stage) (heard : Reply) → IsCore start before
+core_holds : (start : FrontStart) (before after : CoreView) (port : ℕ) (under : Option ℕ) (kept : Bool) (stage : Stage) (heard : Reply)
+    → IsCore start before
     → IsAtHand stage → HasOut before port (held_by stage) → RepliesTo (wanted port stage) before after heard
-    → HasOut after port (held_by (fed (record { port = port; under = under; kept = kept; stage = after_action stage }) (input.Reply heard)).stage)
+    → HasOut after port (held_by (fed (record { port = port; under = under; kept = kept; stage = after_action stage })
+    (input.Reply heard)).stage)
 core_holds start before after port under kept (Attending what) (reply.Attended work) is hand out replies =
     subst (HasOut after port)
-    (sym (moved_holds (record { port = port; under = under; kept = kept; stage = Attending what }) (attended under kept what work) (attended_free under kept what work)))
+    (sym (moved_holds (record { port = port; under = under; kept = kept; stage = Attending what }) (attended under kept what work)
+    (attended_free under kept what work)))
     (ap (λ (core : CoreView). permit_at core port) replies.1 ∙ out)
 core_holds start before after port under kept (Attending what) heard is hand out replies = absurd replies
 core_holds start before after port under kept (BeginningUpload found) (reply.BegunUpload begins) is hand out replies =
@@ -221,8 +243,10 @@ core_holds start before after port under kept (Returning (held.Download permit) 
 core_holds start before after port under kept (Returning (held.Download permit) own) heard is hand out replies = absurd replies
 core_holds start before after port under kept stage heard is hand out replies = absurd replies
 
-pub core_keeps : (start : FrontStart) (before after : CoreView) (old new : PortValue) (call : Call) (heard : Reply) → IsCore start before → IsAtHand old.stage
-    → HasOut before old.port (held_by old.stage) → Happens old (Did (ReplyTo call) (input.Reply heard)) new → Replies call before after heard
+pub core_keeps : (start : FrontStart) (before after : CoreView) (old new : PortValue) (call : Call) (heard : Reply) → IsCore start before
+    → IsAtHand old.stage
+    → HasOut before old.port (held_by old.stage) → Happens old (Did (ReplyTo call) (input.Reply heard)) new
+    → Replies call before after heard
     → HasOut after old.port (held_by new.stage)
 core_keeps start before after old new call heard is hand out happens replies =
     subst (λ (value : PortValue). HasOut after old.port (held_by value.stage)) (sym happens.2)

@@ -6,7 +6,8 @@ use Rattle.iol_isdu.specs.declared.messages.Request.{Request}
 use Rattle.iol_port.specs.declared.call.Reply.{Reply}
 use Rattle.iol_transfer.specs.Machine.{Machine, Outcome, More, Whole, Fault, step}
 use Rattle.iol_transfer.specs.Download.{Sender}
-use Rattle.iol_port.specs.Heard.{page_heard, settled_with, found_by, judged, resumed, is_under, decided, attended, upload_begun, download_begun, upload_finished, ticket_told}
+use Rattle.iol_port.specs.Heard.{page_heard, settled_with, found_by, judged, resumed, is_under, decided, attended, upload_begun}
+use Rattle.iol_port.specs.Heard.{download_begun, upload_finished, ticket_told}
 use Rattle.iol_port.specs.declared.stage.Rest.{Rest}
 use Rattle.iol_port.specs.declared.stage.Found.{Found}
 use Rattle.iol_port.specs.declared.stage.PageFor.{PageFor}
@@ -29,7 +30,8 @@ use Rattle.iol_core.specs.declared.port.Work.{Work}
 use Rattle.iol_core.specs.declared.upload.FinishFault.{FinishFault}
 use Rattle.iol_core.specs.declared.upload.FinishFault.TheVariants as finish
 use Rattle.iol_core.specs.declared.ticket.TicketState.TheVariants as ticket
-use Rattle.iol_port.specs.Answers.{failed, state_read, checksum_read, upload_ended, exchanged, uploaded, upload_answered, Sent, GoesOn, Done, Ends, sent, downloaded, download_answered}
+use Rattle.iol_port.specs.Answers.{failed, state_read, checksum_read, upload_ended, exchanged, uploaded, upload_answered, Sent, GoesOn}
+use Rattle.iol_port.specs.Answers.{Done, Ends, sent, downloaded, download_answered}
 use Rattle.iol_port.specs.Decision.{decide}
 use Rattle.iol_port.specs.declared.action.Input.TheVariants as input
 use Rattle.iol_port.specs.declared.call.Reply.TheVariants as reply
@@ -56,16 +58,20 @@ use Rattle.iol_port.specs.Laws.{IsKnown}
 use Rattle.iol_port.specs.Status.{status_of, status_at_rest}
 use Rattle.iol_port.specs.declared.status.PortStatus.{PortStatus}
 use Rattle.iol_port.proofs.Telling.{Said}
-use Rattle.iol_port.proofs.Knowing.{IsFound, Lands, KnownAt, KnownPaging, KnownAttending, KnownExchanging, KnownIs, NextKnown, IsOtherReply, known_replied, known_answered, found_answered, last_said}
+use Rattle.iol_port.proofs.Knowing.{IsFound, Lands, KnownAt, KnownPaging, KnownAttending, KnownExchanging, KnownIs, NextKnown, IsOtherReply}
+use Rattle.iol_port.proofs.Knowing.{known_replied, known_answered, found_answered, last_said}
 
 -- ---- answers
 
-state_known : (was : PortStatus) (found : Found) (left : ℕ) (request : Request) (before : List Happening) (octets : ArrayVec ℕ) (heard : Result Answer IsduFault)
-    → IsFound found before → answer_of octets.items ≡ heard → KnownIs was (Did (AnswerTo request) (input.Octets octets) ∷ before) (state_read found left heard)
+state_known : (was : PortStatus) (found : Found) (left : ℕ) (request : Request) (before : List Happening) (octets : ArrayVec ℕ)
+    (heard : Result Answer IsduFault)
+    → IsFound found before → answer_of octets.items ≡ heard
+    → KnownIs was (Did (AnswerTo request) (input.Octets octets) ∷ before) (state_read found left heard)
 state_known was found left request before octets (Ok (answer.ReadOk values)) is read = by (length values.items == 1)
   where
     by : (test : Bool) → KnownIs was (Did (AnswerTo request) (input.Octets octets) ∷ before)
-        (if test then Exchanging (exchange.ReadingChecksum found (property_of (slice_index values.items 0)) MOST_REQUESTS) else failed fault.Unexpected)
+        (if test then Exchanging (exchange.ReadingChecksum found (property_of (slice_index values.items 0)) MOST_REQUESTS)
+        else failed fault.Unexpected)
     by true = found_answered found request octets (ReadOk values) before is read
     by false = inr tt
 state_known was found left request before octets (Ok answer.Busy) is read = by (nat_lt 1 left)
@@ -76,7 +82,8 @@ state_known was found left request before octets (Ok answer.Busy) is read = by (
     by false = inr tt
 state_known was found left request before octets other is read = inr tt
 
-checksum_known : (was : PortStatus) (found : Found) (property : PropertyValue) (left : ℕ) (request : Request) (before : List Happening) (octets : ArrayVec ℕ)
+checksum_known : (was : PortStatus) (found : Found) (property : PropertyValue) (left : ℕ) (request : Request) (before : List Happening)
+    (octets : ArrayVec ℕ)
     (heard : Result Answer IsduFault) → IsFound found before → answer_of octets.items ≡ heard
     → KnownIs was (Did (AnswerTo request) (input.Octets octets) ∷ before) (checksum_read found property left heard)
 checksum_known was found property left request before octets (Ok (answer.ReadOk values)) is read = by (length values.items == 4)
@@ -93,9 +100,12 @@ checksum_known was found property left request before octets (Ok answer.Busy) is
     by false = inr tt
 checksum_known was found property left request before octets other is read = inr tt
 
-ended_known : (was : PortStatus) (page : PageValue) (left : ℕ) (request : Request) (before : List Happening) (octets : ArrayVec ℕ) (heard : Result Answer IsduFault)
-    → IsKnown page before → answer_of octets.items ≡ heard → KnownIs was (Did (AnswerTo request) (input.Octets octets) ∷ before) (upload_ended page left heard)
-ended_known was page left request before octets (Ok answer.WriteOk) is read = inr (known_answered page request octets answer.WriteOk before is read)
+ended_known : (was : PortStatus) (page : PageValue) (left : ℕ) (request : Request) (before : List Happening) (octets : ArrayVec ℕ)
+    (heard : Result Answer IsduFault)
+    → IsKnown page before → answer_of octets.items ≡ heard
+    → KnownIs was (Did (AnswerTo request) (input.Octets octets) ∷ before) (upload_ended page left heard)
+ended_known was page left request before octets (Ok answer.WriteOk) is read =
+    inr (known_answered page request octets answer.WriteOk before is read)
 ended_known was page left request before octets (Ok answer.Busy) is read = by (nat_lt 1 left)
   where
     by : (test : Bool) → KnownIs was (Did (AnswerTo request) (input.Octets octets) ∷ before)
@@ -104,15 +114,18 @@ ended_known was page left request before octets (Ok answer.Busy) is read = by (n
     by false = inr tt
 ended_known was page left request before octets other is read = inr tt
 
-pub exchanged_known : (was : PortStatus) (what : ExchangeFor) (request : Request) (before : List Happening) (octets : ArrayVec ℕ) → KnownExchanging before what
+pub exchanged_known : (was : PortStatus) (what : ExchangeFor) (request : Request) (before : List Happening) (octets : ArrayVec ℕ)
+    → KnownExchanging before what
     → KnownIs was (Did (AnswerTo request) (input.Octets octets) ∷ before) (exchanged what (answer_of octets.items))
 exchanged_known was (exchange.ReadingState found left) request before octets is = state_known was found left request before octets _ is refl
-exchanged_known was (exchange.ReadingChecksum found property left) request before octets is = checksum_known was found property left request before octets _ is refl
+exchanged_known was (exchange.ReadingChecksum found property left) request before octets is =
+    checksum_known was found property left request before octets _ is refl
 exchanged_known was (exchange.EndingUpload page left) request before octets is = ended_known was page left request before octets _ is refl
 exchanged_known was (exchange.Stopping storing) request before octets is = inr tt
 exchanged_known was exchange.Yielding request before octets is = tt
 
-pub upload_known : (was : PortStatus) (grant : UploadGrant) (page : PageValue) (upload : Machine) (request : Request) (before : List Happening) (octets : ArrayVec ℕ)
+pub upload_known : (was : PortStatus) (grant : UploadGrant) (page : PageValue) (upload : Machine) (request : Request)
+    (before : List Happening) (octets : ArrayVec ℕ)
     (heard : Result Answer IsduFault) → IsKnown page before → answer_of octets.items ≡ heard
     → KnownIs was (Did (AnswerTo request) (input.Octets octets) ∷ before) (upload_answered grant page upload heard)
 upload_known was grant page upload request before octets (Err why) is read = tt
@@ -123,7 +136,8 @@ upload_known was grant page upload request before octets (Ok said) is read = by 
     by (Whole set) = known_answered page request octets said before is read
     by (Fault why) = tt
 
-pub download_known : (was : PortStatus) (permit : ℕ) (page : PageValue) (download : Sender) (request : Request) (before : List Happening) (octets : ArrayVec ℕ)
+pub download_known : (was : PortStatus) (permit : ℕ) (page : PageValue) (download : Sender) (request : Request) (before : List Happening)
+    (octets : ArrayVec ℕ)
     (heard : Result Answer IsduFault) → IsKnown page before → answer_of octets.items ≡ heard
     → KnownIs was (Did (AnswerTo request) (input.Octets octets) ∷ before) (download_answered permit page download heard)
 download_known was permit page download request before octets (Err why) is read = tt
@@ -142,7 +156,8 @@ found_known : (was : PortStatus) (work : Work) (connection : ℕ) (octets : List
 found_known was work connection octets before said manual wanted = by (restores work.config.validation)
   where
     by : (test : Bool) → KnownIs was (Did ThePage (input.Page connection octets) ∷ before)
-        (if test then Exchanging (exchange.ReadingState (record { work = work; page = page_of octets; connection = connection }) MOST_REQUESTS)
+        (if test then Exchanging (exchange.ReadingState
+        (record { work = work; page = page_of octets; connection = connection }) MOST_REQUESTS)
         else Settled (rest.Ready (page_of octets)))
     by true = record { conversation = []; shown = (refl, refl, refl); manual = manual; wanted = wanted; said = said }
     by false = inr (record {
@@ -158,7 +173,8 @@ found_known was work connection octets before said manual wanted = by (restores 
       revision = refl;
     })
 
-judged_known : (was : PortStatus) (work : Work) (connection : ℕ) (octets : List ℕ) (before : List Happening) (why : Option IdentFault) → last_work before ≡ Some work
+judged_known : (was : PortStatus) (work : Work) (connection : ℕ) (octets : List ℕ) (before : List Happening) (why : Option IdentFault)
+    → last_work before ≡ Some work
     → is_manual work.config.mode ≡ true → ident_fault work.config (page_of octets) ≡ why
     → KnownIs was (Did ThePage (input.Page connection octets) ∷ before) (judged work connection (page_of octets) why)
 judged_known was work connection octets before None said manual is = found_known was work connection octets before said manual is
@@ -166,23 +182,28 @@ judged_known was work connection octets before (Some why) said manual is =
     inr (record { connection = connection; work = work; shown = (refl, refl, refl); manual = manual; fault = is; said = said })
 
 pub page_known : (what : PageFor) (connection : ℕ) (octets : List ℕ) (before : List Happening) → KnownPaging before what
-    → NextKnown (status_of (Paging what)) (Did ThePage (input.Page connection octets) ∷ before) (page_heard what connection (page_of octets))
+    → NextKnown (status_of (Paging what)) (Did ThePage (input.Page connection octets) ∷ before)
+    (page_heard what connection (page_of octets))
 page_known (page_for.Comparing work own) connection octets before said = by (settled_with own (page_of octets))
   where
-    by : (test : Bool) → NextKnown (status_at_rest own) (Did ThePage (input.Page connection octets) ∷ before) (if test then To (Settled own) else Start work)
+    by : (test : Bool) → NextKnown (status_at_rest own) (Did ThePage (input.Page connection octets) ∷ before)
+        (if test then To (Settled own) else Start work)
     by true = inl refl
     by false = said
 page_known (page_for.Identifying work) connection octets before is =
-    judged_known (status_of (Paging (page_for.Identifying work))) work connection octets before (ident_fault work.config (page_of octets)) is.0 is.1 refl
+    judged_known (status_of (Paging (page_for.Identifying work))) work connection octets before
+    (ident_fault work.config (page_of octets)) is.0 is.1 refl
 
-resumed_known : (port : ℕ) (own : Rest) (work : Work) (before : List Happening) → NextKnown (status_at_rest own) (Said port (Some work) ∷ before) (resumed own work)
+resumed_known : (port : ℕ) (own : Rest) (work : Work) (before : List Happening)
+    → NextKnown (status_at_rest own) (Said port (Some work) ∷ before) (resumed own work)
 resumed_known port rest.Off work before = inl refl
 resumed_known port rest.Lost work before = refl
 resumed_known port (rest.Failed why) work before = refl
 resumed_known port own work before = refl
 
 -- what was found is known once the core has said the same revision
-confirmed_known : (port : ℕ) (found : Found) (work : Work) (before : List Happening) → IsFound found before → found.work.revision ≡ work.revision
+confirmed_known : (port : ℕ) (found : Found) (work : Work) (before : List Happening) → IsFound found before
+    → found.work.revision ≡ work.revision
     → IsKnown found.page (Said port (Some work) ∷ before)
 confirmed_known port found work before is same = record {
   connection = found.connection;
@@ -197,7 +218,8 @@ confirmed_known port found work before is same = record {
   revision = same;
 }
 
-decided_known : (was : PortStatus) (port : ℕ) (found : Found) (checksum : ℕ) (work : Work) (before : List Happening) (now : Decision) → IsFound found before
+decided_known : (was : PortStatus) (port : ℕ) (found : Found) (checksum : ℕ) (work : Work) (before : List Happening) (now : Decision)
+    → IsFound found before
     → found.work.revision ≡ work.revision → KnownIs was (Said port (Some work) ∷ before) (decided found checksum now)
 decided_known was port found checksum work before decision.Ready is same = inr (confirmed_known port found work before is same)
 decided_known was port found checksum work before decision.ReadyLocked is same = inr (confirmed_known port found work before is same)
@@ -205,7 +227,8 @@ decided_known was port found checksum work before decision.ReadyEmpty is same = 
 decided_known was port found checksum work before decision.Upload is same = confirmed_known port found work before is same
 decided_known was port found checksum work before decision.Download is same = confirmed_known port found work before is same
 
-pub attended_known : (port : ℕ) (under : Option ℕ) (kept : Bool) (what : AttendFor) (work : Option Work) (before : List Happening) → KnownAttending before what
+pub attended_known : (port : ℕ) (under : Option ℕ) (kept : Bool) (what : AttendFor) (work : Option Work) (before : List Happening)
+    → KnownAttending before what
     → NextKnown (status_of (Attending what)) (Said port work ∷ before) (attended under kept what work)
 attended_known port under kept what None before is = inr (inl refl)
 attended_known port under kept (attend.Waking own) (Some work) before is = by (is_under under work.revision && not kept)
@@ -213,43 +236,51 @@ attended_known port under kept (attend.Waking own) (Some work) before is = by (i
     by : (test : Bool) → NextKnown (status_at_rest own) (Said port (Some work) ∷ before) (if test then resumed own work else Start work)
     by true = resumed_known port own work before
     by false = refl
-attended_known port under kept (attend.Confirming found property checksum) (Some work) before is = by (found.work.revision == work.revision) refl
+attended_known port under kept (attend.Confirming found property checksum) (Some work) before is =
+    by (found.work.revision == work.revision) refl
   where
     by : (test : Bool) → (found.work.revision == work.revision) ≡ test
         → NextKnown (status_of (Attending (attend.Confirming found property checksum))) (Said port (Some work) ∷ before)
-        (if test then To (decided found checksum (decide work.config.validation property.state property.flag checksum work.checksum)) else Start work)
+        (if test then To (decided found checksum (decide work.config.validation property.state property.flag checksum work.checksum))
+        else Start work)
     by true same = decided_known _ port found checksum work before _ is (grind (arith, nat_tests, same))
     by false same = refl
 attended_known port under kept attend.Restarting (Some work) before is = refl
 
 -- ---- replies
 
-pub begun_known : (was : PortStatus) (page : PageValue) (wants : Wanted) (begins : Result UploadGrant PermitFault) (before : List Happening) → IsKnown page before
+pub begun_known : (was : PortStatus) (page : PageValue) (wants : Wanted) (begins : Result UploadGrant PermitFault) (before : List Happening)
+    → IsKnown page before
     → KnownIs was (Did wants (input.Reply (reply.BegunUpload begins)) ∷ before) (upload_begun page begins)
 begun_known was page wants (Ok grant) before is = known_replied page wants (reply.BegunUpload (Ok grant)) before tt is
 begun_known was page wants (Err why) before is = inr tt
 
-pub download_begun_known : (was : PortStatus) (page : PageValue) (wants : Wanted) (begins : Result DownloadBegun DownloadFault) (before : List Happening)
+pub download_begun_known : (was : PortStatus) (page : PageValue) (wants : Wanted) (begins : Result DownloadBegun DownloadFault)
+    (before : List Happening)
     → IsKnown page before → KnownIs was (Did wants (input.Reply (reply.BegunDownload begins)) ∷ before) (download_begun page begins)
 download_begun_known was page wants (Ok begins) before is = known_replied page wants (reply.BegunDownload (Ok begins)) before tt is
 download_begun_known was page wants (Err why) before is = inr tt
 
-pub finished_known : (was : PortStatus) (page : PageValue) (wants : Wanted) (finished : Result ℕ FinishFault) (before : List Happening) → IsKnown page before
+pub finished_known : (was : PortStatus) (page : PageValue) (wants : Wanted) (finished : Result ℕ FinishFault) (before : List Happening)
+    → IsKnown page before
     → KnownIs was (Did wants (input.Reply (reply.FinishedUpload finished)) ∷ before) (upload_finished page finished)
 finished_known was page wants (Ok number) before is = known_replied page wants (reply.FinishedUpload (Ok number)) before tt is
 finished_known was page wants (Err finish.Stopped) before is = tt
 finished_known was page wants (Err finish.ConfigChanged) before is = tt
-finished_known was page wants (Err (finish.QueueFull permit set)) before is = known_replied page wants (reply.FinishedUpload (Err (finish.QueueFull permit set))) before tt is
+finished_known was page wants (Err (finish.QueueFull permit set)) before is =
+    known_replied page wants (reply.FinishedUpload (Err (finish.QueueFull permit set))) before tt is
 finished_known was page wants (Err (finish.Exhausted permit set)) before is = tt
 finished_known was page wants (Err (finish.Memory permit set)) before is = tt
 
-pub ticket_known : (was : PortStatus) (number : ℕ) (page : PageValue) (wants : Wanted) (state : TicketState) (before : List Happening) → IsKnown page before
+pub ticket_known : (was : PortStatus) (number : ℕ) (page : PageValue) (wants : Wanted) (state : TicketState) (before : List Happening)
+    → IsKnown page before
     → KnownIs was (Did wants (input.Reply (reply.Ticket state)) ∷ before) (ticket_told number page state)
 ticket_known was number page wants ticket.Waiting before is = known_replied page wants (reply.Ticket ticket.Waiting) before tt is
 ticket_known was number page wants ticket.Durable before is = known_replied page wants (reply.Ticket ticket.Durable) before tt is
 ticket_known was number page wants ticket.Unsure before is = tt
 
-pub returned_known : (was : PortStatus) (wants : Wanted) (heard : Reply) (own : Rest) (before : List Happening) → IsOtherReply heard → KnownAt before own
+pub returned_known : (was : PortStatus) (wants : Wanted) (heard : Reply) (own : Rest) (before : List Happening) → IsOtherReply heard
+    → KnownAt before own
     → Lands was (Did wants (input.Reply heard) ∷ before) own
 returned_known was wants heard rest.Lost before other is = inr tt
 returned_known was wants heard (rest.Failed why) before other is = inr tt

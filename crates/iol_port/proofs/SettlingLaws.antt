@@ -1,5 +1,6 @@
 -- A port settles for its reason.
-use Rattle.iol_port.specs.Stage.{Stage, Settled, Paging, Attending, BeginningUpload, BeginningDownload, Exchanging, Uploading, Filing, Filed, Storing, Downloading, Breaking, Returning, Returned, PortValue, Next, To, Start}
+use Rattle.iol_port.specs.Stage.{Stage, Settled, Paging, Attending, BeginningUpload, BeginningDownload, Exchanging, Uploading, Filing}
+use Rattle.iol_port.specs.Stage.{Filed, Storing, Downloading, Breaking, Returning, Returned, PortValue, Next, To, Start}
 use Rattle.iol_port.specs.Wanted.{ThePage, ReplyTo, wanted, after_action}
 use Rattle.iol_port.specs.History.{ComesOf, Happening, Raised, Did, Happens, HasLed}
 use Rattle.iol_port.specs.Heard.{page_heard, judged, attended, IsFed, fed, moved, at_stage}
@@ -11,7 +12,6 @@ use Rattle.iol_isdu.specs.Reading.{answer_of}
 use Rattle.iol_isdu.specs.declared.messages.Answer.{Answer}
 use Rattle.iol_isdu.specs.declared.faults.IsduFault.{IsduFault}
 use Rattle.iol_ident.specs.Page.{page_of}
-use Rattle.arrayvec.specs.ArrayVec.{ArrayVec}
 use Rattle.iol_port.specs.Answers.{RunsOut}
 use Rattle.iol_port.proofs.Keeping.{IsAtHand}
 use Rattle.iol_port.specs.declared.action.Input.{Input}
@@ -26,29 +26,37 @@ use Rattle.iol_port.specs.Status.{status_of, status_at_rest}
 use Rattle.iol_port.specs.declared.status.PortStatus.{PortStatus}
 use Rattle.iol_port.proofs.Knowing.{Lands, KnownIs, NextKnown, raised_known}
 use Rattle.iol_port.proofs.Leading.{led_is}
-use Rattle.iol_port.proofs.Settling.{exchanged_known, upload_known, download_known, page_known, attended_known, begun_known, download_begun_known, finished_known, ticket_known, returned_known}
+use Rattle.iol_port.proofs.Settling.{exchanged_known, upload_known, download_known, page_known, attended_known, begun_known}
+use Rattle.iol_port.proofs.Settling.{download_begun_known, finished_known, ticket_known, returned_known}
+use Rattle.iol_port.proofs.Feeding.{fed_is}
 
-moved_known : (was : PortStatus) (value : PortValue) (next : Next) (history : List Happening) → NextKnown was history next → KnownIs was history (moved value next).stage
+moved_known : (was : PortStatus) (value : PortValue) (next : Next) (history : List Happening) → NextKnown was history next
+    → KnownIs was history (moved value next).stage
 moved_known was value (To stage) history is = is
 moved_known was value (Start work) history is = by (is_manual work.config.mode) refl
   where
-    by : (test : Bool) → is_manual work.config.mode ≡ test → KnownIs was history (if test then Paging (page_for.Identifying work) else Settled rest.Off)
+    by : (test : Bool) → is_manual work.config.mode ≡ test
+        → KnownIs was history (if test then Paging (page_for.Identifying work) else Settled rest.Off)
     by true manual = (is, manual)
     by false manual = inr (inr (work, is, manual))
 
 -- what comes of what was wanted
-comes_known : (was : PortStatus) (port : ℕ) (under : Option ℕ) (kept : Bool) (stage : Stage) (heard : Input) (before : List Happening) → KnownIs was before stage
+comes_known : (was : PortStatus) (port : ℕ) (under : Option ℕ) (kept : Bool) (stage : Stage) (heard : Input) (before : List Happening)
+    → KnownIs was before stage
     → IsAtHand stage → ComesOf (wanted port stage) heard
-    → KnownIs (status_of stage) (Did (wanted port stage) heard ∷ before) (fed (record { port = port; under = under; kept = kept; stage = after_action stage }) heard).stage
+    → KnownIs (status_of stage) (Did (wanted port stage) heard ∷ before)
+    (fed (record { port = port; under = under; kept = kept; stage = after_action stage }) heard).stage
 comes_known was port under kept (Settled own) input.Wake before is hand comes = tt
 comes_known was port under kept (Settled own) heard before is hand comes = absurd comes
 comes_known was port under kept (Paging what) (input.Page connection octets) before is hand comes =
-    moved_known (status_of (Paging what)) (record { port = port; under = under; kept = kept; stage = Paging what }) (page_heard what connection (page_of octets))
+    moved_known (status_of (Paging what)) (record { port = port; under = under; kept = kept; stage = Paging what })
+    (page_heard what connection (page_of octets))
     (Did ThePage (input.Page connection octets) ∷ before) (page_known what connection octets before is)
 comes_known was port under kept (Paging what) input.Lost before is hand comes = inr tt
 comes_known was port under kept (Paging what) heard before is hand comes = absurd comes
 comes_known was port under kept (Attending what) (input.Reply (reply.Attended work)) before is hand comes =
-    moved_known (status_of (Attending what)) (record { port = port; under = under; kept = kept; stage = Attending what }) (attended under kept what work)
+    moved_known (status_of (Attending what)) (record { port = port; under = under; kept = kept; stage = Attending what })
+    (attended under kept what work)
     (Did (ReplyTo (Attend port)) (input.Reply (reply.Attended work)) ∷ before) (attended_known port under kept what work before is)
 comes_known was port under kept (Attending what) heard before is hand comes = absurd comes
 comes_known was port under kept (BeginningUpload found) (input.Reply (reply.BegunUpload begins)) before is hand comes =
@@ -68,7 +76,8 @@ comes_known was port under kept (Filing grant page set) (input.Reply (reply.Fini
     finished_known _ page _ finished before is
 comes_known was port under kept (Filing grant page set) heard before is hand comes = absurd comes
 comes_known was port under kept (Filed page) heard before is hand comes = absurd cc
-comes_known was port under kept (Storing number page) (input.Reply (reply.Ticket state)) before is hand comes = ticket_known _ number page _ state before is
+comes_known was port under kept (Storing number page) (input.Reply (reply.Ticket state)) before is hand comes =
+    ticket_known _ number page _ state before is
 comes_known was port under kept (Storing number page) heard before is hand comes = absurd comes
 comes_known was port under kept (Downloading permit page download) (input.Octets octets) before is hand comes =
     download_known _ permit page download _ before octets (answer_of octets.items) is refl
@@ -85,58 +94,49 @@ comes_known was port under kept (Returning (held.Download permit) own) (input.Re
 comes_known was port under kept (Returning (held.Download permit) own) heard before is hand comes = absurd comes
 comes_known was port under kept (Returned transfer own) heard before is hand comes = absurd cc
 
-out_known : (was : PortStatus) (stage : Stage) (heard : Result Answer IsduFault) (new : Stage) (history : List Happening) → RunsOut stage heard new → KnownIs was history new
+out_known : (was : PortStatus) (stage : Stage) (heard : Result Answer IsduFault) (new : Stage) (history : List Happening)
+    → RunsOut stage heard new → KnownIs was history new
 out_known was (Uploading grant page upload) heard new history out = subst (KnownIs was history) (sym out.1) tt
 out_known was stage heard new history out = absurd out
 
-did_known : (was : PortStatus) (before : List Happening) (old new : PortValue) (heard : Input) → KnownIs was before old.stage → IsAtHand old.stage
+did_known : (was : PortStatus) (before : List Happening) (old new : PortValue) (heard : Input) → KnownIs was before old.stage
+    → IsAtHand old.stage
     → ComesOf (wanted old.port old.stage) heard → IsFed (at_stage old (after_action old.stage)) heard new
     → KnownIs (status_of old.stage) (Did (wanted old.port old.stage) heard ∷ before) new.stage
-did_known was before old new heard is hand comes led = by heard comes led
+did_known was before old new heard is hand comes led =
+    fed_is (λ value. KnownIs (status_of old.stage) history value.stage) (at_stage old (after_action old.stage)) new heard led
+    (comes_known was old.port old.under old.kept old.stage heard before is hand comes)
+    (λ octets stage runs. out_known (status_of old.stage) (after_action old.stage) (answer_of octets.items) stage history runs)
   where
-    whole : (heard : Input) → ComesOf (wanted old.port old.stage) heard → new ≡ fed (at_stage old (after_action old.stage)) heard
-        → KnownIs (status_of old.stage) (Did (wanted old.port old.stage) heard ∷ before) new.stage
-    whole heard comes same =
-        subst (λ (value : PortValue). KnownIs (status_of old.stage) (Did (wanted old.port old.stage) heard ∷ before) value.stage) (sym same)
-        (comes_known was old.port old.under old.kept old.stage heard before is hand comes)
+    history : List Happening
+    history = Did (wanted old.port old.stage) heard ∷ before
 
-    out : (octets : ArrayVec ℕ)
-        → (stage : Stage) × RunsOut (after_action old.stage) (answer_of octets.items) stage × (new ≡ at_stage (at_stage old (after_action old.stage)) stage)
-        → KnownIs (status_of old.stage) (Did (wanted old.port old.stage) (input.Octets octets) ∷ before) new.stage
-    out octets (stage, runs, same) =
-        subst (λ (value : PortValue). KnownIs (status_of old.stage) (Did (wanted old.port old.stage) (input.Octets octets) ∷ before) value.stage) (sym same)
-        (out_known (status_of old.stage) (after_action old.stage) (answer_of octets.items) stage (Did (wanted old.port old.stage) (input.Octets octets) ∷ before) runs)
-
-    by : (heard : Input) → ComesOf (wanted old.port old.stage) heard → IsFed (at_stage old (after_action old.stage)) heard new
-        → KnownIs (status_of old.stage) (Did (wanted old.port old.stage) heard ∷ before) new.stage
-    by (input.Octets octets) comes (inl same) = whole (input.Octets octets) comes same
-    by (input.Octets octets) comes (inr runs) = out octets runs
-    by input.Wake comes same = whole input.Wake comes same
-    by (input.Event code) comes same = whole (input.Event code) comes same
-    by (input.Page connection octets) comes same = whole (input.Page connection octets) comes same
-    by input.Lost comes same = whole input.Lost comes same
-    by (input.Reply heard) comes same = whole (input.Reply heard) comes same
-
-happens_known : (was : PortStatus) (before : List Happening) (old new : PortValue) (latest : Happening) → KnownIs was before old.stage → IsAtHand old.stage
+happens_known : (was : PortStatus) (before : List Happening) (old new : PortValue) (latest : Happening) → KnownIs was before old.stage
+    → IsAtHand old.stage
     → Happens old latest new → KnownIs (status_of old.stage) (latest ∷ before) new.stage
 happens_known was before old new (Raised code) is hand happens =
-    subst (λ (value : PortValue). KnownIs (status_of old.stage) (Raised code ∷ before) value.stage) (sym happens) (raised_known was before code old.stage is)
+    subst (λ (value : PortValue). KnownIs (status_of old.stage) (Raised code ∷ before) value.stage) (sym happens)
+    (raised_known was before code old.stage is)
 happens_known was before old new (Did wants heard) is hand happens =
     subst (λ w. KnownIs (status_of old.stage) (Did w heard ∷ before) new.stage) (sym happens.0)
     (did_known was before old new heard is hand (subst (λ w. ComesOf w heard) happens.0 happens.1) happens.2)
 
 -- all that has happened
-known_is : (port : ℕ) (history : List Happening) (last : PortValue) → HasLed port history last → (was : PortStatus) × KnownIs was history last.stage
-known_is port [] last is = (status_of (Settled rest.Off), subst (λ (value : PortValue). KnownIs (status_of (Settled rest.Off)) [] value.stage) (sym is) (inl refl))
+known_is : (port : ℕ) (history : List Happening) (last : PortValue) → HasLed port history last
+    → (was : PortStatus) × KnownIs was history last.stage
+known_is port [] last is =
+    (status_of (Settled rest.Off), subst (λ (value : PortValue). KnownIs (status_of (Settled rest.Off)) [] value.stage) (sym is) (inl refl))
 known_is port (latest ∷ before) last (old, led, happens) =
     let first = known_is port before old led in
     (status_of old.stage, happens_known first.0 before old last latest first.1 (led_is port before old led).hand happens)
 
-landed : (was : PortStatus) (history : List Happening) (own : Rest) → Lands was history own → (was ≡ status_at_rest own → ⊥) → IsJudged own history
+landed : (was : PortStatus) (history : List Happening) (own : Rest) → Lands was history own → (was ≡ status_at_rest own → ⊥)
+    → IsJudged own history
 landed was history own (inl same) changes = absurd (changes (sym same))
 landed was history own (inr judged) changes = judged
 
-pub a_port_settles_for_its_reason : (port : ℕ) (history : List Happening) (old new : PortValue) (latest : Happening) (own : Rest) → HasLed port history old
+pub a_port_settles_for_its_reason : (port : ℕ) (history : List Happening) (old new : PortValue) (latest : Happening) (own : Rest)
+    → HasLed port history old
     → Happens old latest new → new.stage ≡ Settled own → (status_of old.stage ≡ status_of new.stage → ⊥) → IsJudged own (latest ∷ history)
 a_port_settles_for_its_reason port history old new latest own led happens settles changes =
     let first = known_is port history old led in

@@ -6,7 +6,8 @@ use Rattle.iol_transfer.specs.Machine.{Machine}
 use Rattle.iol_transfer.specs.Download.{Sender}
 use Rattle.iol_core.specs.declared.permit.UploadGrant.{UploadGrant}
 use Rattle.iol_port.specs.History.{Happening, Raised}
-use Rattle.iol_port.specs.Stage.{Stage, Settled, Paging, Attending, BeginningUpload, BeginningDownload, Exchanging, Uploading, Filing, Filed, Storing, Downloading, Breaking, Returning, Returned}
+use Rattle.iol_port.specs.Stage.{Stage, Settled, Paging, Attending, BeginningUpload, BeginningDownload, Exchanging, Uploading, Filing}
+use Rattle.iol_port.specs.Stage.{Filed, Storing, Downloading, Breaking, Returning, Returned}
 use Rattle.iol_port.specs.declared.decision.Decision.TheVariants as decision
 use Rattle.iol_port.specs.declared.stage.Found.{Found}
 use Rattle.iol_port.specs.declared.stage.PageFor.{PageFor}
@@ -112,7 +113,8 @@ raised_found : (history : List Happening) (code : ℕ) (found : Found) (conversa
     → HasFound found conversation (Raised code ∷ history)
 raised_found history code found conversation is = record { shown = is.shown; said = is.said; wanted = is.wanted }
 
-raised_attending : (history : List Happening) (code : ℕ) (what : AttendFor) → AttendingIs history what → AttendingIs (Raised code ∷ history) what
+raised_attending : (history : List Happening) (code : ℕ) (what : AttendFor) → AttendingIs history what
+    → AttendingIs (Raised code ∷ history) what
 raised_attending history code (attend.Waking own) is = tt
 raised_attending history code (attend.Confirming found property checksum) is = record {
   conversation = is.conversation;
@@ -127,7 +129,8 @@ raised_attending history code (attend.Confirming found property checksum) is = r
 }
 raised_attending history code attend.Restarting is = tt
 
-raised_exchanging : (port : ℕ) (history : List Happening) (code : ℕ) (what : ExchangeFor) → ExchangingIs port history what → ExchangingIs port (Raised code ∷ history) what
+raised_exchanging : (port : ℕ) (history : List Happening) (code : ℕ) (what : ExchangeFor) → ExchangingIs port history what
+    → ExchangingIs port (Raised code ∷ history) what
 raised_exchanging port history code (exchange.ReadingState found left) is = record {
   times = is.times;
   found_is = raised_found history code found _ is.found_is;
@@ -149,18 +152,22 @@ raised_exchanging port history code (exchange.EndingUpload page left) is = is
 raised_exchanging port history code (exchange.Stopping storing) is = tt
 raised_exchanging port history code exchange.Yielding is = tt
 
-pub raised_is : (port : ℕ) (history : List Happening) (code : ℕ) (stage : Stage) → StageIs port history stage → StageIs port (Raised code ∷ history) stage
+pub raised_is : (port : ℕ) (history : List Happening) (code : ℕ) (stage : Stage) → StageIs port history stage
+    → StageIs port (Raised code ∷ history) stage
 raised_is port history code (Settled own) is = tt
 raised_is port history code (Paging what) is = raised_paging history code what is
 raised_is port history code (Attending what) is = raised_attending history code what is
 raised_is port history code (BeginningUpload found) is = is
 raised_is port history code (BeginningDownload found checksum) is = is
 raised_is port history code (Exchanging what) is = raised_exchanging port history code what is
-raised_is port history code (Uploading grant page upload) is = record { conversation = is.conversation; uploaded = is.uploaded; since = is.since }
-raised_is port history code (Filing grant page set) is = record { conversation = is.conversation; uploaded = is.uploaded; finished = is.finished }
+raised_is port history code (Uploading grant page upload) is =
+    record { conversation = is.conversation; uploaded = is.uploaded; since = is.since }
+raised_is port history code (Filing grant page set) is =
+    record { conversation = is.conversation; uploaded = is.uploaded; finished = is.finished }
 raised_is port history code (Filed page) is = tt
 raised_is port history code (Storing number page) is = is
-raised_is port history code (Downloading permit page download) is = record { set = is.set; conversation = is.conversation; downloaded = is.downloaded; since = is.since }
+raised_is port history code (Downloading permit page download) is =
+    record { set = is.set; conversation = is.conversation; downloaded = is.downloaded; since = is.since }
 raised_is port history code (Breaking holder why) is = tt
 raised_is port history code (Returning holder own) is = tt
 raised_is port history code (Returned transfer own) is = tt

@@ -1,6 +1,6 @@
 -- What is heard leaves what holds at each stage, by the history.
 use Rattle.std.proofs.Common.{◌≡◌, inl, inr, ℕ, Bool, true, false, if◌then◌else◌, nat_lt, List, [], ◌∷◌, refl, sym, ap, ◌∙◌, subst}
-use Rattle.std.specs.Prelude.{Option, Some, None, Result, Ok, Err, ◌&&◌, ◌==◌, not, length, slice_index}
+use Rattle.std.specs.Prelude.{Option, Some, None, Result, Ok, Err, ◌&&◌, ◌==◌, not}
 use Rattle.iol_types.specs.Config.{restores}
 use Rattle.iol_types.specs.DataSet.{SetValue}
 use Rattle.iol_isdu.specs.Reading.{answer_of}
@@ -15,18 +15,18 @@ use Rattle.iol_transfer.specs.Download.{Sender, Sends, Opening, Parameter, Closi
 use Rattle.arrayvec.specs.ArrayVec.{ArrayVec}
 use Rattle.iol_types.specs.DataSet.{Entry}
 use Rattle.iol_transfer.specs.declared.fault.TransferFault.TheVariants as transfer
-use Rattle.iol_port.specs.declared.fault.PortFault.TheVariants as fault
 use Rattle.iol_core.specs.declared.permit.UploadGrant.{UploadGrant}
 use Rattle.iol_core.specs.declared.port.Work.{Work}
 use Rattle.iol_core.specs.declared.upload.FinishFault.{FinishFault}
 use Rattle.iol_core.specs.declared.upload.FinishFault.TheVariants as finish
 use Rattle.iol_core.specs.declared.ticket.TicketState.TheVariants as ticket
-use Rattle.iol_port.specs.Answers.{failed, state_read, checksum_read, upload_ended, exchanged, uploaded, upload_answered, Sent, GoesOn, Done, Ends, sent, sent_well, downloaded, download_answered}
+use Rattle.iol_port.specs.Answers.{uploaded, upload_answered, Sent, GoesOn}
+use Rattle.iol_port.specs.Answers.{Done, Ends, sent, sent_well, downloaded, download_answered}
 use Rattle.iol_port.specs.Calls.{IsHandedBack}
 use Rattle.iol_port.specs.Decision.{decide}
 use Rattle.iol_port.specs.History.{ComesOf, Happening, Did}
-use Rattle.iol_port.specs.Stage.{Settled, Attending, BeginningUpload, BeginningDownload, Exchanging, IsStage, Next, To, Start}
-use Rattle.iol_port.specs.Wanted.{ThePage, AnswerTo, ReplyTo, wanted, request_for}
+use Rattle.iol_port.specs.Stage.{Settled, BeginningUpload, BeginningDownload, Exchanging, IsStage, Next, To, Start}
+use Rattle.iol_port.specs.Wanted.{ThePage, AnswerTo, ReplyTo, wanted}
 use Rattle.iol_port.specs.declared.action.Input.TheVariants as input
 use Rattle.iol_port.specs.declared.call.Reply.TheVariants as reply
 use Rattle.iol_port.specs.declared.decision.Decision.{Decision}
@@ -38,172 +38,41 @@ use Rattle.iol_port.specs.declared.stage.PageFor.{PageFor}
 use Rattle.iol_port.specs.declared.stage.PageFor.TheVariants as page_for
 use Rattle.iol_port.specs.declared.stage.AttendFor.{AttendFor}
 use Rattle.iol_port.specs.declared.stage.AttendFor.TheVariants as attend
-use Rattle.iol_port.specs.declared.stage.ExchangeFor.{ExchangeFor}
 use Rattle.iol_port.specs.declared.stage.ExchangeFor.TheVariants as exchange
 use Rattle.iol_core.specs.declared.ticket.TicketState.{TicketState}
 use Rattle.iol_core.specs.declared.upload.PermitFault.{PermitFault}
 use Rattle.iol_core.specs.declared.download.DownloadBegun.{DownloadBegun}
 use Rattle.iol_core.specs.declared.download.DownloadFault.{DownloadFault}
 use Rattle.iol_dsindex.specs.Property.{PropertyValue}
-use Rattle.iol_port.specs.Heard.{page_heard, settled_with, found_by, judged, resumed, is_under, decided, attended, upload_begun, download_begun, upload_finished, ticket_told}
-use Rattle.std.proofs.Common.{◌++◌, ◌+◌, ◌-◌, ◌<◌, arith, lit<, append_assoc}
+use Rattle.iol_port.specs.Heard.{page_heard, settled_with, found_by, judged, resumed, is_under, decided, attended, upload_begun}
+use Rattle.iol_port.specs.Heard.{download_begun, upload_finished, ticket_told}
+use Rattle.std.proofs.Common.{◌++◌, ◌+◌, ◌-◌, ◌<◌, arith, lit<}
 use Rattle.std.proofs.lemmas.Bool.{ltb-true}
 use Rattle.std.proofs.lemmas.Bool.Decides.{nat_tests}
-use Rattle.std.proofs.lemmas.List.{replicate_more, append-nil}
-use Rattle.iol_types.specs.declared.key.TheConstants.{DATA_STORAGE}
-use Rattle.iol_dsindex.specs.Property.{property_of}
-use Rattle.iol_dsindex.specs.declared.object.TheConstants.{STATE_PROPERTY, PARAMETER_CHECKSUM}
-use Rattle.iol_transfer.specs.Exchanges.{busy_times, read_of}
-use Rattle.iol_transfer.specs.Upload.{IsFinished, number_of}
+use Rattle.iol_transfer.specs.Upload.{IsFinished}
 use Rattle.iol_transfer.specs.Machine.{asked, answered as next_exchange}
 use Rattle.iol_transfer.specs.Download.{sent_by, sends_after, IsDownloadStep, answered_to}
 use Rattle.iol_transfer.specs.declared.download.DownloadStep.TheVariants as download_step
 use Rattle.iol_transfer.specs.declared.upload.UploadStep.TheVariants as upload_step
 use Rattle.iol_transfer.specs.declared.repeats.TheConstants.{MOST_REQUESTS}
-use Rattle.iol_transfer.proofs.Order.{follows-more}
 use Rattle.iol_transfer.proofs.Feeding.{fed-more}
 use Rattle.iol_transfer.proofs.Ending.{whole-finished}
 use Rattle.iol_transfer.proofs.Sending.{fed-on}
-use Rattle.iol_port.specs.Laws.{last_work, HasUploaded, HasFiled, IsDurable, HasExamined}
+use Rattle.iol_port.specs.Laws.{last_work, HasUploaded, HasFiled, HasExamined}
 use Rattle.iol_isdu.specs.declared.messages.Answer.TheVariants.{ReadOk, Busy}
-use Rattle.iol_dsindex.specs.declared.command.DsCommand.TheVariants as command
-use Rattle.iol_transfer.specs.Exchanges.{commanded}
 use Rattle.iol_port.specs.Calls.{Attend, BeginUpload, FinishUpload, AskTicket, BeginDownload}
-use Rattle.iol_port.proofs.Stages.{state_request, checksum_request, AsksState, AsksChecksum, AsksUpload, IsWhole, AsksDownload, PagingIs, AttendingIs, ExchangingIs, StageIs}
+use Rattle.iol_port.proofs.Stages.{AsksUpload, IsWhole, AsksDownload, PagingIs}
+use Rattle.iol_port.proofs.Stages.{AttendingIs, StageIs}
 
 -- where a machine goes, what holds there
 abbrev pub NextIs : ℕ → List Happening → Next → Type 0
 NextIs port history (To stage) = StageIs port history stage
 NextIs port history (Start work) = last_work history ≡ Some work
 
-is_length : (octets : List ℕ) (count : ℕ) → (length octets == count) ≡ true → length octets ≡ count
-is_length octets count test = grind (arith, nat_tests, test)
-
--- ---- reads
-
-state_told : (port : ℕ) (found : Found) (left : ℕ) (before : List Happening) (octets : ArrayVec ℕ) (heard : Result Answer IsduFault)
-    → AsksState found left before → answer_of octets.items ≡ heard
-    → StageIs port (Did (AnswerTo state_request) (input.Octets octets) ∷ before) (state_read found left heard)
-state_told port found left before octets (Ok (answer.ReadOk values)) is read = by (length values.items == 1) refl
-  where
-    few : is.times < MOST_REQUESTS
-    few = let count = is.count in let more = is.more in omega (arith, count, more)
-
-    by : (test : Bool) → (length values.items == 1) ≡ test
-        → StageIs port (Did (AnswerTo state_request) (input.Octets octets) ∷ before)
-        (if test then Exchanging (exchange.ReadingChecksum found (property_of (slice_index values.items 0)) MOST_REQUESTS) else failed fault.Unexpected)
-    by true one = record {
-      front = busy_times is.times state_request ++ read_of DATA_STORAGE STATE_PROPERTY values.items ∷ [];
-      state = values.items;
-      times = 0;
-      found_is = record {
-        shown = (busy_times is.times state_request, ReadOk values, is.found_is.shown, read, append-nil _);
-        said = is.found_is.said;
-        wanted = is.found_is.wanted;
-      };
-      reads = follows-more [] [] is.times (read_of DATA_STORAGE STATE_PROPERTY values.items) refl few;
-      one = is_length values.items 1 one;
-      property_is = refl;
-      count = omega arith;
-      more = lit< tt;
-    }
-    by false one = tt
-state_told port found left before octets (Ok answer.Busy) is read = by (nat_lt 1 left) refl
-  where
-    by : (test : Bool) → nat_lt 1 left ≡ test
-        → StageIs port (Did (AnswerTo state_request) (input.Octets octets) ∷ before)
-        (if test then Exchanging (exchange.ReadingState found (left - 1)) else failed fault.Busy)
-    by true below = record {
-      times = is.times + 1;
-      found_is = record {
-        shown = (busy_times is.times state_request, Busy, is.found_is.shown, read, sym (replicate_more is.times _));
-        said = is.found_is.said;
-        wanted = is.found_is.wanted;
-      };
-      count = let count = is.count in let more : 1 < left = ltb-true 1 left below in omega (arith, count, more);
-      more = let more : 1 < left = ltb-true 1 left below in omega (arith, more);
-    }
-    by false below = tt
-state_told port found left before octets other is read = tt
-
-checksum_told : (port : ℕ) (found : Found) (property : PropertyValue) (left : ℕ) (before : List Happening) (octets : ArrayVec ℕ) (heard : Result Answer IsduFault)
-    → AsksChecksum found property left before → answer_of octets.items ≡ heard
-    → StageIs port (Did (AnswerTo checksum_request) (input.Octets octets) ∷ before) (checksum_read found property left heard)
-checksum_told port found property left before octets (Ok (answer.ReadOk values)) is read = by (length values.items == 4) refl
-  where
-    few : is.times < MOST_REQUESTS
-    few = let count = is.count in let more = is.more in omega (arith, count, more)
-
-    by : (test : Bool) → (length values.items == 4) ≡ test
-        → StageIs port (Did (AnswerTo checksum_request) (input.Octets octets) ∷ before)
-        (if test then Attending (attend.Confirming found property (number_of values.items)) else failed fault.Unexpected)
-    by true four = record {
-      conversation = is.front ++ busy_times is.times checksum_request ++ read_of DATA_STORAGE PARAMETER_CHECKSUM values.items ∷ [];
-      state = is.state;
-      sum = values.items;
-      found_is = record {
-        shown = (is.front ++ busy_times is.times checksum_request, ReadOk values, is.found_is.shown, read, refl);
-        said = is.found_is.said;
-        wanted = is.found_is.wanted;
-      };
-      reads = follows-more is.front (read_of DATA_STORAGE STATE_PROPERTY is.state ∷ []) is.times (read_of DATA_STORAGE PARAMETER_CHECKSUM values.items) is.reads few;
-      one = is.one;
-      property_is = is.property_is;
-      four = is_length values.items 4 four;
-      checksum_is = refl;
-    }
-    by false four = tt
-checksum_told port found property left before octets (Ok answer.Busy) is read = by (nat_lt 1 left) refl
-  where
-    by : (test : Bool) → nat_lt 1 left ≡ test
-        → StageIs port (Did (AnswerTo checksum_request) (input.Octets octets) ∷ before)
-        (if test then Exchanging (exchange.ReadingChecksum found property (left - 1)) else failed fault.Busy)
-    by true below = record {
-      front = is.front;
-      state = is.state;
-      times = is.times + 1;
-      found_is = record {
-        shown = (
-          is.front ++ busy_times is.times checksum_request,
-          Busy,
-          is.found_is.shown,
-          read,
-          sym (append_assoc is.front (busy_times is.times checksum_request) _ ∙ ap (λ b. is.front ++ b) (replicate_more is.times _)),
-        );
-        said = is.found_is.said;
-        wanted = is.found_is.wanted;
-      };
-      reads = is.reads;
-      one = is.one;
-      property_is = is.property_is;
-      count = let count = is.count in let more : 1 < left = ltb-true 1 left below in omega (arith, count, more);
-      more = let more : 1 < left = ltb-true 1 left below in omega (arith, more);
-    }
-    by false below = tt
-checksum_told port found property left before octets other is read = tt
-
-ended_told : (port : ℕ) (page : PageValue) (left : ℕ) (before : List Happening) (octets : ArrayVec ℕ) (heard : Result Answer IsduFault)
-    → IsDurable port before → answer_of octets.items ≡ heard
-    → StageIs port (Did (AnswerTo (commanded command.UploadEnd)) (input.Octets octets) ∷ before) (upload_ended page left heard)
-ended_told port page left before octets (Ok answer.Busy) is read = by (nat_lt 1 left)
-  where
-    by : (test : Bool) → StageIs port (Did (AnswerTo (commanded command.UploadEnd)) (input.Octets octets) ∷ before)
-        (if test then Exchanging (exchange.EndingUpload page (left - 1)) else failed fault.Busy)
-    by true = (refl, read, is)
-    by false = tt
-ended_told port page left before octets other is read = tt
-
-pub exchanged_told : (port : ℕ) (what : ExchangeFor) (before : List Happening) (octets : ArrayVec ℕ) → ExchangingIs port before what
-    → StageIs port (Did (AnswerTo (request_for what)) (input.Octets octets) ∷ before) (exchanged what (answer_of octets.items))
-exchanged_told port (exchange.ReadingState found left) before octets is = state_told port found left before octets _ is refl
-exchanged_told port (exchange.ReadingChecksum found property left) before octets is = checksum_told port found property left before octets _ is refl
-exchanged_told port (exchange.EndingUpload page left) before octets is = ended_told port page left before octets _ is refl
-exchanged_told port (exchange.Stopping storing) before octets is = tt
-exchanged_told port exchange.Yielding before octets is = tt
-
 -- ---- transfers
 
-pub upload_told : (port : ℕ) (grant : UploadGrant) (page : PageValue) (upload : Machine) (before : List Happening) (octets : ArrayVec ℕ) (heard : Result Answer IsduFault)
+pub upload_told : (port : ℕ) (grant : UploadGrant) (page : PageValue) (upload : Machine) (before : List Happening) (octets : ArrayVec ℕ)
+    (heard : Result Answer IsduFault)
     → AsksUpload port grant upload before → answer_of octets.items ≡ heard → IsStage (upload_answered grant page upload heard)
     → StageIs port (Did (AnswerTo (asked upload)) (input.Octets octets) ∷ before) (upload_answered grant page upload heard)
 upload_told port grant page upload before octets (Err why) is read good = tt
@@ -230,10 +99,12 @@ goes-is : (one other : Sender) → GoesOn one ≡ GoesOn other → one ≡ other
 goes-is one other same = cc
 
 -- what goes on is a step of the download
-pub sent_step : (download next : Sender) (said : Answer) → sent download said ≡ GoesOn next → IsDownloadStep download said download_step.More next
+pub sent_step : (download next : Sender) (said : Answer) → sent download said ≡ GoesOn next
+    → IsDownloadStep download said download_step.More next
 sent_step download next answer.WriteOk goes = by download.sends goes refl
   where
-    by : (sends : Sends) → sent_well download.set sends ≡ GoesOn next → download.sends ≡ sends → IsDownloadStep download answer.WriteOk download_step.More next
+    by : (sends : Sends) → sent_well download.set sends ≡ GoesOn next → download.sends ≡ sends
+        → IsDownloadStep download answer.WriteOk download_step.More next
     by Opening goes at = inr (
       refl,
       (λ closing. open-closing (sym at ∙ closing)),
@@ -251,7 +122,8 @@ sent_step download next answer.WriteOk goes = by download.sends goes refl
 sent_step download next answer.Busy goes = by (nat_lt (download.busy + 1) MOST_REQUESTS) refl goes
   where
     by : (test : Bool) → nat_lt (download.busy + 1) MOST_REQUESTS ≡ test
-        → (if test then GoesOn (record { set = download.set; sends = download.sends; busy = download.busy + 1 }) else Ends transfer.Busy) ≡ GoesOn next
+        → (if test then GoesOn (record { set = download.set; sends = download.sends; busy = download.busy + 1 }) else Ends transfer.Busy)
+        ≡ GoesOn next
         → IsDownloadStep download answer.Busy download_step.More next
     by true few goes = inl (refl, ltb-true _ _ few, sym (goes-is _ next goes))
     by false few goes = absurd cc
@@ -259,13 +131,15 @@ sent_step download next (answer.WriteFault error additional) goes = absurd cc
 sent_step download next (answer.ReadOk octets) goes = absurd cc
 sent_step download next (answer.ReadFault error additional) goes = absurd cc
 
-pub download_told : (port permit : ℕ) (page : PageValue) (download : Sender) (before : List Happening) (octets : ArrayVec ℕ) (heard : Result Answer IsduFault)
+pub download_told : (port permit : ℕ) (page : PageValue) (download : Sender) (before : List Happening) (octets : ArrayVec ℕ)
+    (heard : Result Answer IsduFault)
     → AsksDownload port download before → answer_of octets.items ≡ heard
     → StageIs port (Did (AnswerTo (sent_by download.sends)) (input.Octets octets) ∷ before) (download_answered permit page download heard)
 download_told port permit page download before octets (Err why) is read = tt
 download_told port permit page download before octets (Ok said) is read = by (sent download said) refl
   where
-    by : (now : Sent) → sent download said ≡ now → StageIs port (Did (AnswerTo (sent_by download.sends)) (input.Octets octets) ∷ before) (downloaded permit page now)
+    by : (now : Sent) → sent download said ≡ now
+        → StageIs port (Did (AnswerTo (sent_by download.sends)) (input.Octets octets) ∷ before) (downloaded permit page now)
     by (GoesOn next) goes = record {
       set = is.set;
       conversation = is.conversation ++ answered_to download said ∷ [];
@@ -278,11 +152,13 @@ download_told port permit page download before octets (Ok said) is read = by (se
 -- ---- pages and work
 
 found_told : (port : ℕ) (work : Work) (connection : ℕ) (octets : List ℕ) (before : List Happening) → last_work before ≡ Some work
-    → ident_fault work.config (page_of octets) ≡ None → StageIs port (Did ThePage (input.Page connection octets) ∷ before) (found_by work connection (page_of octets))
+    → ident_fault work.config (page_of octets) ≡ None
+    → StageIs port (Did ThePage (input.Page connection octets) ∷ before) (found_by work connection (page_of octets))
 found_told port work connection octets before said wanted = by (restores work.config.validation)
   where
     by : (test : Bool) → StageIs port (Did ThePage (input.Page connection octets) ∷ before)
-        (if test then Exchanging (exchange.ReadingState (record { work = work; page = page_of octets; connection = connection }) MOST_REQUESTS)
+        (if test then Exchanging (exchange.ReadingState
+        (record { work = work; page = page_of octets; connection = connection }) MOST_REQUESTS)
         else Settled (rest.Ready (page_of octets)))
     by true = record {
       times = 0;
@@ -292,8 +168,10 @@ found_told port work connection octets before said wanted = by (restores work.co
     }
     by false = tt
 
-judged_told : (port : ℕ) (work : Work) (connection : ℕ) (octets : List ℕ) (before : List Happening) (why : Option IdentFault) → last_work before ≡ Some work
-    → ident_fault work.config (page_of octets) ≡ why → StageIs port (Did ThePage (input.Page connection octets) ∷ before) (judged work connection (page_of octets) why)
+judged_told : (port : ℕ) (work : Work) (connection : ℕ) (octets : List ℕ) (before : List Happening) (why : Option IdentFault)
+    → last_work before ≡ Some work
+    → ident_fault work.config (page_of octets) ≡ why
+    → StageIs port (Did ThePage (input.Page connection octets) ∷ before) (judged work connection (page_of octets) why)
 judged_told port work connection octets before None said is = found_told port work connection octets before said is
 judged_told port work connection octets before (Some why) said is = tt
 
@@ -304,13 +182,15 @@ page_told port (page_for.Comparing work own) connection octets before said = by 
     by : (test : Bool) → NextIs port (Did ThePage (input.Page connection octets) ∷ before) (if test then To (Settled own) else Start work)
     by true = tt
     by false = said
-page_told port (page_for.Identifying work) connection octets before said = judged_told port work connection octets before (ident_fault work.config (page_of octets)) said refl
+page_told port (page_for.Identifying work) connection octets before said =
+    judged_told port work connection octets before (ident_fault work.config (page_of octets)) said refl
 
 -- the core says what is to be done
 abbrev pub Said : ℕ → Option Work → Happening
 Said port work = Did (ReplyTo (Attend port)) (input.Reply (reply.Attended work))
 
-resumed_told : (port : ℕ) (own : Rest) (work : Work) (before : List Happening) → NextIs port (Said port (Some work) ∷ before) (resumed own work)
+resumed_told : (port : ℕ) (own : Rest) (work : Work) (before : List Happening)
+    → NextIs port (Said port (Some work) ∷ before) (resumed own work)
 resumed_told port rest.Off work before = tt
 resumed_told port rest.Lost work before = refl
 resumed_told port (rest.Failed why) work before = refl
@@ -323,10 +203,13 @@ decided_told : (port : ℕ) (found : Found) (property : PropertyValue) (checksum
 decided_told port found property checksum work before decision.Ready is same now = tt
 decided_told port found property checksum work before decision.ReadyLocked is same now = tt
 decided_told port found property checksum work before decision.ReadyEmpty is same now = tt
-decided_told port found property checksum work before decision.Upload is same now = (checksum, record { property = property; examined = is; revision = same; decided = now })
-decided_told port found property checksum work before decision.Download is same now = record { property = property; examined = is; revision = same; decided = now }
+decided_told port found property checksum work before decision.Upload is same now =
+    (checksum, record { property = property; examined = is; revision = same; decided = now })
+decided_told port found property checksum work before decision.Download is same now =
+    record { property = property; examined = is; revision = same; decided = now }
 
-pub attended_told : (port : ℕ) (under : Option ℕ) (kept : Bool) (what : AttendFor) (work : Option Work) (before : List Happening) → AttendingIs before what
+pub attended_told : (port : ℕ) (under : Option ℕ) (kept : Bool) (what : AttendFor) (work : Option Work) (before : List Happening)
+    → AttendingIs before what
     → NextIs port (Said port work ∷ before) (attended under kept what work)
 attended_told port under kept what None before is = tt
 attended_told port under kept (attend.Waking own) (Some work) before is = by (is_under under work.revision && not kept)
@@ -334,10 +217,12 @@ attended_told port under kept (attend.Waking own) (Some work) before is = by (is
     by : (test : Bool) → NextIs port (Said port (Some work) ∷ before) (if test then resumed own work else Start work)
     by true = resumed_told port own work before
     by false = refl
-attended_told port under kept (attend.Confirming found property checksum) (Some work) before is = by (found.work.revision == work.revision) refl
+attended_told port under kept (attend.Confirming found property checksum) (Some work) before is =
+    by (found.work.revision == work.revision) refl
   where
     by : (test : Bool) → (found.work.revision == work.revision) ≡ test → NextIs port (Said port (Some work) ∷ before)
-        (if test then To (decided found checksum (decide work.config.validation property.state property.flag checksum work.checksum)) else Start work)
+        (if test then To (decided found checksum (decide work.config.validation property.state property.flag checksum work.checksum))
+        else Start work)
     by true same = decided_told port found property checksum work before _ is (grind (arith, nat_tests, same)) refl
     by false same = refl
 attended_told port under kept attend.Restarting (Some work) before is = refl
@@ -346,7 +231,8 @@ attended_told port under kept attend.Restarting (Some work) before is = refl
 
 pub begun_told : (port : ℕ) (found : Found) (begins : Result UploadGrant PermitFault) (before : List Happening)
     → ComesOf (wanted port (BeginningUpload found)) (input.Reply (reply.BegunUpload begins))
-    → StageIs port (Did (wanted port (BeginningUpload found)) (input.Reply (reply.BegunUpload begins)) ∷ before) (upload_begun found.page begins)
+    → StageIs port (Did (wanted port (BeginningUpload found)) (input.Reply (reply.BegunUpload begins)) ∷ before)
+    (upload_begun found.page begins)
 begun_told port found (Ok grant) before comes =
     let vendor = comes.vendor_is in let device = comes.device_is in let connection = comes.connection_is in
     record {
@@ -358,7 +244,8 @@ begun_told port found (Err why) before comes = tt
 
 pub download_begun_told : (port : ℕ) (found : Found) (checksum : ℕ) (begins : Result DownloadBegun DownloadFault) (before : List Happening)
     → ComesOf (wanted port (BeginningDownload found checksum)) (input.Reply (reply.BegunDownload begins))
-    → StageIs port (Did (wanted port (BeginningDownload found checksum)) (input.Reply (reply.BegunDownload begins)) ∷ before) (download_begun found.page begins)
+    → StageIs port (Did (wanted port (BeginningDownload found checksum)) (input.Reply (reply.BegunDownload begins)) ∷ before)
+    (download_begun found.page begins)
 download_begun_told port found checksum (Ok begins) before comes =
     let vendor = comes.vendor_is in let device = comes.device_is in
     record {
@@ -369,9 +256,11 @@ download_begun_told port found checksum (Ok begins) before comes =
     }
 download_begun_told port found checksum (Err why) before comes = tt
 
-pub finished_told : (port : ℕ) (grant : UploadGrant) (page : PageValue) (set : SetValue) (finished : Result ℕ FinishFault) (before : List Happening)
+pub finished_told : (port : ℕ) (grant : UploadGrant) (page : PageValue) (set : SetValue) (finished : Result ℕ FinishFault)
+    (before : List Happening)
     → IsWhole port grant set before → IsHandedBack grant set finished
-    → StageIs port (Did (ReplyTo (FinishUpload grant set)) (input.Reply (reply.FinishedUpload finished)) ∷ before) (upload_finished page finished)
+    → StageIs port (Did (ReplyTo (FinishUpload grant set)) (input.Reply (reply.FinishedUpload finished)) ∷ before)
+    (upload_finished page finished)
 finished_told port grant page set (Ok number) before is back = (refl, (grant, set, is.conversation, refl, is.uploaded, is.finished))
 finished_told port grant page set (Err finish.Stopped) before is back = tt
 finished_told port grant page set (Err finish.ConfigChanged) before is back = tt

@@ -8,7 +8,8 @@ use Rattle.iol_isdu.specs.declared.messages.Request.{Request}
 use Rattle.iol_isdu.specs.declared.messages.Request.TheVariants.{Read, Write}
 use Rattle.iol_dsindex.specs.declared.command.DsCommand.TheVariants as command
 use Rattle.iol_transfer.specs.Asked.{Asks, Start, Size, IndexList, Value, Checksum, request_of}
-use Rattle.iol_transfer.specs.Exchanges.{Exchange, commanded}
+use Rattle.iol_dsindex.specs.Command.{commanded}
+use Rattle.iol_transfer.specs.Exchanges.{Exchange}
 use Rattle.iol_transfer.specs.Download.{Sender, entry_written, writes_of, order_of, sent_by, behind_of, IsDownloading}
 
 -- a request is not DS_UploadEnd
@@ -47,9 +48,11 @@ end_other : IsOther (commanded command.DownloadEnd)
 unfolding first_octet
 end_other = by_octet (commanded command.DownloadEnd) refl
 
-reserved_index : (index : ℕ) → index ≡ DATA_STORAGE → ((index == DIRECT_PARAMETER_PAGE) || (index == SYSTEM_COMMAND) || (index == DATA_STORAGE)) ≡ false → ⊥
+reserved_index : (index : ℕ) → index ≡ DATA_STORAGE
+    → ((index == DIRECT_PARAMETER_PAGE) || (index == SYSTEM_COMMAND) || (index == DATA_STORAGE)) ≡ false → ⊥
 reserved_index index is free =
-    let there : true ≡ false = subst (λ i. ((i == DIRECT_PARAMETER_PAGE) || (i == SYSTEM_COMMAND) || (i == DATA_STORAGE)) ≡ false) is free in cc
+    let there : true ≡ false = subst (λ i. ((i == DIRECT_PARAMETER_PAGE) || (i == SYSTEM_COMMAND) || (i == DATA_STORAGE))
+    ≡ false) is free in cc
 
 entry_other : (entry : Entry) → IsEntry entry → IsOther (entry_written entry)
 entry_other entry is same =
@@ -63,7 +66,8 @@ AreOthers (request ∷ requests) = IsOther request × AreOthers requests
 
 writes_other : (entries : List Entry) → All IsEntry entries → AreOthers (writes_of entries)
 writes_other [] all = (end_other, tt)
-writes_other (entry ∷ entries) all = (entry_other entry (All-head IsEntry entry entries all), writes_other entries (All-tail IsEntry entry entries all))
+writes_other (entry ∷ entries) all =
+    (entry_other entry (All-head IsEntry entry entries all), writes_other entries (All-tail IsEntry entry entries all))
 
 order_other : (set : SetValue) → IsSet set → AreOthers (order_of set)
 order_other set is = (start_other, writes_other set.entries is.entries.each)

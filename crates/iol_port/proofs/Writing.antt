@@ -1,10 +1,10 @@
--- What is written to the device of a port at each stage, by the history.
-use Rattle.std.proofs.Common.{◌≡◌, ◌⊎◌, inl, inr, ℕ, ◌+◌, ◌-◌, Bool, true, false, if◌then◌else◌, nat_lt, List, [], ◌∷◌, ◌++◌, refl, sym, arith, lit<}
+-- What is written to the device of a port, by what a machine hears.
+use Rattle.std.proofs.Common.{◌≡◌, inl, inr, ℕ, ◌+◌, ◌-◌, Bool, true, false, if◌then◌else◌, nat_lt, List, [], ◌∷◌, ◌++◌, refl, sym}
+use Rattle.std.proofs.Common.{arith, lit<}
 use Rattle.std.proofs.lemmas.Bool.Decides.{nat_tests}
 use Rattle.std.specs.Prelude.{Option, Some, None, Result, Ok, Err, ◌&&◌, ◌==◌, not, length, slice_index}
 use Rattle.arrayvec.specs.ArrayVec.{ArrayVec}
 use Rattle.iol_types.specs.Config.{restores}
-use Rattle.iol_types.specs.DataSet.{SetValue}
 use Rattle.iol_isdu.specs.Reading.{answer_of}
 use Rattle.iol_isdu.specs.declared.messages.Answer.{Answer}
 use Rattle.iol_isdu.specs.declared.messages.Answer.TheVariants as answer
@@ -14,10 +14,10 @@ use Rattle.iol_ident.specs.Validation.{ident_fault}
 use Rattle.iol_ident.specs.declared.validation.IdentFault.{IdentFault}
 use Rattle.iol_dsindex.specs.Property.{PropertyValue, property_of}
 use Rattle.iol_dsindex.specs.declared.command.DsCommand.TheVariants as command
-use Rattle.iol_transfer.specs.Exchanges.{Exchange, commanded}
+use Rattle.iol_dsindex.specs.Command.{commanded}
 use Rattle.iol_transfer.specs.Upload.{number_of}
 use Rattle.iol_transfer.specs.Machine.{Machine, Outcome, More, Whole, Fault, step}
-use Rattle.iol_transfer.specs.Download.{Sender, Sends, Opening, Parameter, Closing, sent_by, answered_to, IsDownloading}
+use Rattle.iol_transfer.specs.Download.{Sender, Sends, Opening, Parameter, Closing, sent_by, answered_to}
 use Rattle.iol_transfer.specs.declared.download.DownloadStep.TheVariants as download_step
 use Rattle.iol_transfer.specs.declared.fault.TransferFault.TheVariants as transfer
 use Rattle.iol_transfer.specs.declared.repeats.TheConstants.{MOST_REQUESTS}
@@ -31,13 +31,16 @@ use Rattle.iol_core.specs.declared.upload.FinishFault.{FinishFault}
 use Rattle.iol_core.specs.declared.upload.FinishFault.TheVariants as finish
 use Rattle.iol_core.specs.declared.download.DownloadBegun.{DownloadBegun}
 use Rattle.iol_core.specs.declared.download.DownloadFault.{DownloadFault}
-use Rattle.iol_port.specs.Answers.{failed, again, state_read, checksum_read, upload_ended, exchanged, uploaded, upload_answered, Sent, GoesOn, Done, Ends, sent, sent_well, downloaded, download_answered}
+use Rattle.iol_port.specs.Answers.{failed, again, state_read, checksum_read, upload_ended, exchanged, uploaded, upload_answered, Sent}
+use Rattle.iol_port.specs.Answers.{GoesOn, Done, Ends, sent, sent_well, downloaded, download_answered}
 use Rattle.iol_port.specs.Calls.{BeginDownload}
 use Rattle.iol_port.specs.Decision.{decide}
-use Rattle.iol_port.specs.Heard.{page_heard, settled_with, judged, resumed, is_under, decided, attended, upload_begun, download_begun, upload_finished, ticket_told}
-use Rattle.iol_port.specs.History.{ComesOf, Happening, Raised, Did}
-use Rattle.iol_port.specs.Laws.{last_work, HasDownloaded, HasRestored, HasExamined, IsDurable, IsRestored, IsSoDecided}
-use Rattle.iol_port.specs.Stage.{Stage, Settled, Paging, Attending, BeginningUpload, BeginningDownload, Exchanging, Uploading, Filing, Filed, Storing, Downloading, Breaking, Returning, Returned, Next, To, Start}
+use Rattle.iol_port.specs.Heard.{page_heard, settled_with, judged, resumed, is_under, decided, attended, upload_begun, download_begun}
+use Rattle.iol_port.specs.Heard.{upload_finished, ticket_told}
+use Rattle.iol_port.specs.History.{ComesOf, Happening, Did}
+use Rattle.iol_port.specs.Laws.{last_work, HasExamined, IsDurable}
+use Rattle.iol_port.specs.Stage.{Settled, Paging, Attending, BeginningDownload, Exchanging}
+use Rattle.iol_port.specs.Stage.{To, Start}
 use Rattle.iol_port.specs.Status.{status_of, status_at_rest}
 use Rattle.iol_port.specs.Wanted.{Wanted, ThePage, AnswerTo, ReplyTo, wanted, request_for}
 use Rattle.iol_port.specs.declared.action.Input.TheVariants as input
@@ -54,122 +57,16 @@ use Rattle.iol_port.specs.declared.stage.AttendFor.{AttendFor}
 use Rattle.iol_port.specs.declared.stage.AttendFor.TheVariants as attend
 use Rattle.iol_port.specs.declared.stage.ExchangeFor.{ExchangeFor}
 use Rattle.iol_port.specs.declared.stage.ExchangeFor.TheVariants as exchange
-use Rattle.iol_port.specs.declared.stage.Held.{Held}
 use Rattle.iol_port.specs.declared.stage.Held.TheVariants as held
 use Rattle.iol_port.specs.declared.status.PortStatus.{PortStatus}
 use Rattle.iol_port.proofs.Stages.{PagingIs, AttendingIs, ExchangingIs}
 use Rattle.iol_port.proofs.Telling.{Said, sent_step}
-
--- a download is under way, of a set for the device with this page
-pub record Writes (port : ℕ) (page : PageValue) (download : Sender) (history : List Happening) : Type 0 where
-  pub set : SetValue
-  pub conversation : List Exchange
-  pub downloaded : HasDownloaded port set conversation history
-  pub since : IsDownloading set conversation download
-  pub vendor : set.vendor ≡ page.vendor
-  pub device : set.device ≡ page.device
-
--- a port that becomes ready so has what is stored, or it was decided so
-abbrev pub IsRested : ℕ → List Happening → Rest → Type 0
-IsRested port history rest.Off = Unit {0}
-IsRested port history rest.Lost = Unit {0}
-IsRested port history (rest.Failed why) = Unit {0}
-IsRested port history (rest.Ready page) = IsRestored port page history
-IsRested port history (rest.ReadyLocked page) = IsSoDecided decision.ReadyLocked page history
-IsRested port history (rest.ReadyEmpty page) = IsSoDecided decision.ReadyEmpty page history
-IsRested port history (rest.Mismatch why page) = Unit {0}
-
--- a port that had this status settles so: it has it still, or that holds
-abbrev pub Rests : ℕ → PortStatus → List Happening → Rest → Type 0
-Rests port was history own = (status_at_rest own ≡ was) ⊎ IsRested port history own
-
--- a port becomes ready once its permit is returned: it is one to download, and a whole set was written
-abbrev pub HasWritten : ℕ → PageValue → List Happening → Held → Type 0
-HasWritten port page history (held.Upload permit) = ⊥
-HasWritten port page history (held.Download permit) = HasRestored port page history
-
--- how a port is to settle once its permit is returned
-abbrev pub ReturnsTo : ℕ → List Happening → Held → Rest → Type 0
-ReturnsTo port history holder rest.Off = ⊥
-ReturnsTo port history holder rest.Lost = Unit {0}
-ReturnsTo port history holder (rest.Failed why) = Unit {0}
-ReturnsTo port history holder (rest.Ready page) = HasWritten port page history holder
-ReturnsTo port history holder (rest.ReadyLocked page) = ⊥
-ReturnsTo port history holder (rest.ReadyEmpty page) = ⊥
-ReturnsTo port history holder (rest.Mismatch why page) = ⊥
-
--- what is written at a stage, of a port that had this status before
-abbrev pub WrittenIs : ℕ → PortStatus → List Happening → Stage → Type 0
-WrittenIs port was history (Settled own) = Rests port was history own
-WrittenIs port was history (Paging what) = Unit {0}
-WrittenIs port was history (Attending what) = Unit {0}
-WrittenIs port was history (BeginningUpload found) = Unit {0}
-WrittenIs port was history (BeginningDownload found checksum) = Unit {0}
-WrittenIs port was history (Exchanging what) = Unit {0}
-WrittenIs port was history (Uploading grant page upload) = Unit {0}
-WrittenIs port was history (Filing grant page set) = Unit {0}
-WrittenIs port was history (Filed page) = Unit {0}
-WrittenIs port was history (Storing number page) = Unit {0}
-WrittenIs port was history (Downloading permit page download) = Writes port page download history
-WrittenIs port was history (Breaking holder why) = Unit {0}
-WrittenIs port was history (Returning holder own) = ReturnsTo port history holder own
-WrittenIs port was history (Returned transfer own) = Unit {0}
-
-abbrev pub NextWritten : ℕ → PortStatus → List Happening → Next → Type 0
-NextWritten port was history (To stage) = WrittenIs port was history stage
-NextWritten port was history (Start work) = Unit {0}
-
--- ---- events
-
-raised_whole : (port : ℕ) (page : PageValue) (history : List Happening) (code : ℕ) (holder : Held) → HasWritten port page history holder
-    → HasWritten port page (Raised code ∷ history) holder
-raised_whole port page history code (held.Upload permit) is = absurd is
-raised_whole port page history code (held.Download permit) is = record {
-  set = is.set;
-  conversation = is.conversation;
-  downloaded = is.downloaded;
-  whole = is.whole;
-  vendor = is.vendor;
-  device = is.device;
-}
-
-raised_returns : (port : ℕ) (history : List Happening) (code : ℕ) (holder : Held) (own : Rest) → ReturnsTo port history holder own
-    → ReturnsTo port (Raised code ∷ history) holder own
-raised_returns port history code holder rest.Off is = absurd is
-raised_returns port history code holder rest.Lost is = tt
-raised_returns port history code holder (rest.Failed why) is = tt
-raised_returns port history code holder (rest.Ready page) is = raised_whole port page history code holder is
-raised_returns port history code holder (rest.ReadyLocked page) is = absurd is
-raised_returns port history code holder (rest.ReadyEmpty page) is = absurd is
-raised_returns port history code holder (rest.Mismatch why page) is = absurd is
-
-pub raised_written : (port : ℕ) (was : PortStatus) (history : List Happening) (code : ℕ) (stage : Stage) → WrittenIs port was history stage
-    → WrittenIs port (status_of stage) (Raised code ∷ history) stage
-raised_written port was history code (Settled own) is = inl refl
-raised_written port was history code (Downloading permit page download) is = record {
-  set = is.set;
-  conversation = is.conversation;
-  downloaded = is.downloaded;
-  since = is.since;
-  vendor = is.vendor;
-  device = is.device;
-}
-raised_written port was history code (Returning holder own) is = raised_returns port history code holder own is
-raised_written port was history code (Paging what) is = tt
-raised_written port was history code (Attending what) is = tt
-raised_written port was history code (BeginningUpload found) is = tt
-raised_written port was history code (BeginningDownload found checksum) is = tt
-raised_written port was history code (Exchanging what) is = tt
-raised_written port was history code (Uploading grant page upload) is = tt
-raised_written port was history code (Filing grant page set) is = tt
-raised_written port was history code (Filed page) is = tt
-raised_written port was history code (Storing number page) is = tt
-raised_written port was history code (Breaking holder why) is = tt
-raised_written port was history code (Returned transfer own) is = tt
+use Rattle.iol_port.proofs.Written.{Writes, Rests, ReturnsTo, WrittenIs, NextWritten}
 
 -- ---- exchanges outside of a transfer
 
-again_written : (port : ℕ) (was : PortStatus) (history : List Happening) (left : ℕ) (next : ExchangeFor) → WrittenIs port was history (again left next)
+again_written : (port : ℕ) (was : PortStatus) (history : List Happening) (left : ℕ) (next : ExchangeFor)
+    → WrittenIs port was history (again left next)
 again_written port was history left next = by (nat_lt 1 left)
   where
     by : (test : Bool) → WrittenIs port was history (if test then Exchanging next else failed fault.Busy)
@@ -181,7 +78,8 @@ state_written : (port : ℕ) (was : PortStatus) (history : List Happening) (foun
 state_written port was history found left (Ok (answer.ReadOk octets)) = by (length octets.items == 1)
   where
     by : (test : Bool) → WrittenIs port was history
-        (if test then Exchanging (exchange.ReadingChecksum found (property_of (slice_index octets.items 0)) MOST_REQUESTS) else failed fault.Unexpected)
+        (if test then Exchanging (exchange.ReadingChecksum found (property_of (slice_index octets.items 0)) MOST_REQUESTS)
+        else failed fault.Unexpected)
     by true = tt
     by false = inr tt
 state_written port was history found left (Ok answer.Busy) = again_written port was history left (exchange.ReadingState found (left - 1))
@@ -195,23 +93,29 @@ checksum_written port was history found property left (Ok (answer.ReadOk octets)
         (if test then Attending (attend.Confirming found property (number_of octets.items)) else failed fault.Unexpected)
     by true = tt
     by false = inr tt
-checksum_written port was history found property left (Ok answer.Busy) = again_written port was history left (exchange.ReadingChecksum found property (left - 1))
+checksum_written port was history found property left (Ok answer.Busy) =
+    again_written port was history left (exchange.ReadingChecksum found property (left - 1))
 checksum_written port was history found property left other = inr tt
 
-ended_written : (port : ℕ) (was : PortStatus) (page : PageValue) (left : ℕ) (before : List Happening) (octets : ArrayVec ℕ) (heard : Result Answer IsduFault)
+ended_written : (port : ℕ) (was : PortStatus) (page : PageValue) (left : ℕ) (before : List Happening) (octets : ArrayVec ℕ)
+    (heard : Result Answer IsduFault)
     → IsDurable port before → answer_of octets.items ≡ heard
     → WrittenIs port was (Did (AnswerTo (commanded command.UploadEnd)) (input.Octets octets) ∷ before) (upload_ended page left heard)
 ended_written port was page left before octets (Ok answer.WriteOk) is read = inr (refl, read, is)
 ended_written port was page left before octets (Ok answer.Busy) is read =
-    again_written port was (Did (AnswerTo (commanded command.UploadEnd)) (input.Octets octets) ∷ before) left (exchange.EndingUpload page (left - 1))
+    again_written port was (Did (AnswerTo (commanded command.UploadEnd)) (input.Octets octets) ∷ before) left
+    (exchange.EndingUpload page (left - 1))
 ended_written port was page left before octets other is read = inr tt
 
-pub exchanged_written : (port : ℕ) (was : PortStatus) (what : ExchangeFor) (before : List Happening) (octets : ArrayVec ℕ) → ExchangingIs port before what
+pub exchanged_written : (port : ℕ) (was : PortStatus) (what : ExchangeFor) (before : List Happening) (octets : ArrayVec ℕ)
+    → ExchangingIs port before what
     → WrittenIs port was (Did (AnswerTo (request_for what)) (input.Octets octets) ∷ before) (exchanged what (answer_of octets.items))
 exchanged_written port was (exchange.ReadingState found left) before octets is =
-    state_written port was (Did (AnswerTo (request_for (exchange.ReadingState found left))) (input.Octets octets) ∷ before) found left (answer_of octets.items)
+    state_written port was (Did (AnswerTo (request_for (exchange.ReadingState found left))) (input.Octets octets) ∷ before) found left
+    (answer_of octets.items)
 exchanged_written port was (exchange.ReadingChecksum found property left) before octets is =
-    checksum_written port was (Did (AnswerTo (request_for (exchange.ReadingChecksum found property left))) (input.Octets octets) ∷ before) found property left
+    checksum_written port was (Did (AnswerTo (request_for (exchange.ReadingChecksum found property left)))
+    (input.Octets octets) ∷ before) found property left
     (answer_of octets.items)
 exchanged_written port was (exchange.EndingUpload page left) before octets is = ended_written port was page left before octets _ is refl
 exchanged_written port was (exchange.Stopping storing) before octets is = inr tt
@@ -240,16 +144,19 @@ sent_last download answer.WriteOk ends = (refl, by download.sends ends)
 sent_last download answer.Busy ends = absurd (by (nat_lt (download.busy + 1) MOST_REQUESTS) ends)
   where
     by : (test : Bool)
-        → (if test then GoesOn (record { set = download.set; sends = download.sends; busy = download.busy + 1 }) else Ends transfer.Busy) ≡ Done → ⊥
+        → (if test then GoesOn (record { set = download.set; sends = download.sends; busy = download.busy + 1 }) else Ends transfer.Busy)
+        ≡ Done → ⊥
     by true ends = cc
     by false ends = cc
 sent_last download (answer.WriteFault error additional) ends = absurd cc
 sent_last download (answer.ReadOk octets) ends = absurd cc
 sent_last download (answer.ReadFault error additional) ends = absurd cc
 
-pub download_written : (port permit : ℕ) (was : PortStatus) (page : PageValue) (download : Sender) (before : List Happening) (octets : ArrayVec ℕ)
+pub download_written : (port permit : ℕ) (was : PortStatus) (page : PageValue) (download : Sender) (before : List Happening)
+    (octets : ArrayVec ℕ)
     (heard : Result Answer IsduFault) → Writes port page download before → answer_of octets.items ≡ heard
-    → WrittenIs port was (Did (AnswerTo (sent_by download.sends)) (input.Octets octets) ∷ before) (download_answered permit page download heard)
+    → WrittenIs port was (Did (AnswerTo (sent_by download.sends)) (input.Octets octets) ∷ before)
+    (download_answered permit page download heard)
 download_written port permit was page download before octets (Err why) is read = tt
 download_written port permit was page download before octets (Ok said) is read = by (sent download said) refl
   where
@@ -275,34 +182,42 @@ download_written port permit was page download before octets (Ok said) is read =
 
 -- ---- pages and work
 
-judged_written : (port : ℕ) (was : PortStatus) (work : Work) (connection : ℕ) (octets : List ℕ) (before : List Happening) (why : Option IdentFault)
-    → last_work before ≡ Some work → WrittenIs port was (Did ThePage (input.Page connection octets) ∷ before) (judged work connection (page_of octets) why)
+judged_written : (port : ℕ) (was : PortStatus) (work : Work) (connection : ℕ) (octets : List ℕ) (before : List Happening)
+    (why : Option IdentFault)
+    → last_work before ≡ Some work
+    → WrittenIs port was (Did ThePage (input.Page connection octets) ∷ before) (judged work connection (page_of octets) why)
 judged_written port was work connection octets before None said = by (restores work.config.validation) refl
   where
     by : (test : Bool) → restores work.config.validation ≡ test → WrittenIs port was (Did ThePage (input.Page connection octets) ∷ before)
-        (if test then Exchanging (exchange.ReadingState (record { work = work; page = page_of octets; connection = connection }) MOST_REQUESTS)
+        (if test then Exchanging (exchange.ReadingState
+        (record { work = work; page = page_of octets; connection = connection }) MOST_REQUESTS)
         else Settled (rest.Ready (page_of octets)))
     by true nothing = tt
     by false nothing = inr (refl, (work, said, nothing))
 judged_written port was work connection octets before (Some why) said = inr tt
 
 pub page_written : (port : ℕ) (what : PageFor) (connection : ℕ) (octets : List ℕ) (before : List Happening) → PagingIs before what
-    → NextWritten port (status_of (Paging what)) (Did ThePage (input.Page connection octets) ∷ before) (page_heard what connection (page_of octets))
+    → NextWritten port (status_of (Paging what)) (Did ThePage (input.Page connection octets) ∷ before)
+    (page_heard what connection (page_of octets))
 page_written port (page_for.Comparing work own) connection octets before said = by (settled_with own (page_of octets))
   where
-    by : (test : Bool) → NextWritten port (status_at_rest own) (Did ThePage (input.Page connection octets) ∷ before) (if test then To (Settled own) else Start work)
+    by : (test : Bool) → NextWritten port (status_at_rest own) (Did ThePage (input.Page connection octets) ∷ before)
+        (if test then To (Settled own) else Start work)
     by true = inl refl
     by false = tt
 page_written port (page_for.Identifying work) connection octets before said =
-    judged_written port (status_of (Paging (page_for.Identifying work))) work connection octets before (ident_fault work.config (page_of octets)) said
+    judged_written port (status_of (Paging (page_for.Identifying work))) work connection octets before
+    (ident_fault work.config (page_of octets)) said
 
-resumed_written : (port : ℕ) (was : PortStatus) (own : Rest) (work : Work) (history : List Happening) → NextWritten port was history (resumed own work)
+resumed_written : (port : ℕ) (was : PortStatus) (own : Rest) (work : Work) (history : List Happening)
+    → NextWritten port was history (resumed own work)
 resumed_written port was rest.Off work history = inr tt
 resumed_written port was rest.Lost work history = tt
 resumed_written port was (rest.Failed why) work history = tt
 resumed_written port was own work history = tt
 
-decided_written : (port : ℕ) (was : PortStatus) (found : Found) (property : PropertyValue) (checksum : ℕ) (work : Work) (before : List Happening) (now : Decision)
+decided_written : (port : ℕ) (was : PortStatus) (found : Found) (property : PropertyValue) (checksum : ℕ) (work : Work)
+    (before : List Happening) (now : Decision)
     → HasExamined found property checksum before → found.work.revision ≡ work.revision
     → decide work.config.validation property.state property.flag checksum work.checksum ≡ now
     → WrittenIs port was (Said port (Some work) ∷ before) (decided found checksum now)
@@ -315,7 +230,8 @@ decided_written port was found property checksum work before decision.ReadyEmpty
 decided_written port was found property checksum work before decision.Upload is same now = tt
 decided_written port was found property checksum work before decision.Download is same now = tt
 
-pub attended_written : (port : ℕ) (was : PortStatus) (under : Option ℕ) (kept : Bool) (what : AttendFor) (work : Option Work) (before : List Happening)
+pub attended_written : (port : ℕ) (was : PortStatus) (under : Option ℕ) (kept : Bool) (what : AttendFor) (work : Option Work)
+    (before : List Happening)
     → AttendingIs before what → NextWritten port was (Said port work ∷ before) (attended under kept what work)
 attended_written port was under kept what None before is = inr tt
 attended_written port was under kept (attend.Waking own) (Some work) before is = by (is_under under work.revision && not kept)
@@ -323,10 +239,12 @@ attended_written port was under kept (attend.Waking own) (Some work) before is =
     by : (test : Bool) → NextWritten port was (Said port (Some work) ∷ before) (if test then resumed own work else Start work)
     by true = resumed_written port was own work (Said port (Some work) ∷ before)
     by false = tt
-attended_written port was under kept (attend.Confirming found property checksum) (Some work) before is = by (found.work.revision == work.revision) refl
+attended_written port was under kept (attend.Confirming found property checksum) (Some work) before is =
+    by (found.work.revision == work.revision) refl
   where
     by : (test : Bool) → (found.work.revision == work.revision) ≡ test → NextWritten port was (Said port (Some work) ∷ before)
-        (if test then To (decided found checksum (decide work.config.validation property.state property.flag checksum work.checksum)) else Start work)
+        (if test then To (decided found checksum (decide work.config.validation property.state property.flag checksum work.checksum))
+        else Start work)
     by true same = decided_written port was found property checksum work before _ is (grind (arith, nat_tests, same)) refl
     by false same = tt
 attended_written port was under kept attend.Restarting (Some work) before is = tt
@@ -338,9 +256,11 @@ pub begun_written : (port : ℕ) (was : PortStatus) (history : List Happening) (
 begun_written port was history page (Ok grant) = tt
 begun_written port was history page (Err why) = inr tt
 
-pub download_begun_written : (port : ℕ) (was : PortStatus) (found : Found) (checksum : ℕ) (begins : Result DownloadBegun DownloadFault) (before : List Happening)
+pub download_begun_written : (port : ℕ) (was : PortStatus) (found : Found) (checksum : ℕ) (begins : Result DownloadBegun DownloadFault)
+    (before : List Happening)
     → ComesOf (wanted port (BeginningDownload found checksum)) (input.Reply (reply.BegunDownload begins))
-    → WrittenIs port was (Did (wanted port (BeginningDownload found checksum)) (input.Reply (reply.BegunDownload begins)) ∷ before) (download_begun found.page begins)
+    → WrittenIs port was (Did (wanted port (BeginningDownload found checksum)) (input.Reply (reply.BegunDownload begins)) ∷ before)
+    (download_begun found.page begins)
 download_begun_written port was found checksum (Ok begins) before comes =
     let vendor = comes.vendor_is in let device = comes.device_is in
     record {

@@ -17,8 +17,8 @@ use Rattle.iol_port.specs.declared.call.CoreCall.TheVariants as core_call
 use Rattle.iol_port.specs.declared.call.Reply.{Reply}
 use Rattle.iol_port.specs.declared.call.Reply.TheVariants as reply
 
--- a call of the core, with what it is given: what is to be done, a permit to upload and the set that was uploaded under it
--- or nothing, whether a command is durable, a permit to download and its end (own)
+-- a call of the core, with what it is given. It asks what is to be done, whether a command is durable, or for a permit to
+-- upload or to download. Or it hands back a permit to upload, with or without the set, or one to download (own)
 pub data Call : Type 0 where
   Attend : (port : ℕ) → Call
   BeginUpload : (port vendor device connection : ℕ) → Call
@@ -58,11 +58,13 @@ HandsBack _ = Unit {0}
 -- another kind (own)
 abbrev pub Replies : Call → CoreView → CoreView → Reply → Type 0
 Replies (Attend port) old new (reply.Attended work) = (work ≡ work_at old port) × (new ≡ old)
-Replies (BeginUpload port vendor device connection) old new (reply.BegunUpload begun) = IsBeginUpload old port vendor device connection new begun
+Replies (BeginUpload port vendor device connection) old new (reply.BegunUpload begun) =
+    IsBeginUpload old port vendor device connection new begun
 Replies (FinishUpload grant set) old new (reply.FinishedUpload finished) = IsFinish old grant set new finished
 Replies (AbandonUpload grant) old new reply.AbandonedUpload = new ≡ without_upload old grant
 Replies (AskTicket ticket) old new (reply.Ticket state) = (state ≡ ticket_state old ticket) × (new ≡ old)
-Replies (BeginDownload port vendor device checksum) old new (reply.BegunDownload begun) = IsBeginDownload old port vendor device checksum new begun
+Replies (BeginDownload port vendor device checksum) old new (reply.BegunDownload begun) =
+    IsBeginDownload old port vendor device checksum new begun
 Replies (EndDownload port) old new reply.EndedDownload = new ≡ without_download old port
 Replies _ old new _ = ⊥
 

@@ -18,9 +18,9 @@ has_checksum None checksum = false
 has_checksum (Some stored) checksum = stored == checksum
 
 -- what a port does, from its validation, the state, flag and checksum of the device, and the checksum of the durable set,
--- if there is one. Read from the top, the first line that fits counts. Nothing is kept for the device; its Data Storage is
--- locked. Under Backup and Restore no set is durable, the device asks for an upload, the set is the device's, or it is not.
--- Under Restore no set is durable, the set is the device's, or it is not (own)
+-- if there is one. The first line that fits counts. First, nothing is kept for the device, or its Data Storage is locked.
+-- Under Backup and Restore then: no set is durable, the device asks for an upload, it has the set, or it has another.
+-- Under Restore: no set is durable, the device has the set, or it has another (own)
 abbrev pub decide : Validation → State → Bool → ℕ → Option ℕ → Decision
 decide validation state flag checksum stored =
     if not (restores validation) then Ready

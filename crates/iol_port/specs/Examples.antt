@@ -2,6 +2,9 @@
 use Rattle.std.specs.Prelude.{ℕ, Bool, true, Option, Some}
 use Rattle.iol_types.specs.Examples.{example_config}
 use Rattle.iol_ident.specs.Examples.{example_page}
+use Rattle.iol_ident.specs.Page.{PageValue}
+use Rattle.iol_dsindex.specs.Property.{PropertyValue}
+use Rattle.iol_dsindex.specs.declared.property.State.TheVariants.{Inactive}
 use Rattle.iol_core.specs.declared.permit.UploadGrant.{UploadGrant}
 use Rattle.iol_core.specs.declared.port.Work.{Work}
 use Rattle.iol_port.specs.Stage.{Stage, PortValue}
@@ -12,9 +15,17 @@ use Rattle.iol_port.specs.declared.stage.Found.{Found}
 abbrev pub example_work : Option ℕ → Work
 example_work checksum = record { config = example_config; revision = 1; checksum = checksum }
 
+-- for worked examples: the page of the device that port 1 wants (own)
+abbrev pub fitting_page : PageValue
+fitting_page = example_page 0x11 true
+
+-- for worked examples: the State_Property of a device that asks for an upload (own)
+abbrev pub flagged : PropertyValue
+flagged = record { state = Inactive; flag = true }
+
 -- for worked examples: the device of port 1, found on connection 3 (own)
 abbrev pub example_found : Option ℕ → Found
-example_found checksum = record { work = example_work checksum; page = example_page 0x11 true; connection = 3 }
+example_found checksum = record { work = example_work checksum; page = fitting_page; connection = 3 }
 
 -- for worked examples: a permit of port 1 to upload from it (own)
 abbrev pub example_grant : UploadGrant

@@ -11,7 +11,8 @@ use Rattle.iol_core.specs.declared.upload.PermitFault.TheVariants as permit
 use Rattle.iol_core.specs.declared.download.DownloadFault.{DownloadFault}
 use Rattle.iol_core.specs.declared.download.DownloadFault.TheVariants as download
 use Rattle.iol_port.specs.declared.fault.PortFault.{PortFault}
-use Rattle.iol_port.specs.declared.fault.PortFault.TheVariants.{Refused, Unexpected, Size, List, Busy, Memory, Empty, Reserved, WrongService, Length, Check, Stopped, NotAllowed, WrongDevice, Taken, Same}
+use Rattle.iol_port.specs.declared.fault.PortFault.TheVariants.{Refused, Unexpected, Size, List, Busy, Memory, Empty, Reserved}
+use Rattle.iol_port.specs.declared.fault.PortFault.TheVariants.{WrongService, Length, Check, Stopped, NotAllowed, WrongDevice, Taken, Same}
 
 -- the fault of a port for octets that are no answer (own)
 abbrev pub of_isdu : IsduFault → PortFault

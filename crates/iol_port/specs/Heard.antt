@@ -22,7 +22,8 @@ use Rattle.iol_port.specs.Answers.{failed, answered, RunsOut}
 use Rattle.iol_port.specs.Calls.{HandsBack}
 use Rattle.iol_port.specs.Decision.{decide}
 use Rattle.iol_port.specs.Faults.{of_permit, of_download}
-use Rattle.iol_port.specs.Stage.{Stage, Settled, Paging, Attending, BeginningUpload, BeginningDownload, Exchanging, Uploading, Filing, Filed, Storing, Downloading, Breaking, Returning, Returned, PortValue, Next, To, Start}
+use Rattle.iol_port.specs.Stage.{Stage, Settled, Paging, Attending, BeginningUpload, BeginningDownload, Exchanging, Uploading, Filing}
+use Rattle.iol_port.specs.Stage.{Filed, Storing, Downloading, Breaking, Returning, Returned, PortValue, Next, To, Start}
 use Rattle.iol_port.specs.declared.action.Input.{Input}
 use Rattle.iol_port.specs.declared.action.Input.TheVariants as input
 use Rattle.iol_port.specs.declared.action.TheConstants.{UPLOAD_REQUEST}

@@ -13,7 +13,8 @@ use Rattle.iol_ident.specs.declared.validation.IdentFault.{IdentFault}
 use Rattle.iol_dsindex.specs.Property.{PropertyValue, property_of}
 use Rattle.iol_dsindex.specs.declared.command.DsCommand.TheVariants as command
 use Rattle.iol_dsindex.specs.declared.object.TheConstants.{STATE_PROPERTY, PARAMETER_CHECKSUM}
-use Rattle.iol_transfer.specs.Exchanges.{Exchange, commanded, read_of, Follows}
+use Rattle.iol_dsindex.specs.Command.{commanded}
+use Rattle.iol_transfer.specs.Exchanges.{Exchange, read_of, Follows}
 use Rattle.iol_transfer.specs.Upload.{IsFinished, number_of}
 use Rattle.iol_transfer.specs.Download.{IsDownload}
 use Rattle.iol_core.specs.declared.permit.UploadGrant.{UploadGrant}
@@ -52,13 +53,14 @@ last_work (latest ∷ before) = last_work before
 abbrev pub HasShown : ℕ → PageValue → List Exchange → List Happening → Type 0
 HasShown connection page conversation [] = ⊥
 HasShown connection page conversation (Raised code ∷ before) = HasShown connection page conversation before
-HasShown connection page conversation (Did wants (input.Page on octets) ∷ before) = (on ≡ connection) × (page ≡ page_of octets) × (conversation ≡ [])
+HasShown connection page conversation (Did wants (input.Page on octets) ∷ before) = (on ≡ connection) × (page ≡ page_of octets)
+    × (conversation ≡ [])
 HasShown connection page conversation (Did (AnswerTo request) (input.Octets octets) ∷ before) =
     AndThen (λ earlier. HasShown connection page earlier before) request octets.items conversation
 HasShown connection page conversation (Did wants (input.Reply heard) ∷ before) = HasShown connection page conversation before
 HasShown connection page conversation (Did wants heard ∷ before) = ⊥
 
--- the last permit to upload that was given is this one, for what was asked; since then the device was not lost, nothing
+-- the last permit to upload that was given is this one, for what was asked. Since then the device was not lost, nothing
 -- else was asked of the core but whether the queue has room, and these are the exchanges with the device (own)
 abbrev pub HasUploaded : ℕ → UploadGrant → List Exchange → List Happening → Type 0
 HasUploaded port grant conversation [] = ⊥
@@ -77,7 +79,8 @@ abbrev pub HasDownloaded : ℕ → SetValue → List Exchange → List Happening
 HasDownloaded port set conversation [] = ⊥
 HasDownloaded port set conversation (Raised code ∷ before) = HasDownloaded port set conversation before
 HasDownloaded port set conversation (Did wants (input.Reply (reply.BegunDownload (Ok begun))) ∷ before) =
-    IsSet set × (begun.set.value ≡ set) × ((checksum : ℕ) × (wants ≡ ReplyTo (BeginDownload port set.vendor set.device checksum))) × (conversation ≡ [])
+    IsSet set × (begun.set.value ≡ set) × ((checksum : ℕ) × (wants ≡ ReplyTo (BeginDownload port set.vendor set.device checksum)))
+    × (conversation ≡ [])
 HasDownloaded port set conversation (Did (AnswerTo request) (input.Octets octets) ∷ before) =
     AndThen (λ earlier. HasDownloaded port set earlier before) request octets.items conversation
 HasDownloaded port set conversation (Did wants heard ∷ before) = ⊥
@@ -98,7 +101,8 @@ HasFiled port number (Did wants heard ∷ before) = ⊥
 abbrev pub IsDurable : ℕ → List Happening → Type 0
 IsDurable port [] = ⊥
 IsDurable port (Raised code ∷ before) = IsDurable port before
-IsDurable port (Did wants (input.Reply (reply.Ticket ticket.Durable)) ∷ before) = (number : ℕ) × (wants ≡ ReplyTo (AskTicket number)) × HasFiled port number before
+IsDurable port (Did wants (input.Reply (reply.Ticket ticket.Durable)) ∷ before) = (number : ℕ) × (wants ≡ ReplyTo (AskTicket number))
+    × HasFiled port number before
 IsDurable port (Did wants (input.Octets octets) ∷ before) =
     (wants ≡ AnswerTo (commanded command.UploadEnd)) × (answer_of octets.items ≡ Ok Busy) × IsDurable port before
 IsDurable port (Did wants heard ∷ before) = ⊥
@@ -136,7 +140,8 @@ pub record IsConfirmed (decision : Decision) (found : Found) (checksum : ℕ) (w
 abbrev pub IsDecided : Decision → Found → ℕ → List Happening → Type 0
 IsDecided decision found checksum [] = ⊥
 IsDecided decision found checksum (Raised code ∷ before) = IsDecided decision found checksum before
-IsDecided decision found checksum (Did wants (input.Reply (reply.Attended (Some work))) ∷ before) = IsConfirmed decision found checksum work before
+IsDecided decision found checksum (Did wants (input.Reply (reply.Attended (Some work))) ∷ before) =
+    IsConfirmed decision found checksum work before
 IsDecided decision found checksum (Did wants heard ∷ before) = ⊥
 
 -- the permit that a stage holds, if it holds one (own)
@@ -216,8 +221,8 @@ RestoresNothing history = (work : Work) × (last_work history ≡ Some work) × 
 abbrev pub IsSoDecided : Decision → PageValue → List Happening → Type 0
 IsSoDecided is page history = (found : Found) × (checksum : ℕ) × IsDecided is found checksum history × (found.page ≡ page)
 
--- a set was written to the device with this page: it came with the last permit to download, it is one for the numbers of the
--- page, and the exchanges with the device since are a whole download of it, each request answered (+) (own)
+-- a set was written to the device with this page. It came with the last permit to download, and is one for the numbers of
+-- the page. The exchanges with the device since are a whole download of it, each request answered (+) (own)
 pub record HasRestored (port : ℕ) (page : PageValue) (history : List Happening) : Type 0 where
   pub set : SetValue
   pub conversation : List Exchange

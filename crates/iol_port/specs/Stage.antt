@@ -18,9 +18,9 @@ use Rattle.iol_port.specs.declared.stage.ExchangeFor.{ExchangeFor}
 use Rattle.iol_port.specs.declared.stage.Held.{Held}
 use Rattle.iol_port.specs.declared.stage.Transfer.{Transfer}
 
--- how far a port is. It is settled; it reads a page; it asks what is to be done; it begins an upload or a download; it
--- exchanges messages with the device outside of a transfer. It uploads, files the set, has filed it, and waits until it is
--- durable. It downloads; it breaks a transfer off; it returns a permit, and has returned it (own)
+-- how far a port is. It is settled, reads a page, asks what is to be done, or begins an upload or a download. It exchanges
+-- messages with the device outside of a transfer. It uploads, files the set, has filed it, and waits until it is durable; or
+-- it downloads. It breaks a transfer off, returns a permit, or has returned it (own)
 pub data Stage : Type 0 where
   Settled : (rest : Rest) → Stage
   Paging : (page_for : PageFor) → Stage

@@ -5,11 +5,12 @@ use Rattle.iol_isdu.specs.declared.messages.Request.{Request}
 use Rattle.iol_isdu.specs.declared.messages.Request.TheVariants.{Read}
 use Rattle.iol_dsindex.specs.declared.command.DsCommand.TheVariants as command
 use Rattle.iol_dsindex.specs.declared.object.TheConstants.{STATE_PROPERTY, PARAMETER_CHECKSUM}
-use Rattle.iol_transfer.specs.Exchanges.{commanded}
+use Rattle.iol_dsindex.specs.Command.{commanded}
 use Rattle.iol_transfer.specs.Machine.{asked}
 use Rattle.iol_transfer.specs.Download.{sent_by}
 use Rattle.iol_port.specs.Calls.{Call, Attend, BeginUpload, FinishUpload, AbandonUpload, AskTicket, BeginDownload, EndDownload, call_of}
-use Rattle.iol_port.specs.Stage.{Stage, Settled, Paging, Attending, BeginningUpload, BeginningDownload, Exchanging, Uploading, Filing, Filed, Storing, Downloading, Breaking, Returning, Returned}
+use Rattle.iol_port.specs.Stage.{Stage, Settled, Paging, Attending, BeginningUpload, BeginningDownload, Exchanging, Uploading, Filing}
+use Rattle.iol_port.specs.Stage.{Filed, Storing, Downloading, Breaking, Returning, Returned}
 use Rattle.iol_port.specs.Status.{transfer_of}
 use Rattle.iol_port.specs.declared.action.Action.{Action}
 use Rattle.iol_port.specs.declared.action.Action.TheVariants as action

@@ -1,4 +1,4 @@
-//! What a port does next, and how it is meanwhile.
+//! What a port does next, and its status meanwhile.
 
 ghost use Rattle.std.specs.Prelude.{◌≡◌};
 ghost use Rattle.iol_port.specs.Calls.{BeginUpload, BeginDownload, MayBeMade, call_of};
@@ -7,18 +7,16 @@ ghost use Rattle.iol_port.specs.declared.stage.Rest.TheVariants.{Off};
 ghost use Rattle.iol_port.specs.Status.{status_of, status_at_rest, status_exchanging, status_returning, transfer_of};
 ghost use Rattle.iol_port.specs.View.{stage_of};
 ghost use Rattle.iol_port.specs.Wanted.{wanted, wanted_of, after_action, request_for, return_of, IfAsks};
-ghost use Rattle.iol_transfer.specs.Exchanges.{commanded};
 
 use crate::action::Action;
 use crate::call::CoreCall;
 use crate::stage::{AttendFor, ExchangeFor, Found, Held, PageFor, Rest, Stage, Transfer};
 use crate::status::PortStatus;
-use arrayvec::ArrayVec;
-use iol_dsindex::{DATA_STORAGE, DS_COMMAND, DsCommand, PARAMETER_CHECKSUM, STATE_PROPERTY};
+use iol_dsindex::{DATA_STORAGE, DsCommand, PARAMETER_CHECKSUM, STATE_PROPERTY};
 use iol_isdu::Request;
 use iol_types::PortId;
 
-// What is next, and how far the port is once it is asked.
+// The next action, and the stage once it is taken.
 pub(crate) fn act(port: PortId, stage: Stage) -> (Action, Stage)
     requires { IsStage (stage_of stage) }
     ensures wanted { wanted_of result.0 ≡ wanted port (stage_of stage) }
@@ -53,7 +51,7 @@ pub(crate) fn act(port: PortId, stage: Stage) -> (Action, Stage)
             send(request, Stage::Downloading(permit, page, download))
         }
         Stage::Breaking(held, fault) => {
-            send(command(DsCommand::Break), Stage::Breaking(held, fault))
+            send(DsCommand::Break.request(), Stage::Breaking(held, fault))
         }
         Stage::Returning(held, rest) => {
             let transfer = transfer_of(&held);
@@ -63,7 +61,7 @@ pub(crate) fn act(port: PortId, stage: Stage) -> (Action, Stage)
     }
 }
 
-// A request is sent at a stage.
+// Sends a request, at a stage.
 fn send(request: Request, stage: Stage) -> (Action, Stage)
     ensures action { result.0 ≡ Action.Exchange request }
     ensures stage { result.1 ≡ stage }
@@ -71,7 +69,7 @@ fn send(request: Request, stage: Stage) -> (Action, Stage)
     (Action::Exchange(request), stage)
 }
 
-// The core is asked at a stage.
+// Asks the core, at a stage.
 fn ask(call: CoreCall, stage: Stage) -> (Action, Stage)
     ensures action { result.0 ≡ Action.Ask call }
     ensures stage { result.1 ≡ stage }
@@ -116,22 +114,9 @@ fn request_for(what: &ExchangeFor) -> Request
             index: DATA_STORAGE,
             subindex: PARAMETER_CHECKSUM,
         },
-        ExchangeFor::EndingUpload { .. } => command(DsCommand::UploadEnd),
-        ExchangeFor::Stopping { .. } => command(DsCommand::Break),
-        ExchangeFor::Yielding => command(DsCommand::Break),
-    }
-}
-
-// The request to write a command to the Data Storage of the device.
-fn command(command: DsCommand) -> Request
-    ensures { result ≡ commanded command }
-{
-    let mut octets = ArrayVec::new();
-    octets.push(command.to_octet());
-    Request::Write {
-        index: DATA_STORAGE,
-        subindex: DS_COMMAND,
-        octets,
+        ExchangeFor::EndingUpload { .. } => DsCommand::UploadEnd.request(),
+        ExchangeFor::Stopping { .. } => DsCommand::Break.request(),
+        ExchangeFor::Yielding => DsCommand::Break.request(),
     }
 }
 
@@ -155,7 +140,7 @@ fn return_of(held: Held) -> CoreCall
     }
 }
 
-// The status of a port at this stage.
+// The status at a stage.
 pub(crate) fn status(stage: &Stage) -> PortStatus
     ensures { result ≡ status_of (stage_of stage.now) }
 {
@@ -181,7 +166,7 @@ pub(crate) fn status(stage: &Stage) -> PortStatus
     }
 }
 
-// How a settled port is.
+// The status of a settled port.
 fn status_at_rest(rest: &Rest) -> PortStatus
     ensures { result ≡ status_at_rest rest.now }
 {
@@ -196,7 +181,7 @@ fn status_at_rest(rest: &Rest) -> PortStatus
     }
 }
 
-// How a port is during an exchange outside of a transfer.
+// The status during an exchange outside of a transfer.
 fn status_exchanging(what: &ExchangeFor) -> PortStatus
     ensures { result ≡ status_exchanging what.now }
 {
@@ -210,7 +195,7 @@ fn status_exchanging(what: &ExchangeFor) -> PortStatus
     }
 }
 
-// How a port is until its permit is returned.
+// The status until a permit is returned.
 fn status_returning(transfer: Transfer, rest: &Rest) -> PortStatus
     ensures { result ≡ status_returning transfer rest.now }
 {

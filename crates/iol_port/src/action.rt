@@ -9,7 +9,6 @@ use iol_isdu::{ISDU_OCTETS, Request};
 pub const UPLOAD_REQUEST: u16 = 0xFF91;
 
 /// What a port does next. It may hold a permit, and must be done.
-#[derive(Debug)]
 pub enum Action {
     /// Nothing, until it is woken.
     Idle,
@@ -22,7 +21,6 @@ pub enum Action {
 }
 
 /// What a port hears. It may hold a permit, and must be fed.
-#[derive(Debug)]
 pub enum Input {
     /// A settled port is to look again.
     Wake,

@@ -13,7 +13,6 @@ use iol_types::{DataSet, DeviceId, PortId};
 use std::sync::Arc;
 
 /// A call that a port asks of the core. It may hold a permit, and must be made.
-#[derive(Debug)]
 pub enum CoreCall {
     /// What the port is to work with.
     Attend(PortId),
@@ -42,7 +41,6 @@ pub enum CoreCall {
 }
 
 /// What the core answered. It may hold a permit, and must be fed to the machine whose call it answers.
-#[derive(Debug)]
 pub enum Reply {
     Attended(Option<Work>),
     BegunUpload(Result<UploadPermit, PermitFault>),
@@ -96,7 +94,7 @@ impl CoreCall {
     }
 }
 
-// The set of a download is a parameter set: its type keeps to that, and here a contract says so.
+// What a download begins with is a parameter set. Its type has that as an invariant, and here a contract says it.
 fn look_at_set(begun: &Result<DownloadBegun, DownloadFault>)
     ensures { IfOk begun.now (λ begun. IsSet begun.set.value) }
 {

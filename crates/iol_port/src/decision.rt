@@ -7,7 +7,7 @@ use iol_dsindex::State;
 use iol_types::Validation;
 
 /// What is to be done with the parameters of a device that a port wants.
-#[derive(Clone, Copy, Debug, PartialEq, Eq)]
+#[derive(Clone, Copy)]
 pub enum Decision {
     /// Nothing: the device has them, or none are kept.
     Ready,

@@ -1,21 +1,34 @@
 //! Facts of ports, with values from outside, for the definitions to be checked against: each is proved by computing.
 
-ghost use Rattle.std.specs.Prelude.{◌≡◌, ℕ, [], ◌∷◌, true, false, Some, None, Ok, Err};
+ghost use Rattle.std.specs.Prelude.{◌≡◌, ℕ, [], ◌∷◌, map, replicate, true, false, Some, None, Ok, Err};
+ghost use Rattle.iol_types.specs.Examples.{example_config, example_set};
+ghost use Rattle.iol_types.specs.declared.config.PortMode.TheVariants as mode;
 ghost use Rattle.iol_types.specs.declared.config.Validation.TheVariants as validation;
+ghost use Rattle.iol_isdu.specs.declared.faults.IsduFault.TheVariants as isdu;
 ghost use Rattle.iol_isdu.specs.declared.messages.Answer.TheVariants as answer;
 ghost use Rattle.iol_isdu.specs.declared.messages.Request.TheVariants as request;
 ghost use Rattle.iol_dsindex.specs.declared.property.State.TheVariants as state;
 ghost use Rattle.iol_ident.specs.Examples.{example_page};
+ghost use Rattle.iol_ident.specs.declared.validation.IdentFault.TheVariants as ident;
+ghost use Rattle.iol_transfer.specs.Download.{begun_download};
 ghost use Rattle.iol_transfer.specs.Exchanges.{carried};
+ghost use Rattle.iol_transfer.specs.Machine.{begun};
+ghost use Rattle.iol_transfer.specs.declared.fault.TransferFault.TheVariants as transfer;
 ghost use Rattle.iol_transfer.specs.declared.repeats.TheConstants.{MOST_REQUESTS};
 ghost use Rattle.iol_core.specs.declared.ticket.TicketState.TheVariants as ticket;
 ghost use Rattle.iol_core.specs.declared.upload.FinishFault.TheVariants as finish;
-ghost use Rattle.iol_port.specs.Answers.{state_read, checksum_read, failed};
+ghost use Rattle.iol_core.specs.declared.upload.PermitFault.TheVariants as permit;
+ghost use Rattle.iol_core.specs.declared.download.DownloadFault.TheVariants as download;
+ghost use Rattle.iol_port.specs.Answers.{state_read, checksum_read, upload_ended, sent, downloaded};
+ghost use Rattle.iol_port.specs.Answers.{upload_answered, failed, GoesOn, Done, Ends};
 ghost use Rattle.iol_port.specs.Calls.{Attend, BeginUpload};
 ghost use Rattle.iol_port.specs.Decision.{decide};
-ghost use Rattle.iol_port.specs.Examples.{example_work, example_found, example_grant, example_machine};
-ghost use Rattle.iol_port.specs.Heard.{fed, noted, lost, upload_finished, ticket_told, page_heard};
-ghost use Rattle.iol_port.specs.Stage.{Settled, Paging, Attending, BeginningUpload, Exchanging, Breaking, Returning, Start, To};
+ghost use Rattle.iol_port.specs.Examples.{fitting_page, flagged, example_work, example_found, example_grant, example_machine};
+ghost use Rattle.iol_port.specs.Heard.{fed, noted, lost, resumed, confirmed, judged};
+ghost use Rattle.iol_port.specs.Heard.{first_stage, upload_begun, download_begun, upload_finished, ticket_told, page_heard};
+ghost use Rattle.iol_port.specs.Stage.{Settled, Paging, Attending, BeginningUpload, BeginningDownload, Exchanging, Uploading, Filing};
+ghost use Rattle.iol_port.specs.Stage.{Filed, Storing, Downloading, Breaking, Returning, Returned, Start, To};
+ghost use Rattle.iol_port.specs.Faults.{of_isdu, of_transfer, of_permit, of_download, read_fault, write_fault};
 ghost use Rattle.iol_port.specs.Status.{status_of};
 ghost use Rattle.iol_port.specs.Wanted.{ThePage, AnswerTo, ReplyTo, wanted};
 ghost use Rattle.iol_port.specs.declared.action.Input.TheVariants as input;
@@ -28,13 +41,17 @@ ghost use Rattle.iol_port.specs.declared.stage.ExchangeFor.TheVariants as exchan
 ghost use Rattle.iol_port.specs.declared.stage.Held.TheVariants as held;
 ghost use Rattle.iol_port.specs.declared.stage.PageFor.TheVariants as page;
 ghost use Rattle.iol_port.specs.declared.stage.Rest.TheVariants as rest;
+ghost use Rattle.iol_port.specs.declared.stage.Transfer.TheVariants as kind;
 ghost use Rattle.iol_port.specs.declared.status.PortStatus.TheVariants as status;
 
 /// Up to Type compatible nothing is kept; a locked Data Storage is let alone.
 pub fn nothing_to_do()
     ensures no_check { decide validation.NoCheck state.Locked true 7 None ≡ decision.Ready }
+    ensures compatible_v10 { decide validation.TypeCompatibleV10 state.Locked true 7 (Some 8) ≡ decision.Ready }
     ensures compatible { decide validation.TypeCompatibleV11 state.Inactive true 7 (Some 8) ≡ decision.Ready }
     ensures locked { decide validation.BackupAndRestore state.Locked true 7 None ≡ decision.ReadyLocked }
+    ensures locked_asked { decide validation.BackupAndRestore state.Locked true 7 (Some 591) ≡ decision.ReadyLocked }
+    ensures locked_no_set { decide validation.Restore state.Locked false 7 None ≡ decision.ReadyLocked }
     ensures locked_restore { decide validation.Restore state.Locked false 7 (Some 8) ≡ decision.ReadyLocked }
 {}
 
@@ -42,10 +59,14 @@ pub fn nothing_to_do()
 /// has it.
 pub fn backup_and_restore()
     ensures no_set { decide validation.BackupAndRestore state.Inactive false 7 None ≡ decision.Upload }
+    ensures no_set_asked { decide validation.BackupAndRestore state.Inactive true 7 None ≡ decision.Upload }
     ensures asked { decide validation.BackupAndRestore state.Inactive true 7 (Some 7) ≡ decision.Upload }
+    ensures asked_of_another { decide validation.BackupAndRestore state.Inactive true 7 (Some 591) ≡ decision.Upload }
     ensures equal { decide validation.BackupAndRestore state.Inactive false 7 (Some 7) ≡ decision.Ready }
     ensures blank { decide validation.BackupAndRestore state.Inactive false 0 (Some 591) ≡ decision.Download }
     ensures another { decide validation.BackupAndRestore state.Inactive false 7 (Some 591) ≡ decision.Download }
+    ensures in_an_upload { decide validation.BackupAndRestore state.Upload false 7 (Some 591) ≡ decision.Download }
+    ensures in_a_download { decide validation.BackupAndRestore state.Download false 7 (Some 7) ≡ decision.Ready }
 {}
 
 /// Under Restore a device gets the set, unless it has it or there is none; it is never read.
@@ -53,13 +74,19 @@ pub fn restore()
     ensures no_set { decide validation.Restore state.Inactive true 7 None ≡ decision.ReadyEmpty }
     ensures equal { decide validation.Restore state.Inactive true 7 (Some 7) ≡ decision.Ready }
     ensures differs { decide validation.Restore state.Inactive true 7 (Some 8) ≡ decision.Download }
+    ensures no_set_unasked { decide validation.Restore state.Inactive false 7 None ≡ decision.ReadyEmpty }
+    ensures equal_unasked { decide validation.Restore state.Inactive false 7 (Some 7) ≡ decision.Ready }
+    ensures differs_unasked { decide validation.Restore state.Inactive false 7 (Some 8) ≡ decision.Download }
 {}
 
 /// What is read and written outside of a transfer: State_Property at 3.2, Parameter_Checksum at 3.4, and 02 and 05 to 3.1.
 pub fn requests()
     ensures state { wanted 1 (Exchanging (exchange.ReadingState (example_found None) 16)) ≡ AnswerTo (request.Read 3 2) }
-    ensures end { wanted 1 (Exchanging (exchange.EndingUpload (example_page 0x11 true) 16)) ≡ AnswerTo (request.Write 3 1 (carried (2 ∷ []))) }
+    ensures sum { wanted 1 (Exchanging (exchange.ReadingChecksum (example_found None) flagged 16))
+        ≡ AnswerTo (request.Read 3 4) }
+    ensures end { wanted 1 (Exchanging (exchange.EndingUpload fitting_page 16)) ≡ AnswerTo (request.Write 3 1 (carried (2 ∷ []))) }
     ensures stopping { wanted 1 (Exchanging (exchange.Stopping true)) ≡ AnswerTo (request.Write 3 1 (carried (5 ∷ []))) }
+    ensures yielding { wanted 1 (Exchanging exchange.Yielding) ≡ AnswerTo (request.Write 3 1 (carried (5 ∷ []))) }
     ensures breaking { wanted 1 (Breaking (held.Upload example_grant) fault.Size) ≡ AnswerTo (request.Write 3 1 (carried (5 ∷ []))) }
     ensures permit { wanted 1 (BeginningUpload (example_found None)) ≡ ReplyTo (BeginUpload 1 500 43981 3) }
 {}
@@ -74,12 +101,12 @@ pub fn a_busy_device()
 /// State_Property 80 is inactive with the flag set; two octets are no State_Property, and three no checksum.
 pub fn what_is_read()
     ensures state { state_read (example_found None) 16 (Ok (answer.ReadOk (carried (0x80 ∷ []))))
-        ≡ Exchanging (exchange.ReadingChecksum (example_found None) (record { state = state.Inactive; flag = true }) 16) }
+        ≡ Exchanging (exchange.ReadingChecksum (example_found None) flagged 16) }
     ensures two { state_read (example_found None) 16 (Ok (answer.ReadOk (carried (0x80 ∷ 0x00 ∷ [])))) ≡ failed fault.Unexpected }
     ensures refused { state_read (example_found None) 16 (Ok (answer.ReadFault 0x80 0x11)) ≡ failed (fault.Refused 0x80 0x11) }
-    ensures sum { checksum_read (example_found None) (record { state = state.Inactive; flag = true }) 16 (Ok (answer.ReadOk (carried (0 ∷ 0 ∷ 2 ∷ 0x4F ∷ []))))
-        ≡ Attending (attend.Confirming (example_found None) (record { state = state.Inactive; flag = true }) 591) }
-    ensures three { checksum_read (example_found None) (record { state = state.Inactive; flag = true }) 16 (Ok (answer.ReadOk (carried (0 ∷ 2 ∷ 0x4F ∷ []))))
+    ensures sum { checksum_read (example_found None) flagged 16 (Ok (answer.ReadOk (carried (0 ∷ 0 ∷ 2 ∷ 0x4F ∷ []))))
+        ≡ Attending (attend.Confirming (example_found None) flagged 591) }
+    ensures three { checksum_read (example_found None) flagged 16 (Ok (answer.ReadOk (carried (0 ∷ 2 ∷ 0x4F ∷ []))))
         ≡ failed fault.Unexpected }
 {}
 
@@ -88,30 +115,137 @@ pub fn a_request_for_an_upload()
     ensures code { UPLOAD_REQUEST ≡ 0xFF91 }
     ensures kept { (noted (example_machine false (Settled rest.Off)) 0xFF91).kept ≡ true }
     ensures dropped { (noted (example_machine false (Settled rest.Off)) 0xFF90).kept ≡ false }
-    ensures starts { fed (example_machine true (Attending (attend.Waking (rest.Ready (example_page 0x11 true))))) (input.Reply (reply.Attended (Some (example_work None))))
+    ensures starts { fed (example_machine true (Attending (attend.Waking (rest.Ready fitting_page))))
+        (input.Reply (reply.Attended (Some (example_work None))))
         ≡ example_machine false (Paging (page.Identifying (example_work None))) }
-    ensures looks { fed (example_machine false (Attending (attend.Waking (rest.Ready (example_page 0x11 true))))) (input.Reply (reply.Attended (Some (example_work None))))
-        ≡ example_machine false (Paging (page.Comparing (example_work None) (rest.Ready (example_page 0x11 true)))) }
-    ensures same { page_heard (page.Comparing (example_work None) (rest.Ready (example_page 0x11 true))) 3 (example_page 0x11 true)
-        ≡ To (Settled (rest.Ready (example_page 0x11 true))) }
-    ensures another { page_heard (page.Comparing (example_work None) (rest.Ready (example_page 0x11 true))) 3 (example_page 0x12 true)
+    ensures looks { fed (example_machine false (Attending (attend.Waking (rest.Ready fitting_page))))
+        (input.Reply (reply.Attended (Some (example_work None))))
+        ≡ example_machine false (Paging (page.Comparing (example_work None) (rest.Ready fitting_page))) }
+    ensures same { page_heard (page.Comparing (example_work None) (rest.Ready fitting_page)) 3 fitting_page
+        ≡ To (Settled (rest.Ready fitting_page)) }
+    ensures another { page_heard (page.Comparing (example_work None) (rest.Ready fitting_page)) 3 (example_page 0x12 true)
         ≡ Start (example_work None) }
+    ensures others { map (page_heard (page.Comparing (example_work None) (rest.Ready fitting_page)) 3)
+        (record fitting_page { vendor = 501 } ∷ record fitting_page { device = 43980 }
+        ∷ record fitting_page { min_cycle_time = 24 } ∷ example_page 0x11 false ∷ []) ≡ replicate 4 (Start (example_work None)) }
 {}
 
 /// DS_UploadEnd is sent once the set is durable; where nobody will know, or nothing more is taken, DS_Break is, and no permit
 /// is held.
 pub fn the_end_of_an_upload()
-    ensures waiting { status_of (ticket_told 2 (example_page 0x11 true) ticket.Waiting) ≡ status.Storing }
-    ensures durable { ticket_told 2 (example_page 0x11 true) ticket.Durable ≡ Exchanging (exchange.EndingUpload (example_page 0x11 true) 16) }
-    ensures unsure { ticket_told 2 (example_page 0x11 true) ticket.Unsure ≡ Exchanging (exchange.Stopping true) }
-    ensures stopped { upload_finished (example_page 0x11 true) (Err finish.Stopped) ≡ Exchanging (exchange.Stopping false) }
-    ensures changed { upload_finished (example_page 0x11 true) (Err finish.ConfigChanged) ≡ Exchanging exchange.Yielding }
-    ensures fails { fed (example_machine false (Exchanging (exchange.Stopping true))) (input.Octets (carried (0x52 ∷ 0x52 ∷ []))) ≡ example_machine false (failed fault.Stopped) }
+    ensures waiting { status_of (ticket_told 2 fitting_page ticket.Waiting) ≡ status.Storing }
+    ensures durable { ticket_told 2 fitting_page ticket.Durable ≡ Exchanging (exchange.EndingUpload fitting_page 16) }
+    ensures unsure { ticket_told 2 fitting_page ticket.Unsure ≡ Exchanging (exchange.Stopping true) }
+    ensures stopped { upload_finished fitting_page (Err finish.Stopped) ≡ Exchanging (exchange.Stopping false) }
+    ensures changed { upload_finished fitting_page (Err finish.ConfigChanged) ≡ Exchanging exchange.Yielding }
+    ensures fails { fed (example_machine false (Exchanging (exchange.Stopping true))) (input.Octets (carried (0x52 ∷ 0x52 ∷ [])))
+        ≡ example_machine false (failed fault.Stopped) }
 {}
 
 /// A loss shows at once, also where a permit is still to be returned.
 pub fn a_loss()
     ensures held { lost (Breaking (held.Upload example_grant) fault.Size) ≡ Returning (held.Upload example_grant) rest.Lost }
+    ensures without_a_permit { map lost (Paging (page.Identifying (example_work None))
+        ∷ Exchanging (exchange.ReadingState (example_found None) 16) ∷ [])
+        ≡ replicate 2 (Settled rest.Lost) }
+    ensures upload { lost (Uploading example_grant fitting_page (begun 500 43981)) ≡ Returning (held.Upload example_grant) rest.Lost }
+    ensures download { lost (Downloading 1 fitting_page (begun_download example_set)) ≡ Returning (held.Download 1) rest.Lost }
     ensures status { status_of (Returning (held.Upload example_grant) rest.Lost) ≡ status.Lost }
     ensures other { status_of (Returning (held.Upload example_grant) (rest.Failed fault.Size)) ≡ status.Uploading }
+{}
+
+/// The status at each stage.
+pub fn statuses()
+    ensures settled { map (λ own. status_of (Settled own)) (rest.Off ∷ rest.Lost ∷ rest.Failed fault.Size ∷ rest.Ready fitting_page
+        ∷ rest.ReadyLocked fitting_page ∷ rest.ReadyEmpty fitting_page
+        ∷ rest.Mismatch ident.Vendor fitting_page ∷ [])
+        ≡ status.Off ∷ status.Lost ∷ status.Failed fault.Size ∷ status.Ready ∷ status.ReadyLocked ∷ status.ReadyEmpty
+        ∷ status.Mismatch ident.Vendor ∷ [] }
+    ensures woken { map status_of (Attending (attend.Waking (rest.Failed fault.Size))
+        ∷ Paging (page.Comparing (example_work None) (rest.ReadyLocked fitting_page)) ∷ [])
+        ≡ status.Failed fault.Size ∷ status.ReadyLocked ∷ [] }
+    ensures starting { map status_of (Paging (page.Identifying (example_work None))
+        ∷ Exchanging (exchange.ReadingState (example_found None) 16)
+        ∷ Exchanging (exchange.ReadingChecksum (example_found None) flagged 16)
+        ∷ Attending (attend.Confirming (example_found None) flagged 591)
+        ∷ BeginningUpload (example_found None) ∷ BeginningDownload (example_found (Some 7)) 591 ∷ []) ≡ replicate 6 status.Starting }
+    ensures uploading { map status_of (Uploading example_grant fitting_page (begun 500 43981)
+        ∷ Filing example_grant fitting_page example_set ∷ Filed fitting_page ∷ Exchanging (exchange.Stopping false)
+        ∷ Exchanging exchange.Yielding ∷ Attending attend.Restarting ∷ Breaking (held.Upload example_grant) fault.Size
+        ∷ Returned kind.Upload (rest.Failed fault.Size) ∷ []) ≡ replicate 8 status.Uploading }
+    ensures storing { map status_of (Storing 2 fitting_page ∷ Exchanging (exchange.EndingUpload fitting_page 16)
+        ∷ Exchanging (exchange.Stopping true) ∷ []) ≡ replicate 3 status.Storing }
+    ensures downloading { map status_of (Downloading 1 fitting_page (begun_download example_set)
+        ∷ Breaking (held.Download 1) fault.Busy ∷ Returning (held.Download 1) (rest.Ready fitting_page)
+        ∷ Returned kind.Download (rest.Failed fault.Busy) ∷ []) ≡ replicate 4 status.Downloading }
+{}
+
+/// The fault of a port is named as what it calls names it.
+pub fn names_of_faults()
+    ensures isdu { map of_isdu (isdu.Empty ∷ isdu.Reserved ∷ isdu.WrongService ∷ isdu.Length ∷ isdu.Check ∷ [])
+        ≡ fault.Empty ∷ fault.Reserved ∷ fault.WrongService ∷ fault.Length ∷ fault.Check ∷ [] }
+    ensures transfer { map of_transfer (transfer.Refused 0x80 0x11 ∷ transfer.Unexpected ∷ transfer.Size
+        ∷ transfer.List ∷ transfer.Busy ∷ transfer.Memory ∷ [])
+        ≡ fault.Refused 0x80 0x11 ∷ fault.Unexpected ∷ fault.Size ∷ fault.List ∷ fault.Busy ∷ fault.Memory ∷ [] }
+    ensures upload { map of_permit (permit.Stopped ∷ permit.NotAllowed ∷ permit.WrongDevice ∷ permit.Taken ∷ [])
+        ≡ fault.Stopped ∷ fault.NotAllowed ∷ fault.WrongDevice ∷ fault.Taken ∷ [] }
+    ensures download { map of_download (download.NotAllowed ∷ download.Empty ∷ download.WrongDevice
+        ∷ download.Taken ∷ download.Same ∷ download.Memory ∷ [])
+        ≡ fault.NotAllowed ∷ fault.Empty ∷ fault.WrongDevice ∷ fault.Taken ∷ fault.Same ∷ fault.Memory ∷ [] }
+    ensures read { map read_fault (Err isdu.Check ∷ Ok (answer.ReadFault 0x80 0x11)
+        ∷ Ok (answer.WriteFault 0x80 0x11) ∷ Ok answer.WriteOk ∷ [])
+        ≡ fault.Check ∷ fault.Refused 0x80 0x11 ∷ fault.Unexpected ∷ fault.Unexpected ∷ [] }
+    ensures write { map write_fault (Err isdu.Check ∷ Ok (answer.WriteFault 0x80 0x11)
+        ∷ Ok (answer.ReadFault 0x80 0x11) ∷ Ok (answer.ReadOk (carried [])) ∷ [])
+        ≡ fault.Check ∷ fault.Refused 0x80 0x11 ∷ fault.Unexpected ∷ fault.Unexpected ∷ [] }
+{}
+
+/// A port that is woken stays off, starts where its device was lost or it failed, and else reads the page.
+pub fn a_woken_port()
+    ensures off { resumed rest.Off (example_work None) ≡ To (Settled rest.Off) }
+    ensures starts { map (λ own. resumed own (example_work None)) (rest.Lost ∷ rest.Failed fault.Size ∷ [])
+        ≡ replicate 2 (Start (example_work None)) }
+    ensures mismatch { resumed (rest.Mismatch ident.Vendor fitting_page) (example_work None)
+        ≡ To (Paging (page.Comparing (example_work None) (rest.Mismatch ident.Vendor fitting_page))) }
+    ensures not_manual { map (λ mode. first_stage (record (example_work None) { config = record example_config { mode = mode } }))
+        (mode.Deactivated ∷ mode.IolAutostart ∷ mode.DigitalInput ∷ mode.DigitalOutput ∷ []) ≡ replicate 4 (Settled rest.Off) }
+    ensures manual { first_stage (example_work None) ≡ Paging (page.Identifying (example_work None)) }
+{}
+
+/// A device that does not fit is a mismatch; up to Type compatible one that fits is ready, and else its Data Storage is read.
+pub fn an_identified_device()
+    ensures mismatch { judged (example_work None) 3 fitting_page (Some ident.Device) ≡ Settled (rest.Mismatch ident.Device fitting_page) }
+    ensures ready { map (λ asks. judged (record (example_work None) { config = record example_config { validation = asks } })
+        3 fitting_page None)
+        (validation.NoCheck ∷ validation.TypeCompatibleV10 ∷ validation.TypeCompatibleV11 ∷ [])
+        ≡ replicate 3 (Settled (rest.Ready fitting_page)) }
+    ensures read { judged (example_work None) 3 fitting_page None ≡ Exchanging (exchange.ReadingState (example_found None) 16) }
+    ensures another_revision { confirmed (example_found None) flagged 591 (record (example_work None) { revision = 2 })
+        ≡ Start (record (example_work None) { revision = 2 }) }
+    ensures same_revision { confirmed (example_found None) (record { state = state.Inactive; flag = false }) 591 (example_work None)
+        ≡ To (BeginningUpload (example_found None)) }
+{}
+
+/// A permit that is refused fails the port without DS_Break, and a fault of a transfer that runs sends it.
+pub fn refused_permits_and_broken_transfers()
+    ensures upload { upload_begun fitting_page (Err permit.Taken) ≡ failed fault.Taken }
+    ensures download { download_begun fitting_page (Err download.Same) ≡ failed fault.Same }
+    ensures no_answer { upload_answered example_grant fitting_page (begun 500 43981) (Err isdu.Check)
+        ≡ Breaking (held.Upload example_grant) fault.Check }
+    ensures refused { upload_answered example_grant fitting_page (begun 500 43981) (Ok (answer.WriteFault 0x80 0x23))
+        ≡ Breaking (held.Upload example_grant) (fault.Refused 0x80 0x23) }
+    ensures download_refused { downloaded 1 fitting_page (sent (begun_download example_set) (answer.WriteFault 0x80 0x23))
+        ≡ Breaking (held.Download 1) (fault.Refused 0x80 0x23) }
+    ensures download_done { downloaded 1 fitting_page Done ≡ Returning (held.Download 1) (rest.Ready fitting_page) }
+{}
+
+/// The fifteenth Device busy in a row to a download is waited out, and the sixteenth is a fault; so it is with DS_UploadEnd.
+pub fn a_device_that_stays_busy()
+    ensures fifteenth { sent (record (begun_download example_set) { busy = 14 }) answer.Busy
+        ≡ GoesOn (record (begun_download example_set) { busy = 15 }) }
+    ensures sixteenth { sent (record (begun_download example_set) { busy = 15 }) answer.Busy ≡ Ends transfer.Busy }
+    ensures ended { upload_ended fitting_page 16 (Ok answer.WriteOk) ≡ Settled (rest.Ready fitting_page) }
+    ensures end_refused { upload_ended fitting_page 16 (Ok (answer.WriteFault 0x80 0x23)) ≡ failed (fault.Refused 0x80 0x23) }
+    ensures end_fifteenth { upload_ended fitting_page 2 (Ok answer.Busy) ≡ Exchanging (exchange.EndingUpload fitting_page 1) }
+    ensures end_sixteenth { upload_ended fitting_page 1 (Ok answer.Busy) ≡ failed fault.Busy }
 {}

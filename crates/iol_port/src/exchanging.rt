@@ -13,7 +13,7 @@ use iol_ident::Page;
 use iol_isdu::{Answer, IsduFault, read_answer};
 use iol_transfer::MOST_REQUESTS;
 
-// What octets are as an answer.
+// The answer that octets are read as, or their fault.
 pub(crate) fn answer_in(octets: &[u8]) -> Result<Answer, IsduFault>
     ensures { result ≡ answer_of octets.now }
 {

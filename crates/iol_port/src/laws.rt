@@ -1,8 +1,7 @@
 //! Laws of the machines of ports, which no code calls: what all that has happened to a machine tells of its transfers.
-//! Proofs of other crates cite them from `proofs/PortLaws.antt` and `proofs/SettlingLaws.antt`, under the same names, that of
-//! permits from `proofs/Holding.antt` and `proofs/Releasing.antt`, and those of decisions, of a settled port's page, of failed
-//! transfers and of ready ports from `proofs/Deciding.antt`, `proofs/Comparing.antt`, `proofs/BreakingOff.antt` and
-//! `proofs/Restoring.antt`.
+//! Proofs of other crates cite them from files of `proofs`: most from `PortLaws` and `SettlingLaws`, under the same names, and
+//! that of permits from `Holding` and `Releasing`. Those of decisions stand in `Deciding`, of a settled port's page in
+//! `Comparing`, of failed transfers in `BreakingOff`, and of ready ports in `Restoring`.
 
 ghost use Rattle.std.specs.Prelude.{◌≡◌, ◌⊎◌, ◌↔◌, ℕ, Bool, true, false, List, ◌∷◌, Option, Some, None, Err};
 ghost use Rattle.arrayvec.specs.ArrayVec.{ArrayVec};
@@ -18,7 +17,8 @@ ghost use Rattle.iol_dsindex.specs.declared.property.State.{State};
 ghost use Rattle.iol_dsindex.specs.declared.property.State.TheVariants as state;
 ghost use Rattle.iol_transfer.specs.Asked.{IsNext};
 ghost use Rattle.iol_transfer.specs.Download.{IsSending};
-ghost use Rattle.iol_transfer.specs.Exchanges.{Exchange, commanded};
+ghost use Rattle.iol_dsindex.specs.Command.{commanded};
+ghost use Rattle.iol_transfer.specs.Exchanges.{Exchange};
 ghost use Rattle.iol_transfer.specs.Upload.{IsFinished};
 ghost use Rattle.iol_core.specs.declared.permit.UploadGrant.{UploadGrant};
 ghost use Rattle.iol_core.specs.declared.port.Work.{Work};
@@ -30,7 +30,8 @@ ghost use Rattle.iol_port.specs.Ending.{ended};
 ghost use Rattle.iol_port.specs.Permits.{HasOut, IsOfLink};
 ghost use Rattle.iol_port.specs.Heard.{Fits, fed, started, at_stage};
 ghost use Rattle.iol_port.specs.History.{Happening, Did, Happens, HasLed, ComesOf};
-ghost use Rattle.iol_port.specs.Laws.{HasUploaded, HasDownloaded, IsDurable, IsDecided, IsJudged, IsLostWith, IsRestored, IsSoDecided, held_by, page_at};
+ghost use Rattle.iol_port.specs.Laws.{HasUploaded, HasDownloaded, IsDurable, IsDecided, IsJudged, IsLostWith, IsRestored, IsSoDecided};
+ghost use Rattle.iol_port.specs.Laws.{held_by, page_at};
 ghost use Rattle.iol_port.specs.Stage.{Stage, PortValue, IsStage, Settled, Attending, Returning};
 ghost use Rattle.iol_port.specs.Status.{status_of};
 ghost use Rattle.iol_port.specs.Wanted.{Wanted, ThePage, AnswerTo, ReplyTo, wanted, after_action, return_of};
@@ -87,7 +88,7 @@ pub fn an_upload_is_decided()
 {}
 
 /// A permit to download is asked for only where the device was found on its connection and examined there, and a download
-/// was decided; it is asked for with the numbers of the device's page and the checksum that the device has.
+/// was decided. It is asked for with the numbers of the device's page and the checksum that the device has.
 pub fn a_download_is_decided()
     ensures { (port : ℕ) (history : List Happening) (value : PortValue) (asks vendor device checksum : ℕ) → HasLed port history value
         → wanted value.port value.stage ≡ ReplyTo (BeginDownload asks vendor device checksum)
@@ -97,7 +98,8 @@ pub fn a_download_is_decided()
 
 /// While a permit to upload is held each request is the next of an upload since the permit was given, or DS_Break.
 pub fn an_upload_sends_its_requests()
-    ensures { (port : ℕ) (history : List Happening) (value : PortValue) (grant : UploadGrant) (request : Request) → HasLed port history value
+    ensures { (port : ℕ) (history : List Happening) (value : PortValue) (grant : UploadGrant) (request : Request)
+        → HasLed port history value
         → held_by value.stage ≡ Some (held.Upload grant) → wanted value.port value.stage ≡ AnswerTo request
         → (request ≡ commanded command.Break)
         ⊎ ((conversation : List Exchange) × HasUploaded port grant conversation history × IsNext conversation request) }
@@ -129,17 +131,19 @@ pub fn an_upload_ends_once_durable()
 /// Where the device is lost, a machine keeps nothing but a permit that it held, and that only to return it; once the permit
 /// is returned it is settled as lost, and whatever is to be done then, it starts.
 pub fn a_loss_keeps_nothing()
-    ensures lost { (old new : PortValue) (wants : Wanted) → Happens old (Did wants input.Lost) new → IsLostWith (held_by old.stage) new.stage }
+    ensures lost { (old new : PortValue) (wants : Wanted) → Happens old (Did wants input.Lost) new
+        → IsLostWith (held_by old.stage) new.stage }
     ensures returns { (port : ℕ) (holder : Held) → wanted port (Returning holder rest.Lost) ≡ ReplyTo (return_of holder) }
     ensures starts { (value : PortValue) (work : Work)
         → fed (at_stage value (Attending (attend.Waking rest.Lost))) (input.Reply (reply.Attended (Some work))) ≡ started value work }
 {}
 
-/// Where the status of a port changes as it settles, it settles for its reason: off where the core has said that the port is
-/// not there or not IOL_MANUAL, mismatch where the page has that fault, ready where the page is wanted.
+/// Where the status of a port changes as it settles, it settles for its reason. It is off where the core has said that the
+/// port is not there or not IOL_MANUAL, a mismatch where the page has that fault, and ready where the page is wanted.
 pub fn a_port_settles_for_its_reason()
     ensures { (port : ℕ) (history : List Happening) (old new : PortValue) (latest : Happening) (own : Rest) → HasLed port history old
-        → Happens old latest new → new.stage ≡ Settled own → (status_of old.stage ≡ status_of new.stage → ⊥) → IsJudged own (latest ∷ history) }
+        → Happens old latest new → new.stage ≡ Settled own → (status_of old.stage ≡ status_of new.stage → ⊥)
+        → IsJudged own (latest ∷ history) }
 {}
 
 /// A port becomes ready only for one of these reasons. Its page was read, and nothing is to be restored; or the device was
@@ -148,13 +152,16 @@ pub fn a_port_settles_for_its_reason()
 /// durable. It becomes ready but locked, or ready and empty, only where that was decided. So no port
 /// becomes ready by a download or a DS_UploadEnd that its device refused, nor where a download was decided and not made.
 pub fn a_ready_port_has_its_set()
-    ensures ready { (port : ℕ) (history : List Happening) (old new : PortValue) (latest : Happening) (page : PageValue) → HasLed port history old
+    ensures ready { (port : ℕ) (history : List Happening) (old new : PortValue) (latest : Happening) (page : PageValue)
+        → HasLed port history old
         → Happens old latest new → new.stage ≡ Settled (rest.Ready page) → (status_of old.stage ≡ status_of new.stage → ⊥)
         → IsRestored port page (latest ∷ history) }
-    ensures locked { (port : ℕ) (history : List Happening) (old new : PortValue) (latest : Happening) (page : PageValue) → HasLed port history old
+    ensures locked { (port : ℕ) (history : List Happening) (old new : PortValue) (latest : Happening) (page : PageValue)
+        → HasLed port history old
         → Happens old latest new → new.stage ≡ Settled (rest.ReadyLocked page) → (status_of old.stage ≡ status_of new.stage → ⊥)
         → IsSoDecided decision.ReadyLocked page (latest ∷ history) }
-    ensures empty { (port : ℕ) (history : List Happening) (old new : PortValue) (latest : Happening) (page : PageValue) → HasLed port history old
+    ensures empty { (port : ℕ) (history : List Happening) (old new : PortValue) (latest : Happening) (page : PageValue)
+        → HasLed port history old
         → Happens old latest new → new.stage ≡ Settled (rest.ReadyEmpty page) → (status_of old.stage ≡ status_of new.stage → ⊥)
         → IsSoDecided decision.ReadyEmpty page (latest ∷ history) }
 {}
@@ -163,7 +170,8 @@ pub fn a_ready_port_has_its_set()
 /// every field: VendorID, DeviceID, RevisionID, MinCycleTime, and whether ISDU is supported. So a settled port stays as it
 /// was only where the device that it finds has its own page.
 pub fn a_settled_port_keeps_its_page()
-    ensures { (connection : ℕ) (octets : List ℕ) (old new : PortValue) (own : Rest) → Happens old (Did ThePage (input.Page connection octets)) new
+    ensures { (connection : ℕ) (octets : List ℕ) (old new : PortValue) (own : Rest)
+        → Happens old (Did ThePage (input.Page connection octets)) new
         → new.stage ≡ Settled own → (own ≡ rest.Off) ⊎ (page_at own ≡ Some (page_of octets)) }
 {}
 
@@ -171,25 +179,33 @@ pub fn a_settled_port_keeps_its_page()
 /// heard an answer to that. Where a failed upload has no permit to return, as the core took it with the set, DS_Break is
 /// wanted next: nothing more is stored, the port was configured anew, or nobody will know whether the set is durable.
 pub fn a_failed_transfer_is_broken_off()
-    ensures returns { (old new : PortValue) (wants : Wanted) (heard : Input) (holder : Held) (why : PortFault) → Happens old (Did wants heard) new
+    ensures returns { (old new : PortValue) (wants : Wanted) (heard : Input) (holder : Held) (why : PortFault)
+        → Happens old (Did wants heard) new
         → new.stage ≡ Returning holder (rest.Failed why)
-        → (held_by old.stage ≡ Some holder) × (wants ≡ AnswerTo (commanded command.Break)) × ((octets : ArrayVec ℕ) × (heard ≡ input.Octets octets)) }
-    ensures stopped { (old new : PortValue) (wants : Wanted) → Happens old (Did wants (input.Reply (reply.FinishedUpload (Err finish.Stopped)))) new
+        → (held_by old.stage ≡ Some holder) × (wants ≡ AnswerTo (commanded command.Break))
+        × ((octets : ArrayVec ℕ) × (heard ≡ input.Octets octets)) }
+    ensures stopped { (old new : PortValue) (wants : Wanted)
+        → Happens old (Did wants (input.Reply (reply.FinishedUpload (Err finish.Stopped)))) new
         → wanted new.port new.stage ≡ AnswerTo (commanded command.Break) }
-    ensures changed { (old new : PortValue) (wants : Wanted) → Happens old (Did wants (input.Reply (reply.FinishedUpload (Err finish.ConfigChanged)))) new
+    ensures changed { (old new : PortValue) (wants : Wanted)
+        → Happens old (Did wants (input.Reply (reply.FinishedUpload (Err finish.ConfigChanged)))) new
         → wanted new.port new.stage ≡ AnswerTo (commanded command.Break) }
     ensures unsure { (old new : PortValue) (wants : Wanted) → Happens old (Did wants (input.Reply (reply.Ticket ticket.Unsure))) new
         → wanted new.port new.stage ≡ AnswerTo (commanded command.Break) }
 {}
 
-/// The permit of a port that is out is the one that its machine holds, and none is out where it holds none: an event and what
-/// is heard from the link leave the permit that is held, a call of the core gives or takes it, and the end of the machine
+/// The permit of a port that is out is the one that its machine holds, and none is out where it holds none. An event and what
+/// is heard from the link leave the permit that is held. A call of the core gives or takes it, and the end of the machine
 /// returns it.
 pub fn a_permit_is_held_or_spent()
-    ensures link { (port : ℕ) (history : List Happening) (old new : PortValue) (wants : Wanted) (heard : Input) → HasLed port history old → IsOfLink heard
+    ensures link { (port : ℕ) (history : List Happening) (old new : PortValue) (wants : Wanted) (heard : Input) → HasLed port history old
+        → IsOfLink heard
         → Happens old (Did wants heard) new → held_by new.stage ≡ held_by old.stage }
-    ensures calls { (start : Start) (before after : CoreView) (port : ℕ) (history : List Happening) (old new : PortValue) (call : Call) (heard : Reply)
+    ensures calls { (start : Start) (before after : CoreView) (port : ℕ) (history : List Happening) (old new : PortValue) (call : Call)
+        (heard : Reply)
         → IsCore start before → HasLed port history old → HasOut before port (held_by old.stage)
-        → Happens old (Did (ReplyTo call) (input.Reply heard)) new → Replies call before after heard → HasOut after port (held_by new.stage) }
-    ensures end { (core : CoreView) (port : ℕ) (stage : Stage) → HasOut core port (held_by stage) → permit_at (ended core stage) port ≡ None }
+        → Happens old (Did (ReplyTo call) (input.Reply heard)) new → Replies call before after heard
+        → HasOut after port (held_by new.stage) }
+    ensures end { (core : CoreView) (port : ℕ) (stage : Stage) → HasOut core port (held_by stage)
+        → permit_at (ended core stage) port ≡ None }
 {}

@@ -153,7 +153,7 @@ impl PortMachine {
         std::mem::replace(&mut self.stage, Stage::Settled(Rest::Off))
     }
 
-    // Puts the next stage in place, where the stage was taken out. A new start takes the work's revision and drops a kept event.
+    // Puts the next stage where the last one was taken out, or starts with new work.
     fn go(&mut self, next: Next)
         requires out { self.old.stage ≡ Settled Off }
         requires holds { IsNext (next_of next) }

@@ -8,8 +8,8 @@ use iol_transfer::{Download, Upload};
 use iol_types::DataSet;
 use std::sync::Arc;
 
-// How a settled port is; where its device is there, with its page.
-#[derive(Clone, Copy, Debug)]
+// How a port has settled, and the page of its device where the device is there.
+#[derive(Clone, Copy)]
 pub(crate) enum Rest {
     Off,
     Lost,
@@ -22,7 +22,7 @@ pub(crate) enum Rest {
 
 // A device that was found to be the one that the port wants: what the port was to work with, the device's page, and the
 // connection on which it was read.
-#[derive(Clone, Copy, Debug)]
+#[derive(Clone, Copy)]
 pub(crate) struct Found {
     pub(crate) work: Work,
     pub(crate) page: Page,
@@ -30,7 +30,7 @@ pub(crate) struct Found {
 }
 
 // What a page is read for.
-#[derive(Clone, Copy, Debug)]
+#[derive(Clone, Copy)]
 pub(crate) enum PageFor {
     // Whether the device of a settled port is still there.
     Comparing { work: Work, rest: Rest },
@@ -39,7 +39,7 @@ pub(crate) enum PageFor {
 }
 
 // What the core is asked for, where it says what is to be done.
-#[derive(Clone, Copy, Debug)]
+#[derive(Clone, Copy)]
 pub(crate) enum AttendFor {
     // A settled port was woken.
     Waking {
@@ -56,7 +56,7 @@ pub(crate) enum AttendFor {
 }
 
 // What is sent to the device outside of a transfer; `left` says how often it may still be sent, where the device is busy.
-#[derive(Clone, Copy, Debug)]
+#[derive(Clone, Copy)]
 pub(crate) enum ExchangeFor {
     ReadingState {
         found: Found,
@@ -81,14 +81,13 @@ pub(crate) enum ExchangeFor {
 }
 
 // What a transfer does.
-#[derive(Clone, Copy, Debug)]
+#[derive(Clone, Copy)]
 pub(crate) enum Transfer {
     Upload,
     Download,
 }
 
 // A permit that is held.
-#[derive(Debug)]
 pub(crate) enum Held {
     Upload(UploadPermit),
     Download(DownloadPermit),
