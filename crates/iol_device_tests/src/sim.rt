@@ -6,8 +6,6 @@ use iol_types::{DeviceId, Key};
 use std::alloc::Global;
 use std::process::Abort;
 
-mod allocations;
-mod ample_memory;
 mod device;
 mod script;
 mod sim_link;
@@ -24,31 +22,17 @@ const SECOND: Key = Key {
 };
 
 // A device of vendor 01F4 with this DeviceID, V1.1, with ISDUs and no parameters.
-fn bare_device(alloc: Global, device: u32) -> Result<SimDevice, &'static str> {
-    match DeviceId::new(device) {
-        Some(device) => Ok(SimDevice::new(alloc, 0x01F4, device, 0x11, true)),
-        None => Err("a DeviceID is below 2^24"),
-    }
+fn new_device(rt: &impl Abort, alloc: Global, device: u32) -> SimDevice {
+    let device = DeviceId::new(device).expect(rt, "a DeviceID");
+    SimDevice::new(alloc, 0x01F4, device, 0x11, true)
 }
 
 // Device S: DeviceID 00ABCD, with the parameters 0040.00 = 0A 64 and 0041.01 = 7F.
-fn device_s(alloc: Global) -> Result<SimDevice, &'static str> {
-    let mut device = bare_device(alloc, 0x00ABCD)?;
-    if device.add(FIRST, &[0x0A, 0x64]).is_ok() && device.add(SECOND, &[0x7F]).is_ok() {
-        Ok(device)
-    } else {
-        Err("a parameter finds memory")
-    }
-}
-
-// That device without parameters, where memory does not run out.
-fn new_device(rt: &impl Abort, alloc: Global, device: u32) -> SimDevice {
-    bare_device(alloc, device).expect(rt, "a device")
-}
-
-// Device S, where memory does not run out.
 fn new_s(rt: &impl Abort, alloc: Global) -> SimDevice {
-    device_s(alloc).expect(rt, "device S")
+    let mut device = new_device(rt, alloc, 0x00ABCD);
+    device.add(FIRST, &[0x0A, 0x64]).expect(rt, "a parameter");
+    device.add(SECOND, &[0x7F]).expect(rt, "a parameter");
+    device
 }
 
 // What a device says to a further parameter of so many octets.

@@ -1,7 +1,5 @@
 //! Conversations with answers octet by octet: whole ones, and each end in a fault.
 
-mod allocations;
-mod ample_memory;
 mod conversations;
 mod downloads;
 mod uploads;

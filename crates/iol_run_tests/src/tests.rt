@@ -1,7 +1,5 @@
 //! Runs, as a caller sees them.
 
-mod allocations;
-mod ample_memory;
 mod beginnings;
 mod devices;
 mod downloads;

@@ -1,7 +1,5 @@
-//! Cores over a journal in memory: what each call answers, in its order, and memory that runs out.
+//! Cores over a journal in memory: what each call answers, in its order.
 
-mod allocations;
-mod ample_memory;
 mod batches;
 mod commands;
 mod scene;

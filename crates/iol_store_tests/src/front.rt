@@ -1,10 +1,7 @@
-//! Three batches that are published while a pass is in another thread, and memory that runs out.
+//! Three batches that are published while a pass is in another thread.
 
 ghost use Rattle.std.specs.Prelude.{◌≡◌, ◌+◌, length, IfOk};
 ghost use Rattle.iol_journal.specs.Journals.{with_batch};
-
-mod allocations;
-mod ample_memory;
 
 use iol_disk::MemoryDisk;
 use iol_front::{Front, Name};

@@ -5,7 +5,7 @@ use iol_disk::MemoryDisk;
 use iol_link::DeviceLink;
 use iol_run::{Step, Trace};
 use iol_sim::{SimDevice, SimLink, Visit};
-use iol_types::{Change, DeviceId, Key, MasterState, PortId, PortState, StoredSet};
+use iol_types::{DeviceId, Key, MasterState, PortId, PortState, StoredSet};
 use std::alloc::Global;
 use std::process::Abort;
 
@@ -82,13 +82,6 @@ pub fn add<R: Abort>(rt: &R, steps: &mut Vec<Step>, step: Step, times: usize) {
     for _ in 0..times {
         steps.extend_from_slice(&again).expect(rt, "a step");
     }
-}
-
-/// A client deletes the set of port 1.
-pub fn clear() -> Step {
-    Step::Client(Change::Clear {
-        port: PortId::new(1).unwrap(),
-    })
 }
 
 /// A step of port 1.

@@ -11,8 +11,8 @@ use super::uploads::UPLOADED;
 use iol_port::PortStatus;
 use std::process::Abort;
 
-/// How many calls the upload makes of the sensor.
-pub const UPLOAD_CALLS: u64 = 10;
+// How many calls the upload makes of the sensor.
+const UPLOAD_CALLS: u64 = 10;
 
 // A blank sensor gets the stored parameters.
 const WRITTEN: [Line<'static>; 8] = [

@@ -1,9 +1,9 @@
-//! Disks, steps, and what a run over them tells.
+//! Disks, links and steps, and a run over them.
 
 use iol_disk::{MemoryDisk, Pick, SectorDisk};
 use iol_journal::{Geometry, Journal, format};
 use iol_link::DeviceLink;
-use iol_run::{Ended, Event, RunFault, Stamped, Step, Trace, run_schedule};
+use iol_run::{Ended, RunFault, Step, Trace, run_schedule};
 use iol_sim::SimLink;
 use iol_types::{Change, DeviceId, MasterState, PortConfig, PortId, PortMode, Validation};
 use std::alloc::Global;
@@ -14,16 +14,11 @@ pub const PICKS: [Pick; 4] = [Pick::Old, Pick::New, Pick::Zero, Pick::Pattern];
 
 /// A client configures a port for the sensor.
 pub fn configure<R: Abort>(rt: &R, port: u8) -> Step {
-    configure_under(rt, port, Validation::BackupAndRestore)
-}
-
-/// A client configures a port for the sensor, under this validation.
-pub fn configure_under<R: Abort>(rt: &R, port: u8, validation: Validation) -> Step {
     Step::Client(Change::Configure {
         port: PortId::new(port).expect(rt, "a port"),
         config: PortConfig {
             mode: PortMode::IolManual,
-            validation,
+            validation: Validation::BackupAndRestore,
             vendor: 500,
             device: DeviceId::new(43981).expect(rt, "a DeviceID"),
         },
@@ -47,17 +42,6 @@ pub fn unplugged<R: Abort>(rt: &R, alloc: Global, ports: u16) -> Vec<SimLink> {
         };
     }
     links
-}
-
-/// What a whole run of these steps did, over so many ports without a device.
-pub fn run<D: SectorDisk + Drop, R: Abort>(
-    rt: &R,
-    alloc: Global,
-    disk: D,
-    ports: u16,
-    steps: &[Step],
-) -> Trace<D, SimLink> {
-    run_at(rt, alloc, disk, unplugged(rt, alloc, ports), steps)
 }
 
 /// What a whole run of these steps did, over these links.
@@ -89,20 +73,6 @@ pub fn found_on<R: Abort>(rt: &R, alloc: Global, disk: MemoryDisk) -> (u64, Mast
     match Journal::recover(alloc, disk) {
         Ok((journal, state)) => (journal.number(), state),
         Err(_) => panic!(rt; "a recovery"),
-    }
-}
-
-/// What kind of event comes at a place, and its number, 0 where it has none.
-pub fn told(events: &[Stamped], place: usize) -> (char, u64) {
-    match events.get(place) {
-        Some(Stamped { event, .. }) => match event {
-            Event::Accepted { number, .. } => ('+', *number),
-            Event::Refused(_) => ('-', 0),
-            Event::Acknowledged { number } => ('=', *number),
-            Event::DiskFailed => ('!', 0),
-            _ => ('?', 0),
-        },
-        None => ('?', 0),
     }
 }
 

@@ -1,0 +1,248 @@
+"""How a run of a built program may end where one of its requests for memory is refused.
+
+Each subject runs a program in an empty folder, and `end` names the end that a refused run came to, or says None where it may
+not end so. What a run may come to is mostly what the same program says with all memory: to the same script, to one of which a
+sync fails, or to one of which a step is left out.
+"""
+
+import dataclasses
+import functools
+import os
+import re
+import subprocess
+import tempfile
+
+SECONDS = 60
+MEMORY = ("", "error: out of memory\n", 1)
+DISK = ("", "error: the disk failed\n", 1)
+NOT_FORMATTED = ("", "error: the disk is not formatted\n", 1)
+UNUSED = "port {} revision 0 mode 0 validation 0 vendor 0000 device 000000 set none\n"
+EMPTY = "recovered 0\n" + UNUSED.format(1) + UNUSED.format(2)
+SCHEDULES = ("command", "backup", "replacement", "changes", "checkpoints", "waiting", "largest")
+
+
+@dataclasses.dataclass
+class Said:
+    """What a run said, whether it met the refusal, and the image file that it left; no status where it did not end."""
+
+    told: tuple
+    met: bool
+    image: bytes
+
+
+@dataclasses.dataclass
+class Subject:
+    """A program with its words and the files that lie where it runs, and the shim that refuses memory."""
+
+    name: str
+    words: list
+    files: dict
+    shim: str = ""
+    seconds: int = SECONDS
+
+    def run(self, growth=0):
+        """What is said where this request for memory is refused, or none."""
+        with tempfile.TemporaryDirectory() as room:
+            for name, octets in self.files.items():
+                with open(f"{room}/{name}", "wb") as file:
+                    file.write(octets)
+            refused = {"REFUSE_GROWTH": str(growth), "REFUSE_MET": f"{room}/met", "LD_PRELOAD": self.shim if growth else ""}
+            told = self.told_in(room, {**os.environ, **refused})
+            image = None
+            if os.path.exists(f"{room}/a.img"):
+                with open(f"{room}/a.img", "rb") as file:
+                    image = file.read()
+            return Said(told, os.path.exists(f"{room}/met"), image)
+
+    def told_in(self, room, environment):
+        """The output, the errors and the status of a run in a folder."""
+        try:
+            ran = subprocess.run(self.words, cwd=room, env=environment, capture_output=True, timeout=self.seconds)
+        except subprocess.TimeoutExpired:
+            return "", f"no end within {self.seconds} seconds", None
+        return ran.stdout.decode(errors="replace"), ran.stderr.decode(errors="replace"), ran.returncode
+
+    @functools.cached_property
+    def whole(self):
+        """What is said with all memory."""
+        return self.run()
+
+    @property
+    def whole_out(self):
+        return self.whole.told[0]
+
+
+def last(word, text):
+    """The last number that is told behind a word, 0 where none is."""
+    return max([0, *map(int, re.findall(rf"^{word} (\d+)$", text, re.M))])
+
+
+def recovered(out):
+    """What is found behind the stop: the number, and a line for each port and each entry."""
+    return out.partition("stopped\n")[2]
+
+
+def keeps_what_was_acknowledged(out):
+    """Whether the recovered number lies between the last that was acknowledged and the last that was accepted."""
+    told, _, state = out.partition("stopped\n")
+    return state.startswith("recovered ") and last("acknowledged", told) <= last("recovered", state) <= last("accepted", told)
+
+
+def has_known_ports(out, known):
+    """Whether each port is recovered as in one of these states, but for a set that was not stored."""
+    lines = {line for state in known for line in state.split("\n")}
+    lines |= {re.sub(r" set .*", " set none", line) for line in lines}
+    return all(line in lines for line in recovered(out).split("\n")[1:])
+
+
+class Script(Subject):
+    """A run of `iolmaster run`."""
+
+    def end(self, said):
+        if said.told == self.whole.told:
+            return "whole"
+        if said.told == MEMORY:
+            return "out of memory"
+        if self.whole.told[2] != 0:
+            return None
+        if said.told == DISK:
+            return "failed sync of a format or a recovery"
+        out, errors, status = said.told
+        if status != 0 or errors or not keeps_what_was_acknowledged(out):
+            return None
+        if out in self.with_failing_sync:
+            return "failed sync"
+        if out in self.with_a_step_less:
+            return "step left out"
+        return "failed transfer" if self.is_failed_transfer(out) else None
+
+    def is_failed_transfer(self, out):
+        """Whether a port's transfer ended for want of memory: what is told is as ever up to a break of that port, and then it
+        has failed, or is lost at the break, or the run ends before its status; or up to that status, where it breaks anyway."""
+        told = out.partition("stopped\n")[0].splitlines()
+        same = len(os.path.commonprefix([told, self.whole_out.partition("stopped\n")[0].splitlines()]))
+        ended = re.fullmatch(r"(port \d+) (> 25 03 01 05 22|failed Memory)", "".join(told[same : same + 1]))
+        if not ended or "disk failed" in told or not has_known_ports(out, self.states):
+            return False
+        if ended[2] == "failed Memory":
+            return True
+        behind = [line for line in told[same + 1 :] if line.startswith(f"{ended[1]} ")]
+        is_answered = bool(behind) and behind[0].startswith(f"{ended[1]} < ")
+        return behind[:1] in ([], [f"{ended[1]} lost"]) or is_answered and behind[1:2] in ([], [f"{ended[1]} failed Memory"])
+
+    def says_to(self, text):
+        """What is said to another script, with all memory."""
+        return dataclasses.replace(self, files={"script.toml": text.encode()}).whole_out
+
+    @property
+    def text(self):
+        return self.files["script.toml"].decode()
+
+    @functools.cached_property
+    def with_failing_sync(self):
+        """What is said where a sync of the run fails: the first, the second, and so on."""
+        text, says = re.sub(r"^fail *=.*\n", "", self.text, flags=re.M), []
+        while not says or "disk failed" in says[-1] or says[-1] == "":
+            says.append(self.says_to(f'fail = "sync {len(says) + 1}"\n{text}'))
+        return set(says[:-1])
+
+    @functools.cached_property
+    def with_a_step_less(self):
+        """What is said where one of the steps of a port or of the flusher is left out."""
+        head, *steps = self.text.split("[[step]]\n")
+        says = set()
+        for place, step in enumerate(steps):
+            if re.search(r'^do *= *"(port|flush)"', step, re.M):
+                times = re.search(r"^times *= *(\d+)", step, re.M)
+                fewer = int(times[1]) - 1 if times else 0
+                less = [re.sub(r"^times *= *\d+", f"times = {fewer}", step, flags=re.M)] if fewer else []
+                says.add(self.says_to("[[step]]\n".join([head, *steps[:place], *less, *steps[place + 1 :]])))
+        return says
+
+    @functools.cached_property
+    def states(self):
+        """The states that are recovered behind each step."""
+        head, *steps = self.text.split("[[step]]\n")
+        says = [self.says_to("[[step]]\n".join([head, *steps[:made]])) for made in range(len(steps))]
+        return {recovered(out) for out in [*says, self.whole_out]}
+
+
+class Schedule(Subject):
+    """A run of `iol_growths` with one schedule."""
+
+    def end(self, said):
+        if said.told == self.whole.told:
+            return "whole"
+        out, errors, status = said.told
+        if (out, status) == ("", 1) and errors == "Error: out of memory\n":
+            return "out of memory before the run"
+        if status != 0 or errors:
+            return None
+        begun = re.search(r"^no (format|run) (.*)\n", out, re.M)
+        if begun:
+            return f"no {begun[1]}: {begun[2]}" if self.is_not_begun(out, begun) else None
+        if not keeps_what_was_acknowledged(out):
+            return None
+        if out.replace("ended Whole, 1 waits\n", "ended Whole, 0 waits\n") == self.whole_out:
+            return "turn that waited"
+        if "ended Memory, 0 waits\n" in out:
+            return "ended before a step" if out.replace("ended Memory", "ended Whole") in self.beginnings else None
+        if out.count("status Failed(Memory)\n") == 1 and "disk failed" not in out:
+            return "failed transfer" if has_known_ports(out, self.states) else None
+        is_known = recovered(out) in self.states and self.has_failed_sync(out)
+        return "failed sync" if is_known else None
+
+    def is_not_begun(self, out, begun):
+        """Whether no run was made for want of memory, and the disk has an empty journal, or none where its format failed."""
+        causes = ("Memory", "Disk(Sync)") if begun[1] == "format" else ("Memory", "Recover Memory", "Recover Disk(Sync)")
+        found = out.partition("stopped\n")[2]
+        has_none = begun[1] == "format" and found == "no journal NotFormatted\n"
+        return begun[2] in causes and "accepted" not in out and (found == EMPTY or has_none)
+
+    def has_failed_sync(self, out):
+        """Whether the disk failed once, and nothing was accepted or acknowledged from then on."""
+        _, failed, behind = out.partition("disk failed\n")
+        return bool(failed) and not re.search(r"^(accepted|acknowledged|disk failed)", behind, re.M)
+
+    @functools.cached_property
+    def beginnings(self):
+        """What is said to no step, the first, the first two, and so on."""
+        says = []
+        while not says or says[-1] != self.whole_out:
+            says.append(dataclasses.replace(self, words=[*self.words, str(len(says))]).whole_out)
+        return says
+
+    @functools.cached_property
+    def states(self):
+        """The states that are recovered behind each step."""
+        return {recovered(out) for out in self.beginnings}
+
+
+class Image(Subject):
+    """A format or a show of an image file of two ports and four slots."""
+
+    def end(self, said):
+        if said.told == self.whole.told and said.image == self.whole.image:
+            return "whole"
+        if said.told != MEMORY:
+            return None
+        if said.image == self.files.get("a.img"):
+            return "out of memory, the file as it was"
+        if self.words[1] == "show":
+            return None
+        shown = dataclasses.replace(self, words=[self.words[0], "show", "a.img"], files={"a.img": said.image}).whole.told
+        return {NOT_FORMATTED: "out of memory, not formatted", (EMPTY, "", 0): "out of memory, an empty journal"}.get(shown)
+
+
+def formatted(program):
+    """An image file with an empty journal of two ports and four slots."""
+    return Image("", [program, "format", "a.img", "--ports", "2", "--slots", "4"], {}).whole.image
+
+
+def written(program):
+    """An image file with a journal of one command: a Configure of port 1, the first batch."""
+    image = bytearray(formatted(program))
+    body = "00 00 00 00 00 00 00 01  00 00 00 00 00 00 00 01  00 01  00 00 00 0A  01 01 01 03 01 F4 00 00 AB CD"
+    image[512 * 22 : 512 * 22 + 8] = bytes.fromhex("A55A" * 4)
+    image[512 * 23 : 512 * 23 + 32] = bytes.fromhex(body)
+    return bytes(image)
