@@ -1,37 +1,26 @@
 //! Sensors at the first of two ports.
 
-use crate::clients::{VENDOR, device};
+use anyhow::Context;
 use iol_sim::{SimDevice, SimLink, Visit};
-use iol_types::Key;
+use iol_types::{DeviceId, Key};
 use std::alloc::Global;
 
-/// How many calls of the link the upload of two parameters makes.
+/// The vendor of the sensor.
+pub(crate) const VENDOR: u16 = 500;
+
+// The number of the sensor.
+const DEVICE: u32 = 43981;
+
+// How many calls of the link the upload of two parameters makes.
 const UPLOAD_CALLS: u64 = 10;
 
-/// How many calls of the link the upload of the largest set makes.
+// How many calls of the link the upload of the largest set makes.
 const LARGEST_UPLOAD_CALLS: u64 = 26;
 
-// The keys of the largest set: of 17 entries of 232 octets, and of the last, of 80. They count 4,096 octets.
-const LARGEST_SET: [(u16, usize); 18] = [
-    (256, 232),
-    (257, 232),
-    (258, 232),
-    (259, 232),
-    (260, 232),
-    (261, 232),
-    (262, 232),
-    (263, 232),
-    (264, 232),
-    (265, 232),
-    (266, 232),
-    (267, 232),
-    (268, 232),
-    (269, 232),
-    (270, 232),
-    (271, 232),
-    (272, 232),
-    (273, 80),
-];
+/// The number of the sensor.
+pub(crate) fn device() -> anyhow::Result<DeviceId> {
+    DeviceId::new(DEVICE).context("no device number")
+}
 
 /// Two links, at neither of which a device is.
 pub(crate) fn unplugged(alloc: Global) -> anyhow::Result<Vec<SimLink>> {
@@ -97,13 +86,13 @@ fn sensor(alloc: Global, first: [u8; 2], second: u8) -> anyhow::Result<SimDevice
     Ok(sensor)
 }
 
-// The sensor with the largest set, each octet of it this one.
+// The sensor with the largest set, each octet of it this one: 17 parameters of 232 octets and one of 80, which count 4,096.
 fn largest_sensor(alloc: Global, octet: u8) -> anyhow::Result<SimDevice> {
     let mut sensor = bare_sensor(alloc)?;
-    let octets = [octet; 232];
-    for (index, count) in LARGEST_SET {
-        sensor.add(key(index, 0), &octets[..count.min(232)])?;
+    for index in 256..273 {
+        sensor.add(key(index, 0), &[octet; 232])?;
     }
+    sensor.add(key(273, 0), &[octet; 80])?;
     Ok(sensor)
 }
 

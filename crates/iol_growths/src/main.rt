@@ -4,10 +4,10 @@
 //! `iol_growths [SCHEDULE [STEPS]]` plays the schedule of this name, or its first steps alone; without a word it plays all.
 #![tactic(auto)]
 
-mod clients;
 mod devices;
 mod play;
 mod schedule;
+mod steps;
 
 use play::play;
 use schedule::{ALL, Schedule};

@@ -1,11 +1,11 @@
 //! The schedules: their names, their steps, and the sensors that they are played with.
 
-use crate::clients::{clear, configure, first_port};
 use crate::devices::{plugged, replaced, replaced_largest, unplugged};
+use crate::steps::{back_up, clear, configure, port_steps, turns};
 use iol_run::Step;
 use iol_sim::SimLink;
 use iol_types::Validation;
-use std::alloc::{AllocError, Global};
+use std::alloc::Global;
 
 /// A schedule.
 #[derive(Clone, Copy, Debug, PartialEq, Eq)]
@@ -61,60 +61,52 @@ impl Schedule {
         }
     }
 
-    /// Its steps. The flusher has turns to spare, so that one which finds no memory can be made up for.
+    /// Its steps.
     pub(crate) fn steps(self, alloc: Global) -> anyhow::Result<Vec<Step>> {
         let mut steps = Vec::new(alloc);
-        let configure_all = configure(Validation::BackupAndRestore)?;
         match self {
-            Schedule::Command => batch(&mut steps, configure_all, 1)?,
-            Schedule::Backup => back_up(&mut steps, 13)?,
+            Schedule::Command => commands(&mut steps, 1)?,
+            Schedule::Backup => back_up(&mut steps, READS)?,
             Schedule::Replacement => {
-                back_up(&mut steps, 13)?;
-                add(&mut steps, Step::Port(first_port()?), 15)?;
+                back_up(&mut steps, READS)?;
+                port_steps(&mut steps, 15)?;
             }
             Schedule::Changes => {
-                back_up(&mut steps, 13)?;
-                add(&mut steps, configure_all, 1)?;
-                batch(&mut steps, configure(Validation::Restore)?, 1)?;
-                add(&mut steps, configure(Validation::TypeCompatibleV11)?, 1)?;
-                batch(&mut steps, clear()?, 1)?;
+                back_up(&mut steps, READS)?;
+                change(&mut steps)?;
             }
             Schedule::Checkpoints => {
                 for _batch in 0..10_u8 {
-                    batch(&mut steps, configure_all, 1)?;
+                    commands(&mut steps, 1)?;
                 }
             }
-            Schedule::Waiting => batch(&mut steps, configure_all, 65)?,
+            Schedule::Waiting => commands(&mut steps, 65)?,
             Schedule::Largest => {
-                back_up(&mut steps, 29)?;
-                add(&mut steps, Step::Port(first_port()?), 31)?;
+                back_up(&mut steps, LARGEST_READS)?;
+                port_steps(&mut steps, 31)?;
             }
         }
         Ok(steps)
     }
 }
 
-// Appends a port that is configured, and the steps in which its sensor's set is read, stored and ended.
-fn back_up(steps: &mut Vec<Step>, reads: usize) -> anyhow::Result<()> {
-    let port_step = Step::Port(first_port()?);
-    batch(steps, configure(Validation::BackupAndRestore)?, 1)?;
-    add(steps, port_step, reads)?;
-    add(steps, Step::Flush, 18)?;
-    add(steps, port_step, 2)?;
-    Ok(())
+// How many steps of a port read a set of two parameters, and the largest.
+const READS: usize = 13;
+
+const LARGEST_READS: usize = 29;
+
+// Appends commands, and turns that make them durable.
+fn commands(steps: &mut Vec<Step>, times: usize) -> anyhow::Result<()> {
+    configure(steps, Validation::BackupAndRestore, times)?;
+    turns(steps)
 }
 
-// Appends commands, and turns enough to make them durable behind a checkpoint.
-fn batch(steps: &mut Vec<Step>, command: Step, count: usize) -> Result<(), AllocError> {
-    add(steps, command, count)?;
-    add(steps, Step::Flush, 24)
-}
-
-// Appends a step, so many times.
-fn add(steps: &mut Vec<Step>, step: Step, times: usize) -> Result<(), AllocError> {
-    let again = [step];
-    for _time in 0..times {
-        steps.extend_from_slice(&again)?;
-    }
-    Ok(())
+// Appends two batches: the port is configured as before, under Restore, under a validation that keeps no set, and cleared.
+fn change(steps: &mut Vec<Step>) -> anyhow::Result<()> {
+    configure(steps, Validation::BackupAndRestore, 1)?;
+    configure(steps, Validation::Restore, 1)?;
+    turns(steps)?;
+    configure(steps, Validation::TypeCompatibleV11, 1)?;
+    clear(steps)?;
+    turns(steps)
 }
