@@ -179,8 +179,8 @@ grown kept later count key value octets is in_range none made are counted =
       counted = omega (arith, octets_of-push (entries_of kept) key octets, ap octets_of whole, counted);
     }
 
--- entries count four octets each at least
-pub length-octets_of : (entries : List Entry) → 4 * length entries ≤ octets_of entries
+-- entries count the octets of their heads at least
+pub length-octets_of : (entries : List Entry) → ENTRY_HEAD_OCTETS * length entries ≤ octets_of entries
 length-octets_of [] = omega arith
 length-octets_of (entry ∷ entries) =
     omega (arith, length-octets_of entries, sum_by-append (λ (e : Entry). ENTRY_HEAD_OCTETS + length e.1) (entry ∷ []) entries)

@@ -5,7 +5,7 @@ ghost use Rattle.iol_types.specs.Config.{mode_octet, mode_of, validation_octet, 
 use crate::device_id::DeviceId;
 
 /// What a port is used for (IO-Link V1.1, port configuration, PortMode).
-#[derive(Clone, Copy, Debug, PartialEq, Eq, Hash)]
+#[derive(Clone, Copy, Debug, PartialEq, Eq)]
 pub enum PortMode {
     /// DEACTIVATED, octet 0.
     Deactivated,
@@ -50,7 +50,7 @@ impl PortMode {
 
 /// How a device is checked, and whether its parameters are kept (IO-Link V1.1, port configuration,
 /// Validation&Backup).
-#[derive(Clone, Copy, Debug, PartialEq, Eq, Hash)]
+#[derive(Clone, Copy, Debug, PartialEq, Eq)]
 pub enum Validation {
     /// No check, octet 0.
     NoCheck,
@@ -94,7 +94,7 @@ impl Validation {
 }
 
 /// The configuration of a port, with the VendorID and the DeviceID of the device that it wants.
-#[derive(Clone, Copy, Debug, PartialEq, Eq, Hash)]
+#[derive(Clone, Copy, Debug, PartialEq, Eq)]
 pub struct PortConfig {
     pub mode: PortMode,
     pub validation: Validation,

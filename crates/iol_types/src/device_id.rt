@@ -8,7 +8,7 @@ use std::marker::Model;
 pub const DEVICE_NUMBERS: u32 = 0x100_0000;
 
 /// A DeviceID, below 2^24 (IO-Link V1.1, Direct Parameter page 1, addresses 0x09 to 0x0B).
-#[derive(Clone, Copy, Debug, PartialEq, Eq, PartialOrd, Ord, Hash)]
+#[derive(Clone, Copy, Debug, PartialEq, Eq)]
 pub struct DeviceId {
     number: u32,
 }

@@ -11,7 +11,7 @@ pub const DATA_STORAGE: u16 = 0x0003;
 
 /// The name of a parameter: an Index, and a Subindex, where 0 is the whole object (IO-Link V1.1,
 /// ISDU).
-#[derive(Clone, Copy, Debug, PartialEq, Eq, PartialOrd, Ord, Hash)]
+#[derive(Clone, Copy, Debug, PartialEq, Eq, Hash)]
 pub struct Key {
     pub index: u16,
     pub subindex: u8,

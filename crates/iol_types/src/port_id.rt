@@ -8,7 +8,7 @@ use std::marker::Model;
 pub const PORTS: u8 = 32;
 
 /// The number of a port, 1 to 32.
-#[derive(Clone, Copy, Debug, PartialEq, Eq, PartialOrd, Ord, Hash)]
+#[derive(Clone, Copy, Debug, PartialEq, Eq)]
 pub struct PortId {
     number: u8,
 }
