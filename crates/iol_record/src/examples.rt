@@ -1,16 +1,20 @@
 //! Records with values from outside, worked out by the check: an octet that is wrong in a definition
 //! and in the code alike is refused here.
 
-ghost use Rattle.std.specs.Prelude.{◌≡◌, None, [], map, replicate, slice_set, take};
+ghost use Rattle.std.specs.Prelude.{◌≡◌, ◌++◌, [], ◌∷◌, false, true, Some, None, Ok, Err, IsOk, map, replicate, slice_set, take};
 ghost use Rattle.std.specs.List.{range_with_len};
 ghost use Rattle.iol_types.specs.Command.{Configure, Clear, Store};
 ghost use Rattle.iol_types.specs.State.{blank};
-ghost use Rattle.iol_types.specs.Examples.{example_config, example_set, example_port};
+ghost use Rattle.iol_types.specs.Examples.{example_config, example_set, nearly_full, example_stored, example_port};
 ghost use Rattle.iol_record.specs.declared.encode.TheConstants.{LARGEST_COMMAND_RECORD, LARGEST_PORT_RECORD};
 ghost use Rattle.iol_record.specs.Record.{command_octets, port_octets, IsCommandRecord, IsPortRecord};
-ghost use Rattle.iol_record.specs.Reading.{command_at, port_record_at};
+ghost use Rattle.iol_record.specs.Reading.{command_at, port_record_at, store_begun_at, port_begun_at};
+ghost use Rattle.iol_record.specs.Reading.{field_at, tag_field, port_field, mode_field, validation_field, vendor_field, device_field};
+ghost use Rattle.iol_record.specs.Reading.{revision_field, checksum_field, count_field, flag_field, index_field, subindex_field, length_field};
+ghost use Rattle.iol_record.specs.declared.reader.Tag.TheVariants as tag;
 
 use crate::fault::RecordFault;
+use iol_types::{PortMode, Validation};
 
 /// The record of Configure port 1: IOL_MANUAL, Backup and Restore, vendor 500, device 43981.
 pub const CONFIGURE_RECORD: [u8; 10] = [0x01, 0x01, 0x01, 0x03, 0x01, 0xF4, 0x00, 0x00, 0xAB, 0xCD];
@@ -122,12 +126,93 @@ pub fn stores_out_of_range()
     ensures cut_off { command_at (take 32 STORE_RECORD) ≡ Err RecordFault.Short }
 {}
 
-/// [`PORT_WITH_SET_RECORD`] under a configuration that may not have the set: another vendor, no check,
-/// a set taken under Restore, a set of another device.
+/// [`PORT_WITH_SET_RECORD`] under a configuration that may not have the set: another vendor, device or
+/// mode, no check; a set taken under Restore or in another mode, a set of another vendor or device. Under
+/// Restore it may have it.
 #[tactic(auto, unfolding(crate::specs::Reading::port_record_at, crate::specs::Reading::port_parts_at, crate::specs::Reading::stored_at, crate::specs::Reading::config_at, crate::specs::Reading::set_at, crate::specs::Reading::set_head_at, crate::specs::Reading::entry_at))]
 pub fn ports_without_right_to_their_set()
     ensures vendor { port_record_at (slice_set PORT_WITH_SET_RECORD 3 0xF5) ≡ Err RecordFault.BadField }
+    ensures device_now { port_record_at (slice_set PORT_WITH_SET_RECORD 7 0xCE) ≡ Err RecordFault.BadField }
+    ensures mode { port_record_at (slice_set PORT_WITH_SET_RECORD 0 0x02) ≡ Err RecordFault.BadField }
     ensures no_check { port_record_at (slice_set PORT_WITH_SET_RECORD 1 0x00) ≡ Err RecordFault.BadField }
     ensures recorded { port_record_at (slice_set PORT_WITH_SET_RECORD 18 0x04) ≡ Err RecordFault.BadField }
+    ensures recorded_mode { port_record_at (slice_set PORT_WITH_SET_RECORD 17 0x02) ≡ Err RecordFault.BadField }
+    ensures set_vendor { port_record_at (slice_set PORT_WITH_SET_RECORD 26 0xF5) ≡ Err RecordFault.BadField }
     ensures device { port_record_at (slice_set PORT_WITH_SET_RECORD 30 0xCE) ≡ Err RecordFault.BadField }
+    ensures restore { port_record_at (slice_set PORT_WITH_SET_RECORD 1 0x04)
+        ≡ Ok (record { config = record example_config { validation = Validation.Restore }; revision = 1; stored = Some example_stored }, []) }
+{}
+
+/// Each field, at its least and greatest number and at those beside them.
+pub fn borders_of_fields()
+    ensures tag { map (λ n. field_at tag_field (n ∷ [])) (0 ∷ 1 ∷ 2 ∷ 3 ∷ 4 ∷ [])
+        ≡ Err RecordFault.BadTag ∷ Ok (tag.Configure, []) ∷ Ok (tag.Clear, []) ∷ Ok (tag.Store, []) ∷ Err RecordFault.BadTag ∷ [] }
+    ensures port { map (λ n. field_at port_field (n ∷ [])) (0 ∷ 1 ∷ 32 ∷ 33 ∷ [])
+        ≡ Err RecordFault.BadField ∷ Ok (1, []) ∷ Ok (32, []) ∷ Err RecordFault.BadField ∷ [] }
+    ensures mode { map (λ n. field_at mode_field (n ∷ [])) (0 ∷ 4 ∷ 5 ∷ [])
+        ≡ Ok (PortMode.Deactivated, []) ∷ Ok (PortMode.DigitalOutput, []) ∷ Err RecordFault.BadField ∷ [] }
+    ensures validation { map (λ n. field_at validation_field (n ∷ [])) (0 ∷ 4 ∷ 5 ∷ [])
+        ≡ Ok (Validation.NoCheck, []) ∷ Ok (Validation.Restore, []) ∷ Err RecordFault.BadField ∷ [] }
+    ensures device { field_at device_field (0x00 ∷ replicate 3 0xFF) ≡ Ok (16777215, []) }
+    ensures no_device { field_at device_field (0x01 ∷ replicate 3 0x00) ≡ Err RecordFault.BadField }
+    ensures flag { map (λ n. field_at flag_field (n ∷ [])) (0 ∷ 1 ∷ 2 ∷ [])
+        ≡ Ok (false, []) ∷ Ok (true, []) ∷ Err RecordFault.BadField ∷ [] }
+{}
+
+/// A vendor, a revision, a checksum and a count are any numbers of 2, 8, 4 and 2 octets.
+pub fn fields_of_any_number()
+    ensures vendor { field_at vendor_field (replicate 2 0xFF) ≡ Ok (65535, []) }
+    ensures revision { field_at revision_field (replicate 8 0xFF) ≡ Ok (18446744073709551615, []) }
+    ensures checksum { field_at checksum_field (replicate 4 0xFF) ≡ Ok (4294967295, []) }
+    ensures count { field_at count_field (replicate 2 0xFF) ≡ Ok (65535, []) }
+{}
+
+/// The fields of an entry: an Index that is not reserved, a Subindex that makes a new key, a length of
+/// 232 at most and with which the set counts 4,096 at most.
+pub fn fields_of_entries()
+    ensures index { map (λ n. field_at index_field (0 ∷ n ∷ [])) (0 ∷ 1 ∷ 2 ∷ 3 ∷ 4 ∷ []) ≡ Err RecordFault.BadField
+        ∷ Ok (1, []) ∷ Err RecordFault.BadField ∷ Err RecordFault.BadField ∷ Ok (4, []) ∷ [] }
+    ensures new_key { field_at (subindex_field example_set.entries 64) (1 ∷ []) ≡ Ok (record { index = 64; subindex = 1 }, []) }
+    ensures double_key { field_at (subindex_field example_set.entries 64) (0 ∷ []) ≡ Err RecordFault.BadField }
+    ensures longest { field_at (length_field []) (232 ∷ []) ≡ Ok (232, []) }
+    ensures too_long { field_at (length_field []) (233 ∷ []) ≡ Err RecordFault.BadField }
+    ensures fits { field_at (length_field nearly_full) (80 ∷ []) ≡ Ok (80, []) }
+    ensures too_large { field_at (length_field nearly_full) (81 ∷ []) ≡ Err RecordFault.BadField }
+{}
+
+/// Fields are judged from left to right: a tag before the port behind it, and each field before what is
+/// missing behind it.
+#[tactic(auto, unfolding(crate::specs::Reading::command_at, crate::specs::Reading::arguments_at, crate::specs::Reading::port_record_at, crate::specs::Reading::port_parts_at, crate::specs::Reading::stored_at, crate::specs::Reading::config_at, crate::specs::Reading::set_at, crate::specs::Reading::set_head_at))]
+pub fn faults_from_the_left()
+    ensures tag { command_at (0x04 ∷ 0x00 ∷ []) ≡ Err RecordFault.BadTag }
+    ensures no_port { command_at (0x02 ∷ []) ≡ Err RecordFault.Short }
+    ensures port { map (λ tag. command_at (tag ∷ 0x21 ∷ [])) (0x01 ∷ 0x02 ∷ 0x03 ∷ []) ≡ replicate 3 (Err RecordFault.BadField) }
+    ensures mode { command_at (take 3 (slice_set CONFIGURE_RECORD 2 5)) ≡ Err RecordFault.BadField }
+    ensures validation { command_at (take 4 (slice_set CONFIGURE_RECORD 3 5)) ≡ Err RecordFault.BadField }
+    ensures device { command_at (take 16 (slice_set STORE_RECORD 12 0x01)) ≡ Err RecordFault.BadField }
+    ensures flag { port_record_at (take 17 (slice_set PORT_WITH_SET_RECORD 16 0x02)) ≡ Err RecordFault.BadField }
+    ensures recorded { port_record_at (take 18 (slice_set PORT_WITH_SET_RECORD 17 5)) ≡ Err RecordFault.BadField }
+    ensures set { port_record_at (take 31 (slice_set PORT_WITH_SET_RECORD 27 0x01)) ≡ Err RecordFault.BadField }
+{}
+
+/// What follows a record is left unread.
+#[tactic(auto, unfolding(crate::specs::Reading::command_at, crate::specs::Reading::arguments_at, crate::specs::Reading::port_record_at, crate::specs::Reading::port_parts_at, crate::specs::Reading::stored_at, crate::specs::Reading::config_at))]
+pub fn octets_behind_a_record()
+    ensures clear { command_at (CLEAR_RECORD ++ 0xFF ∷ []) ≡ Ok (Clear 1, 0xFF ∷ []) }
+    ensures configure { command_at (CONFIGURE_RECORD ++ 0xFF ∷ []) ≡ Ok (Configure 1 example_config, 0xFF ∷ []) }
+    ensures port { port_record_at (PORT_RECORD ++ 0xFF ∷ [])
+        ≡ Ok (record { config = example_config; revision = 1; stored = None }, 0xFF ∷ []) }
+{}
+
+/// Memory may run out in a Store and in a port's record from the whole of the first entry on, which ends
+/// at octets 28 and 43, and not before; without a set it does not.
+#[tactic(auto, unfolding(crate::specs::Reading::store_begun_at, crate::specs::Reading::begun_behind, crate::specs::Reading::port_begun_at, crate::specs::Reading::stored_begun_at, crate::specs::Reading::set_begun_at, crate::specs::Reading::config_at, crate::specs::Reading::set_head_at, crate::specs::Reading::entry_at))]
+pub fn records_that_take_memory()
+    ensures store { IsOk (store_begun_at (take 28 STORE_RECORD)) }
+    ensures store_before { store_begun_at (take 27 STORE_RECORD) ≡ Err RecordFault.Short }
+    ensures no_entry { IsOk (store_begun_at (take 22 (slice_set STORE_RECORD 21 0))) }
+    ensures clear { store_begun_at CLEAR_RECORD ≡ Err RecordFault.BadTag }
+    ensures port { IsOk (port_begun_at (take 43 PORT_WITH_SET_RECORD)) }
+    ensures port_before { port_begun_at (take 42 PORT_WITH_SET_RECORD) ≡ Err RecordFault.Short }
+    ensures no_set { port_begun_at PORT_RECORD ≡ Err RecordFault.BadField }
 {}
