@@ -3,6 +3,7 @@ use Rattle.std.specs.Prelude.{ℕ, List, [], ◌∷◌, Option, None}
 use Rattle.iol_types.specs.Command.{CommandValue, Configure}
 use Rattle.iol_types.specs.Examples.{example_config, example_port}
 use Rattle.iol_types.specs.State.{State, empty_state}
+use Rattle.iol_types.specs.declared.config.Validation.{Validation}
 use Rattle.iol_core.specs.Core.{CoreView}
 use Rattle.iol_core.specs.declared.permit.Grant.{Grant}
 use Rattle.iol_core.specs.declared.permit.UploadGrant.{UploadGrant}
@@ -15,6 +16,10 @@ core_with durable queue permit = record { durable = durable; number = 7; queue =
 -- for worked examples: a Configure of port 1 (own)
 abbrev pub configure_one : CommandValue
 configure_one = Configure 1 example_config
+
+-- for worked examples: the same with this validation (own)
+abbrev pub configure_with : Validation → CommandValue
+configure_with validation = Configure 1 (record example_config { validation = validation })
 
 -- for worked examples: a core whose one port was never configured, and one whose port has a set (own)
 abbrev pub blank_core : List CommandValue → CoreView

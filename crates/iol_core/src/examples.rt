@@ -1,21 +1,27 @@
 //! Facts of a core, with values, for its definitions to be checked against: each is proved by computing.
 
-ghost use Rattle.std.specs.Prelude.{◌≡◌, ◌^◌, [], ◌∷◌, true, false, Some, None};
+ghost use Rattle.std.specs.Prelude.{◌≡◌, ◌-◌, ◌^◌, [], ◌∷◌, replicate, true, false, Some, None};
 ghost use Rattle.iol_types.specs.Command.{Configure, Clear};
+ghost use Rattle.iol_types.specs.Examples.{example_config, example_port, one_port};
 ghost use Rattle.iol_types.specs.declared.command.CommandFault.TheVariants.{UnknownPort};
 ghost use Rattle.iol_journal.specs.declared.header.TheConstants.{LAST_NUMBER};
+ghost use Rattle.iol_core.specs.Batches.{has_batch, acknowledged};
 ghost use Rattle.iol_core.specs.Core.{with_permit, live_number};
 ghost use Rattle.iol_core.specs.Downloads.{download_fault};
-ghost use Rattle.iol_core.specs.Examples.{blank_core, core_with_set, configure_one, grant_at};
+ghost use Rattle.iol_core.specs.Examples.{core_with, blank_core, core_with_set, configure_one, configure_with, grant_at};
 ghost use Rattle.iol_core.specs.Permits.{is_out};
-ghost use Rattle.iol_core.specs.Submit.{submit_fault, ticket_state};
+ghost use Rattle.iol_core.specs.Ports.{work_at, view_at};
+ghost use Rattle.iol_core.specs.Submit.{submit_fault, stopped_by, ticket_state};
 ghost use Rattle.iol_core.specs.Uploads.{upload_fault};
 ghost use Rattle.iol_core.specs.declared.core_value.TheConstants.{QUEUE_COMMANDS};
 ghost use Rattle.iol_core.specs.declared.download.DownloadFault.TheVariants as download;
-ghost use Rattle.iol_core.specs.declared.permit.Grant.TheVariants.{Upload};
-ghost use Rattle.iol_core.specs.declared.ticket.SubmitFault.TheVariants.{Command};
-ghost use Rattle.iol_core.specs.declared.ticket.TicketState.TheVariants.{Waiting, Durable};
+ghost use Rattle.iol_core.specs.declared.permit.Grant.TheVariants.{Upload, Download};
+ghost use Rattle.iol_core.specs.declared.stop.StopCause.TheVariants.{Closed, DiskFailed};
+ghost use Rattle.iol_core.specs.declared.ticket.SubmitFault.TheVariants.{Stopped, Command, QueueFull, Exhausted};
+ghost use Rattle.iol_core.specs.declared.ticket.TicketState.TheVariants.{Waiting, Durable, Unsure};
 ghost use Rattle.iol_core.specs.declared.upload.PermitFault.TheVariants as permit;
+
+use iol_types::Validation;
 
 /// At most 64 commands wait, and numbers go to 2^62.
 pub fn bounds()
@@ -32,13 +38,66 @@ pub fn a_submit()
     ensures waiting { ticket_state (blank_core (configure_one ∷ [])) 8 ≡ Waiting }
 {}
 
+/// A command is refused by its first cause: nothing more is taken, it does not pass, 64 wait, and the last number is 2^62.
+pub fn a_submit_that_is_refused()
+    ensures stopped { submit_fault (record (blank_core []) { stopped = Some Closed }) (Clear 2) ≡ Some Stopped }
+    ensures not_there { submit_fault (blank_core (replicate 64 (Clear 1))) (Clear 2) ≡ Some (Command UnknownPort) }
+    ensures room { submit_fault (blank_core (replicate 63 (Clear 1))) (Clear 1) ≡ None }
+    ensures full { submit_fault (blank_core (replicate 64 (Clear 1))) (Clear 1) ≡ Some QueueFull }
+    ensures last { submit_fault (record (blank_core []) { number = 2 ^ 62 - 1 }) (Clear 1) ≡ None }
+    ensures exhausted { submit_fault (record (blank_core []) { number = 2 ^ 62 }) (Clear 1) ≡ Some Exhausted }
+{}
+
+/// What waits may still be written where the master is shut down; once the disk has failed nobody knows, and that stays
+/// the cause.
+pub fn a_core_that_stopped()
+    ensures waiting { ticket_state (record (blank_core (configure_one ∷ [])) { stopped = Some Closed }) 8 ≡ Waiting }
+    ensures unsure { ticket_state (record (blank_core (configure_one ∷ [])) { stopped = Some DiskFailed }) 8 ≡ Unsure }
+    ensures durable { ticket_state (record (blank_core []) { stopped = Some DiskFailed }) 7 ≡ Durable }
+    ensures closed { stopped_by None Closed ≡ Closed }
+    ensures failed { stopped_by (Some Closed) DiskFailed ≡ DiskFailed }
+    ensures last_word { stopped_by (Some DiskFailed) Closed ≡ DiskFailed }
+{}
+
+/// A batch is there where a command waits, none is in flight, and the disk has not failed. Once it is acknowledged its
+/// commands are in the durable state, and the others wait.
+pub fn a_batch_of_a_core()
+    ensures nothing { has_batch (blank_core []) ≡ false }
+    ensures there { has_batch (blank_core (configure_one ∷ [])) ≡ true }
+    ensures in_flight { has_batch (record (blank_core (configure_one ∷ [])) { flight = 1 }) ≡ false }
+    ensures closed { has_batch (record (blank_core (configure_one ∷ [])) { stopped = Some Closed }) ≡ true }
+    ensures failed { has_batch (record (blank_core (configure_one ∷ [])) { stopped = Some DiskFailed }) ≡ false }
+    ensures acknowledged { acknowledged (record (blank_core (configure_one ∷ Clear 1 ∷ [])) { flight = 1 }) []
+        ≡ record (core_with (one_port example_config 1) (Clear 1 ∷ []) None) { number = 8 } }
+{}
+
+/// A port works with its live configuration and revision, and the checksum of its durable set; a client sees the durable
+/// port and its number.
+pub fn a_port_of_a_core()
+    ensures work { work_at (core_with_set (configure_with Validation.NoCheck ∷ [])) 1 ≡ Some (record {
+      config = record example_config { validation = Validation.NoCheck };
+      revision = 2;
+      checksum = Some 591;
+    }) }
+    ensures no_set { work_at (blank_core (configure_one ∷ [])) 1
+        ≡ Some (record { config = example_config; revision = 1; checksum = None }) }
+    ensures no_port { work_at (blank_core []) 2 ≡ None }
+    ensures view { view_at (core_with_set (Clear 1 ∷ [])) 1 ≡ Some (record { port = example_port; number = 7 }) }
+    ensures no_view { view_at (core_with_set []) 2 ≡ None }
+{}
+
 /// A port that was never configured gives no permit to upload; behind a Configure that waits it does, to its device
 /// alone and one at a time.
 pub fn a_permit_to_upload()
     ensures blank { upload_fault (blank_core []) 1 500 43981 ≡ Some permit.NotAllowed }
     ensures waits { upload_fault (blank_core (configure_one ∷ [])) 1 500 43981 ≡ None }
-    ensures vendor { upload_fault (blank_core (configure_one ∷ [])) 1 500 43982 ≡ Some permit.WrongDevice }
-    ensures taken { upload_fault (with_permit (blank_core (configure_one ∷ [])) 1 (Some (Upload (grant_at 1)))) 1 500 43981 ≡ Some permit.Taken }
+    ensures no_port { upload_fault (blank_core (configure_one ∷ [])) 2 500 43981 ≡ Some permit.NotAllowed }
+    ensures restore { upload_fault (blank_core (configure_with Validation.Restore ∷ [])) 1 500 43981 ≡ Some permit.NotAllowed }
+    ensures stopped { upload_fault (record (blank_core []) { stopped = Some Closed }) 1 500 43981 ≡ Some permit.Stopped }
+    ensures vendor { upload_fault (blank_core (configure_one ∷ [])) 1 501 43981 ≡ Some permit.WrongDevice }
+    ensures device { upload_fault (blank_core (configure_one ∷ [])) 1 500 43982 ≡ Some permit.WrongDevice }
+    ensures taken { upload_fault (with_permit (blank_core (configure_one ∷ [])) 1 (Some (Upload (grant_at 1)))) 1 500 43981
+        ≡ Some permit.Taken }
     ensures out { is_out (with_permit (blank_core []) 1 (Some (Upload (grant_at 1)))) (grant_at 1) ≡ true }
     ensures another { is_out (with_permit (blank_core []) 1 (Some (Upload (grant_at 1)))) (grant_at 2) ≡ false }
 {}
@@ -47,7 +106,12 @@ pub fn a_permit_to_upload()
 pub fn a_permit_to_download()
     ensures given { download_fault (core_with_set []) 1 500 43981 590 ≡ None }
     ensures same { download_fault (core_with_set []) 1 500 43981 591 ≡ Some download.Same }
+    ensures vendor { download_fault (core_with_set []) 1 501 43981 591 ≡ Some download.WrongDevice }
     ensures other { download_fault (core_with_set []) 1 500 43982 591 ≡ Some download.WrongDevice }
+    ensures taken { download_fault (with_permit (core_with_set []) 1 (Some Download)) 1 500 43981 591 ≡ Some download.Taken }
+    ensures no_port { download_fault (core_with_set []) 2 500 43981 590 ≡ Some download.NotAllowed }
+    ensures not_durable { download_fault (blank_core (configure_one ∷ [])) 1 500 43981 590 ≡ Some download.Empty }
+    ensures restore { download_fault (core_with_set (configure_with Validation.Restore ∷ [])) 1 500 43981 590 ≡ None }
     ensures cleared { download_fault (core_with_set (Clear 1 ∷ [])) 1 500 43981 590 ≡ Some download.Empty }
     ensures blank { download_fault (blank_core []) 1 500 43981 590 ≡ Some download.NotAllowed }
 {}

@@ -86,13 +86,15 @@ impl<F: Name> Pass<F> {
         Ok(Pass::at(board, seat, self.number))
     }
 
-    /// Both look. From then on what the other has seen begins what this pass has.
+    /// Both look, the other first. What each has seen then begins with what either had seen before, and what the other
+    /// has seen begins what this pass has.
     pub fn meet(&mut self, other: &mut Pass<F>)
         ensures kept { IsPrefix self.old self.new }
         ensures given { IsPrefix other.old other.new }
+        ensures brought { IsPrefix self.old other.new }
         ensures met { IsPrefix other.new self.new }
     {
-        other.look();
+        other.learn(&mut self.seat);
         self.learn(&mut other.seat);
     }
 
@@ -117,7 +119,7 @@ impl<F: Name> Pass<F> {
         self.number = look_at(&self.board, &mut self.seat);
     }
 
-    /// Ends the pass: from then on its seat says nothing.
+    /// Ends the pass: from then on its seat says nothing. No clause says so, as no value of the pass is left.
     pub fn retire(self) {
         let Pass {
             board,

@@ -2,4 +2,5 @@
 
 mod batches;
 mod commands;
+mod late;
 mod scene;

@@ -1,4 +1,4 @@
-//! Three batches that are published while a pass is in another thread.
+//! Batches that are published past passes, one of them in another thread.
 
 ghost use Rattle.std.specs.Prelude.{◌≡◌, ◌+◌, length, IfOk};
 ghost use Rattle.iol_journal.specs.Journals.{with_batch};
@@ -92,5 +92,37 @@ fn publish_three<F: Name + 'static, R: Threads + Wait + Abort + Sync>(
     here.meet(&mut there);
     assert!(rt; there.count() == 3 && here.count() == 3);
     there.retire();
+    Ok(())
+}
+
+#[test]
+fn passes_that_lag_behind_meet_at_the_newest(rt: HostRuntime) -> Result<(), Fail> {
+    let (journal, state) = empty_journal(rt.alloc())?;
+    let front = Front::new(rt.alloc(), journal.number(), &state)?;
+    publish_past_two::<Brand, _>(&rt, rt.alloc(), front, journal)
+}
+
+fn publish_past_two<F: Name, R: Abort>(
+    rt: &R,
+    alloc: Global,
+    front: Front,
+    journal: Journal<MemoryDisk>,
+) -> Result<(), Fail>
+    requires name { front ≡ F.front }
+    requires number { front.start.number ≡ journal.standing.number }
+{
+    let mut publisher = front.publisher::<F>();
+    let mut one = publisher.pass()?;
+    let mut two = publisher.pass()?;
+    let (journal, first) = written(alloc, journal)?;
+    publisher.publish(first);
+    assert!(rt; one.count() == 0 && two.count() == 0);
+    one.meet(&mut two);
+    assert!(rt; one.count() == 1 && two.count() == 1);
+    let (_, second) = written(alloc, journal)?;
+    publisher.publish(second);
+    assert!(rt; one.look() == 2 && two.count() == 1);
+    two.meet(&mut one);
+    assert!(rt; one.count() == 2 && two.count() == 2);
     Ok(())
 }

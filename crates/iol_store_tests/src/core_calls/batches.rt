@@ -33,8 +33,8 @@ fn take<F: Name, R: Abort>(rt: &R, core: &mut Core<F>, commands: usize) -> Batch
     batch
 }
 
-// Uploads a set to a port, and says whether it waits.
-fn upload<F: Name>(core: &mut Core<F>, at: PortId, set: Arc<DataSet>) -> bool
+/// Uploads a set to a port, and says whether it waits.
+pub fn upload<F: Name>(core: &mut Core<F>, at: PortId, set: Arc<DataSet>) -> bool
     requires { (set.value.vendor ≡ VENDOR) × (set.value.device ≡ DEVICE) }
 {
     let Ok(permit) = core.begin_upload(at, VENDOR, device(DEVICE), 1) else {
