@@ -1,27 +1,36 @@
-//! `iol_bench`, the program of `bench/run`: what a journal costs beside a plain file, measured by `iol_measure`. Without words
-//! it says how it is called.
+//! `iol_bench`, the program of `bench/run`: what durable commits, checkpoints and recoveries of a journal on an image file cost,
+//! beside the same calls of a plain file in the same folder. Without words it says how it is called.
+//!
+//! In come a folder and a number of rounds; out go medians and ratios, a line each. Modules in reading order: `commits` and
+//! `recovery`, the two measurements; `commands`, what is written; `plain`, the calls of a plain file; `statistics`. Nothing is
+//! promised of times.
 #![tactic(auto)]
 
-use iol_measure::{Asked, measure_commits, measure_recovery, read_words};
+mod commands;
+mod commits;
+mod plain;
+mod recovery;
+mod statistics;
+
+use commits::measure_commits;
+use recovery::measure_recovery;
 use std::process::ExitCode;
 
 const USAGE: &str = "usage: iol_bench FOLDER ROUNDS
 times a journal on files in FOLDER, which it makes and removes, in 1 to 99 rounds";
 
-fn measure(rt: &HostRuntime, folder: &str, rounds: usize) -> anyhow::Result<()> {
-    measure_commits(rt, folder, rounds)?;
-    measure_recovery(rt, folder, rounds)
-}
-
 fn main(rt: HostRuntime) -> anyhow::Result<ExitCode> {
     let words: Vec<String> = std::env::args(&rt)?.collect(rt.alloc())?;
-    match read_words(words.as_slice()) {
-        Asked::Usage => println!(&rt; "{USAGE}")?,
-        Asked::Measure { folder, rounds } => measure(&rt, folder, rounds)?,
-        Asked::Nothing => {
-            eprintln!(&rt; "{USAGE}")?;
-            return Ok(ExitCode::from(2));
-        }
+    let [_, folder, rounds] = words.as_slice() else {
+        println!(&rt; "{USAGE}")?;
+        return Ok(ExitCode::SUCCESS);
+    };
+    let rounds = rounds.as_str().parse::<usize>().unwrap_or(0);
+    if rounds < 1 || 99 < rounds {
+        eprintln!(&rt; "{USAGE}")?;
+        return Ok(ExitCode::from(2));
     }
+    measure_commits(&rt, folder.as_str(), rounds)?;
+    measure_recovery(&rt, folder.as_str(), rounds)?;
     Ok(ExitCode::SUCCESS)
 }

@@ -3,7 +3,7 @@
 use thiserror::Error;
 
 /// The kind of disk call that failed.
-#[derive(Clone, Copy, Debug, PartialEq, Eq, Hash, Error)]
+#[derive(Clone, Copy, Debug, PartialEq, Eq, Error)]
 pub enum DiskFault {
     #[error("a read of the disk failed")]
     Read,

@@ -8,7 +8,7 @@ use crate::disk::{SECTOR_OCTETS, SectorDisk};
 use crate::fault::DiskFault;
 
 /// When the call comes that fails.
-#[derive(Clone, Copy, Debug, PartialEq, Eq)]
+#[derive(Clone, Copy, PartialEq, Eq)]
 pub enum Due {
     /// Never.
     Never,

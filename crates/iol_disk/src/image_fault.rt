@@ -7,7 +7,7 @@ use std::io::{self, ErrorKind};
 use thiserror::Error;
 
 /// Why an image file is not made or opened.
-#[derive(Clone, Copy, Debug, PartialEq, Eq, Hash, Error)]
+#[derive(Clone, Copy, Debug, PartialEq, Eq, Error)]
 pub enum ImageFault {
     /// There is no such file, or it may not be opened; or it cannot be made, also where one is there.
     #[error("the image file cannot be opened or made")]

@@ -5,7 +5,7 @@ ghost use Rattle.iol_disk.specs.Stops.{IsPattern};
 use crate::disk::SECTOR_OCTETS;
 
 /// What a power stop leaves of each sector that was written since the last sync.
-#[derive(Clone, Copy, Debug, PartialEq, Eq, Hash)]
+#[derive(Clone, Copy, Debug, PartialEq, Eq)]
 pub enum Pick {
     /// Its durable octets.
     Old,

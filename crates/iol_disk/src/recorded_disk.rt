@@ -8,7 +8,7 @@ use crate::fault::DiskFault;
 use std::alloc::Global;
 
 /// A call of a disk, with the sector that it names.
-#[derive(Clone, Copy, Debug, PartialEq, Eq)]
+#[derive(Clone, Copy, PartialEq, Eq)]
 pub enum DiskCall {
     Read(usize),
     Write(usize),

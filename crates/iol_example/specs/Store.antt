@@ -1,9 +1,12 @@
 -- What a store answers.
-use Rattle.std.specs.Prelude.{◌≡◌, ◌<◌, ℕ, ◌+◌, true, IsTrue, [], ◌∷◌, Some, Result, Ok, Err}
+use Rattle.std.specs.Prelude.{◌≡◌, ◌<◌, ℕ, ◌+◌, nat_lt, if◌then◌else◌, true, IsTrue, List, [], ◌∷◌, ◌++◌, Some, Result, Ok, Err}
 use Rattle.iol_types.specs.Command.{CommandValue}
 use Rattle.iol_types.specs.State.{State}
+use Rattle.iol_disk.specs.Calls.{Call, Made, FailedIn}
 use Rattle.iol_disk.specs.Disk.{Disk}
+use Rattle.iol_journal.specs.Batches.{batch_calls}
 use Rattle.iol_journal.specs.Begin.{batch_refusal}
+use Rattle.iol_journal.specs.Checkpoints.{checkpoint_calls, checkpointed}
 use Rattle.iol_journal.specs.Geometry.{Geometry}
 use Rattle.iol_journal.specs.Journals.{JournalView}
 use Rattle.iol_journal.specs.Kept.{EachMeans}
@@ -17,6 +20,7 @@ use Rattle.iol_journal.specs.declared.cause.RecoverCause.TheVariants.{NotFormatt
 use Rattle.iol_journal.specs.declared.formatting.FormatFault.TheVariants.{TooSmall, AlreadyFormatted}
 use Rattle.iol_journal.specs.declared.journal.BeginCause.{BeginCause}
 use Rattle.iol_journal.specs.declared.journal.BeginCause.TheVariants.{Memory}
+use Rattle.iol_journal.specs.declared.place.Idle.{Idle}
 use Rattle.iol_example.specs.declared.store.CreateFault.{CreateFault}
 use Rattle.iol_example.specs.declared.store.CreateFault.TheVariants.{Format, Recover}
 use Rattle.iol_example.specs.declared.store.WriteFault.{WriteFault}
@@ -57,6 +61,31 @@ IfRefused answer P = Unit {0}
 abbrev pub IsRefusal : Standing → CommandValue → BeginCause → Type 0
 IsRefusal s command Memory = Unit {0}
 IsRefusal s command cause = batch_refusal s (s.number + 1) (command ∷ []) ≡ Some cause
+
+-- the disk calls that free a slot where none is free, and where the journal stands with one (own)
+abbrev pub freeing_calls : Standing → Idle → List Call
+freeing_calls s idle = if nat_lt s.used s.layout.slots then [] else checkpoint_calls s idle
+
+abbrev pub with_slot : Standing → Standing
+with_slot s = if nat_lt s.used s.layout.slots then s else checkpointed s
+
+-- the disk calls of a write: those that free a slot, and behind them those of the command's batch (own)
+abbrev pub write_calls : Standing → Idle → CommandValue → List Call
+write_calls s idle command = freeing_calls s idle ++ batch_calls (with_slot s) (command ∷ [])
+
+-- the first of the calls were made in their order, and each succeeded (own)
+pub record MadeFirst (calls : List Call) (old new : Disk) : Type 0 where
+  pub first : List Call
+  pub left : List Call
+  pub order : calls ≡ first ++ left
+  pub made : Made first old new
+
+-- the calls were made in their order: all of them, those before a refusal, or those up to one that failed, which was
+-- counted and whose fault is told (own)
+abbrev pub MakesCalls : {D : Type 0} → (D → Disk) → List Call → Disk → Result (JournalView D) (WriteFault D) → Type 0
+MakesCalls disk calls old (Ok behind) = Made calls old (disk behind.disk)
+MakesCalls disk calls old (Err (Refused back cause)) = MadeFirst calls old (disk back.disk)
+MakesCalls disk calls old (Err (Failed left fault)) = FailedIn calls fault old (disk left)
 
 -- a run after a write: another run, where the command is written; the run as it was, where it is refused; and a disk
 -- that failed leaves it a run (own)

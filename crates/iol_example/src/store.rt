@@ -5,7 +5,7 @@ ghost use Rattle.iol_types.specs.Command.{CommandValue, value_of};
 ghost use Rattle.iol_types.specs.State.{State, after, empty_state};
 ghost use Rattle.iol_disk.specs.Content.{IsImage};
 ghost use Rattle.iol_disk.specs.Moments.{LeavesOnly};
-ghost use Rattle.iol_journal.specs.Journals.{with_batch};
+ghost use Rattle.iol_journal.specs.Journals.{calls_left, with_batch};
 ghost use Rattle.iol_journal.specs.Kept.{KeptMeans, KeptEither, EachMeans};
 ghost use Rattle.iol_journal.specs.Meaning.{standing_in};
 ghost use Rattle.iol_journal.specs.Reading.{Shows, SaysWhy};
@@ -13,7 +13,19 @@ ghost use Rattle.iol_journal.specs.Recovery.{recovered_disk};
 ghost use Rattle.iol_journal.specs.Runs.{Run, with_batch_begun, with_batch_written};
 ghost use Rattle.iol_journal.specs.Running.{IsRunAtRest, IsRunWriting};
 ghost use Rattle.iol_journal.specs.Underway.{IsUnderway};
-ghost use Rattle.iol_example.specs.Store.{Rests, RestsAt, IsCreateFault, left_disk, IfRefused, IsRefusal, LeavesRun};
+ghost use Rattle.iol_example.specs.Store.{
+  Rests,
+  RestsAt,
+  IsCreateFault,
+  left_disk,
+  IfRefused,
+  IsRefusal,
+  LeavesRun,
+  freeing_calls,
+  with_slot,
+  write_calls,
+  MakesCalls,
+};
 
 use iol_disk::{DiskFault, SectorDisk};
 use iol_journal::{
@@ -24,7 +36,7 @@ use iol_types::{Command, MasterState};
 use std::alloc::Global;
 
 /// Why a disk has no new store.
-#[derive(Clone, Copy, Debug, PartialEq, Eq)]
+#[derive(Clone, Copy)]
 pub enum CreateFault {
     /// It was not formatted.
     Format(FormatFault),
@@ -37,7 +49,9 @@ pub enum CreateFault {
 pub enum WriteFault<D: SectorDisk> {
     /// It was refused, and the store goes on without it.
     Refused(Journal<D>, BeginCause),
-    /// A call of the disk failed. The disk is to be opened again, and then has the command or has it not.
+    /// A call of the disk failed. A disk of which a sync has failed is not gone on with: many systems drop the pages of a
+    /// failed sync and answer the next with success. Behind another fault it is to be opened again, and then has the command
+    /// or has it not.
     Failed(D, DiskFault),
 }
 
@@ -100,6 +114,8 @@ pub fn write<D: SectorDisk + Drop>(
     // Each image has it.
     ensures durable { Rests D.disk journal
         → IfOk result (RestsAt D.disk (journal.standing.number + 1) (after journal.standing.state (value_of command ∷ []))) }
+    // These disk calls are made, up to one that failed: its failure was counted, and its fault is told.
+    ensures calls { MakesCalls D.disk (write_calls journal.standing journal.idle (value_of command)) (D.disk journal.disk) result }
     // Memory ran out, or the batch of the command is refused where the journal stands.
     ensures cause { IfRefused result (λ back cause. IsRefusal back.standing (value_of command) cause) }
     // Each image means what it meant.
@@ -124,6 +140,8 @@ fn with_free_slot<D: SectorDisk + Drop>(journal: Journal<D>) -> Result<Journal<D
     ensures any_moment { Rests D.disk journal → LeavesOnly (D.disk journal.disk) (D.disk (left_disk result))
         (KeptMeans (D.disk journal.disk).sectors journal.standing.number journal.standing.state) }
     ensures same { IfOk result (λ freed. (freed.standing.number ≡ journal.standing.number) × (freed.standing.state ≡ journal.standing.state)) }
+    ensures slot { IfOk result (λ freed. freed.standing ≡ with_slot journal.standing) }
+    ensures calls { MakesCalls D.disk (freeing_calls journal.standing journal.idle) (D.disk journal.disk) result }
     ensures rests { Rests D.disk journal → IfOk result (Rests D.disk) }
     ensures refused { IfRefused result (λ back cause. (back ≡ journal) × (cause ≡ BeginCause.Memory)) }
     ensures run { (r : Run) → IsRunAtRest D.disk r journal → LeavesRun D.disk r r result }
@@ -149,6 +167,7 @@ fn finish<D: SectorDisk + Drop>(mut writing: Writing<D>) -> Result<Journal<D>, W
     ensures any_moment { IsUnderway D.disk writing → LeavesOnly (D.disk writing.disk) (D.disk (left_disk result))
         (KeptEither (D.disk writing.disk).sectors writing.standing.number writing.standing.state writing.commands) }
     ensures done { IfOk result (λ behind. behind.standing ≡ with_batch writing.standing writing.commands) }
+    ensures calls { MakesCalls D.disk (calls_left writing) (D.disk writing.disk) result }
     ensures rests { IsUnderway D.disk writing → IfOk result (Rests D.disk) }
     ensures taken { IfRefused result (λ _ _. ⊥) }
     ensures run { (r : Run) → IsRunWriting D.disk r writing → LeavesRun D.disk r (with_batch_written r) result }

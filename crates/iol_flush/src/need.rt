@@ -1,7 +1,7 @@
 //! What the flusher needs next.
 
 /// The call that a flusher needs next.
-#[derive(Clone, Copy, Debug, PartialEq, Eq)]
+#[derive(Clone, Copy, PartialEq, Eq)]
 pub enum Need {
     /// A batch: [`give`](crate::Flusher::give).
     Batch,

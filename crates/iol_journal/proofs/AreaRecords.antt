@@ -9,6 +9,7 @@ use Rattle.iol_record.specs.declared.encode.TheConstants.{LARGEST_PORT_RECORD}
 use Rattle.iol_record.proofs.RecordLaws.{length-port_octets, port_record_at-record}
 use Rattle.iol_disk.specs.Content.{Image}
 use Rattle.iol_disk.specs.Calls.{write}
+use Rattle.iol_disk.specs.declared.disk.TheConstants.{SECTOR_OCTETS}
 use Rattle.iol_journal.specs.AreaWrites.{record_writes, port_writes, IsRow, HasWrites}
 use Rattle.iol_journal.specs.Layout.{Layout, port_at}
 use Rattle.iol_journal.specs.Meaning.{port_of, port_in, ports_from}
@@ -29,10 +30,10 @@ ports-append (port ∷ first) second a b = (a.0, ports-append first second a.1 b
 -- ---- one record
 
 -- octets that were padded fill their sectors
-pub length-padded : (octets : List ℕ) → length (padded octets) ≡ 512 * sectors_reached (length octets)
+pub length-padded : (octets : List ℕ) → length (padded octets) ≡ SECTOR_OCTETS * sectors_reached (length octets)
 unfolding padded
 length-padded octets =
-    let zeros = 512 * sectors_reached (length octets) - length octets in
+    let zeros = SECTOR_OCTETS * sectors_reached (length octets) - length octets in
     omega (arith, length-append octets (replicate {A = ℕ} zeros 0), length-replicate {A = ℕ} zeros 0)
 
 -- whatever stands behind them, they are read as the port whose record they are
@@ -40,15 +41,15 @@ read-padded : (port : Port) (rest : List ℕ) → IsPort port → port_of (port_
 unfolding padded
 read-padded port rest is =
     let octets = port_octets port in
-    let zeros = replicate {A = ℕ} (512 * sectors_reached (length octets) - length octets) 0 in
+    let zeros = replicate {A = ℕ} (SECTOR_OCTETS * sectors_reached (length octets) - length octets) 0 in
     ap (λ (all : List ℕ). port_of (port_record_at all)) (append_assoc octets zeros rest)
     ∙ ap port_of (port_record_at-record octets (zeros ++ rest) port (record { spelling = refl; in_range = is }))
 
 -- a record reaches nine sectors at most
-reaches : (port : Port) (sectors : ℕ) → IsPort port → LARGEST_PORT_RECORD ≤ 512 * sectors → sectors_reached (length (port_octets port)) ≤ sectors
+reaches : (port : Port) (sectors : ℕ) → IsPort port → LARGEST_PORT_RECORD ≤ SECTOR_OCTETS * sectors → sectors_reached (length (port_octets port)) ≤ sectors
 reaches port sectors is room = let long = length-port_octets port is in omega (arith, long.1, room)
 
-port-read : (image : Image) (first sectors : ℕ) (port : Port) → IsPort port → LARGEST_PORT_RECORD ≤ 512 * sectors
+port-read : (image : Image) (first sectors : ℕ) (port : Port) → IsPort port → LARGEST_PORT_RECORD ≤ SECTOR_OCTETS * sectors
     → HasWrites (record_writes first (port_octets port)) image → port_in image first sectors ≡ Ok port
 port-read image first sectors port is room has = read_at (octets_at-in_slot image (padded octets) first reached sectors there (length-padded octets) (reaches port sectors is room))
   where
@@ -67,14 +68,14 @@ port-read image first sectors port is room has = read_at (octets_at-in_slot imag
         ap (λ (all : List ℕ). port_of (port_record_at all)) at ∙ read-padded port rest is in
         rw found refl
 
-record-row : (first sectors : ℕ) (port : Port) → IsPort port → LARGEST_PORT_RECORD ≤ 512 * sectors → IsRow first (first + sectors) (record_writes first (port_octets port))
+record-row : (first sectors : ℕ) (port : Port) → IsPort port → LARGEST_PORT_RECORD ≤ SECTOR_OCTETS * sectors → IsRow first (first + sectors) (record_writes first (port_octets port))
 record-row first sectors port is room =
     row-map (λ j. first + j) (λ j. sector_of (padded (port_octets port)) j) first (first + sectors) 0 (sectors_reached (length (port_octets port)))
     (λ k. omega arith) (omega arith) (omega (arith, reaches port sectors is room))
 
 -- ---- the records of all ports
 
-module _ (layout : Layout) (a : Area) (room : LARGEST_PORT_RECORD ≤ 512 * layout.port_sectors) where
+module _ (layout : Layout) (a : Area) (room : LARGEST_PORT_RECORD ≤ SECTOR_OCTETS * layout.port_sectors) where
   pub records-row : (p : ℕ) (ports : State) → ArePorts ports → IsRow (port_at layout a p) (port_at layout a (p + length ports)) (port_writes layout a p ports)
   records-row p [] are = omega arith
   records-row p (port ∷ ports) are =

@@ -12,6 +12,7 @@ use Rattle.iol_types.specs.declared.command.Command.{Command}
 use Rattle.iol_record.specs.Record.{IsCommandRecord, command_octets}
 use Rattle.iol_record.proofs.RecordLaws.{command_at-record}
 use Rattle.iol_disk.specs.Content.{Image}
+use Rattle.iol_disk.specs.declared.disk.TheConstants.{SECTOR_OCTETS}
 use Rattle.iol_journal.specs.Octets.{number_at, octets_at, padded, sectors_reached, sector_of}
 use Rattle.iol_journal.specs.Journals.{values}
 use Rattle.iol_journal.specs.Body.{commands_of, fits, head_of, batch_of, records_of, head_octets, body_octets}
@@ -48,26 +49,26 @@ encodes-all octets commands encodes =
     ∙ encodes.reads 0 [] [] refl
     ∙ ap Some (append-nil commands)
 
-behind : (image : Image) (body : List ℕ) (first k n : ℕ) → ((j : ℕ) → k ≤ j → j < k + n → image (first + j) ≡ sector_of body j) → length body ≡ 512 * (k + n)
-    → octets_at image (first + k) n ≡ drop (512 * k) body
+behind : (image : Image) (body : List ℕ) (first k n : ℕ) → ((j : ℕ) → k ≤ j → j < k + n → image (first + j) ≡ sector_of body j) → length body ≡ SECTOR_OCTETS * (k + n)
+    → octets_at image (first + k) n ≡ drop (SECTOR_OCTETS * k) body
 unfolding octets_at
 behind image body first k zero written whole = sym (drop_of_length-le body (omega arith))
 behind image body first k (suc n) written whole =
     let here : image (first + k) ≡ sector_of body k = written k (omega arith) (omega arith) in
     let place : first + k + 1 ≡ first + (k + 1) = omega arith in
-    let there : octets_at image (first + (k + 1)) n ≡ drop (512 * (k + 1)) body = behind image body first (k + 1) n (λ j above below. written j (omega arith) (omega arith)) (omega arith) in
-    let width : 512 * (k + 1) - 512 * k ≡ 512 = omega arith in
-    let next : 512 * (k + 1) ≡ 512 * k + 512 = omega arith in
-    rw (place, here, there, width, next, ← drop-drop) (take-append-drop 512 (drop (512 * k) body))
+    let there : octets_at image (first + (k + 1)) n ≡ drop (SECTOR_OCTETS * (k + 1)) body = behind image body first (k + 1) n (λ j above below. written j (omega arith) (omega arith)) (omega arith) in
+    let width : SECTOR_OCTETS * (k + 1) - SECTOR_OCTETS * k ≡ SECTOR_OCTETS = omega arith in
+    let next : SECTOR_OCTETS * (k + 1) ≡ SECTOR_OCTETS * k + SECTOR_OCTETS = omega arith in
+    rw (place, here, there, width, next, ← drop-drop) (take-append-drop SECTOR_OCTETS (drop (SECTOR_OCTETS * k) body))
 
 -- a body that lies sector by sector in an image is read as it is
-pub octets_at-body : (image : Image) (body : List ℕ) (first n : ℕ) → ((j : ℕ) → j < n → image (first + j) ≡ sector_of body j) → length body ≡ 512 * n
+pub octets_at-body : (image : Image) (body : List ℕ) (first n : ℕ) → ((j : ℕ) → j < n → image (first + j) ≡ sector_of body j) → length body ≡ SECTOR_OCTETS * n
     → octets_at image first n ≡ body
 octets_at-body image body first n written whole =
     ap (λ (place : ℕ). octets_at image place n) (sym (add-zero first)) ∙ behind image body first 0 n (λ j above below. written j (omega arith)) (omega arith)
 
 -- whatever stands in the sectors behind it
-pub octets_at-in_slot : (image : Image) (body : List ℕ) (first n m : ℕ) → ((j : ℕ) → j < n → image (first + j) ≡ sector_of body j) → length body ≡ 512 * n → n ≤ m
+pub octets_at-in_slot : (image : Image) (body : List ℕ) (first n m : ℕ) → ((j : ℕ) → j < n → image (first + j) ≡ sector_of body j) → length body ≡ SECTOR_OCTETS * n → n ≤ m
     → (rest : List ℕ) × (octets_at image first m ≡ body ++ rest)
 octets_at-in_slot image body first n m written whole le =
     let split : m ≡ n + (m - n) = omega arith in (
@@ -117,13 +118,13 @@ batch_of-body epoch first commands rest small some most short last is =
 
 -- the sectors of a body
 pub length-body : (epoch first : ℕ) (commands : List CommandValue)
-    → length (body_octets epoch first commands) ≡ 512 * sectors_reached (BODY_HEAD_OCTETS + length (records_of commands))
+    → length (body_octets epoch first commands) ≡ SECTOR_OCTETS * sectors_reached (BODY_HEAD_OCTETS + length (records_of commands))
 unfolding body_octets padded
 length-body epoch first commands =
     let records = records_of commands in
     let front = head_octets epoch first (length commands) (length records) ++ records in
     let size : length front ≡ BODY_HEAD_OCTETS + length records = length-append (head_octets epoch first (length commands) (length records)) records in
-    let zeros = 512 * sectors_reached (length front) - length front in
+    let zeros = SECTOR_OCTETS * sectors_reached (length front) - length front in
     omega (arith, length-append front (replicate {A = ℕ} zeros 0), length-replicate {A = ℕ} zeros 0, size)
 
 -- whatever follows a body in its slot, it is read as its commands
@@ -135,7 +136,7 @@ unfolding body_octets padded
 batch_of-body_octets epoch first commands rest small some most short last is =
     let head = head_octets epoch first (length commands) (length (records_of commands)) in
     let records = records_of commands in
-    let zeros = replicate {A = ℕ} (512 * sectors_reached (length (head ++ records)) - length (head ++ records)) 0 in
+    let zeros = replicate {A = ℕ} (SECTOR_OCTETS * sectors_reached (length (head ++ records)) - length (head ++ records)) 0 in
     ap (batch_of epoch first) (append_assoc (head ++ records) zeros rest ∙ append_assoc head records (zeros ++ rest))
     ∙ batch_of-body epoch first commands (zeros ++ rest) small some most short last is
 

@@ -15,6 +15,7 @@ use Rattle.iol_journal.specs.Body.{batch_of}
 use Rattle.iol_journal.specs.Meaning.{Standing}
 use Rattle.iol_journal.specs.Kept.{IsKeptAs, KeptEither, EachMeans}
 use Rattle.iol_disk.specs.Calls.{content_after, Made}
+use Rattle.iol_disk.specs.declared.disk.TheConstants.{SECTOR_OCTETS}
 use Rattle.iol_journal.specs.Batches.{body_for, sectors_for, call_of, next_phase, IsPhase}
 use Rattle.iol_journal.specs.Journals.{standing_at, with_batch, IsPlanned}
 use Rattle.iol_journal.specs.Underway.{EachKept, IsAtRest, HasWritten, IsBetween, Holds}
@@ -32,7 +33,7 @@ use Rattle.iol_journal.proofs.Rows.{left_behind}
 -- a batch for the first free slot
 pub record IsFit (s : Standing) (commands : List CommandValue) (body : List ℕ) (sectors : ℕ) : Type 0 where
   pub room : s.used < s.layout.slots
-  pub whole : length body ≡ 512 * sectors
+  pub whole : length body ≡ SECTOR_OCTETS * sectors
   pub short : sectors ≤ BODY_SECTORS
   pub read_back : (rest : List ℕ) → batch_of s.epoch (s.number + 1) (body ++ rest) ≡ Some commands
   pub passes : legal s.state commands ≡ true

@@ -3,6 +3,7 @@ use Rattle.std.proofs.Common.{◌≡◌, ◌<◌, ℕ, ◌+◌, ◌-◌, ◌*◌
 use Rattle.std.proofs.lemmas.List.{take_more_set}
 use Rattle.iol_types.specs.State.{Port, State, with_port}
 use Rattle.iol_disk.specs.Content.{Image}
+use Rattle.iol_disk.specs.declared.disk.TheConstants.{SECTOR_OCTETS}
 use Rattle.iol_slots.specs.Gate.{is_open}
 use Rattle.iol_journal.specs.Layout.{Layout}
 use Rattle.iol_journal.specs.Layout.{body_at}
@@ -42,7 +43,7 @@ all_read sectors image layout used ports log laid_out in_use state is = rw (stan
 
 -- an open slot, whose body leads on, or does not
 pub slot_reached : (image : Image) (layout : Layout) (a : Area) (epoch k number sector : ℕ) (state : State) (body : List ℕ) (end : Option Meaning)
-    → sector ≡ body_at layout a k 0 → body ≡ octets_at image sector BODY_SECTORS → length body ≡ 512 * BODY_SECTORS
+    → sector ≡ body_at layout a k 0 → body ≡ octets_at image sector BODY_SECTORS → length body ≡ SECTOR_OCTETS * BODY_SECTORS
     → (HoldsRecords body → reached number state (batch_of epoch (number + 1) body) ≡ end)
     → reached number state (batch_of epoch (number + 1) (octets_at image (body_at layout a k 0) BODY_SECTORS)) ≡ end
 slot_reached image layout a epoch k number sector state body end at is size leads =

@@ -6,6 +6,7 @@ use Rattle.std.proofs.lemmas.Bool.Decides.{nat_tests}
 use Rattle.std.proofs.lemmas.List.{append-nil, take-append-le, drop-append-le, length-drop}
 use Rattle.iol_disk.specs.Content.{Image, reads}
 use Rattle.iol_disk.specs.Disk.{Disk, Same}
+use Rattle.iol_disk.specs.declared.disk.TheConstants.{SECTOR_OCTETS}
 use Rattle.iol_journal.specs.Octets.{number_at, octets_at}
 use Rattle.iol_journal.specs.Body.{head_of, fits, commands_of, batch_of}
 use Rattle.iol_journal.specs.Reading.{Shows}
@@ -86,8 +87,8 @@ pub record HaveRead (image : Image) (sector n : ℕ) (front body : List ℕ) : T
   pub within : n ≤ BODY_SECTORS
   pub first : front ≡ octets_at image sector 1
   pub all : body ≡ octets_at image sector n
-  pub front_size : length front ≡ 512
-  pub size : length body ≡ 512 * n
+  pub front_size : length front ≡ SECTOR_OCTETS
+  pub size : length body ≡ SECTOR_OCTETS * n
   pub reach : number_at w32 18 front ≤ MOST_RECORD_OCTETS → BODY_HEAD_OCTETS + number_at w32 18 front ≤ length body
 
 pub holds_records : (image : Image) (sector n : ℕ) (front body : List ℕ) → HaveRead image sector n front body → HoldsRecords body

@@ -11,6 +11,7 @@ use Rattle.iol_record.specs.Record.{port_octets}
 use Rattle.iol_record.specs.declared.encode.TheConstants.{LARGEST_PORT_RECORD}
 use Rattle.iol_record.proofs.RecordLaws.{length-port_octets}
 use Rattle.iol_disk.specs.Calls.{Call, write}
+use Rattle.iol_disk.specs.declared.disk.TheConstants.{SECTOR_OCTETS}
 use Rattle.iol_journal.specs.AreaPlans.{AreRecords, write_of}
 use Rattle.iol_journal.specs.AreaWrites.{record_writes, port_writes, IsRow}
 use Rattle.iol_journal.specs.Layout.{Layout, port_at, slot_at}
@@ -61,13 +62,13 @@ is-there None state number place at below is =
 -- one record more
 pub record-pushed : (layout : Layout) (a : Area) (state : State) (place first : ℕ) (port : Port) (octets : List ℕ) (old new all : List Call)
     → slice_get state place ≡ Some port → first ≡ port_at layout a place → octets ≡ padded (port_octets port)
-    → new ≡ old ++ map (λ j. write (first + j) (sector_of octets j)) (range_with_len 0 (length octets / 512))
+    → new ≡ old ++ map (λ j. write (first + j) (sector_of octets j)) (range_with_len 0 (length octets / SECTOR_OCTETS))
     → old ++ port_writes layout a place (drop place state) ≡ all → new ++ port_writes layout a (place + 1) (drop (place + 1) state) ≡ all
 record-pushed layout a state place first port octets old new all there at spelled pushed so_far =
     let rest = port_writes layout a (place + 1) (drop (place + 1) state) in
     let next : suc place ≡ place + 1 = omega arith in
-    let reached : length octets / 512 ≡ sectors_reached (length (port_octets port)) = omega (arith, ap (λ (os : List ℕ). length os) spelled, length-padded (port_octets port)) in
-    let written : map (λ j. write (first + j) (sector_of octets j)) (range_with_len 0 (length octets / 512)) ≡ record_writes (port_at layout a place) (port_octets port) =
+    let reached : length octets / SECTOR_OCTETS ≡ sectors_reached (length (port_octets port)) = omega (arith, ap (λ (os : List ℕ). length os) spelled, length-padded (port_octets port)) in
+    let written : map (λ j. write (first + j) (sector_of octets j)) (range_with_len 0 (length octets / SECTOR_OCTETS)) ≡ record_writes (port_at layout a place) (port_octets port) =
     ap (λ (n : ℕ). map (λ j. write (first + j) (sector_of octets j)) (range_with_len 0 n)) reached
     ∙ ap (λ (n : ℕ). map (λ j. write (n + j) (sector_of octets j)) (range_with_len 0 (sectors_reached (length (port_octets port))))) at
     ∙ ap (λ (os : List ℕ). map (λ j. write (port_at layout a place + j) (sector_of os j)) (range_with_len 0 (sectors_reached (length (port_octets port))))) spelled in
@@ -87,7 +88,7 @@ port-more state place port there is are =
 pub record-short : (port : Port) (octets : List ℕ) → octets ≡ padded (port_octets port) → IsPort port → length octets ≤ 4608
 record-short port octets spelled is = omega (arith, ap (λ (os : List ℕ). length os) spelled, length-padded (port_octets port), (length-port_octets port is).1)
 
-pub are-records : (layout : Layout) (a : Area) (state : State) → LARGEST_PORT_RECORD ≤ 512 * layout.port_sectors → length state ≡ layout.ports → ArePorts state
+pub are-records : (layout : Layout) (a : Area) (state : State) → LARGEST_PORT_RECORD ≤ SECTOR_OCTETS * layout.port_sectors → length state ≡ layout.ports → ArePorts state
     → AreRecords layout a state
 are-records layout a state room count are = record {
   row =

@@ -56,9 +56,10 @@ marks_by old new r s same passes goes run = record {
   marks = subst (All (IsMarked new s)) (sym same) (λ k mark below. goes (slice_index_or r.marks k mark) (run.marks k mark below));
 }
 
--- calls that add no image keep it
-pub no_image_added : (old new : Disk) (r : Run) → LeavesOnly old new (IsImage old.content) → IsRun old r → IsRun new r
-no_image_added old new r leaves run = marks_by old new r r refl run.passes goes run
+-- calls keep it of which a stop leaves images that have P, where each image with P has what a mark says
+keeps : (old new : Disk) (r : Run) (P : Image → Type 0) → LeavesOnly old new P
+    → ((mark : Mark) → IsMarked old r mark → IsTrue old.honest → (image : Image) → P image → Has old.sectors r mark.acknowledged image) → IsRun old r → IsRun new r
+keeps old new r P leaves has run = marks_by old new r r refl run.passes goes run
   where
     goes : (mark : Mark) → IsMarked old r mark → IsMarked new r mark
     goes mark was = record {
@@ -67,22 +68,17 @@ no_image_added old new r leaves run = marks_by old new r r refl run.passes goes 
       each = λ h image left.
           let h0 = subst IsTrue leaves.honest h in
           subst (λ (n : ℕ). Has n r mark.acknowledged image) (sym leaves.sectors)
-          (was.each h0 image (⊎_elim (λ before. before) (λ is. inr is) (leaves.before h0 mark.clock image (was.passed h0) left)));
+          (⊎_elim (was.each h0 image) (has mark was h0 image) (leaves.before h0 mark.clock image (was.passed h0) left));
     }
+
+-- calls that add no image keep it
+pub no_image_added : (old new : Disk) (r : Run) → LeavesOnly old new (IsImage old.content) → IsRun old r → IsRun new r
+no_image_added old new r leaves = keeps old new r (IsImage old.content) leaves (λ mark was h image is. was.each h image (inr is))
 
 -- calls of which a stop leaves images with all that is written keep it
 pub stays : (old new : Disk) (r : Run) (P : Image → Type 0) → LeavesOnly old new P → ((image : Image) → P image → HasPrefix old.sectors r.first r.start (accepted r) (number_of r) image) → IsRun old r → IsRun new r
-stays old new r P leaves has run = marks_by old new r r refl run.passes goes run
-  where
-    goes : (mark : Mark) → IsMarked old r mark → IsMarked new r mark
-    goes mark was = record {
-      written = was.written;
-      passed = λ h. let h0 = subst IsTrue leaves.honest h in omega (arith, was.passed h0, leaves.later h0);
-      each = λ h image left.
-          let h0 = subst IsTrue leaves.honest h in
-          subst (λ (n : ℕ). Has n r mark.acknowledged image) (sym leaves.sectors)
-          (⊎_elim (was.each h0 image) (λ p. fewer old.sectors r (number_of r) mark.acknowledged image was.written (has image p)) (leaves.before h0 mark.clock image (was.passed h0) left));
-    }
+stays old new r P leaves has =
+    keeps old new r P leaves (λ mark was h image p. fewer old.sectors r (number_of r) mark.acknowledged image was.written (has image p))
 
 -- those of a checkpoint
 pub checkpoint_stays : (old new : Disk) (r : Run) → LeavesOnly old new (KeptMeans old.sectors (number_of r) (state_of r)) → IsRun old r → IsRun new r

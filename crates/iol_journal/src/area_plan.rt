@@ -15,7 +15,7 @@ use iol_types::MasterState;
 use std::alloc::{AllocError, Global};
 
 // What is to be written into an area, but for its gate: a formatted disk's first area, or the other area at a checkpoint.
-#[derive(Debug, Drop)]
+#[derive(Drop)]
 pub(crate) struct AreaPlan {
     pub layout: Layout,
     pub area: Area,

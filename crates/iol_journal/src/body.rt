@@ -15,7 +15,7 @@ use iol_types::Command;
 use std::alloc::{AllocError, Global};
 
 /// What stands before the records in a slot's body (docs/FORMATS.md, "Slots").
-#[derive(Clone, Copy, Debug, PartialEq, Eq)]
+#[derive(Clone, Copy)]
 pub struct Head {
     pub epoch: u64,
     /// The number of the first command.

@@ -24,7 +24,7 @@ pub(crate) const GEOMETRY_MARK: [u8; 5] = [0x49, 0x4F, 0x4C, 0x53, 0x01];
 
 /// The ports and slots of a journal, and with them where everything stands on its disk
 /// (docs/FORMATS.md, "Disk layout").
-#[derive(Clone, Copy, Debug, PartialEq, Eq)]
+#[derive(Clone, Copy)]
 pub struct Geometry {
     ports: u8,
     slots: u16,

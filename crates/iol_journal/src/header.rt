@@ -10,7 +10,7 @@ use iol_disk::SECTOR_OCTETS;
 pub const LAST_NUMBER: u64 = 1 << 62;
 
 /// The header of an area (docs/FORMATS.md, "Headers").
-#[derive(Clone, Copy, Debug, PartialEq, Eq)]
+#[derive(Clone, Copy)]
 pub struct Header {
     /// The open area with the greater epoch is in use. 0 where the area was never in use.
     pub epoch: u64,

@@ -8,7 +8,7 @@ use std::marker::Model;
 // Where everything stands on the disk of a geometry (docs/FORMATS.md, "Disk layout").
 //
 // All places are asked of it, so that another layout of an area's sectors is another value of this type.
-#[derive(Clone, Copy, Debug, PartialEq, Eq)]
+#[derive(Clone, Copy)]
 pub(crate) struct Layout {
     geometry: Geometry,
 }

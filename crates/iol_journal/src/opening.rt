@@ -38,14 +38,14 @@ pub(crate) fn find_layout<D: SectorDisk>(disk: &mut D) -> Result<Layout, Recover
 }
 
 /// The area in use, and its header.
-#[derive(Clone, Copy, Debug, PartialEq, Eq)]
+#[derive(Clone, Copy)]
 pub struct InUse {
     pub area: Area,
     pub header: Header,
 }
 
 // The area in use, and the header of the other.
-#[derive(Clone, Copy, Debug, PartialEq, Eq)]
+#[derive(Clone, Copy)]
 pub(crate) struct Areas {
     pub in_use: InUse,
     pub other: Header,

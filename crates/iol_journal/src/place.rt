@@ -5,7 +5,7 @@ use crate::layout::Layout;
 use iol_slots::Slot;
 
 /// How the area that is not in use is harmless.
-#[derive(Clone, Copy, Debug, PartialEq, Eq)]
+#[derive(Clone, Copy)]
 pub enum Idle {
     /// Its header is older.
     Older,
@@ -14,7 +14,7 @@ pub enum Idle {
 }
 
 // Where a journal writes next.
-#[derive(Clone, Copy, Debug, PartialEq, Eq)]
+#[derive(Clone, Copy)]
 pub(crate) struct Place {
     pub layout: Layout,
     pub area: Area,

@@ -18,7 +18,7 @@ use iol_types::{MasterState, PortId, PortState};
 use std::alloc::{AllocError, Global};
 
 // A sector of a port's record, and where it stands.
-#[derive(Debug, Drop)]
+#[derive(Drop)]
 pub(crate) struct RecordSector {
     pub sector: usize,
     pub octets: [u8; SECTOR_OCTETS],

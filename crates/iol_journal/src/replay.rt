@@ -29,7 +29,7 @@ use iol_types::{Command, MasterState};
 use std::alloc::{AllocError, Global};
 
 // Where a journal goes on behind the slots that were replayed.
-#[derive(Clone, Copy, Debug, PartialEq, Eq)]
+#[derive(Clone, Copy)]
 pub(crate) struct End {
     pub used: usize,
     pub number: u64,

@@ -5,7 +5,7 @@ ghost use Rattle.std.specs.Prelude.{◌≡◌};
 use crate::place::Idle;
 
 /// The disk call that comes next in a checkpoint (docs/FORMATS.md, "Orders of disk calls").
-#[derive(Clone, Copy, Debug, PartialEq, Eq)]
+#[derive(Clone, Copy)]
 pub enum Stage {
     /// The write that makes the header of the other area older than any, where it is not.
     ClearHeader,

@@ -12,7 +12,7 @@ use std::alloc::Global;
 use std::marker::Model;
 
 // What a batch writes, and the state after it.
-#[derive(Debug, Drop)]
+#[derive(Drop)]
 pub(crate) struct Plan {
     // the body of its slot
     pub body: Vec<u8>,

@@ -13,7 +13,7 @@ use iol_disk::{DiskFault, SECTOR_OCTETS, SectorDisk};
 pub const GATE_MARK: [u8; 8] = [0xA5, 0x5A, 0xA5, 0x5A, 0xA5, 0x5A, 0xA5, 0x5A];
 
 /// Sectors of a disk, and the gate before them.
-#[derive(Clone, Copy, Debug, PartialEq, Eq)]
+#[derive(Clone, Copy)]
 pub struct Slot {
     /// The sector of the gate.
     pub gate: usize,

@@ -5,6 +5,7 @@ use Rattle.iol_journal.specs.Kept.{KeptEither}
 use Rattle.iol_journal.specs.Runs.{Run}
 use Rattle.iol_journal.specs.Running.{IsRunWriting}
 use Rattle.iol_journal.specs.Underway.{IsUnderway}
+use Rattle.iol_example.proofs.CallLaws.{IsAhead}
 use Rattle.iol_example.proofs.store.finish.Given as goal
 
 -- the batch stays under way behind the same commands, and so far left the state before it or after it
@@ -16,6 +17,7 @@ invariant-loop-next g l =
     × (IsUnderway d w → IsUnderway d l.writing)
     × (IsUnderway d w → LeavesOnly (d w.disk) (d l.writing.disk) (KeptEither (d w.disk).sectors w.standing.number w.standing.state w.commands))
     × ((r : Run) → IsRunWriting d r w → IsRunWriting d r l.writing)
+    × IsAhead (calls_left w) (calls_left l.writing) (d w.disk) (d l.writing.disk)
 
 -- each step makes one of the disk calls that are left
 abbrev pub decreases-loop-next : goal.decreases-loop-next

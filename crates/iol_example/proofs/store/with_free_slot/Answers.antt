@@ -1,6 +1,7 @@
-use Rattle.std.proofs.Common.{List, length, refl, ap, ◌∙◌, arith}
-use Rattle.iol_disk.specs.Calls.{Call}
+use Rattle.std.proofs.Common.{List, length, refl, sym, ap, ◌∙◌, subst, arith}
+use Rattle.iol_disk.specs.Calls.{Call, Made, FailedIn}
 use Rattle.iol_journal.specs.Journals.{JournalView}
+use Rattle.iol_example.proofs.CallLaws.{none_yet, one_more, all_made, one_failed, none_free}
 use Rattle.iol_example.proofs.StoreLaws.{from_rest, checkpoint_goes_on}
 use Rattle.iol_example.proofs.store.with_free_slot.Goals as goal
 
@@ -19,6 +20,7 @@ loop-next-init g c =
       c.in-Ok.ensures.underway,
       λ rests. from_rest _ _ c.args.journal.standing c.args.journal.idle (ap g.D.SectorDisk.disk begun.0) rests,
       c.in-Ok.ensures.run,
+      none_yet _ _ _ _ c.in-Ok.ensures.calls (ap g.D.SectorDisk.disk begun.0),
     )
 
 pub loop-next-smaller : goal.loop-next-smaller
@@ -31,6 +33,7 @@ loop-next-preserved g c =
       λ rests. c.in-More.ensures.underway (so_far.1 rests),
       λ rests. checkpoint_goes_on _ _ _ _ _ so_far.0 (so_far.2 rests) (c.in-More.ensures.any_moment (so_far.1 rests)),
       λ r run. c.in-More.ensures.run r (so_far.3 r run),
+      one_more _ _ _ _ _ _ so_far.4 c.in-More.ensures.call,
     )
 
 pub returns-in-Done-clause-any_moment : goal.returns-in-Done-clause-any_moment
@@ -51,3 +54,19 @@ returns-in-Failed-clause-any_moment g c = λ rests.
 
 pub returns-in-Failed-clause-run : goal.returns-in-Failed-clause-run
 returns-in-Failed-clause-run g c = λ r run. c.in-Failed.ensures.run r (c.loop-next.invariant.3 r run)
+
+pub returns-in-Done-clause-calls : goal.returns-in-Done-clause-calls
+returns-in-Done-clause-calls g c =
+    let d = g.D.SectorDisk.disk in
+    let j = c.args.journal in
+    subst (λ (calls : List Call). Made calls (d j.disk) (d c.in-Done.journal.disk))
+    (none_free j.standing j.idle (sym c.has_free_slot.ensures.free ∙ c.if-has_free_slot.false))
+    (all_made _ _ _ _ _ c.loop-next.invariant.4 c.in-Done.ensures.call)
+
+pub returns-in-Failed-clause-calls : goal.returns-in-Failed-clause-calls
+returns-in-Failed-clause-calls g c =
+    let d = g.D.SectorDisk.disk in
+    let j = c.args.journal in
+    subst (λ (calls : List Call). FailedIn calls c.in-Failed.fault (d j.disk) (d c.in-Failed.disk))
+    (none_free j.standing j.idle (sym c.has_free_slot.ensures.free ∙ c.if-has_free_slot.false))
+    (one_failed _ _ _ _ _ _ c.loop-next.invariant.4 c.in-Failed.ensures.call)

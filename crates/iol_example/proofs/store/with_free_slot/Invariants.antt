@@ -1,11 +1,13 @@
 use Rattle.std.proofs.Common.{◌≡◌, length}
 use Rattle.iol_disk.specs.Moments.{LeavesOnly}
 use Rattle.iol_journal.specs.CheckpointRuns.{IsRunCheckpointing}
+use Rattle.iol_journal.specs.Checkpoints.{checkpoint_calls}
 use Rattle.iol_journal.specs.CheckpointViews.{stages_left, IsCheckpointUnderway}
 use Rattle.iol_journal.specs.Kept.{KeptMeans}
 use Rattle.iol_journal.specs.Runs.{Run}
 use Rattle.iol_journal.specs.Running.{IsRunAtRest}
 use Rattle.iol_example.specs.Store.{Rests}
+use Rattle.iol_example.proofs.CallLaws.{IsAhead}
 use Rattle.iol_example.proofs.store.with_free_slot.Given as goal
 
 -- the checkpoint stays under way behind the same commands, and so far left the number and the state
@@ -17,6 +19,7 @@ invariant-loop-next g l =
     × (Rests d j → IsCheckpointUnderway d l.checkpointing)
     × (Rests d j → LeavesOnly (d j.disk) (d l.checkpointing.disk) (KeptMeans (d j.disk).sectors j.standing.number j.standing.state))
     × ((r : Run) → IsRunAtRest d r j → IsRunCheckpointing d r l.checkpointing)
+    × IsAhead (checkpoint_calls j.standing j.idle) (stages_left l.checkpointing) (d j.disk) (d l.checkpointing.disk)
 
 -- each step makes one of the disk calls that are left
 abbrev pub decreases-loop-next : goal.decreases-loop-next

@@ -1,11 +1,14 @@
 use Rattle.std.proofs.Common.{◌≡◌, List, ◌∷◌, [], ◌++◌, Err, ap, ◌∙◌, subst}
 use Rattle.std.proofs.lemmas.Result.{err_from_is_err_and}
 use Rattle.iol_types.specs.Command.{CommandValue, value_of}
-use Rattle.iol_journal.specs.Journals.{values}
+use Rattle.iol_disk.specs.Calls.{Call}
+use Rattle.iol_journal.specs.Batches.{batch_calls}
+use Rattle.iol_journal.specs.Journals.{calls_left, values}
 use Rattle.iol_journal.specs.Meaning.{Standing}
 use Rattle.iol_journal.specs.Runs.{with_batch_begun}
 use Rattle.iol_journal.specs.Running.{IsRunWriting}
-use Rattle.iol_example.specs.Store.{left_disk}
+use Rattle.iol_example.specs.Store.{left_disk, freeing_calls, with_slot, MakesCalls}
+use Rattle.iol_example.proofs.CallLaws.{ended_early, then_makes}
 use Rattle.iol_example.proofs.StoreLaws.{rests_at, or_after, batch_behind, refused_as_it_was, written_rests, run_of_queued}
 use Rattle.iol_example.proofs.store.write.Goals as goal
 
@@ -19,6 +22,15 @@ pub returns-in_err-journal-clause-refused : goal.returns-in_err-journal-clause-r
 returns-in_err-journal-clause-refused g c = λ rests.
     let p = err_from_is_err_and c.from_residual.result c.from_residual.ensures.1 in
     rw (p.1, p.2) (refused_as_it_was g.D.SectorDisk.disk c.args.journal (Err c.in_err-journal.field-0.0) c.in_err-journal.ensures.refused rests)
+
+pub returns-in_err-journal-clause-calls : goal.returns-in_err-journal-clause-calls
+returns-in_err-journal-clause-calls g c =
+    let d = g.D.SectorDisk.disk in
+    let j = c.args.journal in
+    let p = err_from_is_err_and c.from_residual.result c.from_residual.ensures.1 in
+    rw (p.1, p.2)
+    (ended_early d (freeing_calls j.standing j.idle) (batch_calls (with_slot j.standing) (value_of c.args.command ∷ [])) (d j.disk) c.in_err-journal.field-0.0
+    c.in_err-journal.ensures.calls)
 
 -- memory ran out
 pub returns-in_default-clause-any_moment : goal.returns-in_default-clause-any_moment
@@ -63,6 +75,20 @@ returns-in-Ok-begin-clause-run g c = λ r behind queued run.
     (ap values c.in-Ok.ensures.items)
     (λ first. c.in-Ok-begin.ensures.run r behind first (c.in_ok-journal.ensures.run r run)) queued in
     run_of_queued d r (value_of c.args.command ∷ []) behind _ c.finish.result run.2 queued c.finish.ensures.taken (c.finish.ensures.run _ writes)
+
+pub returns-in-Ok-begin-clause-calls : goal.returns-in-Ok-begin-clause-calls
+returns-in-Ok-begin-clause-calls g c =
+    let d = g.D.SectorDisk.disk in
+    let j = c.args.journal in
+    let freed = c.in_ok-journal in
+    let begun = c.in-Ok-begin in
+    let order = begun.ensures.calls
+    ∙ (ap (λ (s : Standing). batch_calls s (values c.in-Ok.commands.items)) freed.ensures.slot
+    ∙ ap (λ (cs : List CommandValue). batch_calls (with_slot j.standing) cs) (ap values c.in-Ok.ensures.items)) in
+    then_makes d (freeing_calls j.standing j.idle) (batch_calls (with_slot j.standing) (value_of c.args.command ∷ [])) (d j.disk) (d freed.journal.disk) c.finish.result
+    freed.ensures.calls
+    (subst (λ (calls : List Call). MakesCalls d calls (d freed.journal.disk) c.finish.result) order
+    (subst (λ (disk : g.row.D.Denot). MakesCalls d (calls_left begun.writing) (d disk) c.finish.result) begun.ensures.begun.0 c.finish.ensures.calls))
 
 -- the batch was refused
 pub returns-in-Err-clause-any_moment : goal.returns-in-Err-clause-any_moment

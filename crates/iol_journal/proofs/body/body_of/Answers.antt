@@ -1,9 +1,11 @@
 use Rattle.std.proofs.Common.{◌≡◌, ◌+◌, ◌*◌, ◌-◌, ◌++◌, List, ℕ, length, take, replicate, ◌∙◌, ap, sym, arith, length-append}
 use Rattle.std.proofs.lemmas.List.{length-map}
 use Rattle.iol_types.specs.Command.{value_of}
+use Rattle.iol_disk.specs.declared.disk.TheConstants.{SECTOR_OCTETS}
 use Rattle.iol_journal.specs.Body.{batch_of, records_of, head_octets, body_octets}
 use Rattle.iol_journal.specs.Journals.{values}
 use Rattle.iol_journal.specs.Octets.{sectors_reached}
+use Rattle.iol_journal.specs.declared.batch.TheConstants.{BODY_HEAD_OCTETS}
 use Rattle.iol_journal.proofs.Bodies.{batch_of-body_octets, length-body}
 use Rattle.iol_journal.proofs.Paddings.{padded-front}
 use Rattle.iol_journal.proofs.body.body_of.Goals as goal
@@ -40,11 +42,11 @@ spelled : (c : goal.After-drop-records-2) → c.resize.new.self.items ≡ body_o
 unfolding body_octets
 spelled c =
     let front = head_octets c.args.epoch c.args.first (length (values c.args.commands.now)) (length (records_of (values c.args.commands.now))) ++ records_of (values c.args.commands.now) in
-    let octets = 512 * c.div_ceil-sectors.result in
-    let size : length front ≡ 22 + c.len-2.result =
+    let octets = SECTOR_OCTETS * c.div_ceil-sectors.result in
+    let size : length front ≡ BODY_HEAD_OCTETS + c.len-2.result =
     length-append (head_octets c.args.epoch c.args.first (length (values c.args.commands.now)) (length (records_of (values c.args.commands.now)))) (records_of (values c.args.commands.now))
-    ∙ ap (λ (n : ℕ). 22 + n) (sized c) in
-    let reach : octets ≡ 512 * sectors_reached (length front) = omega (arith, c.div_ceil-sectors.ensures, size) in
+    ∙ ap (λ (n : ℕ). BODY_HEAD_OCTETS + n) (sized c) in
+    let reach : octets ≡ SECTOR_OCTETS * sectors_reached (length front) = omega (arith, c.div_ceil-sectors.ensures, size) in
     let long : c.extend_from_slice-2.new.self.len ≡ length front = omega (arith, ap (λ (os : List ℕ). length os) (pushed c), c.extend_from_slice-2.new.self.ok) in
     c.in_ok-resize.ensures.items
     ∙ ap (λ (body : List ℕ). take octets body ++ replicate {A = ℕ} (octets - c.extend_from_slice-2.new.self.len) 0) (pushed c)

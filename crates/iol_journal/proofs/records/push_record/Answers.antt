@@ -2,6 +2,7 @@ use Rattle.std.proofs.Common.{◌≡◌, ◌+◌, ◌/◌, ◌++◌, length, map
 use Rattle.std.proofs.lemmas.List.{append-nil}
 use Rattle.std.specs.List.{range_with_len}
 use Rattle.iol_disk.specs.Calls.{write}
+use Rattle.iol_disk.specs.declared.disk.TheConstants.{SECTOR_OCTETS}
 use Rattle.iol_journal.specs.AreaPlans.{write_of}
 use Rattle.iol_journal.specs.Octets.{sector_of}
 use Rattle.iol_journal.specs.declared.records.RecordSector.{RecordSector}
@@ -20,6 +21,6 @@ loop-j-preserved c =
 
 pub returns : goal.returns
 returns c =
-    let all : c.loop-j.j ≡ length c.args.octets.now / 512 = omega (arith, c.loop-j-test.false, c.loop-j.auto.j-end) in
+    let all : c.loop-j.j ≡ length c.args.octets.now / SECTOR_OCTETS = omega (arith, c.loop-j-test.false, c.loop-j.auto.j-end) in
     c.loop-j.invariant
     ∙ ap (λ (n : ℕ). map write_of c.args.records.now.items ++ map (λ j. write (c.args.first + j) (sector_of c.args.octets.now j)) (range_with_len 0 n)) all

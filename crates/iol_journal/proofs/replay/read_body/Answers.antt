@@ -1,6 +1,7 @@
 use Rattle.std.proofs.Common.{◌≡◌, ◌*◌, length, IsTrue, refl, ◌∙◌, arith, w32}
 use Rattle.std.proofs.lemmas.Result.{err_from_is_err_and}
 use Rattle.iol_disk.specs.Content.{reads}
+use Rattle.iol_disk.specs.declared.disk.TheConstants.{SECTOR_OCTETS}
 use Rattle.iol_journal.specs.Octets.{octets_at, number_at}
 use Rattle.iol_journal.proofs.Readings.{same-then, counted_behind}
 use Rattle.iol_journal.proofs.ReachedBodies.{HaveRead, first_read, one_more, batch_of-front, holds_records}
@@ -29,7 +30,7 @@ have_read_all : (g : Given.Over) (c : goal.After-loop-j g) → IsTrue (g.D.Secto
 have_read_all g c h =
     let front = c.push_sector.new.body.items in
     let told : c.from_be_bytes-octets.result ≡ number_at w32 18 front = rw (c.from_be_bytes-octets.ensures, c.array_at.ensures, c.deref.ensures.value) (refl {a = number_at w32 18 front}) in
-    let whole : length c.loop-j.body.items ≡ 512 * c.loop-j.j = c.loop-j.invariant.whole in
+    let whole : length c.loop-j.body.items ≡ SECTOR_OCTETS * c.loop-j.j = c.loop-j.invariant.whole in
     record {
       some = omega arith;
       within = omega (arith, c.div_ceil-reached.ensures);
@@ -45,7 +46,7 @@ have_read_first : (g : Given.Over) (c : goal.Else-octets-le-MOST_RECORD_OCTETS g
 have_read_first g c h =
     let front = c.push_sector.new.body.items in
     let told : c.from_be_bytes-octets.result ≡ number_at w32 18 front = rw (c.from_be_bytes-octets.ensures, c.array_at.ensures, c.deref.ensures.value) (refl {a = number_at w32 18 front}) in
-    let size : length front ≡ 512 = omega (arith, c.in_ok-push_sector.ensures.longer, c.clear.ensures.len) in
+    let size : length front ≡ SECTOR_OCTETS = omega (arith, c.in_ok-push_sector.ensures.longer, c.clear.ensures.len) in
     let read : front ≡ octets_at (reads (g.D.SectorDisk.disk c.args.disk.now).content) c.args.slot.body 1 =
     first_read (g.D.SectorDisk.disk c.args.disk.now) c.args.slot.body c.clear.new.self.items front c.clear.ensures.items c.in_ok-push_sector.ensures.pushed h in
     record {

@@ -1,5 +1,6 @@
 use Rattle.std.proofs.Common.{◌≡◌, ◌+◌, ◌-◌, true, ap, ◌∙◌, sym, arith}
 use Rattle.iol_journal.specs.Replay.{reached}
+use Rattle.iol_journal.specs.declared.batch.TheConstants.{BODY_HEAD_OCTETS}
 use Rattle.iol_journal.proofs.ReachedBodies.{batch_of-misfit, batch_of-fits, fits-octets}
 use Rattle.iol_journal.proofs.replay.replay_body.Goals.{else-end-body-via-then-end-body+in_ok-replay+else-branch, else-end-body-via-else-end-body}
 use Rattle.iol_journal.proofs.replay.replay_body.Goals as goal
@@ -11,7 +12,7 @@ returns-then-not-fits-clause-reached c = λ holds.
 
 pub returns-then-branch-clause-reached : goal.returns-then-branch-clause-reached
 returns-then-branch-clause-reached c = λ holds.
-    let records : 22 + c.read-head.result.octets - 22 ≡ c.read-head.result.octets = omega arith in
+    let records : BODY_HEAD_OCTETS + c.read-head.result.octets - BODY_HEAD_OCTETS ≡ c.read-head.result.octets = omega arith in
     let applied = rw c.if-branch.true at c.in_ok-replay.ensures.reached c.args.number in
     rw c.from.ensures
     (ap (reached c.args.number c.args.state.now)
@@ -21,7 +22,7 @@ returns-then-branch-clause-reached c = λ holds.
 pub returns-else-end-body-clause-reached : goal.returns-else-end-body-clause-reached
 returns-else-end-body-clause-reached c = λ holds.
     let fit : c.fits.result ≡ true = c.if-not-fits.false in
-    let records : 22 + c.read-head.result.octets - 22 ≡ c.read-head.result.octets = omega arith in
+    let records : BODY_HEAD_OCTETS + c.read-head.result.octets - BODY_HEAD_OCTETS ≡ c.read-head.result.octets = omega arith in
     elim c.else-end-body.branch [
       | else-end-body-via-then-end-body+in_ok-replay+else-branch w ↦
           let refused = rw w.if-branch.false at w.in_ok-replay.ensures.reached c.args.number in

@@ -1,4 +1,5 @@
 use Rattle.std.proofs.Common.{ℕ, List, ◌++◌, length, ap}
+use Rattle.iol_disk.specs.declared.disk.TheConstants.{SECTOR_OCTETS}
 use Rattle.iol_journal.specs.Octets.{padded}
 use Rattle.iol_journal.proofs.Paddings.{drop-zeros, one_sector}
 use Rattle.iol_journal.proofs.sector.sector_of.Goals as goal
@@ -8,4 +9,4 @@ unfolding padded
 returns c =
     let n = length c.args.octets.now in
     rw (c.copy_from_slice.ensures.after, one_sector n c.requires.some c.requires.most)
-    (ap (λ (zeros : List ℕ). c.args.octets.now ++ zeros) (drop-zeros n 512 c.requires.most))
+    (ap (λ (zeros : List ℕ). c.args.octets.now ++ zeros) (drop-zeros n SECTOR_OCTETS c.requires.most))

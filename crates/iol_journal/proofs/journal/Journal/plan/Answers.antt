@@ -6,6 +6,7 @@ use Rattle.iol_types.specs.State.{legal}
 use Rattle.iol_journal.specs.Octets.{sectors_reached}
 use Rattle.iol_journal.specs.Body.{batch_of, body_octets}
 use Rattle.iol_types.specs.declared.command.Command.{Command}
+use Rattle.iol_disk.specs.declared.disk.TheConstants.{SECTOR_OCTETS}
 use Rattle.iol_journal.specs.Begin.{is_too_large, batch_refusal}
 use Rattle.iol_journal.specs.Journals.{JournalView, standing_at, values, IsPlanned, IsPlan}
 use Rattle.iol_journal.specs.declared.journal.BeginCause.TheVariants.{Misfit}
@@ -48,7 +49,7 @@ returns-then-branch-clause-planned g c =
     let count = length-map c.args.batch.now.commands.items value_of in
     let next : c.args.batch.now.first ≡ j.number + 1 = omega arith in
     let body = c.in_ok-body.ensures in
-    let whole = subst (λ (b : List ℕ). length b ≡ 512 * sectors_reached (length b)) (spelled g c) body.whole in
+    let whole = subst (λ (b : List ℕ). length b ≡ SECTOR_OCTETS * sectors_reached (length b)) (spelled g c) body.whole in
     let planned : IsPlanned (g.D.SectorDisk.disk j.disk) s commands (Body 0) = record {
       fits = c.self.invariant.0.fits;
       room = omega arith;
@@ -63,7 +64,7 @@ returns-then-branch-clause-planned g c =
       begun = c.self.invariant.0.begun;
       count = c.self.invariant.0.count;
     } in
-    let made : Plan = record { body = c.in_ok-body.body; sectors = c.len-sectors.result / 512; next = c.apply_all.new.state } in
+    let made : Plan = record { body = c.in_ok-body.body; sectors = c.len-sectors.result / SECTOR_OCTETS; next = c.apply_all.new.state } in
     let plan : IsPlan s commands made = record {
       body = spelled g c;
       sectors = omega (arith, c.len-sectors.ensures, c.in_ok-body.body.ok, whole, ap (λ (b : List ℕ). length b) (spelled g c));

@@ -1,0 +1,40 @@
+//! The commands that are written.
+
+use anyhow::Context;
+use iol_types::{
+    Command, DataSet, DeviceId, Key, PortConfig, PortId, PortMode, SetBuilder, Validation,
+};
+use std::alloc::Global;
+
+// IOL_MANUAL with Backup and Restore, vendor 500, device 43981.
+fn config() -> anyhow::Result<PortConfig> {
+    Ok(PortConfig {
+        mode: PortMode::IolManual,
+        validation: Validation::BackupAndRestore,
+        vendor: 500,
+        device: DeviceId::new(43981).context("no device number")?,
+    })
+}
+
+/// A Configure of the port with this number.
+pub fn configure(port: u8) -> anyhow::Result<Command> {
+    Ok(Command::Configure {
+        port: PortId::new(port).context("no port number")?,
+        config: config()?,
+    })
+}
+
+/// A set that counts 4,096 octets: 17 entries of 232 octets, and one of 80.
+pub fn largest_set(alloc: Global) -> anyhow::Result<DataSet> {
+    let octets = [0xA7; 232];
+    let mut set = SetBuilder::new(alloc);
+    for entry in 0..18 {
+        let length = if entry < 17 { 232 } else { 80 };
+        let key = Key {
+            index: 0x100 + entry,
+            subindex: 0,
+        };
+        set.add(key, &octets[..length])?;
+    }
+    Ok(set.finish(500, config()?.device, 0x89AB_CDEF))
+}

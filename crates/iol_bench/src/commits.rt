@@ -1,0 +1,152 @@
+//! Commits of one Configure each and the checkpoints between them, beside the same writes and syncs of a plain file.
+
+use crate::commands::configure;
+use crate::plain::{nanoseconds_since, opened_file, timed_calls};
+use crate::statistics::{Pair, print_medians};
+use anyhow::{Context, bail};
+use iol_disk::{DiskCall, ImageFile, MemoryDisk, RecordedDisk, SectorDisk};
+use iol_example::{create, open, write};
+use iol_journal::{CheckpointProgress, Geometry, Journal};
+use std::alloc::Global;
+use std::fs::{self, File};
+use std::time::Instant;
+
+const PORTS: u16 = 8;
+
+const SLOTS: u16 = 16;
+// A round: 16 commits and a checkpoint, ten times.
+const COMMITS: usize = 160;
+
+const CHECKPOINTS: usize = 10;
+// A commit writes a sector of its body, syncs, writes its gate, and syncs.
+const COMMIT_CALLS: usize = 4;
+
+/// Times rounds of commits and checkpoints, and prints what one of each takes.
+pub fn measure_commits(rt: &HostRuntime, folder: &str, rounds: usize) -> anyhow::Result<()> {
+    let calls = calls_of_round(rt.alloc())?;
+    let mut commits = Vec::new(rt.alloc());
+    let mut checkpoints = Vec::new(rt.alloc());
+    for _ in 0..rounds {
+        let (commit, checkpoint) = costs_of_round(rt, folder, calls.as_slice())?;
+        commits.push(commit)?;
+        checkpoints.push(checkpoint)?;
+    }
+    println!(rt;
+        "{rounds} rounds, each of {COMMITS} commits and {CHECKPOINTS} checkpoints: {PORTS} ports, {SLOTS} slots"
+    )?;
+    print_medians(rt, "commit", commits.as_slice(), COMMITS as u64)?;
+    print_medians(rt, "checkpoint", checkpoints.as_slice(), CHECKPOINTS as u64)
+}
+
+fn geometry() -> anyhow::Result<Geometry> {
+    Geometry::new(PORTS, SLOTS).context("no geometry")
+}
+
+// The journal after one Configure more or, where no slot is free, after a checkpoint.
+fn advanced<D: SectorDisk + Drop>(
+    alloc: Global,
+    journal: Journal<D>,
+) -> anyhow::Result<Journal<D>> {
+    if !journal.has_free_slot() {
+        return checkpointed(journal);
+    }
+    match write(alloc, journal, configure(1)?) {
+        Ok(journal) => Ok(journal),
+        Err(_) => bail!("a command is not written"),
+    }
+}
+
+// The journal after a checkpoint, if it has no free slot.
+fn checkpointed<D: SectorDisk + Drop>(journal: Journal<D>) -> anyhow::Result<Journal<D>> {
+    if journal.has_free_slot() {
+        return Ok(journal);
+    }
+    let mut checkpointing = match journal.checkpoint() {
+        Ok(checkpointing) => checkpointing,
+        Err(_) => bail!("out of memory"),
+    };
+    loop {
+        match checkpointing.step() {
+            CheckpointProgress::More(next) => checkpointing = next,
+            CheckpointProgress::Done(journal) => return Ok(journal),
+            CheckpointProgress::Failed(_, _) => bail!("a checkpoint failed"),
+        }
+    }
+}
+
+// The writes and syncs of a round, recorded on a disk in memory: they are the same on every disk.
+fn calls_of_round(alloc: Global) -> anyhow::Result<Vec<DiskCall>> {
+    let disk = MemoryDisk::new(alloc, geometry()?.sectors())?;
+    let Ok(journal) = create(alloc, disk, geometry()?) else {
+        bail!("no journal in memory")
+    };
+    let Ok((mut journal, _)) = open(alloc, RecordedDisk::new(alloc, journal.disk())) else {
+        bail!("no journal in memory")
+    };
+    for _ in 0..COMMITS + CHECKPOINTS {
+        journal = advanced(alloc, journal)?;
+    }
+    // Opening it made a sync and reads.
+    let calls = journal.disk().calls();
+    let writes = calls
+        .iter()
+        .copied()
+        .filter(|call| !matches!(call, DiskCall::Read(_)));
+    Ok(writes.skip(1).collect(alloc)?)
+}
+
+// Times a round on new files: each commit or checkpoint, and the same calls of a plain file behind it.
+fn costs_of_round(
+    rt: &HostRuntime,
+    folder: &str,
+    calls: &[DiskCall],
+) -> anyhow::Result<(Pair, Pair)> {
+    let image = format!(in rt.alloc(); "{folder}/iol_bench_journal.img")?;
+    let plain = format!(in rt.alloc(); "{folder}/iol_bench_plain.img")?;
+    let sectors = geometry()?.sectors();
+    let _made = ImageFile::create(rt, plain.as_str(), sectors)?;
+    let disk = ImageFile::create(rt, image.as_str(), sectors)?;
+    let Ok(journal) = create(rt.alloc(), disk, geometry()?) else {
+        bail!("no journal on {image}")
+    };
+    let costs = costs_of(rt, journal, &opened_file(rt, plain.as_str())?, calls)?;
+    fs::remove_file(rt, image)?;
+    fs::remove_file(rt, plain)?;
+    Ok(costs)
+}
+
+// Times the commits and the checkpoints of a round.
+fn costs_of<D: SectorDisk + Drop>(
+    rt: &HostRuntime,
+    mut journal: Journal<D>,
+    file: &File,
+    calls: &[DiskCall],
+) -> anyhow::Result<(Pair, Pair)> {
+    let checkpoint_calls = calls.len().saturating_sub(COMMITS * COMMIT_CALLS) / CHECKPOINTS;
+    let mut commits = Pair {
+        journal: 0,
+        plain: 0,
+    };
+    let mut checkpoints = commits;
+    let mut left = calls;
+    for _ in 0..COMMITS + CHECKPOINTS {
+        let commits_now = journal.has_free_slot();
+        let count = if commits_now {
+            COMMIT_CALLS
+        } else {
+            checkpoint_calls
+        };
+        let (next, behind) = left.split_at(count.min(left.len()));
+        left = behind;
+        let start = Instant::now(rt)?;
+        journal = advanced(rt.alloc(), journal)?;
+        let own = nanoseconds_since(rt, start)?;
+        let plain = timed_calls(rt, file, next)?;
+        if commits_now {
+            commits = commits.plus(own, plain);
+        } else {
+            checkpoints = checkpoints.plus(own, plain);
+        }
+    }
+    Ok((commits, checkpoints))
+}

@@ -1,0 +1,37 @@
+//! Calls of a plain file: the same sectors as those of a journal, in the same order.
+
+use iol_disk::{DiskCall, SECTOR_OCTETS};
+use std::fs::File;
+use std::io;
+use std::os::unix::fs::FileExt;
+use std::time::Instant;
+
+/// Opens a file to read and to write.
+pub fn opened_file(rt: &HostRuntime, path: &str) -> io::Result<File> {
+    File::options().read(true).write(true).open(rt, path)
+}
+
+/// Makes these calls of a file, and tells how many nanoseconds they took. What is written does not matter.
+pub fn timed_calls(rt: &HostRuntime, file: &File, calls: &[DiskCall]) -> io::Result<u64> {
+    let mut octets = [0x5A; SECTOR_OCTETS];
+    let start = Instant::now(rt)?;
+    for call in calls {
+        match *call {
+            DiskCall::Read(n) => file.read_exact_at(&mut octets, first_octet(n))?,
+            DiskCall::Write(n) => file.write_all_at(&octets, first_octet(n))?,
+            DiskCall::Sync => file.sync_all()?,
+        }
+    }
+    nanoseconds_since(rt, start)
+}
+
+/// Nanoseconds since an instant.
+pub fn nanoseconds_since(rt: &HostRuntime, start: Instant) -> io::Result<u64> {
+    let elapsed = start.elapsed(rt)?;
+    Ok(u64::try_from(elapsed.as_nanos()).unwrap_or(u64::MAX))
+}
+
+// Where a sector begins.
+fn first_octet(n: usize) -> u64 {
+    (n as u64).saturating_mul(SECTOR_OCTETS as u64)
+}

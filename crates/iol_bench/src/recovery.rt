@@ -1,0 +1,123 @@
+//! The recovery of the largest journal, beside plain reads of its file: 32 ports, each with a parameter set that counts 4,096
+//! octets, and 256 slots, all used.
+
+use crate::commands::{configure, largest_set};
+use crate::plain::{nanoseconds_since, opened_file, timed_calls};
+use crate::statistics::{Pair, print_medians};
+use anyhow::{Context, bail};
+use iol_disk::{DiskCall, ImageFile, RecordedDisk, SectorDisk};
+use iol_example::{create, open, write};
+use iol_journal::Geometry;
+use iol_types::{Command, DataSet, PORTS, PortId};
+use std::alloc::{AllocError, Global};
+use std::fs;
+use std::sync::Arc;
+use std::time::Instant;
+
+const SLOTS: u16 = 256;
+
+/// Times recoveries, and prints them beside a plain read of the sectors that a recovery reads, and of all sectors, each a
+/// sector at a time and in order.
+pub fn measure_recovery(rt: &HostRuntime, folder: &str, rounds: usize) -> anyhow::Result<()> {
+    let path = format!(in rt.alloc(); "{folder}/iol_bench_largest.img")?;
+    let geometry = Geometry::new(u16::from(PORTS), SLOTS).context("no geometry")?;
+    let sectors = geometry.sectors();
+    write_largest(
+        rt.alloc(),
+        ImageFile::create(rt, path.as_str(), sectors)?,
+        geometry,
+    )?;
+    let calls = calls_of_recovery(rt, path.as_str())?;
+    println!(rt;
+        "recovery of {sectors} sectors: {} disk calls, one of them a sync",
+        calls.len()
+    )?;
+    let own = timed(rt, path.as_str(), calls.as_slice(), rounds)?;
+    print_medians(rt, "recovery beside its reads", own.as_slice(), 1)?;
+    let all = all_sectors(rt.alloc(), sectors)?;
+    let whole = timed(rt, path.as_str(), all.as_slice(), rounds)?;
+    print_medians(
+        rt,
+        "recovery beside a read of the whole file",
+        whole.as_slice(),
+        1,
+    )?;
+    fs::remove_file(rt, path)?;
+    Ok(())
+}
+
+// The command that is written in this turn: first every port is configured, then each gets the set, one after the other.
+fn command(turn: u16, set: &Arc<DataSet>) -> anyhow::Result<Command> {
+    let port = (turn % u16::from(PORTS)) as u8 + 1;
+    if turn < u16::from(PORTS) {
+        return configure(port);
+    }
+    Ok(Command::Store {
+        port: PortId::new(port).context("no port number")?,
+        revision: 1,
+        set: Arc::try_clone(set)?,
+    })
+}
+
+// Writes the largest journal on a disk: a command in each slot of the one area, and then in each slot of the other.
+fn write_largest<D: SectorDisk + Drop>(
+    alloc: Global,
+    disk: D,
+    geometry: Geometry,
+) -> anyhow::Result<()> {
+    let set = Arc::new(alloc, largest_set(alloc)?)?;
+    let Ok(mut journal) = create(alloc, disk, geometry) else {
+        bail!("no largest journal")
+    };
+    for turn in 0..2 * SLOTS {
+        journal = match write(alloc, journal, command(turn, &set)?) {
+            Ok(journal) => journal,
+            Err(_) => bail!("a command is not written"),
+        };
+    }
+    Ok(())
+}
+
+// The disk calls that a recovery makes.
+fn calls_of_recovery(rt: &HostRuntime, path: &str) -> anyhow::Result<Vec<DiskCall>> {
+    match open(
+        rt.alloc(),
+        RecordedDisk::new(rt.alloc(), ImageFile::open(rt, path)?),
+    ) {
+        Ok((journal, _)) => Ok(journal.disk().calls()),
+        Err(_) => bail!("no recovery"),
+    }
+}
+
+// A sync, and a read of each sector.
+fn all_sectors(alloc: Global, sectors: usize) -> Result<Vec<DiskCall>, AllocError> {
+    let mut calls = Vec::from_array(alloc, [DiskCall::Sync])?;
+    for n in 0..sectors {
+        calls.push(DiskCall::Read(n))?;
+    }
+    Ok(calls)
+}
+
+// Times so many recoveries, a plain file's calls behind each.
+fn timed(
+    rt: &HostRuntime,
+    path: &str,
+    calls: &[DiskCall],
+    rounds: usize,
+) -> anyhow::Result<Vec<Pair>> {
+    let file = opened_file(rt, path)?;
+    let mut pairs = Vec::new(rt.alloc());
+    for _ in 0..rounds {
+        let disk = ImageFile::open(rt, path)?;
+        let start = Instant::now(rt)?;
+        let found = open(rt.alloc(), disk);
+        let journal = nanoseconds_since(rt, start)?;
+        if found.is_err() {
+            bail!("no recovery");
+        }
+        drop(found);
+        let plain = timed_calls(rt, &file, calls)?;
+        pairs.push(Pair { journal, plain })?;
+    }
+    Ok(pairs)
+}
