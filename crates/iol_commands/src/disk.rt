@@ -1,10 +1,10 @@
 //! The disks that a run can be made on.
 ghost use Rattle.std.specs.Prelude.{◌≡◌, IfSome};
 ghost use Rattle.iol_disk.specs.FaultDisk.{inner, kind_of, due_of};
-ghost use Rattle.iol_commands.specs.Stop.{pick_of, fault_of, due_at};
+ghost use Rattle.iol_commands.specs.Stop.{due_at};
 
 use iol_disk::{DiskFault, FaultDisk, MemoryDisk, Pick, SectorDisk};
-use iol_script::{CallKind, FailingCall, Keep};
+use iol_script::FailingCall;
 
 // A disk that a power stop can be tried on.
 pub(crate) trait Stoppable: SectorDisk {
@@ -21,37 +21,14 @@ impl Stoppable for MemoryDisk {
     }
 }
 
-// The disk of a run, of which one call fails where the script asks for that.
+// The disk, where the call that a script names fails; without such a call none does.
 pub(crate) fn failing<D: SectorDisk>(disk: D, fail: Option<FailingCall>) -> FaultDisk<D>
     ensures disk { inner result ≡ disk }
-    ensures kind { IfSome fail (λ call. kind_of result ≡ fault_of call.kind) }
+    ensures kind { IfSome fail (λ call. kind_of result ≡ call.kind) }
     ensures due { due_of result ≡ due_at fail }
 {
     match fail {
-        Some(call) => FaultDisk::new(disk, fault_of(call.kind), u64::from(call.number)),
+        Some(call) => FaultDisk::new(disk, call.kind, u64::from(call.number)),
         None => FaultDisk::new(disk, DiskFault::Read, 0),
-    }
-}
-
-// How a call of this kind fails.
-fn fault_of(kind: CallKind) -> DiskFault
-    ensures { result ≡ fault_of kind }
-{
-    match kind {
-        CallKind::Read => DiskFault::Read,
-        CallKind::Write => DiskFault::Write,
-        CallKind::Sync => DiskFault::Sync,
-    }
-}
-
-// What a stop leaves of the sectors that were not synced.
-pub(crate) fn pick_of(keep: Keep) -> Pick
-    ensures { result ≡ pick_of keep }
-{
-    match keep {
-        Keep::Old => Pick::Old,
-        Keep::New => Pick::New,
-        Keep::Zero => Pick::Zero,
-        Keep::Pattern => Pick::Pattern,
     }
 }

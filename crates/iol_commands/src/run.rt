@@ -6,7 +6,7 @@ ghost use Rattle.iol_commands.specs.Fault.{status_of};
 ghost use Rattle.iol_commands.specs.Steps.{IsTold};
 
 use crate::devices::links_of;
-use crate::disk::{Stoppable, failing, pick_of};
+use crate::disk::{Stoppable, failing};
 use crate::fault::Fault;
 use crate::recovery::recover;
 use crate::state_text::Recovered;
@@ -29,8 +29,8 @@ pub(crate) struct Report {
     pub(crate) recovered: Recovered,
 }
 
-// Runs a script on a disk, which it formats for this geometry, with the script's devices at its ports. From the recovery
-// behind the format up to the stop the disk is one of which the call fails that the script says.
+// Runs a script on a disk, which it formats for this geometry, with the script's devices at its ports. The disk call that
+// the script names fails; calls are counted from the recovery behind the format up to the stop.
 //
 // # Errors
 // `Memory`, `Disk`, `TooSmall` or `AlreadyFormatted`, where it is first met.
@@ -55,7 +55,7 @@ pub(crate) fn run<D: Stoppable + Drop>(
         links,
         &script.steps,
     )?;
-    stop(alloc, trace, pick_of(script.keep))
+    stop(alloc, trace, script.keep)
 }
 
 // Makes the steps of a script over a journal that was just recovered.

@@ -2,7 +2,8 @@
 use Rattle.std.proofs.Common.{◌≡◌, List, [], ◌∷◌, ◌++◌, map, Option, Some, None, option_map, refl, ap}
 
 -- what the next one says stands behind what those before it say, and in front of what those that are left say
-in_order : {A B : Type 0} (f : A → B) (before : List A) (next : A) (left : List B) → map f before ++ (f next ∷ left) ≡ map f (before ++ next ∷ []) ++ left
+in_order : {A B : Type 0} (f : A → B) (before : List A) (next : A) (left : List B)
+    → map f before ++ (f next ∷ left) ≡ map f (before ++ next ∷ []) ++ left
 in_order f [] next left = refl
 in_order f (first ∷ before) next left = ap (λ others. f first ∷ others) (in_order f before next left)
 

@@ -2,13 +2,13 @@
 use Rattle.std.proofs.Common.{◌≡◌, List, [], ◌∷◌, ◌++◌, length, Some, None, refl, arith}
 use Rattle.toml.specs.View.{view, items_view}
 use Rattle.toml.specs.declared.value.Value.{Value}
-use Rattle.iol_script.specs.declared.stop.Keep.{Keep}
-use Rattle.iol_script.specs.declared.stop.Keep.TheVariants.{New}
+use Rattle.iol_disk.specs.declared.pick.Pick.{Pick}
+use Rattle.iol_disk.specs.declared.pick.Pick.TheVariants.{New}
 use Rattle.iol_script.specs.Stop.{stop_of}
 use Rattle.iol_script.specs.Steps.{before_stop}
 
 -- where the last value says a stop, the values before it are the steps
-pub before_stop-last : (values : List Value) (last : Value) (keep : Keep) → stop_of (view last) ≡ Some keep
+pub before_stop-last : (values : List Value) (last : Value) (keep : Pick) → stop_of (view last) ≡ Some keep
     → before_stop (items_view (values ++ last ∷ [])) ≡ (items_view values, keep)
 before_stop-last [] last keep stop = rw stop
 before_stop-last (value ∷ []) last keep stop = rw stop

@@ -1,16 +1,16 @@
--- The disk call of a run that a script makes to fail.
+-- The disk call that a script makes fail.
 use Rattle.std.specs.Prelude.{ℕ, Bool, false, ◌==◌, ◌&&◌, nat_le, if◌then◌else◌, List, [], ◌∷◌, codes, Option, Some, None, option_and_then, option_map}
 use Rattle.std.specs.List.{before_first, after_first}
 use Rattle.std.specs.Str.{bytes_eq, all_ascii_digits}
 use Rattle.std.specs.Str.Parse.{digits_value}
 use Rattle.toml.specs.Data.{Data, Members, as_str, get_member}
-use Rattle.iol_script.specs.declared.fail.CallKind.{CallKind}
-use Rattle.iol_script.specs.declared.fail.CallKind.TheVariants.{Read, Write, Sync}
+use Rattle.iol_disk.specs.declared.fault.DiskFault.{DiskFault}
+use Rattle.iol_disk.specs.declared.fault.DiskFault.TheVariants.{Read, Write, Sync}
 use Rattle.iol_script.specs.declared.fail.FailingCall.{FailingCall}
 use Rattle.iol_script.specs.declared.fail.TheConstants.{LAST_FAILING_CALL}
 
 -- a kind of disk call, by its word (format, Scripts)
-abbrev pub kind_of : List ℕ → Option CallKind
+abbrev pub kind_of : List ℕ → Option DiskFault
 kind_of word =
     if bytes_eq word (codes "read") then Some Read
     else if bytes_eq word (codes "write") then Some Write

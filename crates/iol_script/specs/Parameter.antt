@@ -30,7 +30,7 @@ key_of_items (item first (item second (item third others))) = None
 abbrev pub key_of : Data → Option Key
 key_of value = option_and_then key_of_items (as_array value)
 
--- octets of which there are at most 232 (own)
+-- these octets, if they are at most 232 (own)
 abbrev pub short_octets : List ℕ → Option (List ℕ)
 short_octets octets = if nat_le (length octets) MOST_ENTRY_OCTETS then Some octets else None
 

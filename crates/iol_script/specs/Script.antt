@@ -13,7 +13,7 @@ use Rattle.iol_script.specs.declared.script.Script.{Script}
 use Rattle.iol_script.specs.declared.script.TheConstants.{SCRIPT_OCTETS}
 use Rattle.iol_script.specs.declared.step.Step.{Step}
 use Rattle.iol_script.specs.declared.step.Step.TheVariants.{Configure, Clear, Port, Flush, Drain}
-use Rattle.iol_script.specs.declared.stop.Keep.{Keep}
+use Rattle.iol_disk.specs.declared.pick.Pick.{Pick}
 
 -- what a script says: two numbers, the disk call that fails, the devices, the steps before the stop, and what the stop
 -- keeps (format, Scripts)
@@ -23,7 +23,7 @@ pub record Said : Type 0 where
   pub fail : Option FailingCall
   pub devices : List SaidDevice
   pub steps : List Step
-  pub keep : Keep
+  pub keep : Pick
 
 -- the keys of a script (format, Scripts)
 abbrev pub script_keys : List (List ℕ)

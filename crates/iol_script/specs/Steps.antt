@@ -1,20 +1,20 @@
 -- The steps of a script, and the stop after them.
 use Rattle.std.specs.Prelude.{List, [], ◌∷◌, Option, Some, None, option_and_then, option_map}
 use Rattle.toml.specs.Data.{Data, Items, no_items, item}
-use Rattle.iol_script.specs.declared.stop.Keep.{Keep}
-use Rattle.iol_script.specs.declared.stop.Keep.TheVariants.{New}
+use Rattle.iol_disk.specs.declared.pick.Pick.{Pick}
+use Rattle.iol_disk.specs.declared.pick.Pick.TheVariants.{New}
 use Rattle.iol_script.specs.Step.{step_of}
 use Rattle.iol_script.specs.Stop.{stop_of}
 use Rattle.iol_script.specs.declared.step.Step.{Step}
 
 -- the last value without the stop that it may say, and what the stop keeps (format, Scripts)
-abbrev pub without_stop : Data → Option Keep → Items × Keep
+abbrev pub without_stop : Data → Option Pick → Items × Pick
 without_stop value (Some keep) = (no_items, keep)
 without_stop value None = (item value no_items, New)
 
 -- the values before the stop, which is the last one, and what it keeps; a script without a stop keeps what is new
 -- (format, Scripts)
-abbrev pub before_stop : Items → Items × Keep
+abbrev pub before_stop : Items → Items × Pick
 before_stop no_items = (no_items, New)
 before_stop (item value no_items) = without_stop value (stop_of value)
 before_stop (item value values) = (item value (before_stop values).0, (before_stop values).1)

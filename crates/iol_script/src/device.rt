@@ -14,7 +14,7 @@ use toml::{Table, Value};
 pub const USUAL_REVISION: u8 = 17;
 
 /// A simulated device. The devices of one port are there one after another, in the order of the script.
-#[derive(Debug, Drop)]
+#[derive(Drop)]
 pub struct Device {
     /// The port that it is at.
     pub port: PortId,
@@ -32,8 +32,8 @@ pub struct Device {
     pub locked: bool,
     /// Its parameters, at most [`MOST_PARAMETERS`](crate::MOST_PARAMETERS), each under a key of its own.
     pub parameters: Vec<Parameter>,
-    /// How many link calls it answers before one is lost, behind which the port's next device is there; without a
-    /// number it answers all.
+    /// How many link calls it answers. The next call is lost, and then the port's next device is there. `None`: it
+    /// answers all.
     pub answers: Option<u64>,
     /// After how many answered calls it sets its flag and raises its event, if it does.
     pub event: Option<u64>,

@@ -1,13 +1,17 @@
 //! What scripts say, worked out by the check: a number that is wrong in a definition and in the code alike is refused
 //! here.
 
-ghost use Rattle.std.specs.Prelude.{◌≡◌, pos, negsuc, true, false, [], ◌∷◌, map, codes, Some, None};
+ghost use Rattle.std.specs.Prelude.{◌≡◌, pos, negsuc, true, false, [], ◌∷◌, map, replicate, codes, Some, None};
 ghost use Rattle.toml.specs.Data.{integer};
-ghost use Rattle.iol_script.specs.Number.{octet_of, calls_of, times_of};
+ghost use Rattle.iol_disk.specs.declared.fault.DiskFault.TheVariants as disk_call;
+ghost use Rattle.iol_disk.specs.declared.pick.Pick.TheVariants as pick;
+ghost use Rattle.iol_script.specs.Number.{octet_of, calls_of, times_of, port_in, vendor_in, device_in};
 ghost use Rattle.iol_script.specs.Parameter.{key_of, octets_in};
 ghost use Rattle.iol_script.specs.Parameters.{of_device};
-ghost use Rattle.iol_script.specs.Script.{said_in, is_port_of, fits_ports};
-ghost use Rattle.iol_script.specs.Examples.{numbers, empty_at, example_script, example_text};
+ghost use Rattle.iol_script.specs.Fail.{kind_of, call_in};
+ghost use Rattle.iol_script.specs.Stop.{keep_of};
+ghost use Rattle.iol_script.specs.Script.{IsText, said_in, is_port_of, fits_ports};
+ghost use Rattle.iol_script.specs.Examples.{numbers, empty_at, empty_from, said_at, blanks, example_script, example_text, full_script, full_text};
 
 use crate::device::USUAL_REVISION;
 
@@ -32,6 +36,37 @@ pub fn calls()
         ≡ None ∷ Some (Some 0) ∷ Some (Some 9223372036854775807) ∷ [] }
 {}
 
+/// A port is numbered 1 to 32, a vendor 0 to 65,535, and a device of it 0 to 16,777,215.
+pub fn identities()
+    ensures ports { map (λ number. port_in (said_at (codes "port") number)) (negsuc 0 ∷ pos 0 ∷ pos 1 ∷ pos 32 ∷ pos 33 ∷ [])
+        ≡ None ∷ None ∷ Some 1 ∷ Some 32 ∷ None ∷ [] }
+    ensures vendors { map (λ number. vendor_in (said_at (codes "vendor") number)) (negsuc 0 ∷ pos 0 ∷ pos 65535 ∷ pos 65536 ∷ [])
+        ≡ None ∷ Some 0 ∷ Some 65535 ∷ None ∷ [] }
+    ensures devices { map (λ number. device_in (said_at (codes "device") number)) (negsuc 0 ∷ pos 0 ∷ pos 16777215 ∷ pos 16777216 ∷ [])
+        ≡ None ∷ Some 0 ∷ Some 16777215 ∷ None ∷ [] }
+    ensures missing { map vendor_in (said_at (codes "device") (pos 1) ∷ said_at (codes "Vendor") (pos 1) ∷ []) ≡ None ∷ None ∷ [] }
+{}
+
+/// What a stop keeps: one of four words.
+pub fn words_of_a_stop()
+    ensures words { map keep_of (codes "old" ∷ codes "new" ∷ codes "zero" ∷ codes "pattern" ∷ [])
+        ≡ Some pick.Old ∷ Some pick.New ∷ Some pick.Zero ∷ Some pick.Pattern ∷ [] }
+    ensures others { map keep_of (codes "" ∷ codes "Old" ∷ codes "news" ∷ codes "zer" ∷ []) ≡ None ∷ None ∷ None ∷ None ∷ [] }
+{}
+
+/// The call that fails: one of three words, a space, and a number of 1 to 1,000,000 without sign or leading zero.
+pub fn failing_calls()
+    ensures words { map kind_of (codes "read" ∷ codes "write" ∷ codes "sync" ∷ codes "Read" ∷ codes "" ∷ [])
+        ≡ Some disk_call.Read ∷ Some disk_call.Write ∷ Some disk_call.Sync ∷ None ∷ None ∷ [] }
+    ensures least { call_in (codes "read 1") ≡ Some (record { kind = disk_call.Read; number = 1 }) }
+    ensures greatest { call_in (codes "sync 1000000") ≡ Some (record { kind = disk_call.Sync; number = 1000000 }) }
+    ensures outside { map call_in (codes "write 0" ∷ codes "write 1000001" ∷ codes "write -1" ∷ []) ≡ None ∷ None ∷ None ∷ [] }
+    ensures spelled { map call_in (codes "write 01" ∷ codes "write +1" ∷ codes "write 1_0" ∷ codes "write 0x1" ∷ [])
+        ≡ None ∷ None ∷ None ∷ None ∷ [] }
+    ensures spaced { map call_in (codes "write" ∷ codes "write1" ∷ codes "write  1" ∷ codes "write 1 " ∷ codes " write 1" ∷ [])
+        ≡ None ∷ None ∷ None ∷ None ∷ None ∷ [] }
+{}
+
 /// A key is an Index of two octets and a Subindex of one, and its Index is not 0000, 0002 or 0003.
 pub fn keys()
     ensures least { key_of (numbers (pos 1 ∷ pos 0 ∷ [])) ≡ Some (record { index = 1; subindex = 0 }) }
@@ -51,6 +86,19 @@ pub fn octets()
     ensures odd { octets_in (codes "0A6") ≡ None }
     ensures space { octets_in (codes "0A 64") ≡ None }
     ensures letter { octets_in (codes "0G") ≡ None }
+{}
+
+/// A value is of 0 to 232 octets.
+pub fn lengths()
+    ensures longest { octets_in (replicate 464 48) ≡ Some (replicate 232 0x00) }
+    ensures longer { octets_in (replicate 466 48) ≡ None }
+{}
+
+/// A device has 0 to 70 parameters.
+pub fn counts()
+    ensures none { of_device [] ≡ Some [] }
+    ensures most { of_device (empty_from 64 70) ≡ Some (empty_from 64 70) }
+    ensures more { of_device (empty_from 64 71) ≡ None }
 {}
 
 /// No key of a device stands twice; keys that differ in one number are two.
@@ -73,4 +121,15 @@ pub fn ports()
 /// A whole script, with a device and steps of its port and of the flusher.
 pub fn a_script()
     ensures { said_in example_text ≡ Some example_script }
+{}
+
+/// A whole script, in which each key of a device and of a step has another value than where it is missing.
+pub fn a_full_script()
+    ensures { said_in full_text ≡ Some full_script }
+{}
+
+/// A text of 65,536 octets is judged, and one of one octet more is not.
+pub fn text_lengths()
+    ensures longest { IsText (blanks 65536) }
+    ensures longer { IsText (blanks 65537) → ⊥ }
 {}

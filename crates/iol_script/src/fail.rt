@@ -1,30 +1,20 @@
-//! The disk call of a run that a script makes to fail.
+//! The disk call that a script makes fail.
 ghost use Rattle.std.specs.Prelude.{◌≡◌};
 ghost use Rattle.toml.specs.View.{table_view};
 ghost use Rattle.iol_script.specs.Fail.{kind_of, number_in, call_in, fail_in, has_first_digit};
 
 use crate::table::value_at;
+use iol_disk::DiskFault;
 use toml::Table;
 
-/// The last call of a kind that a script can make to fail.
+/// The greatest number of a call that a script can make fail.
 pub const LAST_FAILING_CALL: u32 = 1_000_000;
 
-/// A kind of disk call.
-#[derive(Clone, Copy, Debug, PartialEq, Eq)]
-pub enum CallKind {
-    /// A sector is read.
-    Read,
-    /// A sector is written.
-    Write,
-    /// All that was written is made durable.
-    Sync,
-}
-
-/// The call of a run that fails.
-#[derive(Clone, Copy, Debug, PartialEq, Eq)]
+/// The disk call of a run that fails.
+#[derive(Clone, Copy)]
 pub struct FailingCall {
     /// The kind of call.
-    pub kind: CallKind,
+    pub kind: DiskFault,
     /// Which call of this kind, counted from 1 to [`LAST_FAILING_CALL`].
     pub number: u32,
 }
@@ -50,13 +40,13 @@ fn call_in(text: &str) -> Option<FailingCall>
     })
 }
 
-fn kind_of(word: &str) -> Option<CallKind>
+fn kind_of(word: &str) -> Option<DiskFault>
     ensures { result ≡ kind_of word.now }
 {
     match word {
-        "read" => Some(CallKind::Read),
-        "write" => Some(CallKind::Write),
-        "sync" => Some(CallKind::Sync),
+        "read" => Some(DiskFault::Read),
+        "write" => Some(DiskFault::Write),
+        "sync" => Some(DiskFault::Sync),
         _ => None,
     }
 }

@@ -23,10 +23,9 @@ mod stop;
 mod table;
 
 pub use device::{Device, USUAL_REVISION};
-pub use fail::{CallKind, FailingCall, LAST_FAILING_CALL};
+pub use fail::{FailingCall, LAST_FAILING_CALL};
 pub use number::MOST_TIMES;
 pub use parameter::Parameter;
 pub use parameters::MOST_PARAMETERS;
 pub use script::{SCRIPT_OCTETS, Script, ScriptFault};
 pub use step::Step;
-pub use stop::Keep;

@@ -11,7 +11,7 @@ use std::alloc::Global;
 use toml::Value;
 
 /// A parameter of a device.
-#[derive(Debug, Drop)]
+#[derive(Drop)]
 pub struct Parameter {
     /// Its name, which is not reserved.
     pub key: Key,

@@ -7,8 +7,8 @@ use crate::devices::read_devices;
 use crate::fail::{FailingCall, fail_in};
 use crate::step::Step;
 use crate::steps::{before_stop, read_steps};
-use crate::stop::Keep;
 use crate::table::{has_only_keys, integer_at, values_at};
+use iol_disk::Pick;
 use iol_types::PortId;
 use std::alloc::{AllocError, AllocFailed, Global};
 use std::str;
@@ -19,7 +19,7 @@ use toml::Table;
 pub const SCRIPT_OCTETS: usize = 65_536;
 
 /// What a script says.
-#[derive(Debug, Drop)]
+#[derive(Drop)]
 pub struct Script {
     /// The number of ports, as it stands in the text.
     pub ports: i64,
@@ -32,11 +32,11 @@ pub struct Script {
     /// What is done, in order.
     pub steps: Vec<Step>,
     /// What the stop at the end leaves of the sectors that no sync has settled.
-    pub keep: Keep,
+    pub keep: Pick,
 }
 
 /// Why a text is not read as a script.
-#[derive(Clone, Copy, Debug, PartialEq, Eq, Error)]
+#[derive(Clone, Copy, Debug, Error)]
 pub enum ScriptFault {
     /// It is over [`SCRIPT_OCTETS`], no UTF-8, no TOML, or says something else than a script.
     #[error("the script is not valid")]
@@ -68,8 +68,8 @@ impl Script {
     ghost use Rattle.iol_script.specs.Script.{IsText, said_by, said_in, said_of, fits_ports, is_port_of, step_fits};
 
     /// The script in a text of at most 65,536 octets: TOML with the whole numbers `ports` and `slots`, of any size
-    /// that 64 bits hold, perhaps a disk call that fails, simulated devices, and the steps, of which a stop is the last.
-    /// Where there is none, one that keeps what is new is added.
+    /// that 64 bits hold. It may name a disk call that fails, simulated devices and steps. The last step may be a stop;
+    /// where it is none, a stop that keeps what is new is added.
     ///
     /// # Errors
     /// `NotValid` where the text is no script; `Memory` where reading a text is out of memory.

@@ -9,7 +9,7 @@ use iol_types::{PortConfig, PortId, PortMode, Validation};
 use toml::{Table, Value};
 
 /// A step of a script, but for the stop that ends it.
-#[derive(Clone, Copy, Debug, PartialEq, Eq)]
+#[derive(Clone, Copy)]
 pub enum Step {
     /// A client gives a port a configuration.
     Configure { port: PortId, config: PortConfig },

@@ -5,12 +5,13 @@ ghost use Rattle.iol_script.specs.Steps.{before_stop, steps_of};
 
 use crate::script::ScriptFault;
 use crate::step::Step;
-use crate::stop::{Keep, read_stop};
+use crate::stop::read_stop;
+use iol_disk::Pick;
 use std::alloc::Global;
 use toml::Value;
 
 // The values before the stop, and what the stop keeps: what is new where the last value is no stop.
-pub(crate) fn before_stop(values: &[Value]) -> (&[Value], Keep)
+pub(crate) fn before_stop(values: &[Value]) -> (&[Value], Pick)
     ensures { (items_view result.0.now, result.1) ≡ before_stop (items_view values.now) }
 {
     if let Some((last, before)) = values.split_last() {
@@ -18,7 +19,7 @@ pub(crate) fn before_stop(values: &[Value]) -> (&[Value], Keep)
             return (before, keep);
         }
     }
-    (values, Keep::New)
+    (values, Pick::New)
 }
 
 // The steps that the values say, none of which is a stop.

@@ -4,23 +4,11 @@ ghost use Rattle.toml.specs.View.{view, table_view};
 ghost use Rattle.iol_script.specs.Stop.{stop_in, stop_of};
 
 use crate::table::{has_only_keys, text_at};
+use iol_disk::Pick;
 use toml::{Table, Value};
 
-/// What the stop leaves of each sector that was written since the last sync.
-#[derive(Clone, Copy, Debug, PartialEq, Eq)]
-pub enum Keep {
-    /// Its durable octets.
-    Old,
-    /// The newest octets written to it.
-    New,
-    /// Zeros.
-    Zero,
-    /// A5 5A, repeated.
-    Pattern,
-}
-
 // What the stop keeps that a value says: `{ do = "stop", keep = ".." }`.
-pub(crate) fn read_stop(value: &Value) -> Option<Keep>
+pub(crate) fn read_stop(value: &Value) -> Option<Pick>
     ensures { result ≡ stop_of (view value.now) }
 {
     let table = value.as_table()?;
@@ -30,17 +18,17 @@ pub(crate) fn read_stop(value: &Value) -> Option<Keep>
     }
 }
 
-fn stop_in(table: &Table) -> Option<Keep>
+fn stop_in(table: &Table) -> Option<Pick>
     ensures { result ≡ stop_in (table_view table.now) }
 {
     if !has_only_keys(table, &["do", "keep"]) {
         return None;
     }
     match text_at(table, "keep")? {
-        "old" => Some(Keep::Old),
-        "new" => Some(Keep::New),
-        "zero" => Some(Keep::Zero),
-        "pattern" => Some(Keep::Pattern),
+        "old" => Some(Pick::Old),
+        "new" => Some(Pick::New),
+        "zero" => Some(Pick::Zero),
+        "pattern" => Some(Pick::Pattern),
         _ => None,
     }
 }

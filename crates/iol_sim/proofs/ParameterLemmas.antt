@@ -27,7 +27,8 @@ pub record MayBeAdded (parameters : List Entry) (key : Key) (octets : List ℕ) 
   pub absent : is_some (data_at parameters key) ≡ false
   pub few : length parameters < MOST_PARAMETERS
 
-pub may_be_added : (parameters : List Entry) (key : Key) (octets : List ℕ) → add_fault parameters key octets ≡ None → MayBeAdded parameters key octets
+pub may_be_added : (parameters : List Entry) (key : Key) (octets : List ℕ)
+    → add_fault parameters key octets ≡ None → MayBeAdded parameters key octets
 may_be_added parameters key octets none =
     by (is_reserved key) (nat_lt MOST_ENTRY_OCTETS (length octets)) (is_some (data_at parameters key))
     (nat_lt (length parameters) MOST_PARAMETERS) refl refl refl refl none
@@ -49,7 +50,8 @@ pub one-more : (parameters : List Entry) (key : Key) (octets : List ℕ) → Are
 one-more parameters key octets are in_range may =
     record {
       each = All-push IsEntry parameters (key, octets) are.each (record { key = in_range; free = may.free; short = may.short });
-      distinct = subst (IsDistinct same_key) (sym (map-append (λ (e : Entry). e.0) parameters ((key, octets) ∷ []))) (distinct-push parameters key may.absent are.distinct);
+      distinct = subst (IsDistinct same_key) (sym (map-append (λ (e : Entry). e.0) parameters ((key, octets) ∷ [])))
+          (distinct-push parameters key may.absent are.distinct);
       few = omega (arith, length-append parameters ((key, octets) ∷ []), may.few);
     }
 
@@ -66,7 +68,8 @@ grown kept later key value octets is in_range none made are =
     ap entries_of made ∙ map-append _ kept ((key, value) ∷ []) ∙ ap (λ (o : List ℕ). entries_of kept ++ (key, o) ∷ []) is in
     record {
       entries = whole;
-      are = subst AreParameters (sym whole) (one-more (entries_of kept) key octets are in_range (may_be_added (entries_of kept) key octets none));
+      are = subst AreParameters (sym whole)
+          (one-more (entries_of kept) key octets are in_range (may_be_added (entries_of kept) key octets none));
     }
 
 -- ---- one written
@@ -76,7 +79,8 @@ pub entries_of-written : (kept : List (Key × ArrayVec ℕ)) (key : Key) (value 
 entries_of-written [] key value = refl
 entries_of-written (entry ∷ kept) key value =
     elim (same_key key entry.0) as (λ here. entries_of (cond here ((entry.0, value) ∷ kept) (entry ∷ insert_entry same_key kept key value))
-    ≡ cond here ((entry.0, value.items) ∷ entries_of kept) ((entry.0, entry.1.items) ∷ insert_entry same_key (entries_of kept) key value.items)) [
+    ≡ cond here ((entry.0, value.items) ∷ entries_of kept)
+    ((entry.0, entry.1.items) ∷ insert_entry same_key (entries_of kept) key value.items)) [
       | true ↦ refl
       | false ↦ ap (λ es. (entry.0, entry.1.items) ∷ es) (entries_of-written kept key value)
     ]
@@ -93,12 +97,14 @@ written [] key octets each short there = cc
 written (entry ∷ parameters) key octets each short there =
     by (same_key key entry.0) (λ later. written parameters key octets (All-tail IsEntry entry parameters each) short later) there
   where
-    by : (here : Bool) → (is_some (data_at parameters key) ≡ true → Written parameters (insert_entry same_key parameters key octets)) → is_some (cond here (Some entry.1) (data_at parameters key)) ≡ true
+    by : (here : Bool) → (is_some (data_at parameters key) ≡ true → Written parameters (insert_entry same_key parameters key octets))
+        → is_some (cond here (Some entry.1) (data_at parameters key)) ≡ true
         → Written (entry ∷ parameters) (cond here ((entry.0, octets) ∷ parameters) (entry ∷ insert_entry same_key parameters key octets))
     by true more there =
         let head = All-head IsEntry entry parameters each in
         record {
-          each = All-cons IsEntry (entry.0, octets) parameters (record { key = head.key; free = head.free; short = short }) (All-tail IsEntry entry parameters each);
+          each = All-cons IsEntry (entry.0, octets) parameters (record { key = head.key; free = head.free; short = short })
+              (All-tail IsEntry entry parameters each);
           keys = refl;
           many = refl;
         }
@@ -114,11 +120,16 @@ pub are-written : (parameters : List Entry) (key : Key) (octets : List ℕ) → 
     → is_some (data_at parameters key) ≡ true → AreParameters (insert_entry same_key parameters key octets)
 are-written parameters key octets are short there =
     let after = written parameters key octets are.each short there in
-    record { each = after.each; distinct = subst (IsDistinct same_key) (sym after.keys) are.distinct; few = omega (arith, after.many, are.few) }
+    record {
+      each = after.each;
+      distinct = subst (IsDistinct same_key) (sym after.keys) are.distinct;
+      few = omega (arith, after.many, are.few);
+    }
 
 -- ---- one at its place
 
-pub at-place : (parameters : List Entry) (place : ℕ) (entry : Entry) → All IsEntry parameters → slice_get parameters place ≡ Some entry → IsEntry entry
+pub at-place : (parameters : List Entry) (place : ℕ) (entry : Entry) → All IsEntry parameters
+    → slice_get parameters place ≡ Some entry → IsEntry entry
 at-place [] place entry each is = cc
 at-place (other ∷ parameters) zero entry each is =
     let same : other ≡ entry = cc in subst IsEntry same (All-head IsEntry other parameters each)

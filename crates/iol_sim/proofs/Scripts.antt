@@ -66,7 +66,8 @@ answered true old new left request answer is h = cc
 answered false old new left request answer is h = h
 
 -- while answers are left, each exchange has the next
-pub answers_in_order : (left kept : List (List ℕ)) (page : Option (List ℕ)) (events : List ℕ) (connection : ℕ) (last : Script) (made : List Answered)
+pub answers_in_order : (left kept : List (List ℕ)) (page : Option (List ℕ)) (events : List ℕ) (connection : ℕ)
+    (last : Script) (made : List Answered)
     (requests : List (List ℕ)) → connection < last_connection
     → Runs (script_of left kept page events connection) made last → Asks made requests
     → All (λ r. length r ≤ ISDU_OCTETS) requests

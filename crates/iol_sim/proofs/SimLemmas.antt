@@ -11,7 +11,8 @@ pub answering-is : (sim : Sim) (visit : VisitValue) → is_some (answering sim) 
     → answering sim ≡ Some visit
 answering-is sim visit some at = by (sim.connection == last_connection) (slice_get sim.visits sim.place) refl some
   where
-    pick : (test : Bool) (other : VisitValue) → other ≡ visit → is_some (cond test (Some other) None) ≡ true → cond test (Some other) None ≡ Some visit
+    pick : (test : Bool) (other : VisitValue) → other ≡ visit → is_some (cond test (Some other) None) ≡ true
+        → cond test (Some other) None ≡ Some visit
     pick true other same some = ap Some same
     pick false other same some = cc
 
@@ -34,4 +35,5 @@ pub exchange-step : (old new : Sim) (visit : VisitValue) (request octets : List 
     → Answers visit.device request octets device → new ≡ with_present old (after_answer visit device)
     → SimStep old (Exchange request) (Octets octets) new
 exchange-step old new visit request octets device is answered stepped =
-    subst (λ (found : Option VisitValue). ExchangeStep old request found (Octets octets) new) (sym is) (octets, device, answered, refl, stepped)
+    subst (λ (found : Option VisitValue). ExchangeStep old request found (Octets octets) new)
+    (sym is) (octets, device, answered, refl, stepped)

@@ -77,7 +77,8 @@ run-rises first last (call ∷ made) run =
     omega (arith, (step-left first run.0 call.call call.answer run.2).rises, run-rises run.0 last made run.3)
 
 -- a run that ends on the connection on which it began ends at its place
-pub run-stays : (first last : Sim) (made : List Answered) → Runs first made last → last.connection ≡ first.connection → last.place ≡ first.place
+pub run-stays : (first last : Sim) (made : List Answered) → Runs first made last → last.connection ≡ first.connection
+    → last.place ≡ first.place
 run-stays first last [] run same = ap (λ (sim : Sim). sim.place) (sym run)
 run-stays first last (call ∷ made) run same =
     let step = step-left first run.0 call.call call.answer run.2 in

@@ -65,7 +65,12 @@ weighted-one_more first octets count there =
     let many : length (take count octets) ≡ count = omega (arith, length-take count octets) in
     let last : weighted (first + length (take count octets)) (get_or octets count 0 ∷ []) ≡ (first + count) * get_or octets count 0 =
     ap (λ n. weighted (first + n) (get_or octets count 0 ∷ [])) many ∙ omega arith in
-    omega (arith, ap (weighted first) (take_more octets count 0 there), weighted-append first (take count octets) (get_or octets count 0 ∷ []), last)
+    omega (
+      arith,
+      ap (weighted first) (take_more octets count 0 there),
+      weighted-append first (take count octets) (get_or octets count 0 ∷ []),
+      last,
+    )
 
 -- an octet times a place is small
 pub small-product : (place octet : ℕ) → place ≤ 2 ^ 16 + 232 → octet ≤ 255 → place * octet ≤ 2 ^ 25

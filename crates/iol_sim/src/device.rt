@@ -24,7 +24,7 @@ pub const DS_UPLOAD_REQUEST: u16 = 0xFF91;
 
 /// A simulated device with Data Storage: at most 70 parameters, each under a key that is not
 /// reserved and with at most 232 octets. A contract sees the record `Device` of `specs/Device.antt`.
-#[derive(Debug, Drop)]
+#[derive(Drop)]
 pub struct SimDevice {
     vendor: u16,
     device: DeviceId,

@@ -131,7 +131,8 @@ pub fn changes()
     ensures flag { (raised example_device).flag ≡ true }
     ensures told { map told (raised example_device ∷ example_device ∷ []) ≡ Some 0xFF91 ∷ None ∷ [] }
     ensures then { after_told (raised example_device) ≡ in_state state.Inactive true }
-    ensures refused { map (change_of example_device (key 0x0041 1)) ([] ∷ (0x01 ∷ 0x02 ∷ []) ∷ []) ≡ Err Refusal.TooShort ∷ Err Refusal.TooLong ∷ [] }
+    ensures refused { map (change_of example_device (key 0x0041 1)) ([] ∷ (0x01 ∷ 0x02 ∷ []) ∷ [])
+        ≡ Err Refusal.TooShort ∷ Err Refusal.TooLong ∷ [] }
     ensures unknown { change_of example_device (key 0x0003 1) (0x01 ∷ []) ≡ Err Refusal.NoIndex }
     ensures locked { change_of (in_state state.Locked false) (key 0x0041 1) (0x7F ∷ []) ≡ Ok (raised (in_state state.Locked false)) }
 {}

@@ -43,7 +43,7 @@ pub enum DeviceFault {
 }
 
 /// The parameters of a simulated device. A contract sees them in their order.
-#[derive(Debug, Drop)]
+#[derive(Drop)]
 pub struct Parameters {
     entries: IndexMap<Key, ArrayVec<u8, MOST_ENTRY_OCTETS>>,
 }

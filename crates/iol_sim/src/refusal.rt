@@ -7,7 +7,7 @@ ghost use Rattle.iol_sim.specs.Refusal.{code_of};
 pub const DEVICE_APPLICATION_ERROR: u8 = 0x80;
 
 /// Why a simulated device refuses a request (IO-Link V1.1, ErrorTypes).
-#[derive(Clone, Copy, Debug, PartialEq, Eq)]
+#[derive(Clone, Copy, PartialEq, Eq)]
 pub enum Refusal {
     /// No object has this Index and Subindex, 0x11.
     NoIndex,

@@ -12,7 +12,7 @@ use std::marker::Model;
 /// more than 238 octets, which is no ISDU, is `Lost` too. It may be given a page, which can be read
 /// until the device is lost, and events, which are told in order until the device is lost; without
 /// a page, to read it is `Lost`.
-#[derive(Debug, Drop)]
+#[derive(Drop)]
 pub struct ScriptLink {
     answers: Vec<ArrayVec<u8, ISDU_OCTETS>>,
     requests: Vec<ArrayVec<u8, ISDU_OCTETS>>,

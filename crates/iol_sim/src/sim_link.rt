@@ -17,7 +17,7 @@ use std::marker::Model;
 /// answered as many calls as its [`Visit`] says; the next call is `Lost`, and the next device is there.
 /// Past the last device, and on the last connection, each call is `Lost` and no event is told. A
 /// contract sees the record `Sim` of `specs/SimLink.antt`.
-#[derive(Debug, Drop)]
+#[derive(Drop)]
 pub struct SimLink {
     visits: Vec<Visit>,
     place: usize,

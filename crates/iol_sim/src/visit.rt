@@ -15,7 +15,7 @@ use std::marker::Model;
 /// A device's visit at the port of a [`SimLink`](crate::SimLink): the device, how many calls it
 /// answers until it is lost, and after how many it wants an upload. A contract sees the record
 /// `VisitValue` of `specs/SimLink.antt`, which counts what is left.
-#[derive(Debug, Drop)]
+#[derive(Drop)]
 pub struct Visit {
     device: SimDevice,
     answers: Option<u64>,

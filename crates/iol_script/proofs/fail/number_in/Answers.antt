@@ -5,6 +5,7 @@ use Rattle.std.specs.Result.{result_ok}
 use Rattle.std.specs.Str.{all_ascii_digits}
 use Rattle.std.specs.Str.Parse.{digits_value, ParsesUnsigned}
 use Rattle.iol_script.specs.Fail.{number_in, has_first_digit}
+use Rattle.iol_script.specs.declared.fail.TheConstants.{LAST_FAILING_CALL}
 use Rattle.iol_script.proofs.fail.number_in.Goals as goal
 
 -- the digits of a text, and the number that they write
@@ -12,10 +13,10 @@ numerals : IsNumeralModel (λ ds. all_ascii_digits ds ≡ true) (digits_value 10
 numerals = numerals_by_value _ tells_all_ascii_digits
 
 -- a number that may be the one that fails
-small : (n : ℕ) → n ≤ 1000000 → (if nat_le n 1000000 then Some n else None) ≡ Some n
+small : (n : ℕ) → n ≤ LAST_FAILING_CALL → (if nat_le n LAST_FAILING_CALL then Some n else None) ≡ Some n
 small n low = grind (arith, nat_tests)
 
-large : (n : ℕ) → 1000000 < n → (if nat_le n 1000000 then Some n else None) ≡ None
+large : (n : ℕ) → LAST_FAILING_CALL < n → (if nat_le n LAST_FAILING_CALL then Some n else None) ≡ None
 large n high = grind (arith, nat_tests)
 
 -- a text that begins with a digit is not empty, and begins with no plus
@@ -27,7 +28,7 @@ begins (first ∷ others) is = (omega arith, not_plus first is)
     not_plus octet digit plus = let never : false ≡ true = rw plus at digit in absurd (cc)
 
 read_number : {E : Type 0} (text : List ℕ) (r : Result ℕ E) (n : ℕ) → has_first_digit text ≡ true → ParsesUnsigned 32 10 text r
-    → Some n ≡ result_ok r → n ≤ 1000000 → number_in text ≡ Some n
+    → Some n ≡ result_ok r → n ≤ LAST_FAILING_CALL → number_in text ≡ Some n
 read_number {E = E} text (Ok m) n first parsed is low =
     let plain = parse_plain numerals {E = E} 32 text (Ok m) parsed (begins text first).1 in
     let value : digits_value 10 text ≡ n = cc (plain.1) in
@@ -42,7 +43,7 @@ not_read {E = E} text (Err e) first parsed is =
     none (all_ascii_digits text) (digits_value 10 text) (length text) (begins text first).0 plain
   where
     none : (all : Bool) (value len : ℕ) → 0 < len → ((all ≡ true) × (0 < len) × (value < 2 ^ 32) → ⊥)
-        → (if has_first_digit text && all && nat_le value 1000000 then Some value else None) ≡ None
+        → (if has_first_digit text && all && nat_le value LAST_FAILING_CALL then Some value else None) ≡ None
     none false value len some not = rw first refl
     none true value len some not =
         let above : value < 2 ^ 32 → ⊥ = λ low. not (refl, some, low) in

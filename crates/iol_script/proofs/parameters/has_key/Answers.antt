@@ -11,7 +11,8 @@ use Rattle.iol_script.proofs.parameters.has_key.Goals as goal
 
 -- a search through parameters is one through their keys
 among_the_keys : (key : Key) (parameters : List Parameter)
-    → list_any (λ (parameter : Parameter). same_key key parameter.key) parameters ≡ list_any (same_key key) (keys_of (entries_of parameters))
+    → list_any (λ (parameter : Parameter). same_key key parameter.key) parameters
+    ≡ list_any (same_key key) (keys_of (entries_of parameters))
 among_the_keys key [] = refl
 among_the_keys key (parameter ∷ parameters) = rw (among_the_keys key parameters)
 

@@ -13,7 +13,8 @@ none_before None others none = refl
 none_before (Some parameter) others none = rw none refl
 
 -- keys and octets that are not equal in number say no parameters
-parameters_of-unequal : (keys values : List Value) → length keys ≢ length values → parameters_of (items_view keys) (items_view values) ≡ None
+parameters_of-unequal : (keys values : List Value) → length keys ≢ length values
+    → parameters_of (items_view keys) (items_view values) ≡ None
 parameters_of-unequal [] [] unequal = absurd (unequal refl)
 parameters_of-unequal [] (value ∷ values) unequal = refl
 parameters_of-unequal (key ∷ keys) [] unequal = refl

@@ -19,7 +19,8 @@ loop-place-preserved c =
     let next_key = items_view-drop c.args.keys.now c.loop-place.place c.index-keys-place.result c.loop-place-test.true in
     let more : c.loop-place.place < length c.args.values.now = omega arith in
     let next_value = items_view-drop c.args.values.now c.loop-place.place c.index-values-place.result more in
-    let some : parameter_of (view c.index-keys-place.result) (view c.index-values-place.result) ≡ Some (entry_of c.in_ok-parameter.parameter)
+    let some : parameter_of (view c.index-keys-place.result) (view c.index-values-place.result)
+    ≡ Some (entry_of c.in_ok-parameter.parameter)
     = search rules in
     rw (c.loop-place.invariant, next_key, next_value, ← c.index-keys-place.is, ← c.index-values-place.is, some, c.in_ok-push.ensures.items)
     (said_in_order entry_of c.loop-place.parameters.items c.in_ok-parameter.parameter _)

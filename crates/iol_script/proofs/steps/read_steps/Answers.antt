@@ -4,7 +4,8 @@ use Rattle.iol_script.proofs.steps.read_steps.Goals as goal
 
 -- a step before those that are left is the last one of those so far
 option_map-moved : {A : Type 0} (before : List A) (step : A) (left : Option (List A))
-    → option_map (λ steps. before ++ steps) (option_map (λ steps. step ∷ steps) left) ≡ option_map (λ steps. (before ++ step ∷ []) ++ steps) left
+    → option_map (λ steps. before ++ steps) (option_map (λ steps. step ∷ steps) left)
+    ≡ option_map (λ steps. (before ++ step ∷ []) ++ steps) left
 option_map-moved before step None = refl
 option_map-moved before step (Some steps) = rw append_assoc
 

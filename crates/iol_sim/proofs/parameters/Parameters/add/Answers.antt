@@ -11,10 +11,12 @@ use Rattle.iol_sim.proofs.parameters.Parameters.add.Goals.{in-Ok, in-Err}
 
 -- nothing refuses the parameter
 unrefused : (c : goal.Joined-insert) → add_fault (entries_of c.self.inside.entries.entries) c.args.key c.args.octets.now ≡ None
-unrefused c = ap (λ (entries : List Entry). add_fault entries c.args.key c.args.octets.now) c.self.view_is ∙ sym c.fault.ensures.fault ∙ c.in_default.is
+unrefused c = ap (λ (entries : List Entry). add_fault entries c.args.key c.args.octets.now) c.self.view_is
+    ∙ sym c.fault.ensures.fault ∙ c.in_default.is
 
 -- what the insertion makes of the parameters
-inserted : (c : goal.Joined-insert) → c.insert.new.self.entries ≡ insert_entry same_key c.self.inside.entries.entries c.args.key c.data_of.result
+inserted : (c : goal.Joined-insert) → c.insert.new.self.entries
+    ≡ insert_entry same_key c.self.inside.entries.entries c.args.key c.data_of.result
     → Grown c.self.inside.entries.entries c.insert.new.self.entries c.args.key c.args.octets.now
 inserted c made =
     let kept = c.self.inside.entries.entries in
@@ -33,6 +35,9 @@ invariant_of-self c =
 pub returns-clause-added : goal.returns-clause-added
 returns-clause-added c =
     elim c.match-insert.branch [
-      | in-Ok w ↦ rw w.result-is (sym c.fault.ensures.fault ∙ c.in_default.is, (inserted c w.in-Ok.ensures.entries).entries ∙ ap (λ (entries : List Entry). entries ++ (c.args.key, c.args.octets.now) ∷ []) c.self.view_is)
+      | in-Ok w ↦ rw w.result-is (
+        sym c.fault.ensures.fault ∙ c.in_default.is,
+        (inserted c w.in-Ok.ensures.entries).entries ∙ ap (λ (entries : List Entry). entries ++ (c.args.key, c.args.octets.now) ∷ []) c.self.view_is,
+      )
       | in-Err w ↦ rw w.result-is tt
     ]

@@ -9,7 +9,13 @@ loop-place-preserved c =
     let so_far = all_octets (take loop.place c.args.self.now) in
     let more = octets-one_more c.args.self.now loop.place (c.at.result.0, c.at.result.1.now) c.at.ensures.entry in
     let sum : weighted 1 (so_far ++ c.at.result.1.now) ≡ loop.sum + c.weighted-sum.result =
-    omega (arith, weighted-append 1 so_far c.at.result.1.now, loop.invariant.summed, c.weighted-sum.ensures.sum, ap (λ n. weighted n c.at.result.1.now) loop.invariant.counted) in
+    omega (
+      arith,
+      weighted-append 1 so_far c.at.result.1.now,
+      loop.invariant.summed,
+      c.weighted-sum.ensures.sum,
+      ap (λ n. weighted n c.at.result.1.now) loop.invariant.counted,
+    ) in
     let many : length (all_octets (take (loop.place + 1) c.args.self.now)) ≡ length so_far + length c.at.result.1.now =
     ap length more ∙ length-append so_far c.at.result.1.now in
     record {

@@ -22,7 +22,13 @@ pub write_index_list-requires-clause-free : goal.write_index_list-requires-claus
 write_index_list-requires-clause-free c =
     let loop = c.loop-place in
     let self = c.args.self.now in
-    let end : c.len.result ≡ loop.place = omega (arith, c.loop-place-test.false, loop.auto.place-end, c.len-place-end.ensures.count, c.len.ensures.count) in
+    let end : c.len.result ≡ loop.place = omega (
+      arith,
+      c.loop-place-test.false,
+      loop.auto.place-end,
+      c.len-place-end.ensures.count,
+      c.len.ensures.count,
+    ) in
     let whole : take loop.place self ≡ self = take_all loop.place self (omega (arith, end, c.len.ensures.count)) in
     let keys : take c.len.result loop.keys ≡ keys_of self = ap (λ n. take n loop.keys) end ∙ loop.invariant.listed ∙ ap keys_of whole in
     subst (All (λ (key : Key). is_reserved key ≡ false)) (sym keys) (free-keys self c.len.ensures.parameters.each)

@@ -13,7 +13,8 @@ use Rattle.iol_sim.proofs.parameters.Parameters.write.Goals.{in-Ok, in-Err}
 there : (c : goal.Joined-insert) → is_some (data_at (entries_of c.self.inside.entries.entries) c.args.key) ≡ true
 there c = ap (λ (entries : List Entry). is_some (data_at entries c.args.key)) c.self.view_is ∙ c.requires.there
 
-inserted : (c : goal.Joined-insert) → c.insert.new.self.entries ≡ insert_entry same_key c.self.inside.entries.entries c.args.key c.data_of.result
+inserted : (c : goal.Joined-insert) → c.insert.new.self.entries
+    ≡ insert_entry same_key c.self.inside.entries.entries c.args.key c.data_of.result
     → entries_of c.insert.new.self.entries ≡ insert_entry same_key (entries_of c.self.inside.entries.entries) c.args.key c.args.octets.now
 inserted c made =
     ap entries_of made ∙ entries_of-written c.self.inside.entries.entries c.args.key c.data_of.result
@@ -21,7 +22,8 @@ inserted c made =
 
 -- so the map finds it
 present : (c : goal.Joined-insert) → is_some (lookup (same_key c.args.key) c.self.inside.entries.entries) ≡ false → ⊥
-present c none = let both : true ≡ false = sym (there c) ∙ is_some-entries_of (same_key c.args.key) c.self.inside.entries.entries ∙ none in cc
+present c none = let both : true ≡ false = sym (there c)
+    ∙ is_some-entries_of (same_key c.args.key) c.self.inside.entries.entries ∙ none in cc
 
 pub invariant_of-self : goal.invariant_of-self
 invariant_of-self c =
@@ -34,6 +36,7 @@ invariant_of-self c =
 pub returns : goal.returns
 returns c =
     elim c.match-insert.branch [
-      | in-Ok w ↦ inserted c w.in-Ok.ensures.entries ∙ ap (λ (entries : List Entry). insert_entry same_key entries c.args.key c.args.octets.now) c.self.view_is
+      | in-Ok w ↦ inserted c w.in-Ok.ensures.entries
+          ∙ ap (λ (entries : List Entry). insert_entry same_key entries c.args.key c.args.octets.now) c.self.view_is
       | in-Err w ↦ absurd (present c (ap is_some w.in-Err.ensures.absent))
     ]
