@@ -1,5 +1,6 @@
 -- A simulated device refuses none of the parameters that it may have, one behind the other.
-use Rattle.std.proofs.Common.{◌≡◌, refl, ℕ, ◌+◌, ◌<◌, ◌≤◌, false, true, List, [], ◌∷◌, ◌++◌, length, get_or, take, drop, map, Some, None, is_some, ◌⊎◌, inl, inr, ap, sym, ◌∙◌, subst, arith, length-append, add-one, drop-cons}
+use Rattle.std.proofs.Common.{◌≡◌, refl, ℕ, ◌+◌, ◌<◌, ◌≤◌, false, true, List, [], ◌∷◌, ◌++◌, length, get_or, take, drop, map, Some, None}
+use Rattle.std.proofs.Common.{is_some, ◌⊎◌, inl, inr, ap, sym, ◌∙◌, subst, arith, length-append, add-one, drop-cons}
 use Rattle.std.specs.Prelude.{nat_lt}
 use Rattle.std.specs.List.{IsDistinct}
 use Rattle.std.specs.Map.{keys_of}
@@ -19,7 +20,8 @@ use Rattle.iol_types.specs.Key.{same_key, is_reserved}
 use Rattle.iol_types.specs.declared.key.Key.{Key}
 use Rattle.iol_types.specs.declared.data_set.TheConstants.{MOST_ENTRY_OCTETS}
 
-next_accepted : (before : List Entry) (entry : Entry) (behind : List Entry) → AreParameters (before ++ entry ∷ behind) → add_fault before entry.0 entry.1 ≡ None
+next_accepted : (before : List Entry) (entry : Entry) (behind : List Entry) → AreParameters (before ++ entry ∷ behind)
+    → add_fault before entry.0 entry.1 ≡ None
 next_accepted before entry behind are =
     let there : length before < length (before ++ entry ∷ behind) = omega (arith, length-append before (entry ∷ behind)) in
     let is : IsEntry entry = subst IsEntry (get_or-append_seam before entry behind entry) (are.each (length before) entry there) in
@@ -33,10 +35,12 @@ next_accepted before entry behind are =
     rw (free, long, absent, few) refl
 
 -- the parameter at a place is accepted behind those before it
-pub accepted : (parameters : List Parameter) (place : ℕ) (parameter : Parameter) → place < length parameters → parameter ≡ get_or parameters place parameter
-    → AreParameters (entries_of parameters) → add_fault (entries_of (take place parameters)) parameter.key parameter.octets.items ≡ None
+pub accepted : (parameters : List Parameter) (place : ℕ) (parameter : Parameter) → place < length parameters
+    → parameter ≡ get_or parameters place parameter → AreParameters (entries_of parameters)
+    → add_fault (entries_of (take place parameters)) parameter.key parameter.octets.items ≡ None
 accepted parameters place parameter there is are =
-    next_accepted (entries_of (take place parameters)) (entry_of parameter) (entries_of (drop (place + 1) parameters)) (subst AreParameters whole are)
+    next_accepted (entries_of (take place parameters)) (entry_of parameter) (entries_of (drop (place + 1) parameters))
+    (subst AreParameters whole are)
   where
     parted : parameters ≡ take place parameters ++ parameter ∷ drop (place + 1) parameters
     parted =

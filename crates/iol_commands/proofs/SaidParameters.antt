@@ -1,5 +1,6 @@
 -- The parameters that a script says are such as a simulated device may have.
-use Rattle.std.proofs.Common.{◌≡◌, refl, ℕ, ◌<◌, ◌≤◌, ◌^◌, Bool, true, false, ◌&&◌, ◌||◌, not, if◌then◌else◌, List, [], ◌∷◌, length, Option, Some, None, subst, sym, ap, arith}
+use Rattle.std.proofs.Common.{◌≡◌, refl, ℕ, ◌<◌, ◌≤◌, ◌^◌, Bool, true, false, ◌&&◌, ◌||◌, not, if◌then◌else◌, List, [], ◌∷◌, length, Option}
+use Rattle.std.proofs.Common.{Some, None, subst, sym, ap, arith}
 use Rattle.std.specs.Prelude.{ℤ, pos, negsuc, nat_lt, nat_le, option_and_then, option_map}
 use Rattle.std.specs.List.{AllByRecursion, list_any, IsDistinct}
 use Rattle.std.specs.Map.{keys_of}
@@ -53,9 +54,11 @@ key_free made key in_range is = by (is_reserved made) refl is
 
 pair_free : (first second : Data) (key : Key) → key_of_pair first second ≡ Some key → IsFree key
 pair_free first second key is =
-    option_and_then_some (λ (index : ℕ). option_and_then (λ (subindex : ℕ). free_key (record { index = index; subindex = subindex })) (number_of (2 ^ 8) second))
+    option_and_then_some (λ (index : ℕ).
+    option_and_then (λ (subindex : ℕ). free_key (record { index = index; subindex = subindex })) (number_of (2 ^ 8) second))
     (number_of (2 ^ 16) first) key is (λ index read rest.
-    option_and_then_some (λ (subindex : ℕ). free_key (record { index = index; subindex = subindex })) (number_of (2 ^ 8) second) key rest (λ subindex said free.
+    option_and_then_some (λ (subindex : ℕ). free_key (record { index = index; subindex = subindex })) (number_of (2 ^ 8) second) key rest
+    (λ subindex said free.
     key_free (record { index = index; subindex = subindex }) key
     (record { index = number_bound (2 ^ 16) first index read; subindex = number_bound (2 ^ 8) second subindex said }) free))
 
@@ -83,26 +86,30 @@ of_octets value octets is =
 
 of_parameter : (key octets : Data) (entry : Entry) → parameter_of key octets ≡ Some entry → IsEntry entry
 of_parameter key octets entry is =
-    option_and_then_some (λ (name : Key). option_map (λ (said : List ℕ). (name, said)) (octets_of octets)) (key_of key) entry is (λ name named rest.
+    option_and_then_some (λ (name : Key). option_map (λ (said : List ℕ). (name, said)) (octets_of octets)) (key_of key) entry is
+    (λ name named rest.
     map_some (λ (said : List ℕ). (name, said)) (octets_of octets) entry rest (λ said read same.
     let free = of_key key name named in
     subst IsEntry same (record { key = free.in_range; free = free.free; short = of_octets octets said read })))
 
-of_parameters : (keys values : Items) (parameters : List Entry) → parameters_of keys values ≡ Some parameters → AllByRecursion IsEntry parameters
+of_parameters : (keys values : Items) (parameters : List Entry) → parameters_of keys values ≡ Some parameters
+    → AllByRecursion IsEntry parameters
 of_parameters no_items no_items parameters is =
     let none : ◌≡◌ {A = List Entry} [] parameters = cc in
     subst (AllByRecursion IsEntry) none tt
 of_parameters no_items (item value values) parameters is = cc
 of_parameters (item key keys) no_items parameters is = cc
 of_parameters (item key keys) (item value values) parameters is =
-    option_and_then_some (λ (entry : Entry). option_map (λ (others : List Entry). entry ∷ others) (parameters_of keys values)) (parameter_of key value) parameters is
+    option_and_then_some (λ (entry : Entry). option_map (λ (others : List Entry). entry ∷ others) (parameters_of keys values))
+    (parameter_of key value) parameters is
     (λ entry first rest.
     map_some (λ (others : List Entry). entry ∷ others) (parameters_of keys values) parameters rest (λ others more same.
     subst (AllByRecursion IsEntry) same (of_parameter key value entry first, of_parameters keys values others more)))
 
 -- ---- no key stands twice
 
-apart_from : (key : Key) (keys : List Key) → list_any (same_key key) keys ≡ false → AllByRecursion (λ other. same_key key other ≡ false) keys
+apart_from : (key : Key) (keys : List Key) → list_any (same_key key) keys ≡ false
+    → AllByRecursion (λ other. same_key key other ≡ false) keys
 apart_from key [] none = tt
 apart_from key (other ∷ keys) none = by (same_key key other) refl none (λ left. apart_from key keys left)
   where
@@ -124,7 +131,8 @@ distinct_are (key ∷ keys) are =
     none false is = refl
 
 -- parameters that a device of a script may have are parameters that a simulated device may have
-pub of_a_device : (keys values : Items) (all parameters : List Entry) → parameters_of keys values ≡ Some all → of_device all ≡ Some parameters
+pub of_a_device : (keys values : Items) (all parameters : List Entry) → parameters_of keys values ≡ Some all → of_device all
+    ≡ Some parameters
     → AreParameters parameters
 of_a_device keys values all parameters read is =
     let parts = cond_some (nat_le (length all) MOST_PARAMETERS && are_distinct (keys_of all)) all parameters is in

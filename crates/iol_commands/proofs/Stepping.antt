@@ -12,7 +12,8 @@ use Rattle.iol_commands.specs.Steps.{MakesSome, Makes, MakesAll}
 
 module _ {D L : Type 0} (disk : D → Disk) (number : L → ℕ) (allows : L → LinkCall → LinkAnswer → L → Type 0) where
   -- one step more of a run
-  pub some_more : (steps : List Step) (step : Step) (turned : Turned) (old mid new : RunView D L) → MakesSome disk number allows steps old mid
+  pub some_more : (steps : List Step) (step : Step) (turned : Turned) (old mid new : RunView D L)
+      → MakesSome disk number allows steps old mid
       → Did disk number allows step turned mid new → MakesSome disk number allows (steps ++ step ∷ []) old new
   some_more steps step turned old mid new made did =
       (made.0 + waits_of turned, made_more disk number allows steps step turned made.0 old mid new made.1 did)

@@ -14,8 +14,8 @@ use std::io::{self, Read, Write};
 use std::os::unix::fs::FileExt;
 use std::rt::{Env, Files};
 
-// Carries out the command that the program's words name, and answers the exit status: 2 where the words are wrong, 0
-// for help and the version, and else that of the command.
+// Carries out the command that the program's words name, and returns the exit status: 2 where the words are wrong, 0 for
+// help and the version, and else that of the command.
 pub fn run_program<
     F: FileExt + OpenFile + Drop,
     R: Env + Files<File = F> + AllocGlobal,
@@ -89,7 +89,7 @@ fn run_file<R: Files + AllocGlobal, W: Write, E: Write>(
     }
 }
 
-// The octets of a file, up to the first that is too many for a script.
+// The octets of a file: all, or as many as a script may have and one more.
 fn read_script<'a, R: Files + AllocGlobal>(rt: &R, path: &'a str) -> Result<Vec<u8>, Fault<'a>> {
     let mut octets = Vec::new(rt.alloc());
     match read_file(rt, path, &mut octets) {

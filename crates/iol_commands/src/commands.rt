@@ -12,9 +12,11 @@ use iol_script::Script;
 use std::alloc::Global;
 use std::io::{self, Write};
 
-/// Runs a script on a disk in memory, and answers the exit status: 0 once its trace and the recovered state are
-/// written to `out`; 1, or 2 where the script or its geometry is not valid, after a line on `err` that says why, and
-/// then nothing is written to `out`; 1 where writing to `out` fails, with nothing written to `err`.
+/// Runs a script on a disk in memory, and returns the exit status: 0 once its trace and the recovered state are written
+/// to `out`, 2 where the script or its geometry is not valid, and else 1.
+///
+/// Where the run fails, a line on `err` says why, and nothing is written to `out`. Where writing to `out` fails, nothing
+/// is written to `err`.
 pub fn run_text<W: Write, E: Write>(alloc: Global, script: &[u8], out: &mut W, err: &mut E) -> u8
     ensures statuses { result ≤ 2 }
     ensures one_writer { (out.new ≡ out.old) ⊎ (err.new ≡ err.old) }
@@ -29,7 +31,7 @@ pub fn run_text<W: Write, E: Write>(alloc: Global, script: &[u8], out: &mut W, e
     }
 }
 
-// What a run prints: the text is judged first, then whether its ports are there, then its numbers, and then it is run.
+// What a run prints. The text is judged first, then whether its ports are there, then its numbers; then it is run.
 fn text_of_run(alloc: Global, text: &[u8]) -> Result<String, Fault<'static>>
     ensures ran { OnOk result (CanRun text.now) }
     ensures cause { IfErr result (IsCause text.now) }
@@ -44,7 +46,7 @@ fn text_of_run(alloc: Global, text: &[u8]) -> Result<String, Fault<'static>>
     Ok(report.to_string(alloc)?)
 }
 
-// Writes a command's output, and answers the exit status: 0, or 1 where the writing fails.
+// Writes a command's output, and returns the exit status: 0, or 1 where the writing fails.
 pub(crate) fn print<W: Write>(out: &mut W, text: &[u8]) -> u8
     ensures status { (result ≡ 0) ⊎ (result ≡ 1) }
     ensures written { result ≡ 0 → Appends (W.contents out.old) (W.contents out.new) text.now }
@@ -62,7 +64,7 @@ fn write_through<W: Write>(out: &mut W, text: &[u8]) -> io::Result<()>
     out.flush()
 }
 
-// Writes why a command failed, and answers its exit status, also where the writing fails.
+// Writes why a command failed, and returns its exit status, also where the writing fails.
 pub fn report<E: Write>(err: &mut E, fault: &Fault<'_>) -> u8
     ensures { result ≡ status_of fault.now }
 {

@@ -10,8 +10,8 @@ use iol_script::{Device, Parameter};
 use iol_sim::{DeviceFault, SimDevice, SimLink, Visit};
 use std::alloc::{AllocError, Global};
 
-// A link for each of so many ports, port 1 first, to the devices that a script has there, one after another. At a port
-// without devices each call is lost.
+// A link for each port, port 1 first, to the devices that a script has there, in its order. At a port without devices
+// each call is lost.
 //
 // # Errors
 // `Memory`.
@@ -74,7 +74,7 @@ fn bare_device(alloc: Global, device: &Device) -> SimDevice
     bare
 }
 
-// A device without parameters, with these.
+// Gives parameters to a device that has none.
 fn with_parameters(bare: SimDevice, parameters: &[Parameter]) -> Result<SimDevice, AllocError>
     requires bare { bare.parameters ≡ [] }
     requires parameters { AreParameters (entries_of parameters.now) }
@@ -89,7 +89,7 @@ fn with_parameters(bare: SimDevice, parameters: &[Parameter]) -> Result<SimDevic
     Ok(device)
 }
 
-// The want of memory, which is why a parameter is not added that the device may have.
+// Memory is the only reason why a parameter that the device may have is not added.
 fn out_of_memory(fault: DeviceFault) -> AllocError
     requires { fault ≡ DeviceFault.Memory }
 {

@@ -31,7 +31,8 @@ pub fn statuses()
         ≡ codes "off" ∷ codes "lost" ∷ codes "ready" ∷ codes "ready locked" ∷ codes "ready empty" ∷ [] }
     ensures busy { map status_text (trace.Starting ∷ trace.Uploading ∷ trace.Storing ∷ trace.Downloading ∷ [])
         ≡ codes "starting" ∷ codes "uploading" ∷ codes "storing" ∷ codes "downloading" ∷ [] }
-    ensures mismatches { map (λ fault. status_text (trace.Mismatch fault)) (ident.Vendor ∷ ident.Device ∷ ident.Revision ∷ ident.NoIsdu ∷ [])
+    ensures mismatches { map (λ fault. status_text (trace.Mismatch fault)) (ident.Vendor ∷ ident.Device ∷ ident.Revision ∷ ident.NoIsdu
+        ∷ [])
         ≡ codes "mismatch vendor" ∷ codes "mismatch device" ∷ codes "mismatch revision" ∷ codes "mismatch isdu" ∷ [] }
 {}
 

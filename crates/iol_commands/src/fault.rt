@@ -21,7 +21,7 @@ pub enum Fault<'a> {
     /// The disk has too few sectors for the geometry.
     #[error("the disk is too small")]
     TooSmall,
-    /// What stands in this sector is nothing that a journal writes.
+    /// This sector holds what no journal writes.
     #[error("damaged at sector {sector}")]
     Damaged { sector: usize },
     /// A call of the disk failed.
@@ -30,16 +30,16 @@ pub enum Fault<'a> {
     /// Memory ran out.
     #[error("out of memory")]
     Memory,
-    /// A word of the command line is no text.
+    /// A word of the command line is not UTF-8.
     #[error("a word is not UTF-8")]
     Words,
     /// The file at this path cannot be opened, read or made.
     #[error("cannot open {path}")]
     File { path: &'a str },
-    /// The text is no script.
+    /// The text is not a script.
     #[error("the script is not valid")]
     Script,
-    /// The numbers of ports and slots are no geometry.
+    /// The numbers of ports and slots are not a geometry.
     #[error("the geometry is not valid")]
     Geometry,
 }

@@ -1,4 +1,4 @@
-//! The disks of the commands on image files: formatted, and shown.
+//! Image files: opened or made, formatted, and shown.
 ghost use Rattle.std.specs.Prelude.{◌≡◌, ◌⊎◌, true, false, Ok, IfOk, IfErr, IsOk, OnOk};
 ghost use Rattle.iol_types.specs.State.{empty_state};
 ghost use Rattle.iol_disk.specs.Content.{IsImage};
@@ -19,7 +19,7 @@ use std::fs::OpenFile;
 use std::os::unix::fs::FileExt;
 use std::rt::Files;
 
-// The image file at this path.
+// Opens the image file at this path.
 //
 // # Errors
 // `File`, `Disk` or `Memory`.
@@ -32,7 +32,7 @@ pub(crate) fn opened<'a, F: FileExt + OpenFile + Drop, R: Files<File = F>>(
     ImageFile::open(rt, path).map_err(|fault| of_image(fault, path))
 }
 
-// The image file at this path, which is made with so many sectors if there is none.
+// Opens the image file at this path, or makes it with this many sectors if there is none.
 //
 // # Errors
 // `File`, `Disk` or `Memory`.
@@ -64,7 +64,7 @@ fn of_image(fault: ImageFault, path: &str) -> Fault<'_>
     }
 }
 
-// Formats a disk, where that is forced after its journal is erased.
+// Formats a disk. Where that is forced, its journal is erased first.
 //
 // # Errors
 // `TooSmall`, `AlreadyFormatted` or `Memory`, or `Disk` where a disk call fails.
@@ -93,7 +93,8 @@ pub fn format_disk<D: SectorDisk>(
 // Erases a disk, where that is forced.
 fn erase_if_forced<D: SectorDisk>(disk: &mut D, force: bool) -> Result<(), DiskFault>
     ensures untouched { force ≡ false → (disk.new ≡ disk.old) × IsOk result }
-    ensures any_moment { LeavesOnly (D.disk disk.old) (D.disk disk.new) (MeansAsBeforeOrNothing (D.disk disk.old).sectors (D.disk disk.old).content) }
+    ensures any_moment { LeavesOnly (D.disk disk.old) (D.disk disk.new)
+        (MeansAsBeforeOrNothing (D.disk disk.old).sectors (D.disk disk.old).content) }
 {
     if force {
         iol_journal::erase(disk)
@@ -102,18 +103,19 @@ fn erase_if_forced<D: SectorDisk>(disk: &mut D, force: bool) -> Result<(), DiskF
     }
 }
 
-// What is recovered of a disk, or why nothing is, and the disk behind the recovery.
+// What is recovered of a disk, or why nothing is, and the disk after the recovery.
 #[derive(Drop)]
 pub struct Shown<D: SectorDisk> {
     pub recovered: Result<Recovered, Fault<'static>>,
     pub disk: D,
 }
 
-// What is recovered of a disk; or `NotFormatted`, `Damaged`, `Disk` or `Memory`, as first met.
+// Recovers the state on a disk, or says why not: `NotFormatted`, `Damaged`, `Disk` or `Memory`, as first met.
 pub fn show_disk<D: SectorDisk>(alloc: Global, disk: D) -> Shown<D>
     ensures found { IfOk result.recovered (λ found. Shows (D.disk disk)
         (λ image. meaning (D.disk disk).sectors image ≡ Ok (record { number = found.number; state = found.state }))) }
-    ensures cause { IfErr result.recovered (λ fault. Shows (D.disk disk) (λ image. TellsWhy (standing_in (D.disk disk).sectors image) fault)) }
+    ensures cause { IfErr result.recovered (λ fault.
+        Shows (D.disk disk) (λ image. TellsWhy (standing_in (D.disk disk).sectors image) fault)) }
     // It leaves only what was there: each image is one of those before.
     ensures any_moment { LeavesOnly (D.disk disk) (D.disk result.disk) (IsImage (D.disk disk).content) }
     ensures status { IfErr result.recovered (λ fault. status_of fault ≡ 1) }

@@ -14,12 +14,12 @@ use std::io::Write;
 use std::os::unix::fs::FileExt;
 use std::rt::Files;
 
-/// Formats the image file at `path` for so many ports and slots, and answers the exit status: 0 once the number of
-/// sectors that the journal takes is written to `out`; 2 where the numbers are no geometry, or 1, after a line on `err`
-/// that says why, and then nothing is written to `out`; 1 where writing to `out` fails, with nothing written to `err`.
+/// Formats the image file at `path` for this many ports and slots, and returns the exit status: 0 once the number of
+/// sectors that the journal takes is written to `out`, 2 where the numbers are no geometry, and else 1.
 ///
-/// A file that is not there is made, with as many sectors as the geometry has. A journal that is there stays, unless
-/// `force` has it erased first.
+/// Where the format fails, a line on `err` says why, and nothing is written to `out`. Where writing to `out` fails,
+/// nothing is written to `err`. A file that is not there is made, with as many sectors as the geometry has. A journal
+/// that is there stays, unless `force` has it erased first.
 pub fn format_image<
     F: FileExt + OpenFile + Drop,
     R: Files<File = F> + AllocGlobal,
@@ -31,7 +31,8 @@ pub fn format_image<
     ensures geometry { (result ≡ 2) ↔ (IsGeometry (record { ports = ports; slots = slots }) → ⊥) }
     ensures quiet { result ≡ 0 → err.new ≡ err.old }
     ensures untouched { result ≡ 2 → out.new ≡ out.old }
-    ensures printed { result ≡ 0 → Appends (W.contents out.old) (W.contents out.new) (formatted_text (record { ports = ports; slots = slots })) }
+    ensures printed { result ≡ 0
+        → Appends (W.contents out.old) (W.contents out.new) (formatted_text (record { ports = ports; slots = slots })) }
 {
     match text_of_format(rt, path, ports, slots, force) {
         Ok(text) => print(out, text.as_bytes()),
@@ -39,7 +40,7 @@ pub fn format_image<
     }
 }
 
-// What a format prints: the numbers are judged first, then the file is opened or made, and then it is formatted.
+// What a format prints. The numbers are judged before the file is opened or made.
 fn text_of_format<'a, F: FileExt + OpenFile + Drop, R: Files<File = F> + AllocGlobal>(
     rt: &R,
     path: &'a str,
@@ -53,14 +54,26 @@ fn text_of_format<'a, F: FileExt + OpenFile + Drop, R: Files<File = F> + AllocGl
 {
     let geometry = Geometry::new(ports, slots).ok_or(Fault::Geometry)?;
     let sectors = geometry.sectors();
-    let mut disk = opened_or_made(rt, path, sectors)?;
-    format_disk(rt.alloc(), &mut disk, geometry, force)?;
+    format_file(rt, path, geometry, force)?;
     Ok(format!(in rt.alloc(); "formatted {sectors} sectors\n")?)
 }
 
-/// Recovers the state on the image file at `path`, and answers the exit status: 0 once the state is written to `out`; 1
-/// after a line on `err` that says why not, and then nothing is written to `out`; 1 where writing to `out` fails, with
-/// nothing written to `err`.
+// Opens or makes the image file at this path, and formats it.
+fn format_file<'a, F: FileExt + OpenFile + Drop, R: Files<File = F> + AllocGlobal>(
+    rt: &R,
+    path: &'a str,
+    geometry: Geometry,
+    force: bool,
+) -> Result<(), Fault<'a>>
+    ensures { IfErr result (λ fault. status_of fault ≡ 1) }
+{
+    let mut disk = opened_or_made(rt, path, geometry.sectors())?;
+    format_disk(rt.alloc(), &mut disk, geometry, force)
+}
+
+/// Recovers the state on the image file at `path`, and returns the exit status: 0 once the state is written to `out`, and
+/// else 1. Where the recovery fails, a line on `err` says why, and nothing is written to `out`. Where writing to `out`
+/// fails, nothing is written to `err`.
 pub fn show_image<
     F: FileExt + OpenFile + Drop,
     R: Files<File = F> + AllocGlobal,

@@ -1,17 +1,22 @@
 //! The commands of `iolmaster`, the program of an IO-Link master's data storage, over writers.
 //!
-//! In comes a script in TOML: a geometry, simulated devices and steps. Its run formats a disk in memory, carries out the
-//! steps of clients, ports and the flusher, stops the power and recovers what the disk holds. Or in comes an image file,
-//! to be formatted or shown. Out go a line for each event and the recovered state, on standard output, or one line that
-//! says why not, on standard error.
+//! A script in TOML says a geometry, simulated devices and steps. Its run formats a disk in memory, makes the steps of
+//! clients, ports and the flusher, stops the power, and recovers what the disk holds. Each event and the recovered state
+//! are printed on standard output. Other commands format an image file, or show the state on one. Where a command fails,
+//! one line on standard error says why.
 //!
-//! Modules in reading order: `geometry` judges a script's numbers; `disk` has the disk that a run is made on, `recovery`
-//! the journal on it, `devices` the devices at the ports, `steps` the steps of a script, and `run` runs it; `image`
-//! formats and shows the disk of an image file; `trace_text`, `event_text`, `status_text`, `names` and `state_text` have
-//! the lines, and `fault` why a command fails; `commands` and `image_commands` are the commands over writers, `words`
-//! what the words of the command line ask for, `version` what `--version` answers, and `arguments` carries it out;
-//! `examples` has words of a trace, worked out. Which texts can be run is defined in `specs/Runs.antt`, what the steps of
-//! a script are in `specs/Steps.antt`, and the words of a trace in `specs/Texts.antt`.
+//! Modules in reading order:
+//! - `geometry` judges a script's numbers.
+//! - `disk` has the disk of a run, `recovery` the journal on it, `devices` the devices at the ports, `steps` the steps of
+//!   a script, and `run` runs it.
+//! - `image` formats and shows the disk of an image file.
+//! - `trace_text`, `event_text`, `status_text`, `names` and `state_text` have the lines, and `fault` why a command fails.
+//! - `commands` and `image_commands` are the commands over writers. `words` reads what the command line asks for,
+//!   `version` has what `--version` prints, and `arguments` carries the command out.
+//! - `examples` has words of a trace, worked out.
+//!
+//! Which texts can be run is defined in `specs/Runs.antt`, what the steps of a script are in `specs/Steps.antt`, and the
+//! words of a trace in `specs/Texts.antt`.
 #![tactic(auto)]
 
 mod arguments;

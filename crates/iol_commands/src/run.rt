@@ -22,15 +22,15 @@ use iol_types::MasterState;
 use std::alloc::Global;
 use std::marker::Brand;
 
-// What a run told, and what its disk held after the stop at its end.
+// The events of a run, and what was recovered of its disk after the stop at its end.
 #[derive(Drop)]
 pub(crate) struct Report {
     pub(crate) events: Vec<Stamped>,
     pub(crate) recovered: Recovered,
 }
 
-// Runs a script on a disk, which it formats for this geometry, with the script's devices at its ports. The disk call that
-// the script names fails; calls are counted from the recovery behind the format up to the stop.
+// Formats a disk for this geometry, runs a script on it, and recovers what the script's stop leaves of it. Where the
+// script says so, a disk call fails between the recovery that follows the format and the stop.
 //
 // # Errors
 // `Memory`, `Disk`, `TooSmall` or `AlreadyFormatted`, where it is first met.
@@ -44,18 +44,26 @@ pub(crate) fn run<D: Stoppable + Drop>(
     ensures { IfErr result (λ fault. status_of fault ≡ 1) }
 {
     iol_journal::format(alloc, &mut disk, geometry)?;
-    let (journal, state) = recover(alloc, failing(disk, script.fail))?;
+    let trace = run_on(alloc, failing(disk, script.fail), script)?;
+    stop(alloc, trace, script.keep)
+}
+
+// Makes the steps of a script over the journal on a disk, with the script's devices at the ports.
+//
+// # Errors
+// `Memory`, or why the disk is not recovered.
+fn run_on<D: SectorDisk + Drop>(
+    alloc: Global,
+    disk: D,
+    script: &Script,
+) -> Result<Trace<D, SimLink>, Fault<'static>>
+    requires { All MayVisit script.now.devices.items }
+    ensures { IfErr result (λ fault. status_of fault ≡ 1) }
+{
+    let (journal, state) = recover(alloc, disk)?;
     let links = links_of(alloc, &script.devices, state.ports())?;
     let front = Front::new(alloc, journal.number(), &state)?;
-    let trace = carry_out::<FaultDisk<D>, SimLink, Brand>(
-        alloc,
-        front,
-        journal,
-        state,
-        links,
-        &script.steps,
-    )?;
-    stop(alloc, trace, script.keep)
+    carry_out::<D, SimLink, Brand>(alloc, front, journal, state, links, &script.steps)
 }
 
 // Makes the steps of a script over a journal that was just recovered.
@@ -75,8 +83,9 @@ fn carry_out<D: SectorDisk + Drop, L: DeviceLink + Drop, F: Name>(
     requires state { (front.start.state ≡ journal.history.start) × (state ≡ journal.history.start) }
     requires list { journal.history.commands ≡ [] }
     requires ports { vec_len links ≡ length state }
-    // What is told is told of the steps of the script, from where nothing was done yet.
-    ensures told { IfOk result (λ trace. IsTold D.disk L.number L.steps journal links.items steps.now (map stamp_of trace.events.items) trace.disk) }
+    // The events tell of the script's steps, made from the start of a run.
+    ensures told { IfOk result (λ trace.
+        IsTold D.disk L.number L.steps journal links.items steps.now (map stamp_of trace.events.items) trace.disk) }
     ensures status { IfErr result (λ fault. status_of fault ≡ 1) }
 {
     let Ok(mut run) = Run::<D, L, F>::begin(alloc, front, journal, state, links) else {
@@ -91,7 +100,7 @@ fn carry_out<D: SectorDisk + Drop, L: DeviceLink + Drop, F: Name>(
     }
 }
 
-// What a run told, and what a power stop leaves of its disk, on which no call is made to fail any more.
+// The events of a run, and what is recovered of its disk after a power stop. No disk call is made to fail any more.
 //
 // # Errors
 // Why the disk is not recovered.

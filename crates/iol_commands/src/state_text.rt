@@ -16,7 +16,7 @@ impl fmt::Display for Recovered {
     }
 }
 
-// The lines of a state that was recovered after so many commands.
+// The lines of a recovered state, below that of how many commands it is after.
 pub(crate) fn write_recovered<W: fmt::Write>(
     f: &mut fmt::Formatter<W>,
     number: u64,
@@ -85,7 +85,7 @@ impl fmt::Display for Named {
     }
 }
 
-// What a state's line says of a port's parameter set.
+// What the line of a port says of its parameter set.
 #[derive(Drop)]
 struct SetText<'a>(Option<&'a StoredSet>);
 

@@ -1,4 +1,4 @@
-//! The steps of a script, made in a run.
+//! Makes the steps of a script in a run.
 ghost use Rattle.std.specs.Prelude.{◌≡◌, replicate, IfOk, IfErr, OnOk};
 ghost use Rattle.iol_commands.specs.Fault.{status_of};
 ghost use Rattle.iol_commands.specs.Steps.{MakesSome, Drains, Makes, MakesAll};
@@ -14,7 +14,7 @@ use iol_types::Change;
 // Makes the steps of a script.
 //
 // # Errors
-// `Memory`; the steps behind the one that met it are not made.
+// `Memory`; the steps after the one that met it are not made.
 pub(crate) fn make_steps<D: SectorDisk, L: DeviceLink, F: Name>(
     run: &mut Run<D, L, F>,
     steps: &[ScriptStep],
@@ -47,7 +47,7 @@ fn make_step<D: SectorDisk, L: DeviceLink, F: Name>(
     }
 }
 
-// Makes one step so many times. A turn of the flusher that wants memory is one of them: the next one tries again.
+// Makes one step this many times. A turn of the flusher that finds no memory counts, and the next one tries again.
 fn repeat<D: SectorDisk, L: DeviceLink, F: Name>(
     run: &mut Run<D, L, F>,
     step: &Step,
@@ -62,7 +62,7 @@ fn repeat<D: SectorDisk, L: DeviceLink, F: Name>(
     Ok(())
 }
 
-// Makes turns of the flusher, up to one that finds nothing to do.
+// Makes turns of the flusher until one finds nothing to do.
 fn drain<D: SectorDisk, L: DeviceLink, F: Name>(
     run: &mut Run<D, L, F>,
 ) -> Result<(), Fault<'static>>

@@ -1,7 +1,7 @@
 //! What the words of the command line ask for.
 
 use clap::{Arg, ArgAction, ArgMatches, Command, Error, value_parser};
-use std::alloc::Global;
+use std::alloc::{AllocError, Global};
 
 // A command, with what its words say.
 pub(crate) enum Asked<'a> {
@@ -28,15 +28,24 @@ pub(crate) fn read_words<'a>(
     words: &'a [String],
     version: &'a str,
 ) -> Result<Asked<'a>, Error> {
-    let program = Command::new(alloc, "iolmaster")
+    let matches = program(alloc, version)?.try_get_matches_from(words)?;
+    Ok(asked_by(&matches))
+}
+
+// The program, with this behind its name where the words ask for its version.
+fn program<'a>(alloc: Global, version: &'a str) -> Result<Command<'a>, AllocError> {
+    Command::new(alloc, "iolmaster")
         .about("The data storage of an IO-Link master")
         .version(version)
         .subcommand_required(true)
         .subcommand(run(alloc)?)?
         .subcommand(format(alloc)?)?
-        .subcommand(show(alloc)?)?;
-    let matches = program.try_get_matches_from(words)?;
-    Ok(match matches.subcommand() {
+        .subcommand(show(alloc)?)
+}
+
+// The command that matched words ask for.
+fn asked_by<'a>(matches: &ArgMatches<'a>) -> Asked<'a> {
+    match matches.subcommand() {
         Some(("format", format)) => Asked::Format {
             image: text(format, "IMAGE"),
             ports: number(format, "ports"),
@@ -49,12 +58,12 @@ pub(crate) fn read_words<'a>(
         Some((_, run)) => Asked::Run {
             script: text(run, "SCRIPT"),
         },
-        // clap asks for a command
+        // clap refuses words without a command.
         None => Asked::Run { script: "" },
-    })
+    }
 }
 
-// Where a user finds scripts to begin with.
+// The scripts that a user can begin with.
 const EXAMPLES: &str = "\
 Examples, each with what it prints beside it:
   examples/first.toml                  a port is configured
@@ -65,44 +74,34 @@ Examples, each with what it prints beside it:
   examples/wrong_device.toml           a sensor that is not the configured one
   examples/failing_disk.toml           a disk call fails";
 
-fn run<'a>(alloc: Global) -> Result<Command<'a>, Error> {
+fn run<'a>(alloc: Global) -> Result<Command<'a>, AllocError> {
     let script = Arg::new(alloc, "SCRIPT")
         .required(true)
         .help("The path of a script in TOML");
-    Ok(
-        Command::new(alloc, "run")
-            .about(
-                "Runs a script on a disk in memory, and prints its trace and the recovered state",
-            )
-            .after_help(EXAMPLES)
-            .arg(script)?,
-    )
+    Command::new(alloc, "run")
+        .about("Runs a script on a disk in memory, and prints its trace and the recovered state")
+        .after_help(EXAMPLES)
+        .arg(script)
 }
 
-fn format<'a>(alloc: Global) -> Result<Command<'a>, Error> {
+fn format<'a>(alloc: Global) -> Result<Command<'a>, AllocError> {
     let force = Arg::new(alloc, "force")
         .long("force")
         .action(ArgAction::SetTrue)
         .help("Erases a journal that is there");
-    Ok(
-        Command::new(alloc, "format")
-            .about("Formats an image file, which is made if there is none")
-            .after_help(
-                "A file that is there and holds no journal is overwritten, whatever it holds.",
-            )
-            .arg(image(alloc))?
-            .arg(count(alloc, "ports").help("How many ports the master has, 1 to 32"))?
-            .arg(count(alloc, "slots").help("How many batches each area holds, 1 to 256"))?
-            .arg(force)?,
-    )
+    Command::new(alloc, "format")
+        .about("Formats an image file, which is made if there is none")
+        .after_help("A file that is there and holds no journal is overwritten, whatever it holds.")
+        .arg(image(alloc))?
+        .arg(count(alloc, "ports").help("How many ports the master has, 1 to 32"))?
+        .arg(count(alloc, "slots").help("How many batches each area holds, 1 to 256"))?
+        .arg(force)
 }
 
-fn show<'a>(alloc: Global) -> Result<Command<'a>, Error> {
-    Ok(
-        Command::new(alloc, "show")
-            .about("Recovers the state on an image file, and prints it")
-            .arg(image(alloc))?,
-    )
+fn show<'a>(alloc: Global) -> Result<Command<'a>, AllocError> {
+    Command::new(alloc, "show")
+        .about("Recovers the state on an image file, and prints it")
+        .arg(image(alloc))
 }
 
 // The path of an image file.
@@ -121,12 +120,12 @@ fn count<'a>(alloc: Global, name: &'a str) -> Arg<'a> {
         .value_parser(value_parser!(u16))
 }
 
-// The value of an argument that clap has seen to be there.
+// The value of an argument without which clap refuses the words.
 fn text<'a>(matches: &ArgMatches<'a>, name: &str) -> &'a str {
     matches.get_str(name).unwrap_or("")
 }
 
-// The number of an option that clap has seen to be there.
+// The number of an option without which clap refuses the words.
 fn number(matches: &ArgMatches<'_>, name: &str) -> u16 {
     matches.get_one::<u16>(name).unwrap_or(0)
 }

@@ -14,7 +14,8 @@ out_of_memory-requires c =
     let here : add_fault (entries_of (take place parameters)) item.key item.octets.items ≡ None =
     accepted parameters place item (omega arith) c.parameter-item.is c.requires.parameters in
     let read : add_fault (entries_of (take place parameters)) item.key c.as_slice.result.now ≡ None =
-    subst (λ (octets : List ℕ). add_fault (entries_of (take place parameters)) item.key octets ≡ None) (sym c.as_slice.ensures.value) here in
+    subst (λ (octets : List ℕ). add_fault (entries_of (take place parameters)) item.key octets ≡ None) (sym c.as_slice.ensures.value)
+    here in
     let none : add_fault c.loop-parameter.device.parameters item.key c.as_slice.result.now ≡ None =
     subst (λ (before : List Entry). add_fault before item.key c.as_slice.result.now ≡ None)
     (sym (ap (λ (device : Device). device.parameters) c.loop-parameter.invariant)) read in

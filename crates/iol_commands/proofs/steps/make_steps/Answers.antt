@@ -15,4 +15,5 @@ loop-step-preserved g c =
     let more : take (i + 1) steps ≡ take i steps ++ item ∷ [] =
     take_more steps i item (omega arith) ∙ ap (λ (s : script.Step). take i steps ++ s ∷ []) (sym c.step-item.is) in
     subst (λ (ss : List script.Step). MakesAll d l.number l.steps ss c.args.run.now c.make_step.new.run) (sym more)
-    (all_more d l.number l.steps (take i steps) item c.args.run.now c.loop-step.run c.make_step.new.run c.loop-step.invariant c.in_ok-make_step.ensures.made)
+    (all_more d l.number l.steps (take i steps) item c.args.run.now c.loop-step.run c.make_step.new.run c.loop-step.invariant
+    c.in_ok-make_step.ensures.made)

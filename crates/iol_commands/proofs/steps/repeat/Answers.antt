@@ -12,4 +12,5 @@ loop-preserved g c =
     let made = c.loop.counter in
     let step = c.args.step.now in
     subst (λ (ss : List Step). MakesSome d l.number l.steps ss c.args.run.now c.step.new.self) (sym (replicate_next made step))
-    (some_more d l.number l.steps (replicate made step) step c.in_ok-step.field-0 c.args.run.now c.loop.run c.step.new.self c.loop.invariant c.in_ok-step.ensures.did)
+    (some_more d l.number l.steps (replicate made step) step c.in_ok-step.field-0 c.args.run.now c.loop.run c.step.new.self c.loop.invariant
+    c.in_ok-step.ensures.did)

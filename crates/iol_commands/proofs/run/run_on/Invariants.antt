@@ -1,4 +1,4 @@
-use Rattle.iol_commands.proofs.run.run.Given as goal
+use Rattle.iol_commands.proofs.run.run_on.Given as goal
 
 -- the front that was just made
 abbrev pub ghosts-carry_out : goal.ghosts-carry_out
