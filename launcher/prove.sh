@@ -1,0 +1,174 @@
+# Proves and builds the program, two crates at a time where neither waits for the other. Part of `iolmaster`.
+at_once=2
+usual_gigabytes=6
+
+# What a crate's proof took where it was measured: its functions, and its seconds. Of these only the share of each crate counts.
+measured() {
+    sed -n "s/^$1 //p" "$top/launcher/measured.txt"
+}
+
+# The functions of a crate that are checked by now, all of them, and its share of the work, as `10 47 131`.
+progress_of() {
+    usual=$(measured "$1")
+    usual=${usual:-50 150}
+    all=${usual% *}
+    checked=0
+    counted=$(sed -n 's/^so far: \([0-9]*\) of \([0-9]*\) functions checked.*/\1 \2/p' "$out/build.$1.log" 2>/dev/null | tail -n 1)
+    if [ -n "$counted" ]; then
+        checked=${counted% *}
+        all=${counted#* }
+    fi
+    case " $waiting " in *" $1 "*) checked=0 ;; esac
+    if worked "$1"; then checked=$all; fi
+    echo "$checked $all ${usual#* }"
+}
+
+# Says how many functions are checked, and the minutes left if the rest takes as long for its share as what is done took.
+say_progress() {
+    for crate in $crates; do progress_of "$crate"; done | awk -v seconds="$(($(date +%s) - begun))" -v running="$running" '
+        { checked += $1; all += $2; share += $3; if ($2) done += $3 * $1 / $2 }
+        END {
+            if (done) left = sprintf(", about %d minutes left", seconds * (share - done) / done / 60 + 1)
+            printf "iolmaster: %d of about %d functions checked%s; now%s\n", checked, all, left, running
+        }' >&2
+    told=$(date +%s)
+}
+
+# Says it often on a terminal, and seldom in a log.
+say_progress_in_time() {
+    if [ -t 2 ]; then every=10; else every=60; fi
+    [ "$(($(date +%s) - told))" -lt "$every" ] || say_progress
+}
+
+# The crates of the program that a crate names.
+named_by() {
+    for named in $(sed -n "s/^$1\( [^:]*\)*: *\([^#]*\).*/\2/p" "$top/crates.txt"); do
+        case " $crates " in *" $named "*) echo "$named" ;; esac
+    done
+}
+
+# Proves and builds a crate; `built/CRATE` then holds the status, which is 0 where it worked.
+build_crate() {
+    crate=$1
+    if [ "$crate" = "$main" ]; then set -- run -- --help; else set -- lib; fi
+    (cd "$top/crates/$crate" && exec rt "$@") </dev/null >"$out/build.$crate.log" 2>&1 &
+    child=$!
+    trap 'kill "$child" 2>/dev/null; exit 1' HUP INT TERM
+    wait "$child"
+    echo "$?" >"$out/built/$crate.new" && mv "$out/built/$crate.new" "$out/built/$crate"
+}
+
+ended() {
+    [ -e "$out/built/$1" ]
+}
+
+worked() {
+    ended "$1" && [ "$(cat "$out/built/$1")" -eq 0 ]
+}
+
+has_all_it_names() {
+    for named in $(named_by "$1"); do
+        worked "$named" || return 1
+    done
+}
+
+# Starts the next crate that waits for no other; fails where there is none now.
+start_next() {
+    for crate in $waiting; do
+        if has_all_it_names "$crate"; then
+            number=$((number + 1))
+            say "crate $number of $count: $crate"
+            # The lock is not handed on, so that it ends with this start.
+            build_crate "$crate" 9>&- &
+            workers="$workers $!"
+            running="$running $crate"
+            waiting=$(echo " $waiting " | sed "s/ $crate / /")
+            return 0
+        fi
+    done
+    return 1
+}
+
+# Drops the crates that have ended from those that run; fails where one was not built.
+collect() {
+    left=
+    for crate in $running; do
+        if ! ended "$crate"; then
+            left="$left $crate"
+        elif ! worked "$crate"; then
+            say "$crate could not be proved and built; $out/build.$crate.log says why."
+            return 1
+        fi
+    done
+    running=$left
+}
+
+stop_workers() {
+    for worker in $workers; do kill "$worker" 2>/dev/null; done
+    wait
+}
+
+build_crates() {
+    crates=$(wanted_crates | tr '\n' ' ')
+    waiting=$crates
+    count=$(echo "$crates" | wc -w)
+    number=0
+    running=
+    workers=
+    begun=$(date +%s)
+    told=$begun
+    trap 'stop_workers; exit 1' HUP INT TERM
+    while [ -n "$running" ] || [ -n "$(echo $waiting)" ]; do
+        while [ "$(echo "$running" | wc -w)" -lt "$at_once" ] && start_next; do :; done
+        if [ -z "$running" ]; then
+            say "crates.txt names crates that wait for one another: $waiting"
+            return 1
+        fi
+        sleep 1
+        if ! collect; then
+            stop_workers
+            return 1
+        fi
+        say_progress_in_time
+    done
+    trap - HUP INT TERM
+}
+
+# Says what the proof takes, and where the disk has less than it takes beside what earlier proofs left.
+say_what_it_takes() {
+    say "proving and building the program from its sources: about $usual_minutes minutes on two processors, $usual_gigabytes GB of disk."
+    free=$(df -Pk "$top" | awk 'NR == 2 { print $4 }')
+    there=$(du -sk "$top"/crates/*/out 2>/dev/null | awk '{ all += $1 } END { print all + 0 }')
+    if [ "$((free + there))" -lt "$((usual_gigabytes * 1000000))" ]; then
+        say "only $((free / 1000000)) GB of disk are free, which may not be enough."
+    fi
+}
+
+build() {
+    sum=$(sum_of_sources)
+    rm -rf "$out/built" && mkdir "$out/built" && build_crates </dev/null || return 1
+    if [ "$(sum_of_sources)" != "$sum" ]; then
+        say "a source has changed meanwhile, so the program is not kept."
+        return 1
+    fi
+    keep "$sum"
+}
+
+# Proves and builds the program where that is not done. A second start waits for the first: the system lets go of the lock
+# however that one ends.
+prove() {
+    mkdir -p "$out" && exec 9>"$out/lock" || return 1
+    if ! flock -n 9; then
+        say "another start is proving the program; waiting for it."
+        flock 9 || return 1
+    fi
+    if has_proved; then
+        say "the program is proved and built."
+        exec 9>&-
+        return 0
+    fi
+    say_what_it_takes
+    build || return 1
+    say "the program is now proved and built."
+    exec 9>&-
+}

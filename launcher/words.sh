@@ -1,0 +1,44 @@
+# Which words ask for what, as the program reads them. Part of `iolmaster`.
+
+# The program takes words of UTF-8 alone, and says so before anything else.
+are_text() {
+    printf '%s\n' "$@" | iconv -f UTF-8 -t UTF-8 >/dev/null 2>&1
+}
+
+# Whether the words are those of a run of one script; `script` is then its path.
+ask_for_run() {
+    [ "${1-}" = run ] && shift || return 1
+    options=yes
+    [ "${1-}" != -- ] || { options=no; shift; }
+    [ $# -eq 1 ] || return 1
+    script=$1
+    case $options$script in yes-?*) return 1 ;; esac
+}
+
+# Whether a word is a number as the program reads them, 0 to 65,535.
+is_number() {
+    digits=${1#+}
+    case $digits in '' | *[!0-9]*) return 1 ;; esac
+    [ "$digits" -le 65535 ] 2>/dev/null
+}
+
+# Whether the words are a whole `format` or `show`, which works on a file and so wants the proved program.
+ask_for_image() {
+    case ${1-} in format | show) command=$1 ;; *) return 1 ;; esac
+    shift
+    options=yes images=0 ports=0 slots=0 forces=0
+    while [ $# -gt 0 ]; do
+        case $options,$command,$1 in
+            yes,*,--) options=no ;;
+            yes,format,--force) forces=$((forces + 1)) ;;
+            yes,format,--ports) is_number "${2-}" && shift && ports=$((ports + 1)) || return 1 ;;
+            yes,format,--slots) is_number "${2-}" && shift && slots=$((slots + 1)) || return 1 ;;
+            yes,format,--ports=*) is_number "${1#*=}" && ports=$((ports + 1)) || return 1 ;;
+            yes,format,--slots=*) is_number "${1#*=}" && slots=$((slots + 1)) || return 1 ;;
+            yes,*,-?*) return 1 ;;
+            *) images=$((images + 1)) ;;
+        esac
+        shift
+    done
+    case $command,$images,$ports,$slots,$forces in show,1,0,0,0 | format,1,1,1,[01]) ;; *) return 1 ;; esac
+}
