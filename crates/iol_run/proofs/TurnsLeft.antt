@@ -45,10 +45,32 @@ turns_behind layout core = batch_turns layout * (length core.queue - core.flight
 abbrev pub turns_left : {D : Type 0} → Layout → CoreView → Stage D → Option CommittedView → ℕ
 turns_left layout core stage committed = own_turns stage committed + turns_behind layout core
 
+-- ---- sums of turns, as numbers: the turns of a batch are not unfolded in them
+none_more : (turns all : ℕ) → turns ≤ all → 0 + turns ≤ all
+none_more turns all le = omega (arith, le)
+
+add_within : (turns most more : ℕ) → turns ≤ most → turns + more ≤ most + more
+add_within turns most more le = omega (arith, le)
+
+both_within : (own each behind all : ℕ) → own ≤ each → each + behind ≤ all → own + behind ≤ all
+both_within own each behind all most fewer = omega (arith, most, fewer)
+
+one_less : (turns most : ℕ) → turns + 1 ≤ most → turns ≤ most
+one_less turns most le = omega (arith, le)
+
+calls_within : (calls most : ℕ) → calls ≤ most → 21 + calls + 1 ≤ 24 + most
+calls_within calls most le = omega (arith, le)
+
+written_within : (calls most : ℕ) → calls ≤ 19 → 1 + calls + 1 ≤ 24 + most
+written_within calls most le = omega (arith, le)
+
+few_within : (turns most : ℕ) → turns ≤ 2 → turns ≤ 24 + most
+few_within turns most le = omega (arith, le)
+
 -- a batch of one command or more leaves fewer commands behind
 pub fewer_behind : (each waits flies : ℕ) → 1 ≤ flies → flies ≤ waits → each + each * (waits - flies) ≤ each * waits
 fewer_behind each waits flies some within =
-    subst (λ (n : ℕ). each + each * (waits - flies) ≤ n) (sym parted) (omega (arith, least))
+    subst (λ (n : ℕ). each + each * (waits - flies) ≤ n) (sym parted) (add_within each (each * flies) (each * (waits - flies)) least)
   where
     parted : each * waits ≡ each * flies + each * (waits - flies)
     parted = ap (λ (n : ℕ). each * n) (parts waits flies within) ∙ mul-add each flies (waits - flies)
@@ -71,7 +93,8 @@ flies_within core commands is =
 
 module _ (layout : Layout) where
   none_with : (core : CoreView) → 0 + turns_behind layout core ≤ batch_turns layout * length core.queue
-  none_with core = omega (arith, mul-le-mul_left (batch_turns layout) (less (length core.queue) core.flight))
+  none_with core =
+      none_more (turns_behind layout core) (batch_turns layout * length core.queue) (mul-le-mul_left (batch_turns layout) (less (length core.queue) core.flight))
     where
       less : (n m : ℕ) → n - m ≤ n
       less n m = omega arith
@@ -80,25 +103,27 @@ module _ (layout : Layout) where
       → own + turns_behind layout core ≤ batch_turns layout * length core.queue
   one_with core commands own is most =
       let within = flies_within core commands is in
-      let fewer = fewer_behind (batch_turns layout) (length core.queue) core.flight within.0 within.1 in
-      omega (arith, most, fewer)
+      both_within own (batch_turns layout) (turns_behind layout core) (batch_turns layout * length core.queue) most
+      (fewer_behind (batch_turns layout) (length core.queue) core.flight within.0 within.1)
 
 module _ {D : Type 0} (layout : Layout) where
   -- as many turns are left at most as each command that waits needs in a batch of its own
   pub most_left : (core : CoreView) (stage : Stage D) (committed : Option CommittedView) → HasBatch core stage committed → HasLayout layout stage → HasFewCalls stage
       → turns_left layout core stage committed ≤ batch_turns layout * length core.queue
-  most_left core stage (Some committed) batch same few = one_with layout core committed.commands 1 batch.0 (omega arith)
+  most_left core stage (Some committed) batch same few = one_with layout core committed.commands 1 batch.0 (few_within 1 (most_checkpoint_calls layout) (omega arith))
   most_left core (Resting j) None batch same few = none_with layout core
   most_left core (Given j b) None batch same few = one_with layout core (values b.commands.items) _ batch (given_most (is_full j))
     where
       given_most : (full : Bool) → 21 + (if full then most_checkpoint_calls j.standing.layout + 1 else 0) + 1 ≤ batch_turns layout
       given_most full =
+          let most = most_checkpoint_calls layout in
           subst (λ (l : Layout). 21 + (if full then most_checkpoint_calls l + 1 else 0) + 1 ≤ batch_turns layout) (sym same)
-          (omega (arith, given_turns (most_checkpoint_calls layout) full))
+          (one_less (21 + (if full then most + 1 else 0) + 1) (24 + most) (given_turns most full))
   most_left core (Checkpointing c b) None batch same few = one_with layout core (values b.commands.items) _ batch (few_most few.1)
     where
       few_most : length (stages_left c) ≤ most_checkpoint_calls c.standing.layout → 21 + length (stages_left c) + 1 ≤ batch_turns layout
-      few_most le = omega (arith, subst (λ (l : Layout). length (stages_left c) ≤ most_checkpoint_calls l) same le)
-  most_left core (Writing w) None batch same few = one_with layout core w.commands _ batch (omega (arith, few))
-  most_left core (Publishing j written) None batch same few = one_with layout core written.commands 2 batch (omega arith)
+      few_most le =
+          calls_within (length (stages_left c)) (most_checkpoint_calls layout) (subst (λ (l : Layout). length (stages_left c) ≤ most_checkpoint_calls l) same le)
+  most_left core (Writing w) None batch same few = one_with layout core w.commands _ batch (written_within _ (most_checkpoint_calls layout) few)
+  most_left core (Publishing j written) None batch same few = one_with layout core written.commands 2 batch (few_within 2 (most_checkpoint_calls layout) (omega arith))
   most_left core (Failed d f) None batch same few = none_with layout core
