@@ -23,7 +23,7 @@ pub record IsCoreAfter (first : ℕ) (start : State) (events : List Stamp) (core
 module _ {L : Type 0} (number : L → ℕ) (steps : L → LinkCall → LinkAnswer → L → Type 0) (first : ℕ) (start : State) where
   -- the last step of a port's machine: it stood so before, was led there by what was told earlier, and made its step with its
   -- link and with the core as it stood then. What it tells of that follows at once, and later nothing of the port's own (own)
-  pub record HasStepped (Led : PortValue → L → List Stamp → Type 0) (port : ℕ) (machine : PortValue) (link : L) (events : List Stamp) : Type 0 where
+  pub record HasLastStep (Led : PortValue → L → List Stamp → Type 0) (port : ℕ) (machine : PortValue) (link : L) (events : List Stamp) : Type 0 where
     pub before : PortValue
     pub linked : L
     pub old : CoreView
@@ -42,7 +42,7 @@ module _ {L : Type 0} (number : L → ℕ) (steps : L → LinkCall → LinkAnswe
   -- so many steps have led a port's machine, which was new, and its link to where they are, and told all that is told of the port (own)
   abbrev pub IsPortRun : ℕ → L → ℕ → PortValue → L → List Stamp → Type 0
   IsPortRun port begun zero machine link events = (machine ≡ new_machine port) × (link ≡ begun) × (own port events ≡ [])
-  IsPortRun port begun (suc made) machine link events = HasStepped (IsPortRun port begun made) port machine link events
+  IsPortRun port begun (suc made) machine link events = HasLastStep (IsPortRun port begun made) port machine link events
 
   -- what is told of a port is a run of its machine, from one link to another; the machine has a history, and its status is the one
   -- that was told last (own)

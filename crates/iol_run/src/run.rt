@@ -30,7 +30,7 @@ pub struct Stamped {
 }
 
 // A run keeps all that it tells.
-const _: () = prove!(size_of::<Stamped>() <= 40);
+const _: () = prove!(size_of::<Stamped>() <= 32);
 
 /// A run between its steps. A contract sees the record `RunView` of `specs/Runs.antt`.
 pub struct Run<D: SectorDisk, L: DeviceLink, F: Name> {
