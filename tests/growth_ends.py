@@ -14,6 +14,8 @@ import tempfile
 
 SECONDS = 60
 MEMORY = ("", "error: out of memory\n", 1)
+# The toolchain words want of memory in two ways.
+NO_MEMORY = ("Error: out of memory\n", "Error: memory allocation failed\n")
 DISK = ("", "error: the disk failed\n", 1)
 NOT_FORMATTED = ("", "error: the disk is not formatted\n", 1)
 UNUSED = "port {} revision 0 mode 0 validation 0 vendor 0000 device 000000 set none\n"
@@ -174,7 +176,7 @@ class Schedule(Subject):
         if said.told == self.whole.told:
             return "whole"
         out, errors, status = said.told
-        if (out, status) == ("", 1) and errors == "Error: out of memory\n":
+        if out == "" and status == 1 and errors in NO_MEMORY:
             return "out of memory before the run"
         if status != 0 or errors:
             return None
