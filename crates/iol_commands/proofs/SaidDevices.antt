@@ -42,7 +42,8 @@ parameters_sound table parameters is =
     of_a_device keys values all parameters read sound)))
 
 -- what is said of a device besides its parameters leaves them as they are
-parameters_kept : (parameters : List Entry) (table : Members) (said : SaidDevice) → device_with parameters table ≡ Some said → parameters ≡ said.parameters
+parameters_kept : (parameters : List Entry) (table : Members) (said : SaidDevice) → device_with parameters table ≡ Some said → parameters
+    ≡ said.parameters
 parameters_kept parameters table said is =
     option_and_then_some _ (port_in table) said is (λ port _ is.
     option_and_then_some _ (vendor_in table) said is (λ vendor _ is.
@@ -58,7 +59,8 @@ parameters_kept parameters table said is =
 device_sound : (value : Data) (said : SaidDevice) → device_of value ≡ Some said → IsSound said
 device_sound value said is =
     option_and_then_some device_by (as_table value) said is (λ table _ by.
-    let through = let_through (has_only_keys device_keys table) (option_and_then (λ parameters. device_with parameters table) (parameters_in table)) said by in
+    let through = let_through (has_only_keys device_keys table)
+    (option_and_then (λ parameters. device_with parameters table) (parameters_in table)) said by in
     option_and_then_some (λ parameters. device_with parameters table) (parameters_in table) said through (λ parameters read whole.
     subst AreParameters (parameters_kept parameters table said whole) (parameters_sound table parameters read)))
 
@@ -83,7 +85,8 @@ devices_kept ports slots fail devices values said is =
 said_sound : (said : Said) (values : Option Items) (devices : List SaidDevice) → option_and_then devices_of values ≡ Some devices
     → devices ≡ said.devices → AllByRecursion IsSound said.devices
 said_sound said values devices there same =
-    option_and_then_some devices_of values devices there (λ items _ each. subst (AllByRecursion IsSound) same (devices_sound items devices each))
+    option_and_then_some devices_of values devices there (λ items _ each.
+    subst (AllByRecursion IsSound) same (devices_sound items devices each))
 
 table_sound : (table : Members) (said : Said) → said_by table ≡ Some said → AllByRecursion IsSound said.devices
 table_sound table said is =

@@ -1,5 +1,6 @@
 -- What holds of a core holds of it after each of its steps.
-use Rattle.std.proofs.Common.{◌≡◌, ◌≤◌, ◌<◌, ◌+◌, ◌-◌, ◌∷◌, [], ◌++◌, ℕ, Bool, true, false, nat_le, if◌then◌else◌, List, length, take, drop, replicate, Option, Some, None, refl, sym, ap, ◌∙◌, subst, arith, length-append, length-drop, length-take-le}
+use Rattle.std.proofs.Common.{◌≡◌, ◌≤◌, ◌<◌, ◌+◌, ◌-◌, ◌∷◌, [], ◌++◌, ℕ, Bool, true, false, nat_le, if◌then◌else◌, List, length, take, drop}
+use Rattle.std.proofs.Common.{replicate, Option, Some, None, refl, sym, ap, ◌∙◌, subst, arith, length-append, length-drop, length-take-le}
 use Rattle.std.proofs.Math.Seq.{take-length}
 use Rattle.std.proofs.lemmas.Bool.{leb-false}
 use Rattle.std.proofs.lemmas.List.{length-replicate}
@@ -24,7 +25,15 @@ use Rattle.iol_core.proofs.Standing as standing
 -- the core over a state that is durable
 pub new_core : (start : Start) (seen : List CommandValue) (state : State) (permits : List (Option Grant)) → state ≡ after start.state seen
     → start.number + length seen ≤ LAST_NUMBER → permits ≡ replicate (length state) None
-    → IsCore start (record { durable = state; number = start.number + length seen; queue = []; flight = 0; permits = permits; stopped = None; seen = seen })
+    → IsCore start (record {
+      durable = state;
+      number = start.number + length seen;
+      queue = [];
+      flight = 0;
+      permits = permits;
+      stopped = None;
+      seen = seen;
+    })
 new_core start seen state permits is bound none =
     let whole : start.number + length seen - start.number ≡ length seen = omega arith in
     record {
@@ -39,11 +48,14 @@ new_core start seen state permits is bound none =
       flight = omega arith;
       places = ap length none ∙ length-replicate (length state) None;
       permits = λ port one. subst (λ (out : Option Grant). FitsAt state port out)
-          (sym (ap (λ (l : List (Option Grant)). permit_at (record { durable = state; number = 0; queue = []; flight = 0; permits = l; stopped = None; seen = [] }) port) none ∙ none_out (length state) (port - 1)))
+          (sym (ap (λ (l : List (Option Grant)).
+          permit_at (record { durable = state; number = 0; queue = []; flight = 0; permits = l; stopped = None; seen = [] }) port) none
+          ∙ none_out (length state) (port - 1)))
           tt;
     }
 
-neither : (one two : Bool) (a b : SubmitFault) → (if one then Some a else if two then Some b else None) ≡ None → (one ≡ false) × (two ≡ false)
+neither : (one two : Bool) (a b : SubmitFault) → (if one then Some a else if two then Some b else None) ≡ None → (one ≡ false)
+    × (two ≡ false)
 neither true two a b e = absurd cc
 neither false true a b e = absurd cc
 neither false false a b e = (refl, refl)
@@ -55,7 +67,8 @@ has_room core room =
     (leb-false QUEUE_COMMANDS (length core.queue) tests.0, leb-false LAST_NUMBER (live_number core) tests.1)
 
 -- one more command waits
-pub queued_core : (start : Start) (core : CoreView) (command : CommandValue) → IsCore start core → check (live core) command ≡ None → queue_fault core ≡ None
+pub queued_core : (start : Start) (core : CoreView) (command : CommandValue) → IsCore start core → check (live core) command ≡ None
+    → queue_fault core ≡ None
     → IsCore start (queued core command)
 queued_core start core command is passes room =
     let more : length (core.queue ++ command ∷ []) ≡ length core.queue + 1 = length-append core.queue (command ∷ []) in
@@ -70,12 +83,14 @@ queued_core start core command is passes room =
       bound = omega (arith, more, left);
       flight = omega (arith, more, flight);
       places = is.places;
-      permits = λ port one. subst (λ (state : State). FitsAt state port (permit_at core port)) (sym (after_push core.durable core.queue command))
+      permits = λ port one.
+          subst (λ (state : State). FitsAt state port (permit_at core port)) (sym (after_push core.durable core.queue command))
           (fits_applied (live core) command port (permit_at core port) one (is.permits port one));
     }
 
 -- the batch in flight is durable
-pub acknowledged_core : (start : Start) (core : CoreView) (batch : CommittedView) (seen : List CommandValue) → IsCore start core → IsInFlight start core batch
+pub acknowledged_core : (start : Start) (core : CoreView) (batch : CommittedView) (seen : List CommandValue) → IsCore start core
+    → IsInFlight start core batch
     → IsPrefix core.seen seen → IsPrefix (batch.before ++ batch.commands) seen → IsCore start (acknowledged core seen)
 acknowledged_core start core batch seen is flies kept shown =
     let front : batch.commands ≡ take core.flight core.queue = flies.commands in
@@ -84,15 +99,19 @@ acknowledged_core start core batch seen is flies kept shown =
     let flight : core.flight ≤ length core.queue = is.flight in
     let few : length core.queue ≤ QUEUE_COMMANDS = is.few in
     let bound : core.number + length core.queue ≤ LAST_NUMBER = is.bound in
-    let stood = standing.acknowledged start core.seen seen batch.before batch.commands core.number core.durable is.stands kept shown flies.follows in
+    let stood = standing.acknowledged start core.seen seen batch.before batch.commands core.number core.durable is.stands kept shown
+    flies.follows in
     let at_flight : Stands start seen (core.number + core.flight) (after core.durable batch.commands) =
     subst (λ (n : ℕ). Stands start seen (core.number + n) (after core.durable batch.commands)) cut stood in
     record {
-      stands = subst (λ (commands : List CommandValue). Stands start seen (core.number + core.flight) (after core.durable commands)) front at_flight;
+      stands = subst (λ (commands : List CommandValue). Stands start seen (core.number + core.flight) (after core.durable commands)) front
+          at_flight;
       legal = (legal_parts core.durable core.queue core.flight is.legal).1;
       few = omega (arith, rest, few);
       bound = omega (arith, rest, bound, flight);
       flight = omega arith;
       places = is.places ∙ sym (length-after core.durable (take core.flight core.queue));
-      permits = λ port one. subst (λ (state : State). FitsAt state port (permit_at core port)) (sym (after_parts core.durable core.queue core.flight)) (is.permits port one);
+      permits = λ port one.
+          subst (λ (state : State). FitsAt state port (permit_at core port)) (sym (after_parts core.durable core.queue core.flight))
+          (is.permits port one);
     }

@@ -1,10 +1,12 @@
 -- What a permit to upload is for still fits its port once commands were applied, and whether one is current.
-use Rattle.std.proofs.Common.{◌≡◌, ◌≢◌, ◌⊎◌, inl, inr, ⊎_elim, ◌<◌, ◌≤◌, ℕ, zero, suc, ◌-◌, ◌==◌, ◌&&◌, true, not, if◌then◌else◌, List, Option, Some, None, IsSomeAnd, slice_get, slice_set, refl, sym, ap, ◌∙◌, subst, arith}
+use Rattle.std.proofs.Common.{◌≡◌, ◌≢◌, ◌⊎◌, inl, inr, ⊎_elim, ◌<◌, ◌≤◌, ℕ, zero, suc, ◌-◌, ◌==◌, ◌&&◌, true, not, if◌then◌else◌, List}
+use Rattle.std.proofs.Common.{Option, Some, None, IsSomeAnd, slice_get, slice_set, refl, sym, ap, ◌∙◌, subst, arith}
 use Rattle.std.proofs.lemmas.Bool.{cases_eq, and_parts, and_from, eqb-true, eq-eqb, le-leb}
 use Rattle.iol_types.specs.Command.{CommandValue, Configure, Clear, Store}
 use Rattle.iol_types.specs.Config.{may_store_set}
 use Rattle.iol_types.specs.DataSet.{SetValue}
-use Rattle.iol_types.specs.State.{State, Port, port_numbered, changed_at, configured, cleared, with_set, with_port, apply, check, fault_at, store_fault}
+use Rattle.iol_types.specs.State.{State, Port, port_numbered, changed_at, configured, cleared, with_set, with_port, apply, check, fault_at}
+use Rattle.iol_types.specs.State.{store_fault}
 use Rattle.iol_types.specs.declared.config.PortConfig.{PortConfig}
 use Rattle.iol_core.specs.Core.{FitsPort, FitsAt, names_device, out_at}
 use Rattle.iol_core.specs.Permits.{same_grant}
@@ -24,7 +26,8 @@ fits_evolved grant before later (inl risen) fits =
     record { revision = omega arith; current = λ same. absurd (omega (arith, same)) }
 fits_evolved grant before later (inr same) fits = record {
   revision = subst (λ (n : ℕ). grant.revision ≤ n) (sym same.1) fits.revision;
-  current = λ at. subst (λ (config : PortConfig). (may_store_set config && names_device config grant.vendor grant.device) ≡ true) (sym same.0) (fits.current (at ∙ same.1));
+  current = λ at. subst (λ (config : PortConfig). (may_store_set config && names_device config grant.vendor grant.device) ≡ true)
+      (sym same.0) (fits.current (at ∙ same.1));
 }
 
 -- the port with a number that is not 0 is that at its place
@@ -35,7 +38,8 @@ is_there : (state : State) (number : ℕ) (port : Port) → port_numbered state 
 is_there state zero port e = absurd cc
 is_there state (suc n) port e = omega arith
 
-fits_changed : (grant : UploadGrant) (state : State) (number port : ℕ) (change : Port → Port) (here : Option Port) → port_numbered state number ≡ here
+fits_changed : (grant : UploadGrant) (state : State) (number port : ℕ) (change : Port → Port) (here : Option Port)
+    → port_numbered state number ≡ here
     → ((p : Port) → Evolves p (change p)) → 1 ≤ port → IsSomeAnd (port_numbered state port) (FitsPort grant)
     → IsSomeAnd (port_numbered (changed_at state number change here) port) (FitsPort grant)
 fits_changed grant state number port change None at evolves one fits = fits
@@ -45,26 +49,35 @@ fits_changed grant state number port change (Some p) at evolves one fits =
     let next : State = with_port state number (change p) in
     ⊎_elim
     (λ (same : port ≡ number).
-    let found : port_numbered next port ≡ Some (change p) = ap (port_numbered next) same ∙ (at_place next number there ∙ get_written state (number - 1) (change p) p place) in
+    let found : port_numbered next port ≡ Some (change p) = ap (port_numbered next) same
+    ∙ (at_place next number there ∙ get_written state (number - 1) (change p) p place) in
     let before : port_numbered state port ≡ Some p = ap (port_numbered state) same ∙ at in
     let was : FitsPort grant p = subst (λ (o : Option Port). IsSomeAnd o (FitsPort grant)) before fits in
     subst (λ (o : Option Port). IsSomeAnd o (FitsPort grant)) (sym found) (fits_evolved grant p (change p) (evolves p) was))
     (λ (apart : port ≢ number).
     let other : port - 1 ≢ number - 1 = λ e. apart (omega (arith, e)) in
-    let found : port_numbered next port ≡ port_numbered state port = at_place next port one ∙ (get_other state (number - 1) (port - 1) (change p) other ∙ sym (at_place state port one)) in
+    let found : port_numbered next port ≡ port_numbered state port = at_place next port one
+    ∙ (get_other state (number - 1) (port - 1) (change p) other ∙ sym (at_place state port one)) in
     subst (λ (o : Option Port). IsSomeAnd o (FitsPort grant)) (sym found) fits)
     (cases_eq port number)
 
 -- what is out still fits after a command
-pub fits_applied : (state : State) (command : CommandValue) (port : ℕ) (permit : Option Grant) → 1 ≤ port → FitsAt state port permit → FitsAt (apply state command) port permit
+pub fits_applied : (state : State) (command : CommandValue) (port : ℕ) (permit : Option Grant) → 1 ≤ port → FitsAt state port permit
+    → FitsAt (apply state command) port permit
 fits_applied state command port None one fits = tt
 fits_applied state command port (Some Download) one fits = tt
-fits_applied state (Configure number config) port (Some (Upload grant)) one fits =
-    (fits.0, fits_changed grant state number port (λ p. configured p config) (port_numbered state number) refl (λ p. inl (omega arith)) one fits.1)
+fits_applied state (Configure number config) port (Some (Upload grant)) one fits = (
+  fits.0,
+  fits_changed grant state number port (λ p. configured p config) (port_numbered state number) refl (λ p. inl (omega arith)) one
+      fits.1,
+)
 fits_applied state (Clear number) port (Some (Upload grant)) one fits =
     (fits.0, fits_changed grant state number port cleared (port_numbered state number) refl (λ p. inr (refl, refl)) one fits.1)
-fits_applied state (Store number revision set) port (Some (Upload grant)) one fits =
-    (fits.0, fits_changed grant state number port (λ p. with_set p set) (port_numbered state number) refl (λ p. inr (refl, refl)) one fits.1)
+fits_applied state (Store number revision set) port (Some (Upload grant)) one fits = (
+  fits.0,
+  fits_changed grant state number port (λ p. with_set p set) (port_numbered state number) refl (λ p. inr (refl, refl)) one
+      fits.1,
+)
 
 -- what is out still fits where one place was written
 pub fits_written : (state : State) (permits : List (Option Grant)) (port : ℕ) (permit : Option Grant) → 1 ≤ port → FitsAt state port permit
@@ -73,15 +86,19 @@ pub fits_written : (state : State) (permits : List (Option Grant)) (port : ℕ) 
 fits_written state permits port permit here fits others p one =
     ⊎_elim (λ same. at_port (slice_get permits (port - 1)) refl same) (λ apart. elsewhere apart) (cases_eq p port)
   where
-    at_port : (found : Option (Option Grant)) → slice_get permits (port - 1) ≡ found → p ≡ port → FitsAt state p (out_at (slice_get (slice_set permits (port - 1) permit) (p - 1)))
-    at_port None e same = subst (λ (l : List (Option Grant)). FitsAt state p (out_at (slice_get l (p - 1)))) (sym (set_past permits (port - 1) permit e)) (others p one)
+    at_port : (found : Option (Option Grant)) → slice_get permits (port - 1) ≡ found → p ≡ port
+        → FitsAt state p (out_at (slice_get (slice_set permits (port - 1) permit) (p - 1)))
+    at_port None e same =
+        subst (λ (l : List (Option Grant)). FitsAt state p (out_at (slice_get l (p - 1)))) (sym (set_past permits (port - 1) permit e))
+        (others p one)
     at_port (Some was) e same =
         subst (λ (n : ℕ). FitsAt state n (out_at (slice_get (slice_set permits (port - 1) permit) (n - 1)))) (sym same)
         (subst (λ (o : Option (Option Grant)). FitsAt state port (out_at o)) (sym (get_written permits (port - 1) permit was e)) fits)
 
     elsewhere : p ≢ port → FitsAt state p (out_at (slice_get (slice_set permits (port - 1) permit) (p - 1)))
     elsewhere apart =
-        subst (λ (o : Option (Option Grant)). FitsAt state p (out_at o)) (sym (get_other permits (port - 1) (p - 1) permit (λ e. apart (omega (arith, e))))) (others p one)
+        subst (λ (o : Option (Option Grant)). FitsAt state p (out_at o))
+        (sym (get_other permits (port - 1) (p - 1) permit (λ e. apart (omega (arith, e))))) (others p one)
 
 -- permits that are for the same are equal
 pub same_is : (one two : UploadGrant) → same_grant one two ≡ true → one ≡ two
@@ -99,10 +116,12 @@ same_is one two same =
 
 -- the Store of an upload whose permit fits the port and is at its revision passes
 pub store_passes : (state : State) (grant : UploadGrant) (set : SetValue) → IsSomeAnd (port_numbered state grant.port) (FitsPort grant)
-    → revision_at state grant.port ≡ grant.revision → set.vendor ≡ grant.vendor → set.device ≡ grant.device → check state (store_of grant set) ≡ None
+    → revision_at state grant.port ≡ grant.revision → set.vendor ≡ grant.vendor → set.device ≡ grant.device
+    → check state (store_of grant set) ≡ None
 store_passes state grant set fits at vendor device = passes (port_numbered state grant.port) fits at
   where
-    passes : (found : Option Port) → IsSomeAnd found (FitsPort grant) → revision_of found ≡ grant.revision → fault_at found (λ port. store_fault port grant.revision set) ≡ None
+    passes : (found : Option Port) → IsSomeAnd found (FitsPort grant) → revision_of found ≡ grant.revision
+        → fault_at found (λ port. store_fault port grant.revision set) ≡ None
     passes None fits at = absurd fits
     passes (Some port) fits at =
         let both = and_parts (may_store_set port.config) (names_device port.config grant.vendor grant.device) (fits.current (sym at)) in

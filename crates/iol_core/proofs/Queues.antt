@@ -1,5 +1,6 @@
 -- Queues of commands: one more behind them, their first ones, and those that are left.
-use Rattle.std.proofs.Common.{◌≡◌, ◌<◌, ◌&&◌, ℕ, zero, suc, ◌+◌, true, List, [], ◌∷◌, ◌++◌, length, map, take, drop, None, Some, is_none, get_or, replicate, slice_get, refl, sym, ap, ◌∙◌, length-append, append-nil, add-one}
+use Rattle.std.proofs.Common.{◌≡◌, ◌<◌, ◌&&◌, ℕ, zero, suc, ◌+◌, true, List, [], ◌∷◌, ◌++◌, length, map, take, drop, None, Some, is_none}
+use Rattle.std.proofs.Common.{get_or, replicate, slice_get, refl, sym, ap, ◌∙◌, length-append, append-nil, add-one}
 use Rattle.std.proofs.lemmas.Bool.{and_parts}
 use Rattle.std.proofs.lemmas.List.{length-map, map_more, take_more, take-map, take-append-drop}
 use Rattle.std.proofs.lemmas.Option.{slice_get_within, get_or_from_slice_get}
@@ -15,7 +16,8 @@ use Rattle.iol_types.specs.Command.{CommandValue, value_of}
 use Rattle.iol_types.specs.State.{State, check, apply, after, legal}
 use Rattle.iol_types.proofs.StateLemmas.{legal-append}
 
-pub after_push : (state : State) (queue : List CommandValue) (command : CommandValue) → after state (queue ++ command ∷ []) ≡ apply (after state queue) command
+pub after_push : (state : State) (queue : List CommandValue) (command : CommandValue) → after state (queue ++ command ∷ [])
+    ≡ apply (after state queue) command
 after_push state queue command = fold-append apply state queue (command ∷ [])
 
 pub legal_push : (state : State) (queue : List CommandValue) (command : CommandValue)
@@ -44,9 +46,11 @@ records_more commands command =
 
 -- what the records of the first commands of a queue have, and of one more
 pub records_next : (queue : List Command) (i : ℕ) (command : Command) → i < length queue → get_or queue i command ≡ command
-    → length (records_of (take (i + 1) (values queue))) ≡ length (records_of (take i (values queue))) + length (command_octets (value_of command))
+    → length (records_of (take (i + 1) (values queue))) ≡ length (records_of (take i (values queue)))
+    + length (command_octets (value_of command))
 records_next queue i command within is =
-    ap (λ (commands : List CommandValue). length (records_of commands)) (values_more queue i command within is) ∙ records_more (take i (values queue)) (value_of command)
+    ap (λ (commands : List CommandValue). length (records_of commands)) (values_more queue i command within is)
+    ∙ records_more (take i (values queue)) (value_of command)
 
 -- the first commands of a queue pass, and the others behind them
 pub legal_parts : (state : State) (queue : List CommandValue) (count : ℕ) → legal state queue ≡ true
@@ -56,8 +60,10 @@ legal_parts state queue count passes =
     (sym (legal-append state (take count queue) (drop count queue)) ∙ (ap (legal state) (take-append-drop count queue) ∙ passes))
 
 -- the state after the first commands, and then the others, is that after all
-pub after_parts : (state : State) (queue : List CommandValue) (count : ℕ) → after (after state (take count queue)) (drop count queue) ≡ after state queue
-after_parts state queue count = sym (fold-append apply state (take count queue) (drop count queue)) ∙ ap (after state) (take-append-drop count queue)
+pub after_parts : (state : State) (queue : List CommandValue) (count : ℕ) → after (after state (take count queue)) (drop count queue)
+    ≡ after state queue
+after_parts state queue count = sym (fold-append apply state (take count queue) (drop count queue))
+    ∙ ap (after state) (take-append-drop count queue)
 
 -- where no permit is out, none is out at any place
 pub none_out : (ports i : ℕ) → out_at (slice_get (replicate ports None) i) ≡ None
@@ -70,7 +76,8 @@ length-values commands = length-map commands value_of
 
 -- the first of a list, and the one that was found behind them
 pub take_found : {A : Type 0} (xs : List A) (i : ℕ) (x : A) → slice_get xs i ≡ Some x → take (i + 1) xs ≡ take i xs ++ x ∷ []
-take_found {A = A} xs i x found = take_more xs i x (slice_get_within xs i x found) ∙ ap (λ (last : A). take i xs ++ last ∷ []) (get_or_from_slice_get xs i x x found)
+take_found {A = A} xs i x found = take_more xs i x (slice_get_within xs i x found)
+    ∙ ap (λ (last : A). take i xs ++ last ∷ []) (get_or_from_slice_get xs i x x found)
 
 -- the first of what is left of a list comes behind those before it
 pub first_left : {A : Type 0} (xs : List A) (i : ℕ) (x : A) (rest : List A) → drop i xs ≡ x ∷ rest

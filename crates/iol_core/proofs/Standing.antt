@@ -11,7 +11,8 @@ use Rattle.iol_core.specs.Standing.{Stands}
 
 -- a beginning is no longer than the whole
 pub prefix_length : {A : Type 0} (xs zs : List A) → IsPrefix xs zs → length xs ≤ length zs
-prefix_length xs zs (rest, is) = let whole : length xs + length rest ≡ length zs = sym (length-append xs rest) ∙ ap length is in omega (arith, whole)
+prefix_length xs zs (rest, is) = let whole : length xs + length rest ≡ length zs = sym (length-append xs rest) ∙ ap length is in
+    omega (arith, whole)
 
 take_append : {A : Type 0} (n : ℕ) (xs ys : List A) → n ≤ length xs → take n (xs ++ ys) ≡ take n xs
 take_append zero xs ys h = refl

@@ -1,5 +1,6 @@
 -- What a core holds: what is durable, what waits for the disk, and which permits are out.
-use Rattle.std.specs.Prelude.{◌≡◌, ℕ, ◌+◌, ◌-◌, ◌≤◌, ◌==◌, true, Bool, ◌&&◌, List, length, Option, Some, None, IsSomeAnd, slice_get, slice_set}
+use Rattle.std.specs.Prelude.{◌≡◌, ℕ, ◌+◌, ◌-◌, ◌≤◌, ◌==◌, true, Bool, ◌&&◌, List, length, Option, Some, None, IsSomeAnd, slice_get}
+use Rattle.std.specs.Prelude.{slice_set}
 use Rattle.iol_types.specs.Command.{CommandValue}
 use Rattle.iol_types.specs.Config.{may_store_set}
 use Rattle.iol_types.specs.State.{State, Port, after, legal, port_numbered}

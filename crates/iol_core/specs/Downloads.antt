@@ -55,4 +55,5 @@ IsBeginDownload old port vendor device checksum new (Ok begun) =
     × (begun.permit ≡ port) × IsSomeAnd (durable_set old port) (λ stored. begun.set.value ≡ stored.set)
     × (new ≡ with_permit old port (Some Download))
 IsBeginDownload old port vendor device checksum new (Err Memory) = (download_fault old port vendor device checksum ≡ None) × (new ≡ old)
-IsBeginDownload old port vendor device checksum new (Err fault) = (download_fault old port vendor device checksum ≡ Some fault) × (new ≡ old)
+IsBeginDownload old port vendor device checksum new (Err fault) = (download_fault old port vendor device checksum ≡ Some fault)
+    × (new ≡ old)

@@ -11,7 +11,8 @@ use Rattle.iol_core.specs.declared.permit.UploadGrant.{UploadGrant}
 -- for worked examples: a core with this durable state at number 7, these commands that wait, and this permit of its one
 -- port (own)
 abbrev pub core_with : State → List CommandValue → Option Grant → CoreView
-core_with durable queue permit = record { durable = durable; number = 7; queue = queue; flight = 0; permits = permit ∷ []; stopped = None; seen = [] }
+core_with durable queue permit =
+    record { durable = durable; number = 7; queue = queue; flight = 0; permits = permit ∷ []; stopped = None; seen = [] }
 
 -- for worked examples: a Configure of port 1 (own)
 abbrev pub configure_one : CommandValue

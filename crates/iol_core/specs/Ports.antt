@@ -10,7 +10,8 @@ use Rattle.iol_core.specs.declared.port.Work.{Work}
 -- what a port is to work with: the live configuration and revision, and the checksum of the durable set, if there is
 -- one (own)
 abbrev pub work_of : Port → Option Stored → Work
-work_of port stored = record { config = port.config; revision = port.revision; checksum = option_map (λ stored. stored.set.checksum) stored }
+work_of port stored =
+    record { config = port.config; revision = port.revision; checksum = option_map (λ stored. stored.set.checksum) stored }
 
 abbrev pub work_at : CoreView → ℕ → Option Work
 work_at core port = option_map (λ p. work_of p (durable_set core port)) (port_numbered (live core) port)

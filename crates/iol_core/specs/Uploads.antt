@@ -68,7 +68,8 @@ store_of grant set = Store grant.port grant.revision set
 -- permit and set come back, and nothing changes (own)
 abbrev pub IsFinish : CoreView → UploadGrant → SetValue → CoreView → Result ℕ FinishFault → Type 0
 IsFinish old grant set new (Ok ticket) =
-    MayFinish old grant × (queue_fault old ≡ None) × (ticket ≡ live_number old + 1) × (new ≡ with_permit (queued old (store_of grant set)) grant.port None)
+    MayFinish old grant × (queue_fault old ≡ None) × (ticket ≡ live_number old + 1)
+    × (new ≡ with_permit (queued old (store_of grant set)) grant.port None)
 IsFinish old grant set new (Err finish.Stopped) = (is_stopped old ≡ true) × (new ≡ without_upload old grant)
 IsFinish old grant set new (Err finish.ConfigChanged) = HasChanged old grant × (new ≡ without_upload old grant)
 IsFinish old grant set new (Err (finish.QueueFull permit back)) =

@@ -37,7 +37,8 @@ impl<F: Name> Core<F> {
         requires { LARGEST_COMMAND_RECORD ≤ room }
         ensures take { IfOk result (λ batch. IsTake self.old room self.new batch) }
         ensures legal { IfOk result (λ batch. IfSome batch (λ b. legal self.old.durable (values b.commands.items) ≡ true)) }
-        ensures bound { IfOk result (λ batch. IfSome batch (λ b. (length b.commands.items ≤ QUEUE_COMMANDS) × (b.first + length b.commands.items ≤ LAST_NUMBER + 1))) }
+        ensures bound { IfOk result (λ batch.
+            IfSome batch (λ b. (length b.commands.items ≤ QUEUE_COMMANDS) × (b.first + length b.commands.items ≤ LAST_NUMBER + 1))) }
         ensures unchanged { OnErr result ((has_batch self.old ≡ true) × (self.new ≡ self.old)) }
     {
         if !self.has_batch() {
@@ -78,7 +79,8 @@ impl<F: Name> Core<F> {
         ensures acknowledged { IfOk result (λ _. self.new ≡ acknowledged self.old self.new.seen) }
         ensures number { IfOk result (λ number. number ≡ self.new.number) }
         ensures live { live self.new ≡ live self.old }
-        ensures seen { IfOk result (λ _. IsPrefix self.old.seen self.new.seen × IsPrefix (committed.before ++ committed.commands) self.new.seen) }
+        ensures seen { IfOk result (λ _. IsPrefix self.old.seen self.new.seen
+            × IsPrefix (committed.before ++ committed.commands) self.new.seen) }
         ensures stranger { IfErr result (λ fault. IsStranger F.front.start self.old committed fault × (self.new ≡ self.old)) }
     {
         if !self.awaits(&committed) {

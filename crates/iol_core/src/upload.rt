@@ -126,7 +126,8 @@ impl<F: Name> Core<F> {
         ensures given { OnOk result (upload_fault self.now port vendor device ≡ None) }
         ensures revision { IfOk result (λ revision. revision ≡ revision_at (live self.now) port) }
         ensures fits { IfOk result (λ revision. (connection : ℕ)
-            → FitsAt (live self.now) port (Some (Upload (record { port = port; revision = revision; vendor = vendor; device = device; connection = connection })))) }
+            → FitsAt (live self.now) port
+            (Some (Upload (record { port = port; revision = revision; vendor = vendor; device = device; connection = connection })))) }
         ensures fault { IfErr result (λ fault. upload_fault self.now port vendor device ≡ Some fault) }
     {
         if self.is_stopped() {
@@ -159,8 +160,10 @@ impl<F: Name> Core<F> {
 
     // Whether this permit is out and its port was not configured since.
     fn is_current(&self, grant: &UploadGrant) -> bool
-        ensures current { result ≡ true → (is_out self.now grant.now ≡ true) × (revision_at (live self.now) grant.now.port ≡ grant.now.revision) }
-        ensures changed { result ≡ false → is_out self.now grant.now ≡ true → (revision_at (live self.now) grant.now.port ≡ grant.now.revision) → ⊥ }
+        ensures current { result ≡ true → (is_out self.now grant.now ≡ true)
+            × (revision_at (live self.now) grant.now.port ≡ grant.now.revision) }
+        ensures changed { result ≡ false → is_out self.now grant.now ≡ true
+            → (revision_at (live self.now) grant.now.port ≡ grant.now.revision) → ⊥ }
         ensures passes { result ≡ true → (set : SetValue) → set.vendor ≡ grant.now.vendor → set.device ≡ grant.now.device
             → check (live self.now) (store_of grant.now set) ≡ None }
     {

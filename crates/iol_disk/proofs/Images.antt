@@ -1,9 +1,11 @@
 -- Images of a content, and what writes and syncs make of them.
-use Rattle.std.proofs.Common.{◌≡◌, ◌⊎◌, inl, inr, ⊎_elim, ℕ, ◌==◌, ◌≤◌, ◌≢◌, false, if◌then◌else◌, List, [], ◌∷◌, ◌++◌, length, drop, Option, Some, None, is_some, unwrap_or, refl, sym, ◌∙◌, ap, subst, arith, length-append}
+use Rattle.std.proofs.Common.{◌≡◌, ◌⊎◌, inl, inr, ⊎_elim, ℕ, ◌==◌, ◌≤◌, ◌≢◌, false, if◌then◌else◌, List, [], ◌∷◌, ◌++◌, length, drop}
+use Rattle.std.proofs.Common.{Option, Some, None, is_some, unwrap_or, refl, sym, ◌∙◌, ap, subst, arith, length-append}
 use std.Path.{fun_ext}
 use Rattle.std.proofs.lemmas.Bool.Decides.{nat_tests}
 use Rattle.std.proofs.lemmas.List.{drop-append-le}
-use Rattle.iol_disk.specs.Content.{Image, Interval, IsImageOf, IsImageOfSome, Content, reads, now, IsImage, clock, IsImageSince, wrote, synced, IsSettled}
+use Rattle.iol_disk.specs.Content.{Image, Interval, IsImageOf, IsImageOfSome, Content, reads, now, IsImage, clock, IsImageSince, wrote}
+use Rattle.iol_disk.specs.Content.{synced, IsSettled}
 
 -- what a disk reads as is one of its images
 pub reads-is_image : (c : Content) → IsImage c (reads c)
@@ -63,7 +65,8 @@ follows-wrote n octets c = record {
   since = λ t image le left. ⊎_elim (λ had. inl (inl had)) (λ is. inr is) left;
 }
 
-some-push : (past : List Interval) (e : Interval) (image : Image) → IsImageOfSome (past ++ e ∷ []) image → IsImageOfSome past image ⊎ IsImageOf e image
+some-push : (past : List Interval) (e : Interval) (image : Image) → IsImageOfSome (past ++ e ∷ []) image → IsImageOfSome past image
+    ⊎ IsImageOf e image
 some-push [] e image (inl here) = inr here
 some-push [] e image (inr none) = absurd none
 some-push (p ∷ past) e image (inl here) = inl (inl here)
@@ -74,7 +77,8 @@ follows-synced c = record {
   later = omega (arith, length-append c.past (now c ∷ []));
   since = λ t image le left.
       ⊎_elim
-      (λ had. inl (some-push (drop t c.past) (now c) image (subst (λ (es : List Interval). IsImageOfSome es image) (drop-append-le t c.past (now c ∷ []) le) had)))
+      (λ had. inl (some-push (drop t c.past) (now c) image
+      (subst (λ (es : List Interval). IsImageOfSome es image) (drop-append-le t c.past (now c ∷ []) le) had)))
       (λ is. inr is)
       left;
 }

@@ -4,7 +4,8 @@ use Rattle.iol_disk.specs.Content.{Image, Content, reads, IsImage, clock, wrote,
 use Rattle.iol_disk.specs.Disk.{Disk, After, Same, WroteSome}
 use Rattle.iol_disk.specs.Moments.{LeavesOnly}
 use Rattle.iol_disk.specs.declared.fault.DiskFault.{DiskFault}
-use Rattle.iol_disk.proofs.Images.{Follows, follows-same, follows-wrote, follows-synced, since-now, image-wrote, image-synced, reads-is_image}
+use Rattle.iol_disk.proofs.Images.{Follows, follows-same, follows-wrote, follows-synced, since-now, image-wrote, image-synced}
+use Rattle.iol_disk.proofs.Images.{reads-is_image}
 
 -- before the first call
 pub started : (d : Disk) (P : Image → Type 0) → (IsTrue d.honest → (image : Image) → IsImage d.content image → P image) → LeavesOnly d d P
@@ -28,7 +29,8 @@ goes_on old mid new P change law so_far after here = record {
   later = λ h. omega (arith, so_far.later h, (follows h).later);
   each = λ h image left. ⊎_elim (so_far.each h image) (here h image) ((follows h).since (clock old.content) image (so_far.later h) left);
   before = λ h t image le left.
-      ⊎_elim (so_far.before h t image le) (λ is. inr (here h image is)) ((follows h).since t image (omega (arith, le, so_far.later h)) left);
+      ⊎_elim (so_far.before h t image le) (λ is. inr (here h image is))
+      ((follows h).since t image (omega (arith, le, so_far.later h)) left);
 }
   where
     mid_honest : IsTrue old.honest → IsTrue mid.honest
@@ -55,7 +57,8 @@ pub leaves_write : (n : ℕ) (old new : Disk) (P : Image → Type 0) → WroteSo
     → (IsTrue old.honest → (image was : Image) → IsImage old.content was → ((i : ℕ) → i ≢ n → image i ≡ was i) → P image)
     → LeavesOnly old new P
 leaves_write n old new P (octets, after) there =
-    goes_on old old new P (wrote n octets) (follows-wrote n octets) (started old P (λ h image is. there h image image is (λ i other. refl))) after
+    goes_on old old new P (wrote n octets) (follows-wrote n octets) (started old P (λ h image is. there h image image is (λ i other. refl)))
+    after
     (λ h image is.
     let w = image-wrote n octets old.content image (subst (λ (c : Content). IsImage c image) (after.content h) is) in
     there h image w.0 w.1 w.2)
@@ -85,7 +88,8 @@ and_then old mid new P first second = record {
     mid_honest h = subst IsTrue (sym first.honest) h
 
 -- what has P has Q too, as far as is known of an honest disk
-pub weaker : (old new : Disk) (P Q : Image → Type 0) → LeavesOnly old new P → (IsTrue old.honest → (image : Image) → P image → Q image) → LeavesOnly old new Q
+pub weaker : (old new : Disk) (P Q : Image → Type 0) → LeavesOnly old new P → (IsTrue old.honest → (image : Image) → P image → Q image)
+    → LeavesOnly old new Q
 weaker old new P Q leaves implies = record {
   sectors = leaves.sectors;
   honest = leaves.honest;
@@ -96,7 +100,8 @@ weaker old new P Q leaves implies = record {
 }
 
 -- what a stop may leave now it may have left since
-pub each_now : (old mid : Disk) (P : Image → Type 0) → LeavesOnly old mid P → IsTrue mid.honest → (image : Image) → IsImage mid.content image → P image
+pub each_now : (old mid : Disk) (P : Image → Type 0) → LeavesOnly old mid P → IsTrue mid.honest → (image : Image)
+    → IsImage mid.content image → P image
 each_now old mid P leaves h image is = leaves.each (subst IsTrue leaves.honest h) image (inr is)
 
 -- a call more that changes nothing

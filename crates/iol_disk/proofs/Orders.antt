@@ -1,5 +1,6 @@
 -- Calls made one behind the other, and where one of them failed: how such orders join.
-use Rattle.std.proofs.Common.{Some, Bool, true, false, if◌then◌else◌, is_some, Option, ◌==◌, ◌≡◌, ℕ, ◌+◌, ◌<◌, ◌≤◌, IsTrue, List, [], ◌∷◌, ◌++◌, length, zero, take, slice_get, suc, refl, sym, ◌∙◌, ap, subst, arith}
+use Rattle.std.proofs.Common.{Some, Bool, true, false, if◌then◌else◌, is_some, Option, ◌==◌, ◌≡◌, ℕ, ◌+◌, ◌<◌, ◌≤◌, IsTrue, List, [], ◌∷◌}
+use Rattle.std.proofs.Common.{◌++◌, length, zero, take, slice_get, suc, refl, sym, ◌∙◌, ap, subst, arith}
 use Rattle.std.proofs.Math.Seq.{take-append-add}
 use Rattle.std.proofs.lemmas.List.{take-append-le}
 use Rattle.std.proofs.lemmas.Option.{slice_get_within, same_Some}
@@ -11,7 +12,8 @@ use Rattle.iol_disk.specs.declared.fault.DiskFault.{DiskFault}
 use Rattle.iol_disk.proofs.Images.{Follows, follows-wrote, follows-synced}
 use Rattle.iol_disk.proofs.Moments.{started, goes_on, leaves_same, and_then}
 
-pub content_after_append : (first second : List Call) (c : Content) → content_after_all (first ++ second) c ≡ content_after_all second (content_after_all first c)
+pub content_after_append : (first second : List Call) (c : Content) → content_after_all (first ++ second) c
+    ≡ content_after_all second (content_after_all first c)
 content_after_append [] second c = refl
 content_after_append (call ∷ first) second c = content_after_append first second (content_after call c)
 
@@ -25,7 +27,8 @@ after_after first second old between new one two = record {
   content = λ h. two.content (subst IsTrue (sym one.honest) h) ∙ ap second (one.content h);
 }
 
-after_is : (change change' : Content → Content) (old new : Disk) → ((c : Content) → change c ≡ change' c) → After change old new → After change' old new
+after_is : (change change' : Content → Content) (old new : Disk) → ((c : Content) → change c ≡ change' c) → After change old new
+    → After change' old new
 after_is change change' old new same after = record {
   sectors = after.sectors;
   honest = after.honest;
@@ -39,14 +42,16 @@ made_none old new same quiet = record { after = same; no_failure = quiet }
 pub made_one : (call : Call) (old new : Disk) → After (content_after call) old new → new.failures ≡ old.failures → Made (call ∷ []) old new
 made_one call old new after quiet = record { after = after; no_failure = quiet }
 
-pub made_append : (first second : List Call) (old between new : Disk) → Made first old between → Made second between new → Made (first ++ second) old new
+pub made_append : (first second : List Call) (old between new : Disk) → Made first old between → Made second between new
+    → Made (first ++ second) old new
 made_append first second old between new one two = record {
   after = after_is _ _ old new (λ c. sym (content_after_append first second c)) (after_after _ _ old between new one.after two.after);
   no_failure = two.no_failure ∙ one.no_failure;
 }
 
 -- calls that change nothing and fail at nothing, such as reads, before, between and behind
-pub made_then_same : (calls : List Call) (old between new : Disk) → Made calls old between → Same between new → new.failures ≡ between.failures → Made calls old new
+pub made_then_same : (calls : List Call) (old between new : Disk) → Made calls old between → Same between new → new.failures
+    ≡ between.failures → Made calls old new
 made_then_same calls old between new made same quiet = record {
   after = after_after _ _ old between new made.after same;
   no_failure = quiet ∙ made.no_failure;
@@ -73,20 +78,24 @@ slice_get-append-add (x ∷ xs) ys k =
     let e : suc (length xs) + k ≡ suc (length xs + k) = omega arith in
     ap (slice_get (x ∷ xs ++ ys)) e ∙ slice_get-append-add xs ys k
 
-pub failed_first : (first second : List Call) (fault : DiskFault) (old new : Disk) → FailedIn first fault old new → FailedIn (first ++ second) fault old new
+pub failed_first : (first second : List Call) (fault : DiskFault) (old new : Disk) → FailedIn first fault old new
+    → FailedIn (first ++ second) fault old new
 failed_first first second fault old new failed = record {
   place = failed.place;
   call = failed.call;
   between = failed.between;
-  at_place = slice_get-append-lt first second failed.place (slice_get_within first failed.place failed.call failed.at_place) ∙ failed.at_place;
-  before = subst (λ (calls : List Call). Made calls old failed.between) (sym (take-append-le failed.place first second within)) failed.before;
+  at_place = slice_get-append-lt first second failed.place (slice_get_within first failed.place failed.call failed.at_place)
+      ∙ failed.at_place;
+  before = subst (λ (calls : List Call). Made calls old failed.between) (sym (take-append-le failed.place first second within))
+      failed.before;
   failed = failed.failed;
 }
   where
     within : failed.place ≤ length first
     within = omega (arith, slice_get_within first failed.place failed.call failed.at_place)
 
-pub failed_later : (first second : List Call) (fault : DiskFault) (old between new : Disk) → Made first old between → FailedIn second fault between new
+pub failed_later : (first second : List Call) (fault : DiskFault) (old between new : Disk) → Made first old between
+    → FailedIn second fault between new
     → FailedIn (first ++ second) fault old new
 failed_later first second fault old between new made failed = record {
   place = length first + failed.place;
@@ -123,7 +132,12 @@ made_leaves (call ∷ calls) old new P made has =
 
     rest : Made calls between new
     rest = record {
-      after = record { sectors = made.after.sectors; honest = made.after.honest; failures = made.after.failures; content = made.after.content };
+      after = record {
+        sectors = made.after.sectors;
+        honest = made.after.honest;
+        failures = made.after.failures;
+        content = made.after.content;
+      };
       no_failure = made.no_failure;
     }
 
@@ -132,7 +146,8 @@ take-take calls zero place = (0, refl)
 take-take [] (suc n) zero = (0, refl)
 take-take [] (suc n) (suc place) = (0, refl)
 take-take (call ∷ calls) (suc n) zero = (0, refl)
-take-take (call ∷ calls) (suc n) (suc place) = let (less, same) = take-take calls n place in (suc less, ap (λ (cs : List Call). call ∷ cs) same)
+take-take (call ∷ calls) (suc n) (suc place) = let (less, same) = take-take calls n place in
+    (suc less, ap (λ (cs : List Call). call ∷ cs) same)
 
 one_call_on : (calls : List Call) (place : ℕ) (call : Call) (c : Content) → slice_get calls place ≡ Some call
     → content_after_all (take (suc place) calls) c ≡ content_after call (content_after_all (take place calls) c)
@@ -148,12 +163,14 @@ left_by_leaves (write sector octets) old new P (some, after) here there =
     goes_on old old new P (wrote sector some) (follows-wrote sector some) (started old P here) after
     (λ h image is. there h image (any_octets h image is))
   where
-    either : (here : Bool) (had : Option (List ℕ)) → is_some (if here then Some octets else had) ≡ false → is_some (if here then Some some else had) ≡ false
+    either : (here : Bool) (had : Option (List ℕ)) → is_some (if here then Some octets else had) ≡ false
+        → is_some (if here then Some some else had) ≡ false
     either true had clean = clean
     either false had clean = clean
 
     any_octets : IsTrue old.honest → (image : Image) → IsImage new.content image → IsImage (wrote sector octets old.content) image
-    any_octets h image is i clean = (subst (λ (c : Content). IsImage c image) (after.content h) is) i (either (i == sector) (old.content.written i) clean)
+    any_octets h image is i clean =
+        (subst (λ (c : Content). IsImage c image) (after.content h) is) i (either (i == sector) (old.content.written i) clean)
 left_by_leaves sync old new P same here there = leaves_same old new P same here
 
 -- where a call failed too
@@ -172,5 +189,7 @@ failed_leaves calls fault old new P failed has =
     honest : IsTrue failed.between.honest → IsTrue old.honest
     honest h = subst IsTrue failed.before.after.honest h
 
-    behind : IsTrue old.honest → content_after failed.call failed.between.content ≡ content_after_all (take (suc failed.place) calls) old.content
-    behind h = ap (content_after failed.call) (failed.before.after.content h) ∙ sym (one_call_on calls failed.place failed.call old.content failed.at_place)
+    behind : IsTrue old.honest → content_after failed.call failed.between.content
+        ≡ content_after_all (take (suc failed.place) calls) old.content
+    behind h = ap (content_after failed.call) (failed.before.after.content h)
+        ∙ sym (one_call_on calls failed.place failed.call old.content failed.at_place)

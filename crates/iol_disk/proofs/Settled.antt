@@ -1,5 +1,6 @@
 -- Sectors that are settled one behind the other.
-use Rattle.std.proofs.Common.{◌≡◌, ℕ, ◌<◌, ◌==◌, ◌||◌, Bool, true≢false, true, false, if◌then◌else◌, List, [], ◌∷◌, Option, Some, None, Vec, is_some, slice_get, slice_set, length, replicate, zero, suc, sym, refl, ◌∙◌, ap, arith}
+use Rattle.std.proofs.Common.{◌≡◌, ℕ, ◌<◌, ◌==◌, ◌||◌, Bool, true≢false, true, false, if◌then◌else◌, List, [], ◌∷◌, Option, Some, None, Vec}
+use Rattle.std.proofs.Common.{is_some, slice_get, slice_set, length, replicate, zero, suc, sym, refl, ◌∙◌, ap, arith}
 use Rattle.std.specs.Option.{option_map}
 use Rattle.std.specs.declared.alloc.Global.{Global}
 use Rattle.std.proofs.lemmas.Bool.Decides.{nat_tests}
@@ -18,7 +19,8 @@ slice_get-slice_set (c ∷ cells) (suc n) cell (suc i) within = grind (arith, na
 -- one sector more
 pub settled_more : (old cells : List Cell) (n : ℕ) (cell : Cell) (i : ℕ) (listed : Bool) → n < length cells → slice_get cells n ≡ Some cell
     → slice_get cells i ≡ (if listed then option_map settled (slice_get old i) else slice_get old i)
-    → slice_get (slice_set cells n (settled cell)) i ≡ (if listed || (i == n) then option_map settled (slice_get old i) else slice_get old i)
+    → slice_get (slice_set cells n (settled cell)) i
+    ≡ (if listed || (i == n) then option_map settled (slice_get old i) else slice_get old i)
 settled_more old cells n cell i listed within is so_far =
     slice_get-slice_set cells n (settled cell) i within ∙ at (i == n) refl listed so_far
   where
@@ -30,7 +32,8 @@ settled_more old cells n cell i listed within is so_far =
     here same = sym (ap (option_map settled) (ap (slice_get cells) (same_sector i n same) ∙ is))
 
     at : (b : Bool) → (i == n) ≡ b → (l : Bool) → slice_get cells i ≡ (if l then option_map settled (slice_get old i) else slice_get old i)
-        → (if b then Some (settled cell) else slice_get cells i) ≡ (if l || b then option_map settled (slice_get old i) else slice_get old i)
+        → (if b then Some (settled cell) else slice_get cells i)
+        ≡ (if l || b then option_map settled (slice_get old i) else slice_get old i)
     at true same true so_far = here same ∙ ap (option_map settled) so_far ∙ settled_again (slice_get old i)
     at true same false so_far = here same ∙ ap (option_map settled) so_far
     at false same true so_far = so_far

@@ -1,5 +1,6 @@
 -- What a disk in memory keeps of its syncs, step by step.
-use Rattle.std.proofs.Common.{is_some, unwrap_or, slice_get, ◌≡◌, ℕ, ◌==◌, ◌||◌, Bool, true, false, if◌then◌else◌, List, [], ◌∷◌, ◌++◌, Option, Some, None, sym, refl, ◌∙◌, ap}
+use Rattle.std.proofs.Common.{is_some, unwrap_or, slice_get, ◌≡◌, ℕ, ◌==◌, ◌||◌, Bool, true, false, if◌then◌else◌, List, [], ◌∷◌, ◌++◌}
+use Rattle.std.proofs.Common.{Option, Some, None, sym, refl, ◌∙◌, ap}
 use Rattle.std.specs.Option.{option_map}
 use std.Path.{fun_ext, fun_ext⁻}
 use Rattle.iol_disk.specs.Content.{Image, Interval, reads, now, synced}
@@ -10,7 +11,8 @@ use Rattle.iol_disk.proofs.Written.{same_sector}
 use Rattle.iol_disk.specs.declared.undo.Replaced.{Replaced}
 
 replaced_at-push : (rs : List Replaced) (r : Replaced) (i : ℕ)
-    → replaced_at (rs ++ r ∷ []) i ≡ (if is_some (replaced_at rs i) then replaced_at rs i else (if i == r.sector then Some r.octets else None))
+    → replaced_at (rs ++ r ∷ []) i
+    ≡ (if is_some (replaced_at rs i) then replaced_at rs i else (if i == r.sector then Some r.octets else None))
 replaced_at-push [] r i = refl
 replaced_at-push (x ∷ rs) r i = at (i == x.sector) (replaced_at-push rs r i)
   where
@@ -42,7 +44,8 @@ replaced_more cells rs r i listed is so_far =
     at false true octets = ap Some (octets refl)
     at false false octets = refl
 
-undo_all-push : (past : List (List Replaced)) (sync : List Replaced) (after : Image) → undo_all (past ++ sync ∷ []) after ≡ undo_all past (undo sync after)
+undo_all-push : (past : List (List Replaced)) (sync : List Replaced) (after : Image) → undo_all (past ++ sync ∷ []) after
+    ≡ undo_all past (undo sync after)
 undo_all-push [] sync after = refl
 undo_all-push (p ∷ past) sync after = ap (undo p) (undo_all-push past sync after)
 
@@ -98,4 +101,5 @@ content-sync cells cells' past past' sync settles is keeps = λ j. record { dura
     pasts : intervals past' (durable_of cells') ≡ intervals past (durable_of cells) ++ now (content_of cells past) ∷ []
     pasts = ap (λ (p : List (List Replaced)). intervals p (durable_of cells')) is ∙ intervals-push past sync (durable_of cells')
         ∙ ap (λ (image : Image). intervals past image ++ interval_of sync image ∷ []) back
-        ∙ ap (λ (pending : ℕ → Bool). intervals past (durable_of cells) ++ record { durable = durable_of cells; pending = pending } ∷ []) pendings
+        ∙ ap (λ (pending : ℕ → Bool). intervals past (durable_of cells) ++ record { durable = durable_of cells; pending = pending } ∷ [])
+        pendings

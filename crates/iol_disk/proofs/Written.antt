@@ -1,5 +1,6 @@
 -- The list of the sectors that were written, as writes and syncs change it.
-use Rattle.std.proofs.Common.{◌≡◌, ℕ, ◌<◌, ◌≤◌, ◌+◌, ◌==◌, ◌||◌, Bool, true, false, IsTrue, if◌then◌else◌, nat_eq, eqb, List, [], ◌∷◌, ◌++◌, length, Option, Some, None, Vec, is_some, slice_get, get_or, take, sym, refl, ◌∙◌, ap, subst, arith}
+use Rattle.std.proofs.Common.{◌≡◌, ℕ, ◌<◌, ◌≤◌, ◌+◌, ◌==◌, ◌||◌, Bool, true, false, IsTrue, if◌then◌else◌, nat_eq, eqb, List, [], ◌∷◌, ◌++◌}
+use Rattle.std.proofs.Common.{length, Option, Some, None, Vec, is_some, slice_get, get_or, take, sym, refl, ◌∙◌, ap, subst, arith}
 use Rattle.std.specs.List.{list_any, IsDistinct}
 use Rattle.std.specs.Vec.{vec_capacity}
 use Rattle.std.specs.declared.alloc.Global.{Global}
@@ -28,7 +29,8 @@ within_from_written cells i was = at (slice_get cells i) refl was
     at None is was = cc
 
 -- a sector that is listed is there
-pub within_from_listed : (cells : List Cell) (listed : Vec ℕ Global) → ListsWritten cells listed → (i : ℕ) → IsTrue (is_listed listed.items i) → i < length cells
+pub within_from_listed : (cells : List Cell) (listed : Vec ℕ Global) → ListsWritten cells listed → (i : ℕ)
+    → IsTrue (is_listed listed.items i) → i < length cells
 within_from_listed cells listed lists i is = within_from_written cells i (sym (lists.exactly i) ∙ is)
 
 -- an empty list, of sectors that were not written
@@ -57,14 +59,16 @@ pub room_for_one : (cells : List Cell) (listed : Vec ℕ Global) (n : ℕ) → L
 room_for_one cells listed n lists within clean = omega (arith, few, length_push listed.items n, lists.room)
   where
     below : (q : ℕ) → list_any (eqb q) (listed.items ++ n ∷ []) ≡ true → q < length cells
-    below q among = or_cases (is_listed listed.items q) (q == n) (q < length cells) (sym (is_listed-push listed.items n q) ∙ among) (within_from_listed cells listed lists q) (λ is. subst (λ (k : ℕ). k < length cells) (sym (same_sector q n is)) within)
+    below q among = or_cases (is_listed listed.items q) (q == n) (q < length cells) (sym (is_listed-push listed.items n q) ∙ among)
+        (within_from_listed cells listed lists q) (λ is. subst (λ (k : ℕ). k < length cells) (sym (same_sector q n is)) within)
 
     few : length (listed.items ++ n ∷ []) ≤ length cells
     few = length-le_from_distinct_below (listed.items ++ n ∷ []) (length cells)
         (IsDistinct-push nat_eq_equiv listed.items n lists.once (lists.exactly n ∙ clean)) below
 
 -- what a write makes of which sectors were written
-wrote_also : (cells cells' : List Cell) (n : ℕ) (octets : List ℕ) (i : ℕ) → written_of cells' i ≡ (if i == n then Some octets else written_of cells i)
+wrote_also : (cells cells' : List Cell) (n : ℕ) (octets : List ℕ) (i : ℕ) → written_of cells' i
+    ≡ (if i == n then Some octets else written_of cells i)
     → is_some (written_of cells' i) ≡ (is_some (written_of cells i) || (i == n))
 wrote_also cells cells' n octets i writes = ap is_some writes ∙ either (i == n) (written_of cells i)
   where
@@ -82,7 +86,8 @@ pub lists_one_more : (cells cells' : List Cell) (listed listed' : Vec ℕ Global
 lists_one_more cells cells' listed listed' n octets lists clean same writes is room = record {
   exactly = λ i. ap (λ (xs : List ℕ). is_listed xs i) is ∙ is_listed-push listed.items n i
       ∙ ap (λ (was : Bool). was || (i == n)) (lists.exactly i) ∙ sym (wrote_also cells cells' n octets i (writes i));
-  once = subst (λ (xs : List ℕ). IsDistinct nat_eq xs) (sym is) (IsDistinct-push nat_eq_equiv listed.items n lists.once (lists.exactly n ∙ clean));
+  once = subst (λ (xs : List ℕ). IsDistinct nat_eq xs) (sym is)
+      (IsDistinct-push nat_eq_equiv listed.items n lists.once (lists.exactly n ∙ clean));
   room = omega (arith, same, room, lists.room);
 }
 

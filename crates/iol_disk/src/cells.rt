@@ -1,6 +1,7 @@
 //! The sectors of a disk in memory, and which of them were written since the last sync.
 
-ghost use Rattle.std.specs.Prelude.{◌≡◌, ◌<◌, ◌==◌, ℕ, List, Some, None, IsTrue, if◌then◌else◌, length, slice_get, is_some, unwrap_or, replicate, IfOk};
+ghost use Rattle.std.specs.Prelude.{◌≡◌, ◌<◌, ◌==◌, ℕ, List, Some, None, IsTrue, if◌then◌else◌, length, slice_get, is_some, unwrap_or};
+ghost use Rattle.std.specs.Prelude.{replicate, IfOk};
 ghost use Rattle.std.specs.Option.{option_map};
 ghost use Rattle.iol_disk.specs.declared.cell.Cell.{Cell};
 ghost use Rattle.iol_disk.specs.Cells.{settled, durable_of, written_of, blank_cell, is_listed};

@@ -3,8 +3,8 @@
 //! In comes a caller that reads, writes and syncs whole sectors through [`SectorDisk`]; out goes, in each
 //! contract, what a read gives and what a stop at any moment may leave. [`MemoryDisk`] is such a disk, and can
 //! be stopped: a [`Pick`] says what the stop leaves of the sectors that no sync has settled. [`FaultDisk`] is another
-//! disk of which one call fails, and [`RecordedDisk`] one whose calls are recorded. [`ImageFile`] is a file of sectors, of which nothing is promised but its size and its
-//! faults.
+//! disk of which one call fails, and [`RecordedDisk`] one whose calls are recorded. [`ImageFile`] is a file of sectors, of
+//! which nothing is promised but its size and its faults.
 //!
 //! Read `disk` first, then `memory`, `fault_disk`, `recorded_disk` and `image_file`; `specs/Content.antt` has the words.
 //!

@@ -60,7 +60,8 @@ impl<D: SectorDisk> SectorDisk for RecordedDisk<D> {
     /// Records the read and makes it.
     fn read(&mut self, n: usize, octets: &mut [u8; SECTOR_OCTETS]) -> Result<(), DiskFault>
         requires { n < (D.disk (recorded_on self.old)).sectors }
-        ensures read { OnOk result (IsTrue (D.disk (recorded_on self.old)).honest → octets.new ≡ reads (D.disk (recorded_on self.old)).content n) }
+        ensures read { OnOk result (IsTrue (D.disk (recorded_on self.old)).honest → octets.new
+            ≡ reads (D.disk (recorded_on self.old)).content n) }
         ensures kept { OnErr result (octets.new ≡ octets.old) }
         ensures same { Same (D.disk (recorded_on self.old)) (D.disk (recorded_on self.new)) }
         ensures fault { FailsOnlyAs DiskFault.Read (D.disk (recorded_on self.old)) (D.disk (recorded_on self.new)) result }

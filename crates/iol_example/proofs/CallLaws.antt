@@ -33,7 +33,8 @@ none_yet calls left old now same_calls same = record {
 }
 
 -- behind one call more
-pub one_more : (calls left rest : List Call) (old now new : Disk) → IsAhead calls left old now → MakesFirst left rest now new → IsAhead calls rest old new
+pub one_more : (calls left rest : List Call) (old now new : Disk) → IsAhead calls left old now → MakesFirst left rest now new
+    → IsAhead calls rest old new
 one_more calls left rest old now new so_far makes = record {
   first = so_far.first ++ makes.call ∷ [];
   order = so_far.order ∙ (ap (λ (cs : List Call). so_far.first ++ cs) makes.order ∙ sym (append_assoc so_far.first (makes.call ∷ []) rest));
@@ -47,11 +48,13 @@ all_made calls left old now new so_far makes =
     subst (λ (cs : List Call). Made cs old new) (sym (all.order ∙ append-nil all.first)) all.made
 
 -- where the next call failed
-pub one_failed : (calls left : List Call) (fault : DiskFault) (old now new : Disk) → IsAhead calls left old now → FailsFirst left fault now new
+pub one_failed : (calls left : List Call) (fault : DiskFault) (old now new : Disk) → IsAhead calls left old now
+    → FailsFirst left fault now new
     → FailedIn calls fault old new
 one_failed calls left fault old now new so_far fails =
     subst (λ (cs : List Call). FailedIn cs fault old new) (sym (so_far.order ∙ ap (λ (cs : List Call). so_far.first ++ cs) fails.order))
-    (failed_later so_far.first (fails.call ∷ fails.left) fault old now new so_far.made (failed_first (fails.call ∷ []) fails.left fault now new fails.failed))
+    (failed_later so_far.first (fails.call ∷ fails.left) fault old now new so_far.made
+    (failed_first (fails.call ∷ []) fails.left fault now new fails.failed))
 
 -- calls of which others would have come behind, had they not ended in a fault
 pub ended_early : {D : Type 0} (disk : D → Disk) (first second : List Call) (old : Disk) (fault : WriteFault D)
@@ -65,7 +68,8 @@ ended_early disk first second old (Refused back cause) makes = record {
 ended_early disk first second old (Failed left fault) makes = failed_first first second fault old (disk left) makes
 
 -- calls behind others that were made
-pub then_makes : {D : Type 0} (disk : D → Disk) (first second : List Call) (old between : Disk) (answer : Result (JournalView D) (WriteFault D))
+pub then_makes : {D : Type 0} (disk : D → Disk) (first second : List Call) (old between : Disk)
+    (answer : Result (JournalView D) (WriteFault D))
     → Made first old between → MakesCalls disk second between answer → MakesCalls disk (first ++ second) old answer
 then_makes disk first second old between (Ok behind) made makes = made_append first second old between (disk behind.disk) made makes
 then_makes disk first second old between (Err (Refused back cause)) made makes = record {
@@ -74,7 +78,8 @@ then_makes disk first second old between (Err (Refused back cause)) made makes =
   order = ap (λ (cs : List Call). first ++ cs) makes.order ∙ sym (append_assoc first makes.first makes.left);
   made = made_append first makes.first old between (disk back.disk) made makes.made;
 }
-then_makes disk first second old between (Err (Failed left fault)) made makes = failed_later first second fault old between (disk left) made makes
+then_makes disk first second old between (Err (Failed left fault)) made makes =
+    failed_later first second fault old between (disk left) made makes
 
 -- where no slot is free, those of a checkpoint free one
 pub none_free : (s : Standing) (idle : Idle) → nat_lt s.used s.layout.slots ≡ false → checkpoint_calls s idle ≡ freeing_calls s idle

@@ -28,13 +28,15 @@ rests_at disk number state j rests same_number same_state = record {
 }
 
 -- before the first call of a journal at rest
-pub from_rest : (old new : Disk) (s : Standing) (idle : Idle) → new ≡ old → IsAtRest old s idle → LeavesOnly old new (KeptMeans old.sectors s.number s.state)
+pub from_rest : (old new : Disk) (s : Standing) (idle : Idle) → new ≡ old → IsAtRest old s idle
+    → LeavesOnly old new (KeptMeans old.sectors s.number s.state)
 from_rest old new s idle same rests =
     subst (λ (d : Disk). LeavesOnly old d (KeptMeans old.sectors s.number s.state)) (sym same)
     (started old (KeptMeans old.sectors s.number s.state) (rest_means_its_state old s idle rests))
 
 -- calls behind others, where what they leave goes by the sectors of the disk
-then_more : (start old new : Disk) (P : ℕ → Image → Type 0) → LeavesOnly start old (P start.sectors) → LeavesOnly old new (P old.sectors) → LeavesOnly start new (P start.sectors)
+then_more : (start old new : Disk) (P : ℕ → Image → Type 0) → LeavesOnly start old (P start.sectors) → LeavesOnly old new (P old.sectors)
+    → LeavesOnly start new (P start.sectors)
 then_more start old new P first second =
     and_then start old new (P start.sectors) first (subst (λ (n : ℕ). LeavesOnly old new (P n)) first.sectors second)
 
@@ -48,7 +50,8 @@ checkpoint_goes_on start old new s t same so_far more =
 -- a further call of a batch
 pub batch_goes_on : (start old new : Disk) (s t : Standing) (commands others : List CommandValue) → t ≡ s → others ≡ commands
     → LeavesOnly start old (KeptEither start.sectors s.number s.state commands)
-    → LeavesOnly old new (KeptEither old.sectors t.number t.state others) → LeavesOnly start new (KeptEither start.sectors s.number s.state commands)
+    → LeavesOnly old new (KeptEither old.sectors t.number t.state others)
+    → LeavesOnly start new (KeptEither start.sectors s.number s.state commands)
 batch_goes_on start old new s t commands others same same_commands so_far more =
     then_more start old new (λ n. KeptEither n s.number s.state commands) so_far
     (subst (λ (cs : List CommandValue). LeavesOnly old new (KeptEither old.sectors s.number s.state cs)) same_commands
@@ -84,18 +87,22 @@ still_queued d r batch behind none queued run = record {
     goes mark was = record {
       written = was.written;
       passed = was.passed;
-      each = λ h image left. subst (λ (cs : List CommandValue). HasPrefix d.sectors r.first r.start cs mark.acknowledged image) same (was.each h image left);
+      each = λ h image left.
+          subst (λ (cs : List CommandValue). HasPrefix d.sectors r.first r.start cs mark.acknowledged image) same (was.each h image left);
     }
 
 -- what a refusal that leaves the journal as it was says of it
 pub refused_as_it_was : {D : Type 0} (disk : D → Disk) (j : JournalView D) (answer : Result (JournalView D) (WriteFault D))
-    → IfRefused answer (λ back cause. (back ≡ j) × (cause ≡ Memory)) → Rests disk j → IfRefused answer (λ back _. RestsAt disk j.standing.number j.standing.state back)
+    → IfRefused answer (λ back cause. (back ≡ j) × (cause ≡ Memory)) → Rests disk j
+    → IfRefused answer (λ back _. RestsAt disk j.standing.number j.standing.state back)
 refused_as_it_was disk j (Ok behind) same rests = cc
-refused_as_it_was disk j (Err (Refused back cause)) same rests = rw same.0 (rests_at disk j.standing.number j.standing.state j rests refl refl)
+refused_as_it_was disk j (Err (Refused back cause)) same rests =
+    rw same.0 (rests_at disk j.standing.number j.standing.state j rests refl refl)
 refused_as_it_was disk j (Err (Failed left fault)) same rests = cc
 
 -- a store after the batch of one command
-pub written_rests : {D : Type 0} (disk : D → Disk) (w : WritingView D) (number : ℕ) (state : State) (command : CommandValue) (answer : Result (JournalView D) (WriteFault D))
+pub written_rests : {D : Type 0} (disk : D → Disk) (w : WritingView D) (number : ℕ) (state : State) (command : CommandValue)
+    (answer : Result (JournalView D) (WriteFault D))
     → w.standing.number ≡ number → w.standing.state ≡ state → w.commands ≡ command ∷ []
     → IfOk answer (λ behind. behind.standing ≡ with_batch w.standing w.commands) → IfOk answer (Rests disk)
     → IfOk answer (RestsAt disk (number + 1) (after state (command ∷ [])))
@@ -106,9 +113,11 @@ written_rests disk w number state command (Ok behind) same_number same_state sam
 written_rests disk w number state command (Err fault) same_number same_state same_commands done rests = cc
 
 -- a run after the batch of its queued commands
-pub run_of_queued : {D : Type 0} (disk : D → Disk) (r : Run) (batch behind : List CommandValue) (written : Run) (answer : Result (JournalView D) (WriteFault D))
+pub run_of_queued : {D : Type 0} (disk : D → Disk) (r : Run) (batch behind : List CommandValue) (written : Run)
+    (answer : Result (JournalView D) (WriteFault D))
     → r.underway ≡ [] → r.queued ≡ batch ++ behind → IfRefused answer (λ _ _. ⊥)
     → LeavesRun disk (with_batch_begun r batch behind) written answer → LeavesRun disk r written answer
 run_of_queued disk r batch behind written (Ok after) none queued taken run = run
 run_of_queued disk r batch behind written (Err (Refused back cause)) none queued taken run = absurd taken
-run_of_queued disk r batch behind written (Err (Failed left fault)) none queued taken run = still_queued (disk left) r batch behind none queued run
+run_of_queued disk r batch behind written (Err (Failed left fault)) none queued taken run =
+    still_queued (disk left) r batch behind none queued run

@@ -119,7 +119,8 @@ pub fn write<D: SectorDisk + Drop>(
     // Memory ran out, or the batch of the command is refused where the journal stands.
     ensures cause { IfRefused result (λ back cause. IsRefusal back.standing (value_of command) cause) }
     // Each image means what it meant.
-    ensures refused { Rests D.disk journal → IfRefused result (λ back _. RestsAt D.disk journal.standing.number journal.standing.state back) }
+    ensures refused { Rests D.disk journal
+        → IfRefused result (λ back _. RestsAt D.disk journal.standing.number journal.standing.state back) }
     // Each run with the command queued goes on: each image since a moment of it has all that was acknowledged by then.
     ensures run { (r : Run) (behind : List CommandValue) → r.queued ≡ value_of command ∷ behind → IsRunAtRest D.disk r journal
         → LeavesRun D.disk r (with_batch_written (with_batch_begun r (value_of command ∷ []) behind)) result }
@@ -139,7 +140,8 @@ pub fn write<D: SectorDisk + Drop>(
 fn with_free_slot<D: SectorDisk + Drop>(journal: Journal<D>) -> Result<Journal<D>, WriteFault<D>>
     ensures any_moment { Rests D.disk journal → LeavesOnly (D.disk journal.disk) (D.disk (left_disk result))
         (KeptMeans (D.disk journal.disk).sectors journal.standing.number journal.standing.state) }
-    ensures same { IfOk result (λ freed. (freed.standing.number ≡ journal.standing.number) × (freed.standing.state ≡ journal.standing.state)) }
+    ensures same { IfOk result (λ freed. (freed.standing.number ≡ journal.standing.number)
+        × (freed.standing.state ≡ journal.standing.state)) }
     ensures slot { IfOk result (λ freed. freed.standing ≡ with_slot journal.standing) }
     ensures calls { MakesCalls D.disk (freeing_calls journal.standing journal.idle) (D.disk journal.disk) result }
     ensures rests { Rests D.disk journal → IfOk result (Rests D.disk) }

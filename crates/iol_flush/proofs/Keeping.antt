@@ -30,7 +30,8 @@ still_written disk w v same goes = record {
 }
 
 -- it is durable
-pub is_written : {D : Type 0} (disk : D → Disk) (w : WritingView D) (j : JournalView D) (written : WrittenView) → written.commands ≡ w.commands
+pub is_written : {D : Type 0} (disk : D → Disk) (w : WritingView D) (j : JournalView D) (written : WrittenView) → written.commands
+    ≡ w.commands
     → ((r : Run) → IsRunWriting disk r w → IsRunAtRest disk (with_batch_written r) j) → KeepsRun disk (Writing w) (Publishing j written)
 is_written disk w j written same goes = record {
   goes_on = λ number state published waiting marks was. (
@@ -51,7 +52,8 @@ not_written disk w left fault goes = record {
 
 -- a checkpoint is still on its way
 pub still_checkpointed : {D : Type 0} (disk : D → Disk) (c d : CheckpointingView D) (batch : Batch)
-    → ((r : Run) → IsRunCheckpointing disk r c → IsRunCheckpointing disk r d) → KeepsRun disk (Checkpointing c batch) (Checkpointing d batch)
+    → ((r : Run) → IsRunCheckpointing disk r c → IsRunCheckpointing disk r d)
+    → KeepsRun disk (Checkpointing c batch) (Checkpointing d batch)
 still_checkpointed disk c d batch goes = record {
   goes_on = λ number state published waiting marks was.
       (was.0, goes (run_of number state published [] waiting marks) was.1);
@@ -75,14 +77,16 @@ not_checkpointed disk c left batch fault goes = record {
 
 -- a checkpoint is begun, for which a batch waits
 pub begins_checkpoint : {D : Type 0} (disk : D → Disk) (j : JournalView D) (c : CheckpointingView D) (batch : Batch) (new : Stage D)
-    → ((r : Run) → IsRunAtRest disk r j → IsRunCheckpointing disk r c) → KeepsRun disk (Checkpointing c batch) new → KeepsRun disk (Given j batch) new
+    → ((r : Run) → IsRunAtRest disk r j → IsRunCheckpointing disk r c) → KeepsRun disk (Checkpointing c batch) new
+    → KeepsRun disk (Given j batch) new
 begins_checkpoint disk j c batch new goes keeps = record {
   goes_on = λ number state published waiting marks was.
       keeps.goes_on number state published waiting marks (was.0, goes (run_of number state published [] waiting marks) was.1);
 }
 
 -- a batch is begun
-pub begins_batch : {D : Type 0} (disk : D → Disk) (j : JournalView D) (w : WritingView D) (batch : Batch) (new : Stage D) → w.commands ≡ values batch.commands.items
+pub begins_batch : {D : Type 0} (disk : D → Disk) (j : JournalView D) (w : WritingView D) (batch : Batch) (new : Stage D) → w.commands
+    ≡ values batch.commands.items
     → ((r : Run) (behind : List CommandValue) → r.queued ≡ values batch.commands.items ++ behind → IsRunAtRest disk r j
     → IsRunWriting disk (with_batch_begun r (values batch.commands.items) behind) w)
     → KeepsRun disk (Writing w) new → KeepsRun disk (Given j batch) new
@@ -97,7 +101,8 @@ begins_batch disk j w batch new same goes keeps = record {
 }
 
 -- nothing changes
-pub keeps_given : {D : Type 0} (disk : D → Disk) (j k : JournalView D) (batch same : Batch) → k ≡ j → same ≡ batch → KeepsRun disk (Given j batch) (Given k same)
+pub keeps_given : {D : Type 0} (disk : D → Disk) (j k : JournalView D) (batch same : Batch) → k ≡ j → same ≡ batch
+    → KeepsRun disk (Given j batch) (Given k same)
 keeps_given {D} disk j k batch same journal_is batch_is =
     subst (λ (l : JournalView D). KeepsRun disk (Given j batch) (Given l same)) (sym journal_is)
     (subst (λ (b : Batch). KeepsRun disk (Given j batch) (Given j b)) (sym batch_is) (keeps_self disk (Given j batch)))

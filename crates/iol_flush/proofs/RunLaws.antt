@@ -1,5 +1,6 @@
 -- What a run of a flusher's journal goes through beside its disk calls.
-use Rattle.std.proofs.Common.{◌≡◌, refl, ◌≤◌, inl, inr, ℕ, zero, suc, ◌+◌, ◌-◌, true, List, [], ◌∷◌, ◌++◌, length, drop, slice_index_or, All, sym, ◌∙◌, ap, subst, arith, append_assoc}
+use Rattle.std.proofs.Common.{◌≡◌, refl, ◌≤◌, inl, inr, ℕ, zero, suc, ◌+◌, ◌-◌, true, List, [], ◌∷◌, ◌++◌, length, drop, slice_index_or}
+use Rattle.std.proofs.Common.{All, sym, ◌∙◌, ap, subst, arith, append_assoc}
 use Rattle.iol_types.specs.Command.{CommandValue}
 use Rattle.iol_types.specs.State.{State, after, legal}
 use Rattle.iol_disk.specs.Content.{Image, Content, Interval, IsImageOfSome, IsImageSince, clock}
@@ -29,7 +30,8 @@ one_less e past image n m same left = subst (λ (n : ℕ). IsImageOfSome (drop n
 some_later : (past : List Interval) (t k : ℕ) (image : Image) → IsImageOfSome (drop (k + t) past) image → IsImageOfSome (drop t past) image
 some_later [] t k image had = absurd (none_left (k + t) image had)
 some_later (e ∷ past) zero zero image had = had
-some_later (e ∷ past) zero (suc k) image had = inr (some_later past zero k image (one_less e past image (suc k + zero) (k + zero) (omega arith) had))
+some_later (e ∷ past) zero (suc k) image had =
+    inr (some_later past zero k image (one_less e past image (suc k + zero) (k + zero) (omega arith) had))
 some_later (e ∷ past) (suc t) k image had = some_later past t k image (one_less e past image (k + suc t) (k + t) (omega arith) had)
 
 since_earlier : (c : Content) (t u : ℕ) (image : Image) → t ≤ u → IsImageSince u c image → IsImageSince t c image
@@ -38,7 +40,8 @@ since_earlier c t u image le (inl had) =
     inl (some_later c.past t (u - t) image (subst (λ (n : ℕ). IsImageOfSome (drop n c.past) image) (omega (arith, le)) had))
 
 -- a moment at which nothing more is acknowledged than at one before
-later_mark : (d : Disk) (r : Run) (mark : Mark) → IsMarked d r mark → IsMarked d r (record { clock = clock d.content; acknowledged = mark.acknowledged })
+later_mark : (d : Disk) (r : Run) (mark : Mark) → IsMarked d r mark
+    → IsMarked d r (record { clock = clock d.content; acknowledged = mark.acknowledged })
 later_mark d r mark was = record {
   written = was.written;
   passed = λ h. omega arith;
@@ -68,25 +71,52 @@ module _ {D : Type 0} (disk : D → Disk) (number : ℕ) (state : State) (publis
   later_at_rest : (written underway queued : List CommandValue) (mark : Mark) (marks : List Mark) (j : JournalView D) (t : ℕ)
       → t ≡ clock (disk j.disk).content
       → IsRunAtRest disk (run_of number state written underway queued (mark ∷ marks)) j
-      → IsRunAtRest disk (run_of number state written underway queued (record { clock = t; acknowledged = mark.acknowledged } ∷ mark ∷ marks)) j
+      → IsRunAtRest disk (run_of number state written underway queued (record { clock = t; acknowledged = mark.acknowledged } ∷ mark
+      ∷ marks)) j
   later_at_rest written underway queued mark marks j t now was =
-      subst (λ (n : ℕ). IsRunAtRest disk (run_of number state written underway queued (record { clock = n; acknowledged = mark.acknowledged } ∷ mark ∷ marks)) j) (sym now)
-      (was.0, (later_run (disk j.disk) (run_of number state written underway queued (mark ∷ marks)) mark marks refl was.1.0, was.1.1, was.1.2), was.2)
+      subst (λ (n : ℕ). IsRunAtRest disk
+      (run_of number state written underway queued (record { clock = n; acknowledged = mark.acknowledged } ∷ mark ∷ marks)) j) (sym now) (
+        was.0,
+        (
+          later_run (disk j.disk) (run_of number state written underway queued (mark ∷ marks)) mark marks refl was.1.0,
+          was.1.1,
+          was.1.2,
+        ),
+        was.2,
+      )
 
   -- nothing more is acknowledged at this moment than at the one before
   pub marked_later : (mark : Mark) (marks : List Mark) (stage : Stage D)
       → IsFlushing disk number state published waiting (mark ∷ marks) stage
-      → IsFlushing disk number state published waiting (record { clock = clock (disk (disk_of stage)).content; acknowledged = mark.acknowledged } ∷ mark ∷ marks) stage
+      → IsFlushing disk number state published waiting
+      (record { clock = clock (disk (disk_of stage)).content; acknowledged = mark.acknowledged } ∷ mark ∷ marks) stage
   marked_later mark marks (Resting j) was = later_at_rest published [] waiting mark marks j (clock (disk j.disk).content) refl was
-  marked_later mark marks (Given j batch) was = (was.0, later_at_rest published [] waiting mark marks j (clock (disk j.disk).content) refl was.1)
+  marked_later mark marks (Given j batch) was =
+      (was.0, later_at_rest published [] waiting mark marks j (clock (disk j.disk).content) refl was.1)
   marked_later mark marks (Checkpointing c batch) was = (
     was.0,
-    (was.1.0, (later_run (disk c.disk) (run_of number state published [] waiting (mark ∷ marks)) mark marks refl was.1.1.0, was.1.1.1, was.1.1.2), was.1.2),
+    (
+      was.1.0,
+      (
+        later_run (disk c.disk) (run_of number state published [] waiting (mark ∷ marks)) mark marks refl was.1.1.0,
+        was.1.1.1,
+        was.1.1.2,
+      ),
+      was.1.2,
+    ),
   )
   marked_later mark marks (Writing w) was = (
     was.0,
     was.1,
-    (was.2.0, (later_run (disk w.disk) (run_of number state published w.commands was.0 (mark ∷ marks)) mark marks refl was.2.1.0, was.2.1.1, was.2.1.2), was.2.2),
+    (
+      was.2.0,
+      (
+        later_run (disk w.disk) (run_of number state published w.commands was.0 (mark ∷ marks)) mark marks refl was.2.1.0,
+        was.2.1.1,
+        was.2.1.2,
+      ),
+      was.2.2,
+    ),
   )
   marked_later mark marks (Publishing j written) was =
       (was.0, was.1, later_at_rest (published ++ written.commands) [] was.0 mark marks j (clock (disk j.disk).content) refl was.2)
@@ -102,7 +132,8 @@ module _ {D : Type 0} (disk : D → Disk) (number : ℕ) (state : State) (publis
   passes_in front behind more same pass = subst (λ (cs : List CommandValue). legal (after state (published ++ cs)) more ≡ true) same pass
 
   -- a batch is given: the first of those that wait
-  pub gives : (marks : List Mark) (old new : Stage D) (batch : Batch) → HasTaken old batch new → AreFirst (values batch.commands.items) waiting
+  pub gives : (marks : List Mark) (old new : Stage D) (batch : Batch) → HasTaken old batch new
+      → AreFirst (values batch.commands.items) waiting
       → IsFlushing disk number state published waiting marks old → IsFlushing disk number state published waiting marks new
   gives marks (Resting j) new batch taken first was =
       subst (λ (s : Stage D). IsFlushing disk number state published waiting marks s) (sym taken) (first, was)
@@ -130,7 +161,8 @@ module _ {D : Type 0} (disk : D → Disk) (number : ℕ) (state : State) (publis
   publishes marks (Failed left fault) list new committed has was = absurd has
 
   -- the commands that a run has accepted, split in another way
-  holds_of : (d : Disk) (written underway queued : List CommandValue) (marks : List Mark) → published ++ waiting ≡ written ++ (underway ++ queued)
+  holds_of : (d : Disk) (written underway queued : List CommandValue) (marks : List Mark) → published ++ waiting ≡ written
+      ++ (underway ++ queued)
       → IsRun d (run_of number state written underway queued marks) → HoldsBy d number state (published ++ waiting) marks
   holds_of d written underway queued marks same run =
       subst (λ (cs : List CommandValue). HoldsBy d number state cs marks) (sym same)
@@ -142,7 +174,8 @@ module _ {D : Type 0} (disk : D → Disk) (number : ℕ) (state : State) (publis
   holds marks (Resting j) was = holds_of (disk j.disk) published [] waiting marks refl was.1.0
   holds marks (Given j batch) was = holds_of (disk j.disk) published [] waiting marks refl was.1.1.0
   holds marks (Checkpointing c batch) was = holds_of (disk c.disk) published [] waiting marks refl was.1.1.0
-  holds marks (Writing w) was = holds_of (disk w.disk) published w.commands was.0 marks (ap (λ (cs : List CommandValue). published ++ cs) was.1) was.2.1.0
+  holds marks (Writing w) was =
+      holds_of (disk w.disk) published w.commands was.0 marks (ap (λ (cs : List CommandValue). published ++ cs) was.1) was.2.1.0
   holds marks (Publishing j written) was =
       holds_of (disk j.disk) (published ++ written.commands) [] was.0 marks
       (ap (λ (cs : List CommandValue). published ++ cs) was.1 ∙ sym (append_assoc published written.commands was.0)) was.2.1.0
@@ -150,17 +183,27 @@ module _ {D : Type 0} (disk : D → Disk) (number : ℕ) (state : State) (publis
       holds_of (disk left) published was.0 was.1 marks (ap (λ (cs : List CommandValue). published ++ cs) was.2) was.3
 
   -- more commands are accepted, each of which passes in the state that it meets
-  pub accepts_more : (marks : List Mark) (stage : Stage D) (commands : List CommandValue) → legal (after state (published ++ waiting)) commands ≡ true
-      → IsFlushing disk number state published waiting marks stage → IsFlushing disk number state published (waiting ++ commands) marks stage
+  pub accepts_more : (marks : List Mark) (stage : Stage D) (commands : List CommandValue)
+      → legal (after state (published ++ waiting)) commands ≡ true
+      → IsFlushing disk number state published waiting marks stage
+      → IsFlushing disk number state published (waiting ++ commands) marks stage
   accepts_more marks (Resting j) commands pass was =
       (was.0, (accepts (disk j.disk) (run_of number state published [] waiting marks) commands pass was.1.0, was.1.1, was.1.2), was.2)
   accepts_more marks (Given j batch) commands pass was = (
     (was.0.0 ++ commands, longer (values batch.commands.items) was.0.0 commands was.0.1),
-    (was.1.0, (accepts (disk j.disk) (run_of number state published [] waiting marks) commands pass was.1.1.0, was.1.1.1, was.1.1.2), was.1.2),
+    (
+      was.1.0,
+      (accepts (disk j.disk) (run_of number state published [] waiting marks) commands pass was.1.1.0, was.1.1.1, was.1.1.2),
+      was.1.2,
+    ),
   )
   accepts_more marks (Checkpointing c batch) commands pass was = (
     (was.0.0 ++ commands, longer (values batch.commands.items) was.0.0 commands was.0.1),
-    (was.1.0, (accepts (disk c.disk) (run_of number state published [] waiting marks) commands pass was.1.1.0, was.1.1.1, was.1.1.2), was.1.2),
+    (
+      was.1.0,
+      (accepts (disk c.disk) (run_of number state published [] waiting marks) commands pass was.1.1.0, was.1.1.1, was.1.1.2),
+      was.1.2,
+    ),
   )
   accepts_more marks (Writing w) commands pass was = (
     was.0 ++ commands,
@@ -168,7 +211,8 @@ module _ {D : Type 0} (disk : D → Disk) (number : ℕ) (state : State) (publis
     (
       was.2.0,
       (
-        accepts (disk w.disk) (run_of number state published w.commands was.0 marks) commands (passes_in w.commands was.0 commands was.1 pass) was.2.1.0,
+        accepts (disk w.disk) (run_of number state published w.commands was.0 marks) commands
+            (passes_in w.commands was.0 commands was.1 pass) was.2.1.0,
         was.2.1.1,
         was.2.1.2,
       ),
@@ -182,7 +226,8 @@ module _ {D : Type 0} (disk : D → Disk) (number : ℕ) (state : State) (publis
       was.2.0,
       (
         accepts (disk j.disk) (run_of number state (published ++ written.commands) [] was.0 marks) commands
-            (subst (λ (cs : List CommandValue). legal (after state cs) commands ≡ true) (sym (append_assoc published written.commands was.0))
+            (subst (λ (cs : List CommandValue). legal (after state cs) commands ≡ true)
+            (sym (append_assoc published written.commands was.0))
             (passes_in written.commands was.0 commands was.1 pass))
             was.2.1.0,
         was.2.1.1,
@@ -201,5 +246,6 @@ module _ {D : Type 0} (disk : D → Disk) (number : ℕ) (state : State) (publis
   -- what is published is acknowledged at this moment, while the journal is at rest
   pub acknowledges : (marks : List Mark) (acknowledged : ℕ) (j : JournalView D) → acknowledged ≤ number + length published
       → IsFlushing disk number state published waiting marks (Resting j)
-      → IsFlushing disk number state published waiting (record { clock = clock (disk j.disk).content; acknowledged = acknowledged } ∷ marks) (Resting j)
+      → IsFlushing disk number state published waiting (record { clock = clock (disk j.disk).content; acknowledged = acknowledged } ∷ marks)
+      (Resting j)
   acknowledges marks acknowledged j le was = marked_at_rest disk (run_of number state published [] waiting marks) j acknowledged le was

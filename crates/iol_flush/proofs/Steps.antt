@@ -1,5 +1,6 @@
 -- The first disk call of a batch that was given, and the published list beside each disk call.
-use Rattle.std.proofs.Common.{◌≡◌, refl, ◌+◌, ◌++◌, ℕ, Bool, true, false, if◌then◌else◌, List, length, Option, Some, None, Result, Ok, Err, sym, ◌∙◌, ap, subst, arith, length-append, rules}
+use Rattle.std.proofs.Common.{◌≡◌, refl, ◌+◌, ◌++◌, ℕ, Bool, true, false, if◌then◌else◌, List, length, Option, Some, None, Result, Ok, Err}
+use Rattle.std.proofs.Common.{sym, ◌∙◌, ap, subst, arith, length-append, rules}
 use Rattle.std.proofs.lemmas.List.Sums.{fold-append}
 use Rattle.iol_types.specs.Command.{CommandValue}
 use Rattle.iol_types.specs.State.{State, apply, after}
@@ -36,26 +37,51 @@ finds_slot true full fits none = search rules
 finds_slot false true fits none = search rules
 finds_slot false false fits none = refl
 
-pub not_full : {D : Type 0} (j : JournalView D) (batch : Batch) → batch_refusal j.standing batch.first (values batch.commands.items) ≡ None → is_full j ≡ false
+pub not_full : {D : Type 0} (j : JournalView D) (batch : Batch) → batch_refusal j.standing batch.first (values batch.commands.items) ≡ None
+    → is_full j ≡ false
 not_full j batch none =
     finds_slot (is_too_large (values batch.commands.items)) (is_full j) (follows j.standing batch.first (values batch.commands.items)) none
 
 next_of_batch : {D : Type 0} (j : JournalView D) (batch : Batch) → batch_refusal j.standing batch.first (values batch.commands.items) ≡ None
     → next_calls (Given j batch) ≡ batch_calls j.standing (values batch.commands.items)
 next_of_batch j batch none =
-    ap (λ (full : Bool). if full then checkpoint_calls j.standing j.idle else batch_calls j.standing (values batch.commands.items)) (not_full j batch none)
+    ap (λ (full : Bool). if full then checkpoint_calls j.standing j.idle else batch_calls j.standing (values batch.commands.items))
+    (not_full j batch none)
 
 -- a batch is as it was begun where each of its parts is
 pub as_begun : {D : Type 0} (w : WritingView D) (j : JournalView D) (commands : List CommandValue)
-    → (w.disk ≡ j.disk) × (w.standing ≡ j.standing) × (w.idle ≡ j.idle) × (w.history ≡ j.history) × (w.commands ≡ commands) × (w.phase ≡ Body 0)
+    → (w.disk ≡ j.disk) × (w.standing ≡ j.standing) × (w.idle ≡ j.idle) × (w.history ≡ j.history) × (w.commands ≡ commands)
+    × (w.phase ≡ Body 0)
     → w ≡ writing_of j commands
 as_begun w j commands is =
     ap (λ disk. record w { disk = disk }) is.0
-    ∙ (ap (λ standing. record { disk = j.disk; standing = standing; idle = w.idle; history = w.history; commands = w.commands; phase = w.phase }) is.1
-    ∙ (ap (λ idle. record { disk = j.disk; standing = j.standing; idle = idle; history = w.history; commands = w.commands; phase = w.phase }) is.2
-    ∙ (ap (λ history. record { disk = j.disk; standing = j.standing; idle = j.idle; history = history; commands = w.commands; phase = w.phase }) is.3
+    ∙ (ap (λ standing. record {
+      disk = j.disk;
+      standing = standing;
+      idle = w.idle;
+      history = w.history;
+      commands = w.commands;
+      phase = w.phase;
+    }) is.1
+    ∙ (ap (λ idle. record {
+      disk = j.disk;
+      standing = j.standing;
+      idle = idle;
+      history = w.history;
+      commands = w.commands;
+      phase = w.phase;
+    }) is.2
+    ∙ (ap (λ history. record {
+      disk = j.disk;
+      standing = j.standing;
+      idle = j.idle;
+      history = history;
+      commands = w.commands;
+      phase = w.phase;
+    }) is.3
     ∙ (ap (λ cs. record { disk = j.disk; standing = j.standing; idle = j.idle; history = j.history; commands = cs; phase = w.phase }) is.4
-    ∙ ap (λ phase. record { disk = j.disk; standing = j.standing; idle = j.idle; history = j.history; commands = commands; phase = phase }) is.5))))
+    ∙ ap (λ phase. record { disk = j.disk; standing = j.standing; idle = j.idle; history = j.history; commands = commands; phase = phase })
+    is.5))))
 
 -- what a batch is before its first disk call
 pub record IsBegun {D : Type 0} (j : JournalView D) (batch : Batch) (w : WritingView D) : Type 0 where
@@ -63,25 +89,31 @@ pub record IsBegun {D : Type 0} (j : JournalView D) (batch : Batch) (w : Writing
   pub refusal : batch_refusal j.standing batch.first (values batch.commands.items) ≡ None
   pub calls : calls_left w ≡ batch_calls j.standing (values batch.commands.items)
 
-pub begun : {D : Type 0} (disk : D → Disk) (j : JournalView D) (batch : Batch) (w : WritingView D) (new : Stage D) (answer : Result Unit FlushFault)
+pub begun : {D : Type 0} (disk : D → Disk) (j : JournalView D) (batch : Batch) (w : WritingView D) (new : Stage D)
+    (answer : Result Unit FlushFault)
     → IsBegun j batch w → IsDiskStep disk (Writing w) new answer → IsDiskStep disk (Given j batch) new answer
 begun {D} disk j batch w new (Ok done) is step = (
   subst (λ (full : Bool). HasBegun full j batch new) (sym (not_full j batch is.refusal))
       (is.refusal, subst (λ (v : WritingView D). HasWritten v new) is.same step.0),
-  subst (λ (calls : List Call). MakesFirst calls (calls_owed new) (disk j.disk) (disk (disk_of new))) (is.calls ∙ sym (next_of_batch j batch is.refusal))
-      (subst (λ (d : D). MakesFirst (calls_left w) (calls_owed new) (disk d) (disk (disk_of new))) (ap (λ (v : WritingView D). v.disk) is.same) step.1),
+  subst (λ (calls : List Call). MakesFirst calls (calls_owed new) (disk j.disk) (disk (disk_of new))) (is.calls
+      ∙ sym (next_of_batch j batch is.refusal))
+      (subst (λ (d : D). MakesFirst (calls_left w) (calls_owed new) (disk d) (disk (disk_of new)))
+      (ap (λ (v : WritingView D). v.disk) is.same) step.1),
 )
 begun {D} disk j batch w new (Err (fault.Disk cause)) is step = (
   step.0,
-  subst (λ (calls : List Call). FailsFirst calls cause (disk j.disk) (disk (disk_of new))) (is.calls ∙ sym (next_of_batch j batch is.refusal))
-      (subst (λ (d : D). FailsFirst (calls_left w) cause (disk d) (disk (disk_of new))) (ap (λ (v : WritingView D). v.disk) is.same) step.1),
+  subst (λ (calls : List Call). FailsFirst calls cause (disk j.disk) (disk (disk_of new))) (is.calls
+      ∙ sym (next_of_batch j batch is.refusal))
+      (subst (λ (d : D). FailsFirst (calls_left w) cause (disk d) (disk (disk_of new))) (ap (λ (v : WritingView D). v.disk) is.same)
+      step.1),
 )
 begun disk j batch w new (Err fault.Stopped) is step = let stopped : need.Disk ≡ need.Stopped = step.0 in search rules
 begun disk j batch w new (Err fault.Memory) is step = absurd step.0
 begun disk j batch w new (Err fault.Misfit) is step = absurd step.0
 
 -- a journal stands behind a list, and then behind the list with a batch
-with_more : (start : Start) (published commands : List CommandValue) (s t : Standing) (h i : History) → t ≡ with_batch s commands → i ≡ written_behind h commands
+with_more : (start : Start) (published commands : List CommandValue) (s t : Standing) (h i : History) → t ≡ with_batch s commands → i
+    ≡ written_behind h commands
     → StandsBehind start published s h → StandsBehind start (published ++ commands) t i
 with_more start published commands s t h i standing history was = record {
   history_is = record {
@@ -90,14 +122,16 @@ with_more start published commands s t h i standing history was = record {
     list = ap (λ h. h.commands) history ∙ ap (λ (cs : List CommandValue). cs ++ commands) was.history_is.list;
   };
   number = ap (λ s. s.number) standing ∙ (ap (λ (n : ℕ). n + length commands) was.number ∙ omega (arith, length-append published commands));
-  state = ap (λ s. s.state) standing ∙ (ap (λ (st : State). after st commands) was.state ∙ sym (fold-append apply start.state published commands));
+  state = ap (λ s. s.state) standing
+      ∙ (ap (λ (st : State). after st commands) was.state ∙ sym (fold-append apply start.state published commands));
 }
 
 -- the published list stays in step
 written_in_step : {D : Type 0} (start : Start) (published : List CommandValue) (w : WritingView D) (new : Stage D)
     → HasWritten w new → StandsBehind start published w.standing w.history → IsInStep start new published
 written_in_step start published w (Writing v) has was =
-    subst (λ s. StandsBehind start published s v.history) (sym has.0) (subst (λ h. StandsBehind start published w.standing h) (sym has.2) was)
+    subst (λ s. StandsBehind start published s v.history) (sym has.0)
+    (subst (λ h. StandsBehind start published w.standing h) (sym has.2) was)
 written_in_step start published w (Publishing j written) has was = (
   subst (λ (cs : List CommandValue). StandsBehind start (published ++ cs) j.standing j.history) (sym has.4)
       (with_more start published w.commands w.standing j.standing w.history j.history has.0 has.2 was),
@@ -108,10 +142,12 @@ written_in_step start published w (Given j b) has was = absurd has
 written_in_step start published w (Checkpointing c b) has was = absurd has
 written_in_step start published w (Failed d f) has was = absurd has
 
-checkpointed_in_step : {D : Type 0} (start : Start) (published : List CommandValue) (c : CheckpointingView D) (batch : Batch) (new : Stage D)
+checkpointed_in_step : {D : Type 0} (start : Start) (published : List CommandValue) (c : CheckpointingView D) (batch : Batch)
+    (new : Stage D)
     → HasCheckpointed c batch new → StandsBehind start published c.standing c.history → IsInStep start new published
 checkpointed_in_step start published c batch (Checkpointing d kept) has was =
-    subst (λ s. StandsBehind start published s d.history) (sym has.0) (subst (λ h. StandsBehind start published c.standing h) (sym has.1) was)
+    subst (λ s. StandsBehind start published s d.history) (sym has.0)
+    (subst (λ h. StandsBehind start published c.standing h) (sym has.1) was)
 checkpointed_in_step start published c batch (Given j kept) has was =
     subst (λ s. StandsBehind start published s j.history) (sym has.0)
     (subst (λ h. StandsBehind start published (checkpointed c.standing) h) (sym has.1)
@@ -121,12 +157,15 @@ checkpointed_in_step start published c batch (Writing w) has was = absurd has
 checkpointed_in_step start published c batch (Publishing j written) has was = absurd has
 checkpointed_in_step start published c batch (Failed d f) has was = absurd has
 
-begun_in_step : {D : Type 0} (start : Start) (published : List CommandValue) (full : Bool) (j : JournalView D) (batch : Batch) (new : Stage D)
+begun_in_step : {D : Type 0} (start : Start) (published : List CommandValue) (full : Bool) (j : JournalView D) (batch : Batch)
+    (new : Stage D)
     → HasBegun full j batch new → StandsBehind start published j.standing j.history → IsInStep start new published
 begun_in_step start published true j batch new has was = checkpointed_in_step start published (checkpoint_of j) batch new has.1 was
-begun_in_step start published false j batch new has was = written_in_step start published (writing_of j (values batch.commands.items)) new has.1 was
+begun_in_step start published false j batch new has was =
+    written_in_step start published (writing_of j (values batch.commands.items)) new has.1 was
 
-made_in_step : {D : Type 0} (start : Start) (published : List CommandValue) (old new : Stage D) → HasMade old new → IsInStep start old published → IsInStep start new published
+made_in_step : {D : Type 0} (start : Start) (published : List CommandValue) (old new : Stage D) → HasMade old new
+    → IsInStep start old published → IsInStep start new published
 made_in_step start published (Given j batch) new has was = begun_in_step start published (is_full j) j batch new has was
 made_in_step start published (Checkpointing c batch) new has was = checkpointed_in_step start published c batch new has was
 made_in_step start published (Writing w) new has was = written_in_step start published w new has was
@@ -134,7 +173,8 @@ made_in_step start published (Resting j) new has was = absurd has
 made_in_step start published (Publishing j written) new has was = absurd has
 made_in_step start published (Failed d f) new has was = absurd has
 
-failed_in_step : {D : Type 0} (start : Start) (published : List CommandValue) (new : Stage D) (cause : DiskFault) → failure_of new ≡ Some cause → IsInStep start new published
+failed_in_step : {D : Type 0} (start : Start) (published : List CommandValue) (new : Stage D) (cause : DiskFault) → failure_of new
+    ≡ Some cause → IsInStep start new published
 failed_in_step start published (Failed d f) cause is = tt
 failed_in_step start published (Resting j) cause is = search rules
 failed_in_step start published (Given j b) cause is = search rules
@@ -142,19 +182,24 @@ failed_in_step start published (Checkpointing c b) cause is = search rules
 failed_in_step start published (Writing w) cause is = search rules
 failed_in_step start published (Publishing j written) cause is = search rules
 
-pub stays_in_step : {D : Type 0} (disk : D → Disk) (start : Start) (published : List CommandValue) (old new : Stage D) (answer : Result Unit FlushFault)
+pub stays_in_step : {D : Type 0} (disk : D → Disk) (start : Start) (published : List CommandValue) (old new : Stage D)
+    (answer : Result Unit FlushFault)
     → IsDiskStep disk old new answer → IsInStep start old published → IsInStep start new published
 stays_in_step disk start published old new (Ok done) step was = made_in_step start published old new step.0 was
 stays_in_step disk start published old new (Err (fault.Disk cause)) step was = failed_in_step start published new cause step.0
-stays_in_step {D} disk start published old new (Err fault.Stopped) step was = subst (λ (s : Stage D). IsInStep start s published) (sym step.1) was
-stays_in_step {D} disk start published old new (Err fault.Memory) step was = subst (λ (s : Stage D). IsInStep start s published) (sym step.1) was
-stays_in_step {D} disk start published old new (Err fault.Misfit) step was = subst (λ (s : Stage D). IsInStep start s published) (sym step.1) was
+stays_in_step {D} disk start published old new (Err fault.Stopped) step was =
+    subst (λ (s : Stage D). IsInStep start s published) (sym step.1) was
+stays_in_step {D} disk start published old new (Err fault.Memory) step was =
+    subst (λ (s : Stage D). IsInStep start s published) (sym step.1) was
+stays_in_step {D} disk start published old new (Err fault.Misfit) step was =
+    subst (λ (s : Stage D). IsInStep start s published) (sym step.1) was
 
 -- what a journal has done leads to where it stands
 pub stands_behind : (start : Start) (commands : List CommandValue) (s : Standing) (h : History) → HasHistory start commands h → LeadsTo s h
     → StandsBehind start commands s h
 stands_behind start commands s h has leads = record {
   history_is = has;
-  number = leads.number ∙ (ap (λ (n : ℕ). n + length h.commands) has.first ∙ ap (λ (cs : List CommandValue). start.number + length cs) has.list);
+  number = leads.number
+      ∙ (ap (λ (n : ℕ). n + length h.commands) has.first ∙ ap (λ (cs : List CommandValue). start.number + length cs) has.list);
   state = leads.state ∙ (ap (λ (st : State). after st h.commands) has.start_is ∙ ap (after start.state) has.list);
 }

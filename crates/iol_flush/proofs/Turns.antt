@@ -1,5 +1,6 @@
 -- Each disk call leaves fewer calls to make, and a batch of the queue is never refused for what it is.
-use Rattle.std.proofs.Common.{◌≡◌, ◌≤◌, ◌⊎◌, inl, inr, ◌+◌, ◌==◌, ℕ, Bool, true, false, if◌then◌else◌, List, [], length, Option, Some, None, Result, Ok, Err, sym, ◌∙◌, ap, subst, arith, rules}
+use Rattle.std.proofs.Common.{◌≡◌, ◌≤◌, ◌⊎◌, inl, inr, ◌+◌, ◌==◌, ℕ, Bool, true, false, if◌then◌else◌, List, [], length, Option, Some, None}
+use Rattle.std.proofs.Common.{Result, Ok, Err, sym, ◌∙◌, ap, subst, arith, rules}
 use Rattle.std.proofs.lemmas.Bool.Decides.{nat_tests}
 use Rattle.iol_disk.specs.Calls.{Call}
 use Rattle.iol_disk.specs.Disk.{Disk}
@@ -43,7 +44,8 @@ abbrev given_needs : Standing → ℕ
 given_needs s = 21 + (if s.used == s.layout.slots then most_checkpoint_calls s.layout + 1 else 0)
 
 module _ {D : Type 0} (disk : D → Disk) where
-  written_needs : (w : WritingView D) (new : Stage D) (n : ℕ) → HasWritten w new → length (calls_owed new) + 1 ≤ n → calls_needed new + 1 ≤ 1 + n
+  written_needs : (w : WritingView D) (new : Stage D) (n : ℕ) → HasWritten w new → length (calls_owed new) + 1 ≤ n → calls_needed new + 1
+      ≤ 1 + n
   written_needs w (Writing v) n has le = omega (arith, le)
   written_needs w (Publishing j written) n has le = omega (arith, le)
   written_needs w (Resting j) n has le = absurd has
@@ -51,20 +53,24 @@ module _ {D : Type 0} (disk : D → Disk) where
   written_needs w (Checkpointing c b) n has le = absurd has
   written_needs w (Failed d f) n has le = absurd has
 
-  checkpointed_needs : (c : CheckpointingView D) (batch : Batch) (new : Stage D) (n : ℕ) → 1 ≤ c.standing.layout.slots → HasCheckpointed c batch new
+  checkpointed_needs : (c : CheckpointingView D) (batch : Batch) (new : Stage D) (n : ℕ) → 1 ≤ c.standing.layout.slots
+      → HasCheckpointed c batch new
       → length (calls_owed new) + 1 ≤ n → calls_needed new + 1 ≤ 21 + n
   checkpointed_needs c batch (Checkpointing d kept) n some has le = omega (arith, le)
   checkpointed_needs c batch (Given j kept) n some has le =
       subst (λ (s : Standing). given_needs s + 1 ≤ 21 + n) (sym has.0)
-      (subst (λ (full : Bool). 21 + (if full then most_checkpoint_calls c.standing.layout + 1 else 0) + 1 ≤ 21 + n) (sym (not_full c.standing.layout.slots some))
+      (subst (λ (full : Bool). 21 + (if full then most_checkpoint_calls c.standing.layout + 1 else 0) + 1 ≤ 21 + n)
+      (sym (not_full c.standing.layout.slots some))
       (omega (arith, le)))
   checkpointed_needs c batch (Resting j) n some has le = absurd has
   checkpointed_needs c batch (Writing w) n some has le = absurd has
   checkpointed_needs c batch (Publishing j written) n some has le = absurd has
   checkpointed_needs c batch (Failed d f) n some has le = absurd has
 
-  begun_needs : (full : Bool) (j : JournalView D) (batch : Batch) (new : Stage D) (old next : Disk) → HasBegun full j batch new → HasFewCalls new
-      → MakesFirst (if full then checkpoint_calls j.standing j.idle else batch_calls j.standing (values batch.commands.items)) (calls_owed new) old next
+  begun_needs : (full : Bool) (j : JournalView D) (batch : Batch) (new : Stage D) (old next : Disk) → HasBegun full j batch new
+      → HasFewCalls new
+      → MakesFirst (if full then checkpoint_calls j.standing j.idle else batch_calls j.standing (values batch.commands.items))
+      (calls_owed new) old next
       → calls_needed new + 1 ≤ 21 + (if full then most_checkpoint_calls j.standing.layout + 1 else 0)
   begun_needs true j batch (Checkpointing c kept) old next has few made =
       subst (λ (s : Standing). 21 + length (stages_left c) + 1 ≤ 21 + (most_checkpoint_calls s.layout + 1)) has.1.0 (omega (arith, few.1))
@@ -82,7 +88,8 @@ module _ {D : Type 0} (disk : D → Disk) where
   begun_needs false j batch (Failed d f) old next has few made = absurd has.1
 
   -- a disk call that is made leaves at least one call less
-  pub advances : (old new : Stage D) → HasFewCalls old → HasFewCalls new → IsDiskStep disk old new (Ok tt) → calls_needed new + 1 ≤ calls_needed old
+  pub advances : (old new : Stage D) → HasFewCalls old → HasFewCalls new → IsDiskStep disk old new (Ok tt) → calls_needed new + 1
+      ≤ calls_needed old
   advances (Given j batch) new few_old few_new step =
       begun_needs (is_full j) j batch new (disk j.disk) (disk (disk_of new)) step.0 few_new step.1
   advances (Checkpointing c batch) new few_old few_new step =
@@ -99,7 +106,8 @@ module _ {D : Type 0} (disk : D → Disk) where
 abbrev Refused : Bool → Bool → Bool → Option BeginCause
 Refused large full fits = if large then Some TooLarge else if full then Some NeedsCheckpoint else if fits then None else Some Misfit
 
-only_full : (large full fits : Bool) → large ≡ false → fits ≡ true → (Refused large full fits ≡ Some TooLarge) ⊎ (Refused large full fits ≡ Some Misfit) → ⊥
+only_full : (large full fits : Bool) → large ≡ false → fits ≡ true → (Refused large full fits ≡ Some TooLarge)
+    ⊎ (Refused large full fits ≡ Some Misfit) → ⊥
 only_full true full fits small fit is = search rules
 only_full false true fits small fit (inl is) = search rules
 only_full false true fits small fit (inr is) = search rules
@@ -110,14 +118,16 @@ only_full false false false small fit is = search rules
 -- a batch that goes on where the journal stands is not refused for what it is
 pub is_fit : {D : Type 0} (stage : Stage D) → GoesOn stage → IsUnfit stage → ⊥
 is_fit (Given j batch) goes unfit =
-    only_full (is_too_large (values batch.commands.items)) (is_full j) (follows j.standing batch.first (values batch.commands.items)) goes.small goes.next unfit
+    only_full (is_too_large (values batch.commands.items)) (is_full j) (follows j.standing batch.first (values batch.commands.items))
+    goes.small goes.next unfit
 is_fit (Resting j) goes unfit = unfit
 is_fit (Checkpointing c batch) goes unfit = unfit
 is_fit (Writing w) goes unfit = unfit
 is_fit (Publishing j written) goes unfit = unfit
 is_fit (Failed d f) goes unfit = unfit
 
-checkpointed_goes : {D : Type 0} (c : CheckpointingView D) (batch : Batch) (new : Stage D) → HasCheckpointed c batch new → FitsBatch c.standing batch → GoesOn new
+checkpointed_goes : {D : Type 0} (c : CheckpointingView D) (batch : Batch) (new : Stage D) → HasCheckpointed c batch new
+    → FitsBatch c.standing batch → GoesOn new
 checkpointed_goes c batch (Checkpointing d kept) has goes =
     subst (λ (b : Batch). FitsBatch d.standing b) (sym has.2) (subst (λ (s : Standing). FitsBatch s batch) (sym has.0) goes)
 checkpointed_goes c batch (Given j kept) has goes =
@@ -157,7 +167,8 @@ failed_goes (Given j b) cause is = search rules
 failed_goes (Checkpointing c b) cause is = search rules
 
 -- after a disk call the batch that is still to be begun goes on where the journal stands
-pub goes_on : {D : Type 0} (disk : D → Disk) (old new : Stage D) (answer : Result Unit FlushFault) → IsDiskStep disk old new answer → GoesOn old → GoesOn new
+pub goes_on : {D : Type 0} (disk : D → Disk) (old new : Stage D) (answer : Result Unit FlushFault) → IsDiskStep disk old new answer
+    → GoesOn old → GoesOn new
 goes_on disk old new (Ok done) step goes = made_goes old new step.0 goes
 goes_on disk old new (Err (fault.Disk cause)) step goes = failed_goes new cause step.0
 goes_on {D} disk old new (Err fault.Stopped) step goes = subst (λ (s : Stage D). GoesOn s) (sym step.1) goes

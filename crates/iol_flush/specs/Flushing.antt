@@ -33,7 +33,8 @@ AreFirst commands waiting = (behind : List CommandValue) × (waiting ≡ command
 -- a flusher has a run of its journal, which began with a number and a state: of the commands that were accepted, these are
 -- published and those wait; a batch that is given, underway or not yet published is the first of those that wait (own)
 abbrev pub IsFlushing : {D : Type 0} → (D → Disk) → ℕ → State → List CommandValue → List CommandValue → List Mark → Stage D → Type 0
-IsFlushing disk number state published waiting marks (Resting journal) = IsRunAtRest disk (run_of number state published [] waiting marks) journal
+IsFlushing disk number state published waiting marks (Resting journal) =
+    IsRunAtRest disk (run_of number state published [] waiting marks) journal
 IsFlushing disk number state published waiting marks (Given journal batch) =
     AreFirst (values batch.commands.items) waiting × IsRunAtRest disk (run_of number state published [] waiting marks) journal
 IsFlushing disk number state published waiting marks (Checkpointing checkpoint batch) =
@@ -45,7 +46,8 @@ IsFlushing disk number state published waiting marks (Publishing journal written
     (behind : List CommandValue) × (waiting ≡ written.commands ++ behind)
     × IsRunAtRest disk (run_of number state (published ++ written.commands) [] behind marks) journal
 IsFlushing disk number state published waiting marks (Failed left fault) =
-    (underway behind : List CommandValue) × (waiting ≡ underway ++ behind) × IsRun (disk left) (run_of number state published underway behind marks)
+    (underway behind : List CommandValue) × (waiting ≡ underway ++ behind)
+    × IsRun (disk left) (run_of number state published underway behind marks)
 
 -- a batch goes on where a journal stands: it fits a slot, and follows (own)
 pub record FitsBatch (standing : Standing) (batch : Batch) : Type 0 where

@@ -76,7 +76,8 @@ IsInStep start (Given journal batch) published = StandsBehind start published jo
 IsInStep start (Checkpointing checkpoint batch) published = StandsBehind start published checkpoint.standing checkpoint.history
 IsInStep start (Writing writing) published = StandsBehind start published writing.standing writing.history
 IsInStep start (Publishing journal written) published =
-    StandsBehind start (published ++ written.commands) journal.standing journal.history × (written.first ≡ start.number + length published + 1)
+    StandsBehind start (published ++ written.commands) journal.standing journal.history
+    × (written.first ≡ start.number + length published + 1)
 IsInStep start (Failed disk fault) published = Unit {0}
 
 -- the most disk calls of a checkpoint: one for each slot, nine for each port, and nine more (own)

@@ -36,7 +36,8 @@ writing_of journal commands = record {
 
 -- a journal with a checkpoint before its first disk call (own)
 abbrev pub checkpoint_of : {D : Type 0} → JournalView D → CheckpointingView D
-checkpoint_of journal = record { disk = journal.disk; standing = journal.standing; history = journal.history; stage = first_stage journal.idle }
+checkpoint_of journal =
+    record { disk = journal.disk; standing = journal.standing; history = journal.history; stage = first_stage journal.idle }
 
 -- a disk call of a batch is made: the batch is still on its way, or it is durable (own)
 abbrev pub HasWritten : {D : Type 0} → WritingView D → Stage D → Type 0
@@ -56,7 +57,8 @@ HasCheckpointed c batch stage = ⊥
 abbrev pub HasBegun : {D : Type 0} → Bool → JournalView D → Batch → Stage D → Type 0
 HasBegun true journal batch new = (is_too_large (values batch.commands.items) ≡ false) × HasCheckpointed (checkpoint_of journal) batch new
 HasBegun false journal batch new =
-    (batch_refusal journal.standing batch.first (values batch.commands.items) ≡ None) × HasWritten (writing_of journal (values batch.commands.items)) new
+    (batch_refusal journal.standing batch.first (values batch.commands.items) ≡ None)
+    × HasWritten (writing_of journal (values batch.commands.items)) new
 
 -- a disk call is made, and where the flusher is then (own)
 abbrev pub HasMade : {D : Type 0} → Stage D → Stage D → Type 0

@@ -36,7 +36,8 @@ pub fn gives<D: SectorDisk>()
 
 /// The batch that is published was the first of the commands that wait, and waits no more.
 pub fn publishes<D: SectorDisk>()
-    ensures { (number : ℕ) (state : State) (published waiting : List CommandValue) (marks : List Mark) (old : Stage D) (list : List CommandValue)
+    ensures { (number : ℕ) (state : State) (published waiting : List CommandValue) (marks : List Mark) (old : Stage D)
+        (list : List CommandValue)
         (new : FlusherView D) (committed : CommittedView)
         → HasPublished old list new committed → IsFlushing D.disk number state published waiting marks old
         → (behind : List CommandValue) × (waiting ≡ committed.commands ++ behind)
@@ -52,7 +53,8 @@ pub fn holds<D: SectorDisk>()
 
 /// More commands may wait, each of which passes in the state that it meets.
 pub fn accepts_more<D: SectorDisk>()
-    ensures { (number : ℕ) (state : State) (published waiting : List CommandValue) (marks : List Mark) (stage : Stage D) (commands : List CommandValue)
+    ensures { (number : ℕ) (state : State) (published waiting : List CommandValue) (marks : List Mark) (stage : Stage D)
+        (commands : List CommandValue)
         → legal (after state (published ++ waiting)) commands ≡ true
         → IsFlushing D.disk number state published waiting marks stage
         → IsFlushing D.disk number state published (waiting ++ commands) marks stage }
@@ -60,7 +62,8 @@ pub fn accepts_more<D: SectorDisk>()
 
 /// What is published may be acknowledged while the journal is at rest.
 pub fn acknowledges<D: SectorDisk>()
-    ensures { (number : ℕ) (state : State) (published waiting : List CommandValue) (marks : List Mark) (acknowledged : ℕ) (j : JournalView D)
+    ensures { (number : ℕ) (state : State) (published waiting : List CommandValue) (marks : List Mark) (acknowledged : ℕ)
+        (j : JournalView D)
         → acknowledged ≤ number + length published
         → IsFlushing D.disk number state published waiting marks (Resting j)
         → IsFlushing D.disk number state published waiting

@@ -37,7 +37,11 @@ impl<F: Name> Model for Committed<F> {
     } };
 
     ghost invariant = { λ c. (c.seat.table_id ≡ F.front.table)
-        × (c.seat.me ≡ (reader F.front.start (before_last c.seat.me.0.seen (values c.batch.commands.items) ++ values c.batch.commands.items), []))
+        × (c.seat.me ≡ (
+          reader F.front.start (before_last c.seat.me.0.seen (values c.batch.commands.items)
+              ++ values c.batch.commands.items),
+          [],
+        ))
         × (c.batch.first ≡ F.front.start.number + length (before_last c.seat.me.0.seen (values c.batch.commands.items)) + 1)
         × (c.batch.first + length c.batch.commands.items ≤ LAST_NUMBER + 1) };
 }
@@ -46,10 +50,14 @@ impl<F: Name> Committed<F> {
     // The batch that a seat has seen last.
     pub(crate) fn at(batch: Batch, seat: Place) -> Committed<F>
         requires table { seat.table_id ≡ F.front.table }
-        requires seat { seat.me ≡ (reader F.front.start (before_last seat.me.0.seen (values batch.commands.items) ++ values batch.commands.items), []) }
+        requires seat { seat.me
+            ≡ (reader F.front.start (before_last seat.me.0.seen (values batch.commands.items) ++ values batch.commands.items), []) }
         requires first { batch.first ≡ F.front.start.number + length (before_last seat.me.0.seen (values batch.commands.items)) + 1 }
         requires bound { batch.first + length batch.commands.items ≤ LAST_NUMBER + 1 }
-        ensures { result ≡ record { before = before_last seat.me.0.seen (values batch.commands.items); commands = values batch.commands.items } }
+        ensures { result ≡ record {
+          before = before_last seat.me.0.seen (values batch.commands.items);
+          commands = values batch.commands.items;
+        } }
     {
         Committed {
             batch,
@@ -75,7 +83,8 @@ impl<F: Name> Committed<F> {
 
     /// The command at this place of the batch, if there is one.
     pub fn command(&self, i: usize) -> Option<&Command>
-        ensures { MatchOption result (length self.now.commands ≤ i) (λ command. slice_get self.now.commands i ≡ Some (value_of command.now)) }
+        ensures { MatchOption result (length self.now.commands ≤ i) (λ command. slice_get self.now.commands i
+            ≡ Some (value_of command.now)) }
     {
         self.batch.commands.get(i)
     }

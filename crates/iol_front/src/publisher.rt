@@ -35,7 +35,8 @@ impl<F: Name> Model for Publisher<F> {
 
     ghost view = { λ p. p.seat.me.0.seen };
 
-    ghost invariant = { λ p. ((arc_value p.board).shared.table_id ≡ F.front.table) × (F.front.table.words ≡ 1) × (p.seat.table_id ≡ F.front.table)
+    ghost invariant = { λ p. ((arc_value p.board).shared.table_id ≡ F.front.table) × (F.front.table.words ≡ 1)
+        × (p.seat.table_id ≡ F.front.table)
         × (p.seat.me ≡ (publisher F.front.start p.seat.me.0.seen, [])) × (p.number ≡ F.front.start.number + length p.seat.me.0.seen)
         × (p.number ≤ LAST_NUMBER) };
 }

@@ -107,7 +107,8 @@ pub(crate) fn split_off(board: &Board, seat: &mut Place) -> Place
 
 // Takes in a seat, and is told what that one has seen.
 pub(crate) fn take_in(board: &Board, seat: &mut Place, other: Place)
-    requires place { (seat.old.table_id ≡ board.now.shared.table_id) × (other.table_id ≡ board.now.shared.table_id) × (board.now.shared.table_id.words ≡ 1) }
+    requires place { (seat.old.table_id ≡ board.now.shared.table_id) × (other.table_id ≡ board.now.shared.table_id)
+        × (board.now.shared.table_id.words ≡ 1) }
     requires says { (other.me.0.says ≡ true) × (other.me.1 ≡ []) }
     ensures same { seat.new.table_id ≡ seat.old.table_id }
     ensures told { seat.new.me ≡ (told_by seat.old.me.0 other.me.0, seat.old.me.1) }

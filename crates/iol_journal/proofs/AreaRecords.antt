@@ -1,5 +1,6 @@
 -- The records of a state's ports, as they are written into an area and read again.
-use Rattle.std.proofs.Common.{◌≡◌, ◌≤◌, ◌<◌, ℕ, ◌+◌, ◌-◌, ◌*◌, List, [], ◌∷◌, ◌++◌, length, replicate, Some, Ok, refl, ◌∙◌, ap, subst, arith, append_assoc, length-append}
+use Rattle.std.proofs.Common.{◌≡◌, ◌≤◌, ◌<◌, ℕ, ◌+◌, ◌-◌, ◌*◌, List, [], ◌∷◌, ◌++◌, length, replicate, Some, Ok, refl, ◌∙◌, ap, subst}
+use Rattle.std.proofs.Common.{arith, append_assoc, length-append}
 use Rattle.std.proofs.lemmas.List.{length-replicate}
 use Rattle.std.proofs.lemmas.List.FromFn.{length-map-range_with_len}
 use Rattle.iol_types.specs.State.{Port, State, IsPort}
@@ -46,12 +47,14 @@ read-padded port rest is =
     ∙ ap port_of (port_record_at-record octets (zeros ++ rest) port (record { spelling = refl; in_range = is }))
 
 -- a record reaches nine sectors at most
-reaches : (port : Port) (sectors : ℕ) → IsPort port → LARGEST_PORT_RECORD ≤ SECTOR_OCTETS * sectors → sectors_reached (length (port_octets port)) ≤ sectors
+reaches : (port : Port) (sectors : ℕ) → IsPort port → LARGEST_PORT_RECORD ≤ SECTOR_OCTETS * sectors
+    → sectors_reached (length (port_octets port)) ≤ sectors
 reaches port sectors is room = let long = length-port_octets port is in omega (arith, long.1, room)
 
 port-read : (image : Image) (first sectors : ℕ) (port : Port) → IsPort port → LARGEST_PORT_RECORD ≤ SECTOR_OCTETS * sectors
     → HasWrites (record_writes first (port_octets port)) image → port_in image first sectors ≡ Ok port
-port-read image first sectors port is room has = read_at (octets_at-in_slot image (padded octets) first reached sectors there (length-padded octets) (reaches port sectors is room))
+port-read image first sectors port is room has =
+    read_at (octets_at-in_slot image (padded octets) first reached sectors there (length-padded octets) (reaches port sectors is room))
   where
     octets : List ℕ
     octets = port_octets port
@@ -68,15 +71,18 @@ port-read image first sectors port is room has = read_at (octets_at-in_slot imag
         ap (λ (all : List ℕ). port_of (port_record_at all)) at ∙ read-padded port rest is in
         rw found refl
 
-record-row : (first sectors : ℕ) (port : Port) → IsPort port → LARGEST_PORT_RECORD ≤ SECTOR_OCTETS * sectors → IsRow first (first + sectors) (record_writes first (port_octets port))
+record-row : (first sectors : ℕ) (port : Port) → IsPort port → LARGEST_PORT_RECORD ≤ SECTOR_OCTETS * sectors
+    → IsRow first (first + sectors) (record_writes first (port_octets port))
 record-row first sectors port is room =
-    row-map (λ j. first + j) (λ j. sector_of (padded (port_octets port)) j) first (first + sectors) 0 (sectors_reached (length (port_octets port)))
+    row-map (λ j. first + j) (λ j. sector_of (padded (port_octets port)) j) first (first + sectors) 0
+    (sectors_reached (length (port_octets port)))
     (λ k. omega arith) (omega arith) (omega (arith, reaches port sectors is room))
 
 -- ---- the records of all ports
 
 module _ (layout : Layout) (a : Area) (room : LARGEST_PORT_RECORD ≤ SECTOR_OCTETS * layout.port_sectors) where
-  pub records-row : (p : ℕ) (ports : State) → ArePorts ports → IsRow (port_at layout a p) (port_at layout a (p + length ports)) (port_writes layout a p ports)
+  pub records-row : (p : ℕ) (ports : State) → ArePorts ports
+      → IsRow (port_at layout a p) (port_at layout a (p + length ports)) (port_writes layout a p ports)
   records-row p [] are = omega arith
   records-row p (port ∷ ports) are =
       let next : port_at layout a p + layout.port_sectors ≡ port_at layout a (p + 1) = omega arith in
@@ -84,7 +90,8 @@ module _ (layout : Layout) (a : Area) (room : LARGEST_PORT_RECORD ≤ SECTOR_OCT
       row-append (port_at layout a p) (port_at layout a (p + 1)) (port_at layout a (p + length (port ∷ ports))) _ _
       (subst (λ (high : ℕ). IsRow (port_at layout a p) high (record_writes (port_at layout a p) (port_octets port))) next
       (record-row (port_at layout a p) layout.port_sectors port are.0 room))
-      (subst (λ (n : ℕ). IsRow (port_at layout a (p + 1)) (port_at layout a n) (port_writes layout a (p + 1) ports)) last (records-row (p + 1) ports are.1))
+      (subst (λ (n : ℕ). IsRow (port_at layout a (p + 1)) (port_at layout a n) (port_writes layout a (p + 1) ports)) last
+      (records-row (p + 1) ports are.1))
 
   pub records-read : (p : ℕ) (ports : State) (image : Image) → ArePorts ports → HasWrites (port_writes layout a p ports) image
       → ports_from layout a image p (length ports) ≡ Ok ports
@@ -92,11 +99,13 @@ module _ (layout : Layout) (a : Area) (room : LARGEST_PORT_RECORD ≤ SECTOR_OCT
   records-read p [] image are has = refl
   records-read p (port ∷ ports) image are has =
       let parts = has-append (record_writes (port_at layout a p) (port_octets port)) (port_writes layout a (p + 1) ports) image has in
-      rw (port-read image (port_at layout a p) layout.port_sectors port are.0 room parts.0, records-read (p + 1) ports image are.1 parts.1) refl
+      rw (port-read image (port_at layout a p) layout.port_sectors port are.0 room parts.0, records-read (p + 1) ports image are.1 parts.1)
+      refl
 
   pub length-records : (p : ℕ) (ports : State) → ArePorts ports → length (port_writes layout a p ports) ≤ layout.port_sectors * length ports
   length-records p [] are = omega arith
   length-records p (port ∷ ports) are =
-      let here = length-map-range_with_len (λ j. write (port_at layout a p + j) (sector_of (padded (port_octets port)) j)) 0 (sectors_reached (length (port_octets port))) in
+      let here = length-map-range_with_len (λ j. write (port_at layout a p + j) (sector_of (padded (port_octets port)) j)) 0
+      (sectors_reached (length (port_octets port))) in
       let both = length-append (record_writes (port_at layout a p) (port_octets port)) (port_writes layout a (p + 1) ports) in
       omega (arith, here, both, reaches port layout.port_sectors are.0 room, length-records (p + 1) ports are.1)

@@ -1,5 +1,6 @@
 -- The disk calls of a batch, one after another.
-use Rattle.std.proofs.Common.{◌≡◌, ◌≤◌, ◌<◌, ℕ, suc, ◌+◌, ◌-◌, nat_lt, if◌then◌else◌, Bool, true, false, List, [], ◌∷◌, ◌++◌, length, map, Some, None, refl, ◌∙◌, ap, arith, length-append}
+use Rattle.std.proofs.Common.{◌≡◌, ◌≤◌, ◌<◌, ℕ, suc, ◌+◌, ◌-◌, nat_lt, if◌then◌else◌, Bool, true, false, List, [], ◌∷◌, ◌++◌, length, map}
+use Rattle.std.proofs.Common.{Some, None, refl, ◌∙◌, ap, arith, length-append}
 use Rattle.std.specs.List.{range_with_len}
 use Rattle.std.proofs.lemmas.Bool.Decides.{nat_tests}
 use Rattle.std.proofs.lemmas.List.FromFn.{length-map-range_with_len}
@@ -26,10 +27,12 @@ module _ (s : Standing) (body : List ℕ) (sectors : ℕ) where
 
   -- behind the last sector of the body
   body_ended : (j : ℕ) → sectors ≡ j + 1 → calls_from s body sectors (Body (j + 1)) ≡ last_calls
-  body_ended j is = let none : sectors - (j + 1) ≡ 0 = omega arith in ap (λ (n : ℕ). map (λ i. body_write s body i) (range_with_len (j + 1) n) ++ last_calls) none
+  body_ended j is = let none : sectors - (j + 1) ≡ 0 = omega arith in
+      ap (λ (n : ℕ). map (λ i. body_write s body i) (range_with_len (j + 1) n) ++ last_calls) none
 
   -- the call of a phase, and those from the phase behind it on
-  pub first_call : (p q : Phase) → IsPhase sectors p → next_phase sectors p ≡ Some q → calls_from s body sectors p ≡ call_of s body p ∷ calls_from s body sectors q
+  pub first_call : (p q : Phase) → IsPhase sectors p → next_phase sectors p ≡ Some q → calls_from s body sectors p ≡ call_of s body p
+      ∷ calls_from s body sectors q
   first_call (Body j) q in_phase next = by_test (nat_lt (j + 1) sectors) refl (phase_of _ q next)
     where
       by_test : (more : Bool) → nat_lt (j + 1) sectors ≡ more → (if more then Body (j + 1) else SyncBody) ≡ q
@@ -56,7 +59,8 @@ module _ (s : Standing) (body : List ℕ) (sectors : ℕ) where
   some_call SyncGate in_phase = ([], refl)
 
 -- those from the first phase on are all
-pub all_calls : (s : Standing) (commands : List CommandValue) → calls_from s (body_for s commands) (sectors_for s commands) (Body 0) ≡ batch_calls s commands
+pub all_calls : (s : Standing) (commands : List CommandValue) → calls_from s (body_for s commands) (sectors_for s commands) (Body 0)
+    ≡ batch_calls s commands
 all_calls s commands =
     let all : sectors_for s commands - 0 ≡ sectors_for s commands = omega arith in
     ap (λ (n : ℕ). map (λ j. body_write s (body_for s commands) j) (range_with_len 0 n) ++ (sync ∷ gate_write s ∷ sync ∷ [])) all
@@ -66,7 +70,8 @@ pub length-batch_calls : (s : Standing) (commands : List CommandValue) → lengt
 length-batch_calls s commands =
     omega (
       arith,
-      length-append (map (λ j. body_write s (body_for s commands) j) (range_with_len 0 (sectors_for s commands))) (sync ∷ gate_write s ∷ sync ∷ []),
+      length-append (map (λ j. body_write s (body_for s commands) j) (range_with_len 0 (sectors_for s commands))) (sync ∷ gate_write s
+          ∷ sync ∷ []),
       length-map-range_with_len (λ j. body_write s (body_for s commands) j) 0 (sectors_for s commands),
     )
 

@@ -1,5 +1,6 @@
 -- The body of a slot, written and read.
-use Rattle.std.proofs.Common.{◌≡◌, ◌≤◌, ◌<◌, ℕ, zero, suc, ◌+◌, ◌*◌, ◌-◌, ◌^◌, true, List, [], ◌∷◌, ◌++◌, length, take, drop, get_or, replicate, Some, refl, sym, ◌∙◌, ap, arith, append_assoc, append-nil, add-zero, zero-add, length-append}
+use Rattle.std.proofs.Common.{◌≡◌, ◌≤◌, ◌<◌, ℕ, zero, suc, ◌+◌, ◌*◌, ◌-◌, ◌^◌, true, List, [], ◌∷◌, ◌++◌, length, take, drop, get_or}
+use Rattle.std.proofs.Common.{replicate, Some, refl, sym, ◌∙◌, ap, arith, append_assoc, append-nil, add-zero, zero-add, length-append}
 use Rattle.std.proofs.lemmas.Bool.Decides.{nat_tests}
 use Rattle.std.proofs.lemmas.List.{take-append-drop, drop-drop, take_more, map-append, flat_map_more, length-replicate}
 use Rattle.std.proofs.lemmas.Grind.{flat_map-append}
@@ -28,47 +29,56 @@ pub record Encodes (octets : List ℕ) (commands : List CommandValue) : Type 0 w
 pub encodes-none : Encodes [] []
 encodes-none = record { reads = λ n rest others is. rw zero-add is }
 
-pub encodes-more : (octets front : List ℕ) (commands : List CommandValue) (command : CommandValue) → Encodes octets commands → IsCommandRecord front command
+pub encodes-more : (octets front : List ℕ) (commands : List CommandValue) (command : CommandValue) → Encodes octets commands
+    → IsCommandRecord front command
     → Encodes (octets ++ front) (commands ++ command ∷ [])
 encodes-more octets front commands command encodes is = record { reads = λ n rest others read. go n rest others read }
   where
-    first : (n : ℕ) (rest : List ℕ) (others : List CommandValue) → commands_of n rest ≡ Some others → commands_of (suc n) (front ++ rest) ≡ Some (command ∷ others)
+    first : (n : ℕ) (rest : List ℕ) (others : List CommandValue) → commands_of n rest ≡ Some others → commands_of (suc n) (front ++ rest)
+        ≡ Some (command ∷ others)
     first n rest others read = rw (command_at-record front rest command is, read) refl
 
     go : (n : ℕ) (rest : List ℕ) (others : List CommandValue) → commands_of n rest ≡ Some others
         → commands_of (length (commands ++ command ∷ []) + n) ((octets ++ front) ++ rest) ≡ Some ((commands ++ command ∷ []) ++ others)
     go n rest others read =
-        let count : length (commands ++ command ∷ []) + n ≡ length commands + suc n = omega (arith, length-append commands (command ∷ [])) in
+        let count : length (commands ++ command ∷ []) + n ≡ length commands + suc n =
+        omega (arith, length-append commands (command ∷ [])) in
         let whole = encodes.reads (suc n) (front ++ rest) (command ∷ others) (first n rest others read) in
         rw (count, append_assoc octets front rest, append_assoc commands (command ∷ []) others) whole
 
-pub encodes-all : (octets : List ℕ) (commands : List CommandValue) → Encodes octets commands → commands_of (length commands) octets ≡ Some commands
+pub encodes-all : (octets : List ℕ) (commands : List CommandValue) → Encodes octets commands → commands_of (length commands) octets
+    ≡ Some commands
 encodes-all octets commands encodes =
     ap (λ (o : List ℕ). commands_of (length commands) o) (sym (append-nil octets))
     ∙ ap (λ (n : ℕ). commands_of n (octets ++ [])) (sym (add-zero (length commands)))
     ∙ encodes.reads 0 [] [] refl
     ∙ ap Some (append-nil commands)
 
-behind : (image : Image) (body : List ℕ) (first k n : ℕ) → ((j : ℕ) → k ≤ j → j < k + n → image (first + j) ≡ sector_of body j) → length body ≡ SECTOR_OCTETS * (k + n)
+behind : (image : Image) (body : List ℕ) (first k n : ℕ) → ((j : ℕ) → k ≤ j → j < k + n → image (first + j) ≡ sector_of body j)
+    → length body ≡ SECTOR_OCTETS * (k + n)
     → octets_at image (first + k) n ≡ drop (SECTOR_OCTETS * k) body
 unfolding octets_at
 behind image body first k zero written whole = sym (drop_of_length-le body (omega arith))
 behind image body first k (suc n) written whole =
     let here : image (first + k) ≡ sector_of body k = written k (omega arith) (omega arith) in
     let place : first + k + 1 ≡ first + (k + 1) = omega arith in
-    let there : octets_at image (first + (k + 1)) n ≡ drop (SECTOR_OCTETS * (k + 1)) body = behind image body first (k + 1) n (λ j above below. written j (omega arith) (omega arith)) (omega arith) in
+    let there : octets_at image (first + (k + 1)) n ≡ drop (SECTOR_OCTETS * (k + 1)) body =
+    behind image body first (k + 1) n (λ j above below. written j (omega arith) (omega arith)) (omega arith) in
     let width : SECTOR_OCTETS * (k + 1) - SECTOR_OCTETS * k ≡ SECTOR_OCTETS = omega arith in
     let next : SECTOR_OCTETS * (k + 1) ≡ SECTOR_OCTETS * k + SECTOR_OCTETS = omega arith in
     rw (place, here, there, width, next, ← drop-drop) (take-append-drop SECTOR_OCTETS (drop (SECTOR_OCTETS * k) body))
 
 -- a body that lies sector by sector in an image is read as it is
-pub octets_at-body : (image : Image) (body : List ℕ) (first n : ℕ) → ((j : ℕ) → j < n → image (first + j) ≡ sector_of body j) → length body ≡ SECTOR_OCTETS * n
+pub octets_at-body : (image : Image) (body : List ℕ) (first n : ℕ) → ((j : ℕ) → j < n → image (first + j) ≡ sector_of body j) → length body
+    ≡ SECTOR_OCTETS * n
     → octets_at image first n ≡ body
 octets_at-body image body first n written whole =
-    ap (λ (place : ℕ). octets_at image place n) (sym (add-zero first)) ∙ behind image body first 0 n (λ j above below. written j (omega arith)) (omega arith)
+    ap (λ (place : ℕ). octets_at image place n) (sym (add-zero first))
+    ∙ behind image body first 0 n (λ j above below. written j (omega arith)) (omega arith)
 
 -- whatever stands in the sectors behind it
-pub octets_at-in_slot : (image : Image) (body : List ℕ) (first n m : ℕ) → ((j : ℕ) → j < n → image (first + j) ≡ sector_of body j) → length body ≡ SECTOR_OCTETS * n → n ≤ m
+pub octets_at-in_slot : (image : Image) (body : List ℕ) (first n m : ℕ) → ((j : ℕ) → j < n → image (first + j) ≡ sector_of body j)
+    → length body ≡ SECTOR_OCTETS * n → n ≤ m
     → (rest : List ℕ) × (octets_at image first m ≡ body ++ rest)
 octets_at-in_slot image body first n m written whole le =
     let split : m ≡ n + (m - n) = omega arith in (
@@ -91,15 +101,18 @@ module _ (epoch first count octets : ℕ) (rest : List ℕ) where
   head-octets : octets < 2 ^ 32 → number_at w32 18 (head_octets epoch first count octets ++ rest) ≡ octets
   head-octets fits = omega (arith, from_be_bytes-to_be_bytes_4 octets fits)
 
-fits-true : (epoch first count octets : ℕ) → 1 ≤ count → count ≤ MOST_COMMANDS → octets ≤ MOST_RECORD_OCTETS → first + count ≤ LAST_NUMBER + 1
+fits-true : (epoch first count octets : ℕ) → 1 ≤ count → count ≤ MOST_COMMANDS → octets ≤ MOST_RECORD_OCTETS → first + count ≤ LAST_NUMBER
+    + 1
     → fits (record { epoch = epoch; first = first; count = count; octets = octets }) epoch first ≡ true
 fits-true epoch first count octets some most short last = grind (arith, nat_tests)
 
 -- a body is read as its commands, whatever follows the records
 pub batch_of-body : (epoch first : ℕ) (commands : List CommandValue) (rest : List ℕ) → epoch < 2 ^ 64
-    → 1 ≤ length commands → length commands ≤ MOST_COMMANDS → length (records_of commands) ≤ MOST_RECORD_OCTETS → first + length commands ≤ LAST_NUMBER + 1
+    → 1 ≤ length commands → length commands ≤ MOST_COMMANDS → length (records_of commands) ≤ MOST_RECORD_OCTETS → first + length commands
+    ≤ LAST_NUMBER + 1
     → commands_of (length commands) (records_of commands) ≡ Some commands
-    → batch_of epoch first (head_octets epoch first (length commands) (length (records_of commands)) ++ (records_of commands ++ rest)) ≡ Some commands
+    → batch_of epoch first (head_octets epoch first (length commands) (length (records_of commands)) ++ (records_of commands ++ rest))
+    ≡ Some commands
 unfolding batch_of head_of
 batch_of-body epoch first commands rest small some most short last is =
     let count = length commands in
@@ -123,13 +136,15 @@ unfolding body_octets padded
 length-body epoch first commands =
     let records = records_of commands in
     let front = head_octets epoch first (length commands) (length records) ++ records in
-    let size : length front ≡ BODY_HEAD_OCTETS + length records = length-append (head_octets epoch first (length commands) (length records)) records in
+    let size : length front ≡ BODY_HEAD_OCTETS + length records =
+    length-append (head_octets epoch first (length commands) (length records)) records in
     let zeros = SECTOR_OCTETS * sectors_reached (length front) - length front in
     omega (arith, length-append front (replicate {A = ℕ} zeros 0), length-replicate {A = ℕ} zeros 0, size)
 
 -- whatever follows a body in its slot, it is read as its commands
 pub batch_of-body_octets : (epoch first : ℕ) (commands : List CommandValue) (rest : List ℕ) → epoch < 2 ^ 64
-    → 1 ≤ length commands → length commands ≤ MOST_COMMANDS → length (records_of commands) ≤ MOST_RECORD_OCTETS → first + length commands ≤ LAST_NUMBER + 1
+    → 1 ≤ length commands → length commands ≤ MOST_COMMANDS → length (records_of commands) ≤ MOST_RECORD_OCTETS → first + length commands
+    ≤ LAST_NUMBER + 1
     → commands_of (length commands) (records_of commands) ≡ Some commands
     → batch_of epoch first (body_octets epoch first commands ++ rest) ≡ Some commands
 unfolding body_octets padded
@@ -141,7 +156,8 @@ batch_of-body_octets epoch first commands rest small some most short last is =
     ∙ batch_of-body epoch first commands (zeros ++ rest) small some most short last is
 
 -- the records of one command more
-pub records-more : (octets front : List ℕ) (commands : List CommandValue) (command : CommandValue) → octets ≡ records_of commands → IsCommandRecord front command
+pub records-more : (octets front : List ℕ) (commands : List CommandValue) (command : CommandValue) → octets ≡ records_of commands
+    → IsCommandRecord front command
     → octets ++ front ≡ records_of (commands ++ command ∷ [])
 records-more octets front commands command so_far is = rw (so_far, is.spelling) (flat_map_more command_octets [] commands command)
 
@@ -149,11 +165,13 @@ records-more octets front commands command so_far is = rw (so_far, is.spelling) 
 pub values-more : (commands : List Command) (i : ℕ) (command : Command) → i < length commands → command ≡ get_or commands i command
     → values (take (i + 1) commands) ≡ values (take i commands) ++ value_of command ∷ []
 values-more commands i command below is =
-    ap values (take_more commands i command below ∙ ap (λ (c : Command). take i commands ++ c ∷ []) (sym is)) ∙ map-append value_of (take i commands) (command ∷ [])
+    ap values (take_more commands i command below ∙ ap (λ (c : Command). take i commands ++ c ∷ []) (sym is))
+    ∙ map-append value_of (take i commands) (command ∷ [])
 
 -- the records of one command more
 pub length-records-more : (commands : List CommandValue) (command : CommandValue)
     → length (records_of (commands ++ command ∷ [])) ≡ length (records_of commands) + length (command_octets command)
 length-records-more commands command =
-    ap length (flat_map-append command_octets commands (command ∷ []) ∙ ap (λ (more : List ℕ). records_of commands ++ more) (append-nil (command_octets command)))
+    ap length (flat_map-append command_octets commands (command ∷ [])
+    ∙ ap (λ (more : List ℕ). records_of commands ++ more) (append-nil (command_octets command)))
     ∙ length-append (records_of commands) (command_octets command)

@@ -11,7 +11,8 @@ use Rattle.iol_journal.specs.declared.cause.RecoverCause.TheVariants as cause
 use Rattle.iol_journal.specs.declared.opening.InUse.{InUse}
 
 -- a reading that ends well has gone on from a value
-pub bind_ok : {A B : Type 0} (first : Result A Cause) (next : A → Result B Cause) (y : B) → (first >>= next) ≡ Ok y → (x : A) × (first ≡ Ok x) × (next x ≡ Ok y)
+pub bind_ok : {A B : Type 0} (first : Result A Cause) (next : A → Result B Cause) (y : B) → (first >>= next) ≡ Ok y → (x : A)
+    × (first ≡ Ok x) × (next x ≡ Ok y)
 bind_ok (Ok x) next y is = (x, refl, is)
 bind_ok (Err cause) next y is = cc
 
@@ -41,13 +42,16 @@ pub record IsRead (sectors : ℕ) (image : Image) (s : Standing) (base : ℕ) (p
   pub layout : layout_in sectors image ≡ Ok s.layout
   pub in_use : in_use_in s.layout image ≡ Ok (record { area = s.area; header = record { epoch = s.epoch; base = base } })
   pub ports_are : ports_from s.layout s.area image 0 s.layout.ports ≡ Ok ports
-  pub log : log_from s.layout s.area s.epoch image 0 s.layout.slots base ports ≡ Ok (record { used = s.used; number = s.number; state = s.state })
+  pub log : log_from s.layout s.area s.epoch image 0 s.layout.slots base ports
+      ≡ Ok (record { used = s.used; number = s.number; state = s.state })
 
-pub read_stands : (sectors : ℕ) (image : Image) (s : Standing) (base : ℕ) (ports : State) → IsRead sectors image s base ports → standing_in sectors image ≡ Ok s
+pub read_stands : (sectors : ℕ) (image : Image) (s : Standing) (base : ℕ) (ports : State) → IsRead sectors image s base ports
+    → standing_in sectors image ≡ Ok s
 unfolding standing_in
 read_stands sectors image s base ports is = rw (is.layout, is.in_use, is.ports_are, is.log) refl
 
-pub stands_read : (sectors : ℕ) (image : Image) (s : Standing) → standing_in sectors image ≡ Ok s → (base : ℕ) × (ports : State) × IsRead sectors image s base ports
+pub stands_read : (sectors : ℕ) (image : Image) (s : Standing) → standing_in sectors image ≡ Ok s → (base : ℕ) × (ports : State)
+    × IsRead sectors image s base ports
 unfolding standing_in
 stands_read sectors image s is =
     let g = bind_ok (layout_in sectors image) _ s is in
@@ -69,7 +73,8 @@ stands_read sectors image s is =
         (u.header.base, p, record { layout = laid_out; in_use = in_use; ports_are = ports; log = log })
 
 -- ---- the parts of a journal on an image, as far as each was read: reading ends at a cause
-pub cause_before : {A B : Type 0} (first : Result A Cause) (next : A → Result B Cause) (told : RecoverCause) → SaysWhy first told → SaysWhy (first >>= next) told
+pub cause_before : {A B : Type 0} (first : Result A Cause) (next : A → Result B Cause) (told : RecoverCause) → SaysWhy first told
+    → SaysWhy (first >>= next) told
 cause_before first next (cause.Disk fault) is = tt
 cause_before {A = A} first next cause.NotFormatted is = ap (λ (r : Result A Cause). r >>= next) is
 cause_before {A = A} first next (cause.Damaged sector) is = ap (λ (r : Result A Cause). r >>= next) is
@@ -85,20 +90,35 @@ module _ (sectors : ℕ) (image : Image) where
   unfolding standing_in
   no_area layout told laid_out is = rw laid_out (cause_before (in_use_in layout image) _ told is)
 
-  pub no_ports : (layout : Layout) (used : InUse) (told : RecoverCause) → layout_in sectors image ≡ Ok layout → in_use_in layout image ≡ Ok used
+  pub no_ports : (layout : Layout) (used : InUse) (told : RecoverCause) → layout_in sectors image ≡ Ok layout → in_use_in layout image
+      ≡ Ok used
       → SaysWhy (ports_from layout used.area image 0 layout.ports) told → SaysWhy (standing_in sectors image) told
   unfolding standing_in
-  no_ports layout used told laid_out in_use is = rw (laid_out, in_use) (cause_before (ports_from layout used.area image 0 layout.ports) _ told is)
+  no_ports layout used told laid_out in_use is =
+      rw (laid_out, in_use) (cause_before (ports_from layout used.area image 0 layout.ports) _ told is)
 
-  pub no_log : (layout : Layout) (used : InUse) (ports : State) (told : RecoverCause) → layout_in sectors image ≡ Ok layout → in_use_in layout image ≡ Ok used
+  pub no_log : (layout : Layout) (used : InUse) (ports : State) (told : RecoverCause) → layout_in sectors image ≡ Ok layout
+      → in_use_in layout image ≡ Ok used
       → ports_from layout used.area image 0 layout.ports ≡ Ok ports
-      → SaysWhy (log_from layout used.area used.header.epoch image 0 layout.slots used.header.base ports) told → SaysWhy (standing_in sectors image) told
+      → SaysWhy (log_from layout used.area used.header.epoch image 0 layout.slots used.header.base ports) told
+      → SaysWhy (standing_in sectors image) told
   unfolding standing_in
   no_log layout used ports told laid_out in_use state is =
-      rw (laid_out, in_use, state) (cause_before (log_from layout used.area used.header.epoch image 0 layout.slots used.header.base ports) _ told is)
+      rw (laid_out, in_use, state)
+      (cause_before (log_from layout used.area used.header.epoch image 0 layout.slots used.header.base ports) _ told is)
 
-  pub stands : (layout : Layout) (used : InUse) (ports : State) (log : Log) → layout_in sectors image ≡ Ok layout → in_use_in layout image ≡ Ok used
-      → ports_from layout used.area image 0 layout.ports ≡ Ok ports → log_from layout used.area used.header.epoch image 0 layout.slots used.header.base ports ≡ Ok log
-      → standing_in sectors image ≡ Ok (record { layout = layout; area = used.area; epoch = used.header.epoch; used = log.used; number = log.number; state = log.state })
+  pub stands : (layout : Layout) (used : InUse) (ports : State) (log : Log) → layout_in sectors image ≡ Ok layout → in_use_in layout image
+      ≡ Ok used
+      → ports_from layout used.area image 0 layout.ports ≡ Ok ports
+      → log_from layout used.area used.header.epoch image 0 layout.slots used.header.base ports ≡ Ok log
+      → standing_in sectors image
+      ≡ Ok (record {
+        layout = layout;
+        area = used.area;
+        epoch = used.header.epoch;
+        used = log.used;
+        number = log.number;
+        state = log.state;
+      })
   unfolding standing_in
   stands layout used ports log laid_out in_use state is = rw (laid_out, in_use, state, is) refl

@@ -31,7 +31,8 @@ spares-append (write sector octets ∷ first) second a b = (a.0, spares-append f
 spares-append (sync ∷ first) second a b = spares-append first second a b
 
 shut-wrote : (sector : ℕ) (octets : List ℕ) (c : Content) → DISK_GATE ≢ sector → Shut c → Shut (wrote sector octets c)
-shut-wrote sector octets c apart shut image is = let w = image-wrote sector octets c image is in ap is_open (w.2 DISK_GATE apart) ∙ shut w.0 w.1
+shut-wrote sector octets c apart shut image is = let w = image-wrote sector octets c image is in ap is_open (w.2 DISK_GATE apart)
+    ∙ shut w.0 w.1
 
 shut-synced : (c : Content) → Shut c → Shut (synced c)
 shut-synced c shut image is = ap (λ (left : Image). is_open (left DISK_GATE)) (image-synced c image is) ∙ shut (reads c) (reads-is_image c)
@@ -49,17 +50,21 @@ spared (sync ∷ calls) c spares shut (suc place) image is = spared calls (synce
 -- and at their end
 pub spared-end : (calls : List Call) (c : Content) → Spares calls → Shut c → Shut (content_after_all calls c)
 spared-end [] c spares shut = shut
-spared-end (write sector octets ∷ calls) c spares shut = spared-end calls (wrote sector octets c) spares.1 (shut-wrote sector octets c spares.0 shut)
+spared-end (write sector octets ∷ calls) c spares shut =
+    spared-end calls (wrote sector octets c) spares.1 (shut-wrote sector octets c spares.0 shut)
 spared-end (sync ∷ calls) c spares shut = spared-end calls (synced c) spares (shut-synced c shut)
 
 -- the way of further calls
-pub way_append : (first second : List Call) (c : Content) (P : Image → Type 0) → HasOnTheWay first c P → HasOnTheWay second (content_after_all first c) P
+pub way_append : (first second : List Call) (c : Content) (P : Image → Type 0) → HasOnTheWay first c P
+    → HasOnTheWay second (content_after_all first c) P
     → HasOnTheWay (first ++ second) c P
 way_append [] second c P a b place image is = b place image is
 way_append (call ∷ first) second c P a b zero image is = a zero image is
-way_append (call ∷ first) second c P a b (suc place) image is = way_append first second (content_after call c) P (λ n. a (suc n)) b place image is
+way_append (call ∷ first) second c P a b (suc place) image is =
+    way_append first second (content_after call c) P (λ n. a (suc n)) b place image is
 
-module _ (g : Geometry) (sectors : ℕ) (fits : total (layout_of g) ≤ sectors) (c : Content) (shut : Shut c) (journal : IsEmptyJournal g (reads c)) where
+module _ (g : Geometry) (sectors : ℕ) (fits : total (layout_of g) ≤ sectors) (c : Content) (shut : Shut c)
+    (journal : IsEmptyJournal g (reads c)) where
   unformatted_now : (image : Image) → is_open (image DISK_GATE) ≡ false → IsEmptyOrUnformatted g sectors image
   unformatted_now image closed = inl (shut-unformatted sectors image closed)
 
@@ -81,9 +86,11 @@ module _ (g : Geometry) (sectors : ℕ) (fits : total (layout_of g) ≤ sectors)
   opened (suc (suc (suc place))) image is = last place image is
     where
       synced_last : (image : Image) → IsImage (synced gated) image → IsEmptyOrUnformatted g sectors image
-      synced_last image is = subst (IsEmptyOrUnformatted g sectors) (sym (image-synced gated image is)) (gate_written (reads gated) (reads-is_image gated))
+      synced_last image is =
+          subst (IsEmptyOrUnformatted g sectors) (sym (image-synced gated image is)) (gate_written (reads gated) (reads-is_image gated))
 
-      last : (place : ℕ) (image : Image) → IsImage (content_after_all (take {A = Call} place []) (synced gated)) image → IsEmptyOrUnformatted g sectors image
+      last : (place : ℕ) (image : Image) → IsImage (content_after_all (take {A = Call} place []) (synced gated)) image
+          → IsEmptyOrUnformatted g sectors image
       last zero image is = synced_last image is
       last (suc place) image is = synced_last image is
 

@@ -20,7 +20,8 @@ use Rattle.iol_journal.specs.declared.place.Idle.TheVariants.{Closed}
 use Rattle.iol_journal.specs.declared.geometry.TheConstants.{GEOMETRY, DISK_GATE}
 
 -- the gate of the disk does not belong to it
-pub journal-behind_gate : (g : Geometry) (image was : Image) → ((i : ℕ) → i ≢ DISK_GATE → image i ≡ was i) → IsEmptyJournal g was → IsEmptyJournal g image
+pub journal-behind_gate : (g : Geometry) (image was : Image) → ((i : ℕ) → i ≢ DISK_GATE → image i ≡ was i) → IsEmptyJournal g was
+    → IsEmptyJournal g image
 journal-behind_gate g image was same is = record {
   areas = record {
     geometry = rw (same GEOMETRY (omega arith)) is.areas.geometry;
@@ -40,7 +41,8 @@ shut-unformatted sectors image shut =
     let none : (nat_lt 1 sectors && is_open (image DISK_GATE)) ≡ false = rw (shut, and-false) refl in
     rw none refl
 
-layout-said : (g : Geometry) (sectors : ℕ) (image : Image) → total (layout_of g) ≤ sectors → is_open (image DISK_GATE) ≡ true → HasAreas g image
+layout-said : (g : Geometry) (sectors : ℕ) (image : Image) → total (layout_of g) ≤ sectors → is_open (image DISK_GATE) ≡ true
+    → HasAreas g image
     → layout_in sectors image ≡ Ok (layout_of g)
 layout-said g sectors image fits formatted areas =
     let formatted_large : (nat_lt 1 sectors && is_open (image DISK_GATE)) ≡ true = grind (arith, nat_tests) in
@@ -48,7 +50,8 @@ layout-said g sectors image fits formatted areas =
     rw (formatted_large, areas.geometry, large) refl
 
 -- behind an open gate it is kept, and means number 0 and the empty state
-pub empty-kept : (g : Geometry) (sectors : ℕ) (image : Image) → total (layout_of g) ≤ sectors → is_open (image DISK_GATE) ≡ true → IsEmptyJournal g image
+pub empty-kept : (g : Geometry) (sectors : ℕ) (image : Image) → total (layout_of g) ≤ sectors → is_open (image DISK_GATE) ≡ true
+    → IsEmptyJournal g image
     → KeptMeans sectors 0 (empty_state g.ports) image
 empty-kept g sectors image fits formatted is =
     kept_means sectors (standing_with (layout_of g) A (record { epoch = 1; base = 0 }) (empty_state g.ports)) Closed image
@@ -56,7 +59,8 @@ empty-kept g sectors image fits formatted is =
     (layout-said g sectors image fits formatted is.areas) is.areas.a_open refl (rw is.areas.b_closed tt) is.areas.b_closed is.whole)
 
 -- whatever a stop leaves of the gate of the disk
-pub empty-or_unformatted : (g : Geometry) (sectors : ℕ) (image : Image) → total (layout_of g) ≤ sectors → IsEmptyJournal g image → IsEmptyOrUnformatted g sectors image
+pub empty-or_unformatted : (g : Geometry) (sectors : ℕ) (image : Image) → total (layout_of g) ≤ sectors → IsEmptyJournal g image
+    → IsEmptyOrUnformatted g sectors image
 empty-or_unformatted g sectors image fits is = at (is_open (image DISK_GATE)) refl
   where
     at : (b : Bool) → is_open (image DISK_GATE) ≡ b → IsEmptyOrUnformatted g sectors image

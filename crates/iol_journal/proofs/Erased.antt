@@ -1,5 +1,6 @@
 -- What a stop leaves of a disk while it is erased.
-use Rattle.std.proofs.Common.{◌≡◌, ◌≢◌, ◌≤◌, ◌<◌, ◌⊎◌, ℕ, zero, suc, ◌-◌, ◌^◌, nat_lt, Bool, true, false, IsTrue, [], ◌∷◌, take, Option, Result, Ok, Err, OnOk, inl, inr, refl, sym, ◌∙◌, ap, subst, arith}
+use Rattle.std.proofs.Common.{◌≡◌, ◌≢◌, ◌≤◌, ◌<◌, ◌⊎◌, ℕ, zero, suc, ◌-◌, ◌^◌, nat_lt, Bool, true, false, IsTrue, [], ◌∷◌, take, Option}
+use Rattle.std.proofs.Common.{Result, Ok, Err, OnOk, inl, inr, refl, sym, ◌∙◌, ap, subst, arith}
 use Rattle.std.proofs.Math.Bool.{and-false}
 use Rattle.std.proofs.lemmas.Bool.Decides.{nat_tests}
 use Rattle.iol_types.specs.State.{State, after}
@@ -9,11 +10,13 @@ use Rattle.iol_disk.specs.Disk.{Disk, After, Same, HasFailed}
 use Rattle.iol_disk.specs.Moments.{LeavesOnly}
 use Rattle.iol_disk.specs.declared.fault.DiskFault.{DiskFault}
 use Rattle.iol_disk.specs.declared.fault.DiskFault.TheVariants.{Read, Write, Sync}
-use Rattle.iol_disk.proofs.DiskLaws.{reads-is_image, image-wrote, image-synced, reads-wrote_here, HasOnTheWay, made_leaves, failed_leaves, leaves_sync, made_one, made_append, made_then_same, failed_first, failed_later}
+use Rattle.iol_disk.proofs.DiskLaws.{reads-is_image, image-wrote, image-synced, reads-wrote_here, HasOnTheWay, made_leaves, failed_leaves}
+use Rattle.iol_disk.proofs.DiskLaws.{leaves_sync, made_one, made_append, made_then_same, failed_first, failed_later}
 use Rattle.iol_slots.specs.Gate.{is_open, closed_gate}
 use Rattle.iol_slots.proofs.SlotLaws.{is_open-closed_gate}
 use Rattle.iol_journal.specs.Layout.{Layout, gate_at, header_at}
-use Rattle.iol_journal.specs.Meaning.{unformatted, is_formatted, layout_in, header_in, in_use_in, greatest, ports_from, log_from, standing_in, meaning}
+use Rattle.iol_journal.specs.Meaning.{unformatted, is_formatted, layout_in, header_in, in_use_in, greatest, ports_from, log_from}
+use Rattle.iol_journal.specs.Meaning.{standing_in, meaning}
 use Rattle.iol_journal.specs.Erasing.{erase_calls, MakesErasureOf, MakesErasure, MeansAsBeforeOrNothing, EachUnformatted}
 use Rattle.iol_journal.specs.Orders.{Makes}
 use Rattle.iol_journal.specs.Reading.{Shows}
@@ -29,7 +32,8 @@ use Rattle.iol_journal.proofs.Recovered.{synced-honest, synced-then, synced-read
 use Rattle.iol_journal.proofs.Sectors.{ports_from-same}
 
 -- of the gate of the disk an image shows whether it is open, and nothing else
-module _ (sectors : ℕ) (old new : Image) (same : (i : ℕ) → i ≢ DISK_GATE → new i ≡ old i) (gate : is_open (new DISK_GATE) ≡ is_open (old DISK_GATE)) where
+module _ (sectors : ℕ) (old new : Image) (same : (i : ℕ) → i ≢ DISK_GATE → new i ≡ old i) (gate : is_open (new DISK_GATE)
+    ≡ is_open (old DISK_GATE)) where
   behind : (layout : Layout) (a : Area) → DISK_GATE < gate_at layout a
   behind layout A = omega arith
   behind layout B = omega arith
@@ -52,9 +56,11 @@ module _ (sectors : ℕ) (old new : Image) (same : (i : ℕ) → i ≢ DISK_GATE
   ports_same layout a = ports_from-same layout a old new 0 layout.ports (λ i above below. same i (omega (arith, above, behind layout a)))
 
   log_same : (layout : Layout) (u : InUse) (ports : State)
-      → log_from layout u.area u.header.epoch new 0 layout.slots u.header.base ports ≡ log_from layout u.area u.header.epoch old 0 layout.slots u.header.base ports
+      → log_from layout u.area u.header.epoch new 0 layout.slots u.header.base ports
+      ≡ log_from layout u.area u.header.epoch old 0 layout.slots u.header.base ports
   log_same layout u ports =
-      log_from-same layout u.area u.header.epoch old new 0 layout.slots u.header.base ports (λ i above below. same i (omega (arith, above, behind layout u.area)))
+      log_from-same layout u.area u.header.epoch old new 0 layout.slots u.header.base ports (λ i above below.
+      same i (omega (arith, above, behind layout u.area)))
 
   standing_same : standing_in sectors new ≡ standing_in sectors old
   unfolding standing_in
@@ -98,7 +104,8 @@ module _ (sectors : ℕ) (c : Content) (was_open : is_open (reads c DISK_GATE) �
   closed_now : (image : Image) → IsImage (synced closing) image → meaning sectors image ≡ Err unformatted
   closed_now image is =
       shut-unformatted sectors image
-      (ap (λ (left : Image). is_open (left DISK_GATE)) (image-synced closing image is) ∙ ap is_open (reads-wrote_here DISK_GATE closed_gate (synced c)) ∙ is_open-closed_gate)
+      (ap (λ (left : Image). is_open (left DISK_GATE)) (image-synced closing image is)
+      ∙ ap is_open (reads-wrote_here DISK_GATE closed_gate (synced c)) ∙ is_open-closed_gate)
 
   way : HasOnTheWay (erase_calls true) c P
   way zero image is = inr (image, is, refl)
@@ -115,7 +122,8 @@ quiet_way : (sectors : ℕ) (c : Content) → HasOnTheWay (erase_calls false) c 
 quiet_way sectors c zero image is = inr (image, is, refl)
 quiet_way sectors c (suc place) image is = last place image is
   where
-    last : (place : ℕ) (image : Image) → IsImage (content_after_all (take {A = Call} place []) (synced c)) image → MeansAsBeforeOrNothing sectors c image
+    last : (place : ℕ) (image : Image) → IsImage (content_after_all (take {A = Call} place []) (synced c)) image
+        → MeansAsBeforeOrNothing sectors c image
     last zero image is = inr (reads c, reads-is_image c, ap (meaning sectors) (image-synced c image is))
     last (suc place) image is = inr (reads c, reads-is_image c, ap (meaning sectors) (image-synced c image is))
 
@@ -130,7 +138,8 @@ way_of : (gate : Bool) (d : Disk) → (IsTrue d.honest → gate ≡ is_formatted
 way_of true d so h = way d.sectors d.content (open_gate_of d.sectors (reads d.content) (so h))
 way_of false d so h = quiet_way d.sectors d.content
 
-leaves_of : (gate : Bool) (old new : Disk) (result : Result Unit DiskFault) → (IsTrue old.honest → gate ≡ is_formatted old.sectors (reads old.content))
+leaves_of : (gate : Bool) (old new : Disk) (result : Result Unit DiskFault)
+    → (IsTrue old.honest → gate ≡ is_formatted old.sectors (reads old.content))
     → MakesErasureOf gate old new result → LeavesOnly old new (MeansAsBeforeOrNothing old.sectors old.content)
 leaves_of gate old new (Ok done) so made = made_leaves _ old new _ made (way_of gate old so)
 leaves_of gate old new (Err Read) so failed = leaves_sync old new _ failed.0 (λ h image is. inr (image, is, refl))
@@ -141,11 +150,13 @@ pub erasure_leaves : (old new : Disk) (result : Result Unit DiskFault) → Makes
     → LeavesOnly old new (MeansAsBeforeOrNothing old.sectors old.content)
 erasure_leaves old new result makes = leaves_of makes.gate old new result makes.reads_so makes.made
 
-each_of : (gate : Bool) (old new : Disk) → (IsTrue old.honest → gate ≡ is_formatted old.sectors (reads old.content)) → Made (erase_calls gate) old new → EachUnformatted new
+each_of : (gate : Bool) (old new : Disk) → (IsTrue old.honest → gate ≡ is_formatted old.sectors (reads old.content))
+    → Made (erase_calls gate) old new → EachUnformatted new
 each_of true old new so made h image is =
     let h_old = subst IsTrue made.after.honest h in
     subst (λ (n : ℕ). meaning n image ≡ Err unformatted) (sym made.after.sectors)
-    (closed_now old.sectors old.content (open_gate_of old.sectors (reads old.content) (so h_old)) image (subst (λ (c : Content). IsImage c image) (made.after.content h_old) is))
+    (closed_now old.sectors old.content (open_gate_of old.sectors (reads old.content) (so h_old)) image
+    (subst (λ (c : Content). IsImage c image) (made.after.content h_old) is))
 each_of false old new so made h image is =
     let h_old = subst IsTrue made.after.honest h in
     let was = image-synced old.content image (subst (λ (c : Content). IsImage c image) (made.after.content h_old) is) in
@@ -165,7 +176,8 @@ there_of sectors image is = by_test (nat_lt DISK_GATE sectors) _ (λ large. grin
     clash : nat_lt DISK_GATE sectors ≡ false → ⊥
     clash small = let none : is_formatted sectors image ≡ false = rw small refl in cc
 
-failed_in_first : (gate : Bool) (told : DiskFault) (old new : Disk) → FailedIn (sync ∷ []) told old new → MakesErasureOf gate old new (Err told)
+failed_in_first : (gate : Bool) (told : DiskFault) (old new : Disk) → FailedIn (sync ∷ []) told old new
+    → MakesErasureOf gate old new (Err told)
 failed_in_first gate Read old new failed = absurd (no_read failed.call failed.failed.kind)
 failed_in_first true Write old new failed = failed_first (sync ∷ []) (write DISK_GATE closed_gate ∷ sync ∷ []) Write old new failed
 failed_in_first false Write old new failed = failed
@@ -173,7 +185,8 @@ failed_in_first true Sync old new failed = failed_first (sync ∷ []) (write DIS
 failed_in_first false Sync old new failed = failed
 
 -- before the gate was read: it is what the disk reads as
-as_it_reads : (old new : Disk) (result : Result Unit DiskFault) → MakesErasureOf (is_formatted old.sectors (reads old.content)) old new result → MakesErasure old new result
+as_it_reads : (old new : Disk) (result : Result Unit DiskFault)
+    → MakesErasureOf (is_formatted old.sectors (reads old.content)) old new result → MakesErasure old new result
 as_it_reads old new result made = record {
   gate = is_formatted old.sectors (reads old.content);
   reads_so = λ h. refl;
@@ -182,15 +195,21 @@ as_it_reads old new result made = record {
 }
 
 pub sync_failed : (told : DiskFault) (old new : Disk) → FailedIn (sync ∷ []) told old new → MakesErasure old new (Err told)
-sync_failed told old new failed = as_it_reads old new (Err told) (failed_in_first (is_formatted old.sectors (reads old.content)) told old new failed)
+sync_failed told old new failed =
+    as_it_reads old new (Err told) (failed_in_first (is_formatted old.sectors (reads old.content)) told old new failed)
 
-pub read_failed : (told : DiskFault) (old mid new : Disk) → told ≡ Read → After synced old mid → mid.failures ≡ old.failures → Same mid new → HasFailed mid new → MakesErasure old new (Err told)
+pub read_failed : (told : DiskFault) (old mid new : Disk) → told ≡ Read → After synced old mid → mid.failures ≡ old.failures → Same mid new
+    → HasFailed mid new → MakesErasure old new (Err told)
 read_failed told old mid new is after counted same failed =
     subst (λ (fault : DiskFault). MakesErasure old new (Err fault)) (sym is)
-    (as_it_reads old new (Err Read) (synced-then old mid new after same, subst (λ (n : ℕ). (n < new.failures) ⊎ (2 ^ 64 - 1 ≤ new.failures)) counted failed))
+    (as_it_reads old new (Err Read) (
+      synced-then old mid new after same,
+      subst (λ (n : ℕ). (n < new.failures) ⊎ (2 ^ 64 - 1 ≤ new.failures)) counted failed,
+    ))
 
 -- once it was read
-module _ (gate : Bool) (old mid read : Disk) (after : After synced old mid) (counted : mid.failures ≡ old.failures) (same : Same mid read) (fault : read.failures ≡ mid.failures)
+module _ (gate : Bool) (old mid read : Disk) (after : After synced old mid) (counted : mid.failures ≡ old.failures) (same : Same mid read)
+    (fault : read.failures ≡ mid.failures)
     (so : Shows mid (λ image. gate ≡ is_formatted mid.sectors image)) (large : gate ≡ true → DISK_GATE < mid.sectors) where
   reads_before : IsTrue old.honest → gate ≡ is_formatted old.sectors (reads old.content)
   reads_before h =
@@ -208,13 +227,15 @@ module _ (gate : Bool) (old mid read : Disk) (after : After synced old mid) (cou
     made = subst (λ (b : Bool). Made (erase_calls b) old read) (sym is) first;
   }
 
-  closes : (result : Result Unit DiskFault) (new : Disk) → Makes (write DISK_GATE closed_gate ∷ sync ∷ []) read new result → MakesErasureOf true old new result
+  closes : (result : Result Unit DiskFault) (new : Disk) → Makes (write DISK_GATE closed_gate ∷ sync ∷ []) read new result
+      → MakesErasureOf true old new result
   closes (Ok done) new made = made_append (sync ∷ []) (write DISK_GATE closed_gate ∷ sync ∷ []) old read new first made
   closes (Err Read) new failed = absurd (no_read failed.call failed.failed.kind)
   closes (Err Write) new failed = failed_later (sync ∷ []) (write DISK_GATE closed_gate ∷ sync ∷ []) Write old read new first failed
   closes (Err Sync) new failed = failed_later (sync ∷ []) (write DISK_GATE closed_gate ∷ sync ∷ []) Sync old read new first failed
 
-  pub was_open : gate ≡ true → (result : Result Unit DiskFault) (new : Disk) → Makes (write DISK_GATE closed_gate ∷ sync ∷ []) read new result → MakesErasure old new result
+  pub was_open : gate ≡ true → (result : Result Unit DiskFault) (new : Disk)
+      → Makes (write DISK_GATE closed_gate ∷ sync ∷ []) read new result → MakesErasure old new result
   was_open is result new makes = record {
     gate = gate;
     reads_so = reads_before;

@@ -1,12 +1,14 @@
 -- What a stop leaves of a disk while it is formatted.
-use Rattle.std.proofs.Common.{◌≡◌, ◌≤◌, ◌⊎◌, ℕ, ◌+◌, Bool, true, false, IsTrue, ◌∷◌, [], ◌++◌, Result, Ok, Err, IfErr, inl, inr, ◌∙◌, ap, sym, subst, arith, length-append}
+use Rattle.std.proofs.Common.{◌≡◌, ◌≤◌, ◌⊎◌, ℕ, ◌+◌, Bool, true, false, IsTrue, ◌∷◌, [], ◌++◌, Result, Ok, Err, IfErr, inl, inr, ◌∙◌, ap}
+use Rattle.std.proofs.Common.{sym, subst, arith, length-append}
 use Rattle.iol_types.specs.State.{empty_state}
 use Rattle.iol_disk.specs.Content.{Image, Content, IsImage, IsImageSince, clock, now, reads, synced}
 use Rattle.iol_disk.specs.Disk.{Disk, After, Same}
 use Rattle.iol_disk.specs.Moments.{LeavesOnly}
 use Rattle.iol_disk.specs.declared.fault.DiskFault.{DiskFault}
 use Rattle.iol_disk.specs.declared.fault.DiskFault.TheVariants.{Read, Write, Sync}
-use Rattle.iol_disk.proofs.DiskLaws.{HasOnTheWay, content_after_append, made_leaves, failed_leaves, started, leaves_same, and_then, then_same, weaker, quiet_sync}
+use Rattle.iol_disk.proofs.DiskLaws.{HasOnTheWay, content_after_append, made_leaves, failed_leaves, started, leaves_same, and_then}
+use Rattle.iol_disk.proofs.DiskLaws.{then_same, weaker, quiet_sync}
 use Rattle.iol_disk.specs.Calls.{content_after_all, Made, FailedIn}
 use Rattle.iol_slots.specs.Gate.{is_open, IsShut}
 use Rattle.iol_journal.specs.Geometry.{Geometry, IsGeometry}
@@ -63,13 +65,16 @@ way : (g : Geometry) (sectors : ℕ) (c : Content) → IsGeometry g → total (l
     → HasOnTheWay (journal_writes g ++ opening_calls) c (IsEmptyOrUnformatted g sectors)
 way g sectors c is fits shut =
     way_append (journal_writes g) opening_calls c (IsEmptyOrUnformatted g sectors)
-    (λ place image is_image. inl (shut-unformatted sectors image (spared (journal_writes g) c (spares-journal g) shut place image is_image)))
-    (opened g sectors fits (content_after_all (journal_writes g) c) (spared-end (journal_writes g) c (spares-journal g) shut) (journal-writes g c is))
+    (λ place image is_image.
+    inl (shut-unformatted sectors image (spared (journal_writes g) c (spares-journal g) shut place image is_image)))
+    (opened g sectors fits (content_after_all (journal_writes g) c) (spared-end (journal_writes g) c (spares-journal g) shut)
+    (journal-writes g c is))
 
 pub behind-makes : (result : Result Unit DiskFault) (g : Geometry) (old new : Disk) → IsGeometry g → total (layout_of g) ≤ old.sectors
     → Makes (journal_writes g ++ opening_calls) old new result → WritesBehind g old new
 behind-makes (Ok done) g old new is fits made shut = made_leaves _ old new _ made (λ h. way g old.sectors old.content is fits (shut h))
-behind-makes (Err told) g old new is fits failed shut = failed_leaves _ told old new _ failed (λ h. way g old.sectors old.content is fits (shut h))
+behind-makes (Err told) g old new is fits failed shut =
+    failed_leaves _ told old new _ failed (λ h. way g old.sectors old.content is fits (shut h))
 
 -- all of them made, each image is the empty journal
 pub made-means : (g : Geometry) (old new : Disk) → IsGeometry g → total (layout_of g) ≤ old.sectors
@@ -79,7 +84,8 @@ made-means g old new is fits made shut h image is_image =
     let written = content_after_all (journal_writes g) old.content in
     let all = made.after.content h_old ∙ content_after_append (journal_writes g) opening_calls old.content in
     subst (λ (n : ℕ). KeptMeans n 0 (empty_state g.ports) image) (sym made.after.sectors)
-    (durable g old.sectors fits written (spared-end (journal_writes g) old.content (spares-journal g) (shut h_old)) (journal-writes g old.content is) image
+    (durable g old.sectors fits written (spared-end (journal_writes g) old.content (spares-journal g) (shut h_old))
+    (journal-writes g old.content is) image
     (subst (λ (c : Content). IsImage c image) all is_image))
 
 behind-synced : (g : Geometry) (old mid read new : Disk) → After synced old mid → Same mid read
@@ -124,7 +130,8 @@ untouched (Err Memory) P p = p
 untouched (Err (DiskFailed fault)) P p = tt
 
 -- no call of a format but a write or a sync fails so
-pub format_failed : (g : Geometry) (told : DiskFault) (old new : Disk) → FailedIn (format_calls g) told old new → MakesFormat g old new (Err (DiskFailed told))
+pub format_failed : (g : Geometry) (told : DiskFault) (old new : Disk) → FailedIn (format_calls g) told old new
+    → MakesFormat g old new (Err (DiskFailed told))
 format_failed g Read old new failed = absurd (no_read failed.call failed.failed.kind)
 format_failed g Write old new failed = failed
 format_failed g Sync old new failed = failed

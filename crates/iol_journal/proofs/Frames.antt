@@ -1,5 +1,6 @@
 -- What a write in the first free slot makes of a kept image.
-use Rattle.std.proofs.Common.{◌≡◌, ◌≤◌, ◌<◌, ◌⊎◌, inl, inr, ℕ, ◌+◌, true, false, if◌then◌else◌, List, Option, Some, None, Ok, refl, ◌∙◌, ap, arith}
+use Rattle.std.proofs.Common.{◌≡◌, ◌≤◌, ◌<◌, ◌⊎◌, inl, inr, ℕ, ◌+◌, true, false, if◌then◌else◌, List, Option, Some, None, Ok, refl, ◌∙◌, ap}
+use Rattle.std.proofs.Common.{arith}
 use Rattle.std.proofs.lemmas.Bool.{cases_lt}
 use Rattle.iol_types.specs.Command.{CommandValue}
 use Rattle.iol_types.specs.State.{State, legal}
@@ -29,7 +30,8 @@ SameButSlot s old new =
     (i : ℕ) → (i < slot_at s.layout s.area s.used) ⊎ (slot_at s.layout s.area s.used + 1 + BODY_SECTORS ≤ i) → new i ≡ old i
 
 -- the gate and the header of an area lie outside of the slots of each area
-gate_apart : (layout : Layout) (a b : Area) (k : ℕ) → (gate_at layout b + 1 < slot_at layout a k) ⊎ (slot_at layout a layout.slots ≤ gate_at layout b)
+gate_apart : (layout : Layout) (a b : Area) (k : ℕ) → (gate_at layout b + 1 < slot_at layout a k)
+    ⊎ (slot_at layout a layout.slots ≤ gate_at layout b)
 gate_apart layout A A k = inl (omega arith)
 gate_apart layout A B k = inr (omega arith)
 gate_apart layout B A k = inl (omega arith)
@@ -37,16 +39,19 @@ gate_apart layout B B k = inl (omega arith)
 
 module _ (s : Standing) (old new : Image) (room : s.used < s.layout.slots) (same : SameButSlot s old new) where
   at_gate : (b : Area) → new (gate_at s.layout b) ≡ old (gate_at s.layout b)
-  at_gate b = same _ (elim (gate_apart s.layout s.area b s.used) as (λ _. (gate_at s.layout b < slot_at s.layout s.area s.used) ⊎ (slot_at s.layout s.area s.used + 1 + BODY_SECTORS ≤ gate_at s.layout b)) [
-    | inl before ↦ inl (omega arith)
-    | inr behind ↦ inr (omega arith)
-  ])
+  at_gate b = same _ (elim (gate_apart s.layout s.area b s.used) as (λ _. (gate_at s.layout b < slot_at s.layout s.area s.used)
+      ⊎ (slot_at s.layout s.area s.used + 1 + BODY_SECTORS ≤ gate_at s.layout b)) [
+        | inl before ↦ inl (omega arith)
+        | inr behind ↦ inr (omega arith)
+      ])
 
   at_header : (b : Area) → new (header_at s.layout b) ≡ old (header_at s.layout b)
-  at_header b = same _ (elim (gate_apart s.layout s.area b s.used) as (λ _. (header_at s.layout b < slot_at s.layout s.area s.used) ⊎ (slot_at s.layout s.area s.used + 1 + BODY_SECTORS ≤ header_at s.layout b)) [
-    | inl before ↦ inl (omega arith)
-    | inr behind ↦ inr (omega arith)
-  ])
+  at_header b = same _
+      (elim (gate_apart s.layout s.area b s.used) as (λ _. (header_at s.layout b < slot_at s.layout s.area s.used)
+      ⊎ (slot_at s.layout s.area s.used + 1 + BODY_SECTORS ≤ header_at s.layout b)) [
+        | inl before ↦ inl (omega arith)
+        | inr behind ↦ inr (omega arith)
+      ])
 
   two : 2 ≤ gate_at s.layout s.area
   two = at_least s.area
@@ -66,7 +71,8 @@ module _ (s : Standing) (old new : Image) (room : s.used < s.layout.slots) (same
   -- all that is read before the slots
   fronts_same : (sectors base : ℕ) (ports : State) → IsRead sectors old s base ports
       → (log : Log) → log_from s.layout s.area s.epoch new 0 s.layout.slots base ports ≡ Ok log
-      → IsRead sectors new (record { layout = s.layout; area = s.area; epoch = s.epoch; used = log.used; number = log.number; state = log.state }) base ports
+      → IsRead sectors new
+      (record { layout = s.layout; area = s.area; epoch = s.epoch; used = log.used; number = log.number; state = log.state }) base ports
   fronts_same sectors base ports is log logged = record {
     layout = layouts (at_front 1 (omega arith)) (at_front 0 (omega arith)) ∙ is.layout;
     in_use = ap (λ (a : Option Header). greatest s.layout a (header_in s.layout new B)) (headers_same A)
@@ -104,13 +110,15 @@ kept_closed sectors s idle old new room same kept shut = stand (stands_read sect
     stand : (base : ℕ) × (ports : State) × IsRead sectors old s base ports → IsKeptAs sectors s idle new
     stand (base, ports, is) = record {
       stands = read_stands sectors new s base ports (fronts_same s old new room same sectors base ports is _
-          (log-same s.layout s.area s.epoch old new 0 s.layout.slots base ports _ is.log (λ i above below. same i (inl below)) (λ less. shut)));
+          (log-same s.layout s.area s.epoch old new 0 s.layout.slots base ports _ is.log (λ i above below. same i (inl below)) (λ less.
+          shut)));
       rest = rest;
       other_area = idle_same s old new room same idle kept.other_area;
     }
 
 -- Behind its open gate a batch counts.
-pub kept_open : (sectors : ℕ) (s : Standing) (idle : Idle) (old new : Image) (commands : List CommandValue) → s.used < s.layout.slots → SameButSlot s old new
+pub kept_open : (sectors : ℕ) (s : Standing) (idle : Idle) (old new : Image) (commands : List CommandValue) → s.used < s.layout.slots
+    → SameButSlot s old new
     → IsKeptAs sectors s idle old → is_open (new (slot_at s.layout s.area s.used)) ≡ true
     → batch_of s.epoch (s.number + 1) (octets_at new (body_at s.layout s.area s.used 0) BODY_SECTORS) ≡ Some commands
     → legal s.state commands ≡ true
@@ -127,12 +135,14 @@ kept_open sectors s idle old new commands room same kept gate batch passes = sta
     stand : (base : ℕ) × (ports : State) × IsRead sectors old s base ports → IsKeptAs sectors (with_batch s commands) idle new
     stand (base, ports, is) = record {
       stands = read_stands sectors new (with_batch s commands) base ports (fronts_same s old new room same sectors base ports is _
-          (log-more s.layout s.area s.epoch old new 0 s.layout.slots base ports _ commands is.log (λ i above below. same i (inl below)) (omega arith) gate batch passes
+          (log-more s.layout s.area s.epoch old new 0 s.layout.slots base ports _ commands is.log (λ i above below. same i (inl below))
+          (omega arith) gate batch passes
           (λ less. behind (s.used + 1) (omega arith) (omega (arith, less)))));
       rest = behind;
       other_area = idle_with idle (idle_same s old new room same idle kept.other_area);
     }
 
-pub kept_means : (sectors : ℕ) (s : Standing) (idle : Idle) (image : Image) → IsKeptAs sectors s idle image → KeptMeans sectors s.number s.state image
+pub kept_means : (sectors : ℕ) (s : Standing) (idle : Idle) (image : Image) → IsKeptAs sectors s idle image
+    → KeptMeans sectors s.number s.state image
 unfolding IsKept
 kept_means sectors s idle image kept = ((s, idle, kept), rw kept.stands refl)

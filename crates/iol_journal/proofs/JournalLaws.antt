@@ -29,30 +29,36 @@ between_means_either size s idle commands image between = by_test (is_open (imag
     (λ closed. inl (kept_means size s idle image (between.0 closed)))
 
 -- before the call of each phase
-holds_means_either : (size : ℕ) (s : Standing) (idle : Idle) (commands : List CommandValue) (body : List ℕ) (sectors : ℕ) (p : Phase) (c : Content)
+holds_means_either : (size : ℕ) (s : Standing) (idle : Idle) (commands : List CommandValue) (body : List ℕ) (sectors : ℕ) (p : Phase)
+    (c : Content)
     → Holds size s idle commands body sectors p c → (image : Image) → IsImage c image → KeptEither size s.number s.state commands image
 holds_means_either size s idle commands body sectors (Body j) c holds image is = inl (kept_means size s idle image (holds.0 image is))
 holds_means_either size s idle commands body sectors SyncBody c holds image is = inl (kept_means size s idle image (holds.0 image is))
 holds_means_either size s idle commands body sectors Gate c holds image is = inl (kept_means size s idle image (holds.0 image is))
-holds_means_either size s idle commands body sectors SyncGate c holds image is = between_means_either size s idle commands image (holds.0 image is)
+holds_means_either size s idle commands body sectors SyncGate c holds image is =
+    between_means_either size s idle commands image (holds.0 image is)
 
 -- while a batch is under way each image means the state before it or after it
 pub underway_means_either : {D : Type 0} (disk : D → Disk) (w : WritingView D) → IsUnderway disk w → IsTrue (disk w.disk).honest
-    → (image : Image) → IsImage (disk w.disk).content image → KeptEither (disk w.disk).sectors w.standing.number w.standing.state w.commands image
+    → (image : Image) → IsImage (disk w.disk).content image
+    → KeptEither (disk w.disk).sectors w.standing.number w.standing.state w.commands image
 underway_means_either disk w under h =
-    holds_means_either (disk w.disk).sectors w.standing w.idle w.commands (body_for w.standing w.commands) (sectors_for w.standing w.commands) w.phase (disk w.disk).content (under h)
+    holds_means_either (disk w.disk).sectors w.standing w.idle w.commands (body_for w.standing w.commands)
+    (sectors_for w.standing w.commands) w.phase (disk w.disk).content (under h)
 
 -- while a checkpoint is under way each image means the number and the state
 pub checkpoint_means_its_state : {D : Type 0} (disk : D → Disk) (c : CheckpointingView D) → IsCheckpointUnderway disk c
     → EachMeans (disk c.disk) c.standing.number c.standing.state
-checkpoint_means_its_state disk c under h image is = stage_means (disk c.disk).sectors c.standing c.stage (disk c.disk).content (under h) image is
+checkpoint_means_its_state disk c under h image is =
+    stage_means (disk c.disk).sectors c.standing c.stage (disk c.disk).content (under h) image is
 
 -- a journal at rest means its number and state
 pub rest_means_its_state : (d : Disk) (s : Standing) (idle : Idle) → IsAtRest d s idle → EachMeans d s.number s.state
 rest_means_its_state d s idle rests h image is = kept_means d.sectors s idle image (rests h image is)
 
 -- a batch that goes on where the journal stands, and fits a slot, wants one, or nothing
-pub following_batch_wants_a_slot : (s : Standing) (first : ℕ) (commands : List CommandValue) → is_too_large commands ≡ false → follows s first commands ≡ true
+pub following_batch_wants_a_slot : (s : Standing) (first : ℕ) (commands : List CommandValue) → is_too_large commands ≡ false
+    → follows s first commands ≡ true
     → (batch_refusal s first commands ≡ None) ⊎ ((batch_refusal s first commands ≡ Some NeedsCheckpoint) × (s.used ≡ s.layout.slots))
 following_batch_wants_a_slot s first commands fits goes_on =
     by_test (s.used == s.layout.slots) _

@@ -1,5 +1,6 @@
 -- The slots of an image, read up to the first closed gate.
-use Rattle.std.proofs.Common.{◌≡◌, ◌≤◌, ◌<◌, ℕ, zero, suc, ◌+◌, true, false, if◌then◌else◌, List, length, Some, Result, Ok, refl, sym, ◌∙◌, ap, subst, arith}
+use Rattle.std.proofs.Common.{◌≡◌, ◌≤◌, ◌<◌, ℕ, zero, suc, ◌+◌, true, false, if◌then◌else◌, List, length, Some, Result, Ok, refl, sym, ◌∙◌}
+use Rattle.std.proofs.Common.{ap, subst, arith}
 use Rattle.iol_types.specs.Command.{CommandValue}
 use Rattle.iol_types.specs.State.{State, after, legal}
 use Rattle.iol_disk.specs.Content.{Image}
@@ -22,21 +23,25 @@ pub record IsOpened (layout : Layout) (a : Area) (epoch : ℕ) (image : Image) (
   pub behind : log_from layout a epoch image (k + 1) left (number + length commands) (after state commands) ≡ Ok log
 
 pub opened : (layout : Layout) (a : Area) (epoch : ℕ) (image : Image) (k left number : ℕ) (state : State) (log : Log)
-    → is_open (image (slot_at layout a k)) ≡ true → log_from layout a epoch image k (suc left) number state ≡ Ok log → IsOpened layout a epoch image k left number state log
+    → is_open (image (slot_at layout a k)) ≡ true → log_from layout a epoch image k (suc left) number state ≡ Ok log
+    → IsOpened layout a epoch image k left number state log
 opened layout a epoch image k left number state log open_gate is =
     let is' = rw open_gate at is in
-    let f = bind_ok (or_damaged (batch_of epoch (number + 1) (octets_at image (body_at layout a k 0) BODY_SECTORS)) (body_at layout a k 0)) _ log is' in
+    let f = bind_ok (or_damaged (batch_of epoch (number + 1) (octets_at image (body_at layout a k 0) BODY_SECTORS)) (body_at layout a k 0))
+    _ log is' in
     let l = bind_ok (if_sound (legal state f.0) (body_at layout a k 0) f.0) _ log f.2 in
     let p = if_sound-ok (legal state f.0) (body_at layout a k 0) f.0 l.0 l.1 in
     record {
       commands = f.0;
       batch = or_damaged-ok _ _ f.0 f.1;
       passes = p.0;
-      behind = subst (λ (commands : List CommandValue). log_from layout a epoch image (k + 1) left (number + length commands) (after state commands) ≡ Ok log) (sym p.1) l.2;
+      behind = subst (λ (commands : List CommandValue).
+          log_from layout a epoch image (k + 1) left (number + length commands) (after state commands) ≡ Ok log) (sym p.1) l.2;
     }
 
 pub goes_on : (layout : Layout) (a : Area) (epoch : ℕ) (image : Image) (k left number : ℕ) (state : State) (log : Log)
-    → is_open (image (slot_at layout a k)) ≡ true → IsOpened layout a epoch image k left number state log → log_from layout a epoch image k (suc left) number state ≡ Ok log
+    → is_open (image (slot_at layout a k)) ≡ true → IsOpened layout a epoch image k left number state log
+    → log_from layout a epoch image k (suc left) number state ≡ Ok log
 goes_on layout a epoch image k left number state log open_gate is = rw (open_gate, is.batch, is.passes) is.behind
 
 same_log : (x y : Log) → ok x ≡ Ok y → x ≡ y
@@ -65,7 +70,8 @@ open-same : (layout : Layout) (a : Area) (epoch : ℕ) (old new : Image) (k left
 open-same layout a epoch old new k left number state log end at o same leads =
     let r = used_from layout a epoch old (k + 1) left (number + length o.commands) (after state o.commands) log o.behind in
     let more : k + 1 ≤ log.used = r.0 in
-    let gate : is_open (new (slot_at layout a k)) ≡ true = ap is_open (same (slot_at layout a k) (omega arith) (omega (arith, more))) ∙ at in
+    let gate : is_open (new (slot_at layout a k)) ≡ true = ap is_open (same (slot_at layout a k) (omega arith) (omega (arith, more)))
+    ∙ at in
     let body : octets_at new (body_at layout a k 0) BODY_SECTORS ≡ octets_at old (body_at layout a k 0) BODY_SECTORS =
     octets_at-same old new (body_at layout a k 0) BODY_SECTORS (λ i above below. same i (omega arith) (omega (arith, more))) in
     goes_on layout a epoch new k left number state end gate
@@ -109,7 +115,8 @@ at_end layout a epoch new left log commands open_gate batch passes shut =
     last (suc rest) closed = let shut' : is_open (new (slot_at layout a (log.used + 1))) ≡ false = closed (omega arith) in rw shut' refl
 
 -- With the gate of the first free slot open before a batch, the log has it.
-pub log-more : (layout : Layout) (a : Area) (epoch : ℕ) (old new : Image) (k left number : ℕ) (state : State) (log : Log) (commands : List CommandValue)
+pub log-more : (layout : Layout) (a : Area) (epoch : ℕ) (old new : Image) (k left number : ℕ) (state : State) (log : Log)
+    (commands : List CommandValue)
     → log_from layout a epoch old k left number state ≡ Ok log
     → ((i : ℕ) → slot_at layout a k ≤ i → i < slot_at layout a log.used → new i ≡ old i)
     → log.used < k + left
@@ -117,10 +124,12 @@ pub log-more : (layout : Layout) (a : Area) (epoch : ℕ) (old new : Image) (k l
     → batch_of epoch (log.number + 1) (octets_at new (body_at layout a log.used 0) BODY_SECTORS) ≡ Some commands
     → legal log.state commands ≡ true
     → (log.used + 1 < k + left → is_open (new (slot_at layout a (log.used + 1))) ≡ false)
-    → log_from layout a epoch new k left number state ≡ Ok (record { used = log.used + 1; number = log.number + length commands; state = after log.state commands })
+    → log_from layout a epoch new k left number state
+    ≡ Ok (record { used = log.used + 1; number = log.number + length commands; state = after log.state commands })
 log-more layout a epoch old new k zero number state log commands is same room open_gate batch passes shut =
     let r = used_from layout a epoch old k zero number state log is in absurd (omega (arith, r.0, room))
-log-more layout a epoch old new k (suc left) number state log commands is same room open_gate batch passes shut = by_test (is_open (old (slot_at layout a k))) _
+log-more layout a epoch old new k (suc left) number state log commands is same room open_gate batch passes shut =
+    by_test (is_open (old (slot_at layout a k))) _
     (λ at.
     let o = opened layout a epoch old k left number state log at is in
     open-same layout a epoch old new k left number state log _ at o same
@@ -144,7 +153,8 @@ log_from-same layout a epoch old new k (suc left) number state same =
     let body : octets_at new (body_at layout a k 0) BODY_SECTORS ≡ octets_at old (body_at layout a k 0) BODY_SECTORS =
     octets_at-same old new (body_at layout a k 0) BODY_SECTORS (λ i above below. same i (omega (arith, above)) (omega (arith, below))) in
     rw (gate, body)
-    (ap (λ (rest : Result Log Cause). if is_open (old (slot_at layout a k)) then rest else Ok (record { used = k; number = number; state = state }))
+    (ap (λ (rest : Result Log Cause).
+    if is_open (old (slot_at layout a k)) then rest else Ok (record { used = k; number = number; state = state }))
     (bind_same (or_damaged (batch_of epoch (number + 1) (octets_at old (body_at layout a k 0) BODY_SECTORS)) (body_at layout a k 0)) _ _
     (λ commands. bind_same (if_sound (legal state commands) (body_at layout a k 0) commands) _ _
     (λ passed. log_from-same layout a epoch old new (k + 1) left (number + length passed) (after state passed)

@@ -1,5 +1,7 @@
--- Writes in the area that is not in use: they change no meaning while it is harmless; once it is written whole, its open gate puts it in use.
-use Rattle.std.proofs.Common.{◌≡◌, ◌≤◌, ◌<◌, ◌⊎◌, inl, inr, ℕ, zero, suc, ◌+◌, ◌==◌, nat_lt, Bool, true, false, if◌then◌else◌, Option, Some, None, Ok, Err, refl, sym, ◌∙◌, ap, subst, arith}
+-- Writes in the area that is not in use. They change no meaning while it is harmless; once it is written whole, its open
+-- gate puts it in use.
+use Rattle.std.proofs.Common.{◌≡◌, ◌≤◌, ◌<◌, ◌⊎◌, inl, inr, ℕ, zero, suc, ◌+◌, ◌==◌, nat_lt, Bool, true, false, if◌then◌else◌, Option, Some}
+use Rattle.std.proofs.Common.{None, Ok, Err, refl, sym, ◌∙◌, ap, subst, arith}
 use Rattle.std.proofs.lemmas.Bool.Decides.{nat_tests}
 use Rattle.iol_types.specs.State.{State}
 use Rattle.iol_disk.specs.Content.{Image}
@@ -34,40 +36,48 @@ IsBefore epoch (Some header) = header.epoch < epoch
 use_of : (a : Area) (header : Header) → InUse
 use_of a header = record { area = a; header = header }
 
-is_use : (layout : Layout) (a b : Area) (x header : Header) → in_use layout a x ≡ Ok (record { area = b; header = header }) → (a ≡ b) × (x ≡ header) × (is_sound x ≡ true)
+is_use : (layout : Layout) (a b : Area) (x header : Header) → in_use layout a x ≡ Ok (record { area = b; header = header }) → (a ≡ b)
+    × (x ≡ header) × (is_sound x ≡ true)
 is_use layout a b x header is =
     let parts = if_sound-ok (is_sound x) (header_at layout a) (record { area = a; header = x }) (record { area = b; header = header }) is in
     (ap (λ (u : InUse). u.area) parts.1, ap (λ (u : InUse). u.header) parts.1, parts.0)
 
 -- the area in use has the header that was found, which is sound
-found : (layout : Layout) (a : Area) (header : Header) (x y : Option Header) → greatest layout x y ≡ Ok (record { area = a; header = header })
+found : (layout : Layout) (a : Area) (header : Header) (x y : Option Header) → greatest layout x y
+    ≡ Ok (record { area = a; header = header })
     → (of a x y ≡ Some header) × (is_sound header ≡ true)
 found layout a header None None is = absurd cc
 found layout a header (Some x) None is = put (is_use layout A a x header is)
   where
     put : (A ≡ a) × (x ≡ header) × (is_sound x ≡ true) → (of a (Some x) None ≡ Some header) × (is_sound header ≡ true)
-    put (at, same, sound) = (ap (λ (b : Area). of b (Some x) None) (sym at) ∙ ap Some same, subst (λ (h : Header). is_sound h ≡ true) same sound)
+    put (at, same, sound) =
+        (ap (λ (b : Area). of b (Some x) None) (sym at) ∙ ap Some same, subst (λ (h : Header). is_sound h ≡ true) same sound)
 found layout a header None (Some y) is = put (is_use layout B a y header is)
   where
     put : (B ≡ a) × (y ≡ header) × (is_sound y ≡ true) → (of a None (Some y) ≡ Some header) × (is_sound header ≡ true)
-    put (at, same, sound) = (ap (λ (b : Area). of b None (Some y)) (sym at) ∙ ap Some same, subst (λ (h : Header). is_sound h ≡ true) same sound)
+    put (at, same, sound) =
+        (ap (λ (b : Area). of b None (Some y)) (sym at) ∙ ap Some same, subst (λ (h : Header). is_sound h ≡ true) same sound)
 found layout a header (Some x) (Some y) is = by_epochs (x.epoch == y.epoch) (nat_lt x.epoch y.epoch) is
   where
     first : (A ≡ a) × (x ≡ header) × (is_sound x ≡ true) → (of a (Some x) (Some y) ≡ Some header) × (is_sound header ≡ true)
-    first (at, same, sound) = (ap (λ (b : Area). of b (Some x) (Some y)) (sym at) ∙ ap Some same, subst (λ (h : Header). is_sound h ≡ true) same sound)
+    first (at, same, sound) =
+        (ap (λ (b : Area). of b (Some x) (Some y)) (sym at) ∙ ap Some same, subst (λ (h : Header). is_sound h ≡ true) same sound)
 
     second : (B ≡ a) × (y ≡ header) × (is_sound y ≡ true) → (of a (Some x) (Some y) ≡ Some header) × (is_sound header ≡ true)
-    second (at, same, sound) = (ap (λ (b : Area). of b (Some x) (Some y)) (sym at) ∙ ap Some same, subst (λ (h : Header). is_sound h ≡ true) same sound)
+    second (at, same, sound) =
+        (ap (λ (b : Area). of b (Some x) (Some y)) (sym at) ∙ ap Some same, subst (λ (h : Header). is_sound h ≡ true) same sound)
 
     by_epochs : (equal less : Bool)
-        → (if equal then Err (Cause.damaged (header_at layout B)) else if less then in_use layout B y else in_use layout A x) ≡ Ok (record { area = a; header = header })
+        → (if equal then Err (Cause.damaged (header_at layout B)) else if less then in_use layout B y else in_use layout A x)
+        ≡ Ok (record { area = a; header = header })
         → (of a (Some x) (Some y) ≡ Some header) × (is_sound header ≡ true)
     by_epochs true less is = absurd cc
     by_epochs false true is = second (is_use layout B a y header is)
     by_epochs false false is = first (is_use layout A a x header is)
 
 -- an area is in use whose header is sound, where the other's is not there or older
-chosen : (layout : Layout) (a : Area) (header : Header) (x y : Option Header) → of a x y ≡ Some header → is_sound header ≡ true → IsBefore header.epoch (of (other a) x y)
+chosen : (layout : Layout) (a : Area) (header : Header) (x y : Option Header) → of a x y ≡ Some header → is_sound header ≡ true
+    → IsBefore header.epoch (of (other a) x y)
     → greatest layout x y ≡ Ok (record { area = a; header = header })
 chosen layout A header x None is sound before = rw (is, sound) refl
 chosen layout A header x (Some y) is sound before =
@@ -80,24 +90,28 @@ chosen layout B header (Some x) y is sound before =
     let earlier : nat_lt x.epoch header.epoch ≡ true = grind (arith, nat_tests) in
     rw (is, differ, earlier, sound) refl
 
-header_of_area : (layout : Layout) (image : Image) (a : Area) → of a (header_in layout image A) (header_in layout image B) ≡ header_in layout image a
+header_of_area : (layout : Layout) (image : Image) (a : Area) → of a (header_in layout image A) (header_in layout image B)
+    ≡ header_in layout image a
 header_of_area layout image A = refl
 header_of_area layout image B = refl
 
-pub in_use_header : (layout : Layout) (image : Image) (a : Area) (header : Header) → in_use_in layout image ≡ Ok (record { area = a; header = header })
+pub in_use_header : (layout : Layout) (image : Image) (a : Area) (header : Header) → in_use_in layout image
+    ≡ Ok (record { area = a; header = header })
     → (header_in layout image a ≡ Some header) × (is_sound header ≡ true)
 in_use_header layout image a header is =
     let parts = found layout a header (header_in layout image A) (header_in layout image B) is in
     (sym (header_of_area layout image a) ∙ parts.0, parts.1)
 
-pub put_in_use : (layout : Layout) (image : Image) (a : Area) (header : Header) → header_in layout image a ≡ Some header → is_sound header ≡ true
+pub put_in_use : (layout : Layout) (image : Image) (a : Area) (header : Header) → header_in layout image a ≡ Some header → is_sound header
+    ≡ true
     → IsBefore header.epoch (header_in layout image (other a)) → in_use_in layout image ≡ Ok (record { area = a; header = header })
 put_in_use layout image a header is sound before =
     chosen layout a header (header_in layout image A) (header_in layout image B) (header_of_area layout image a ∙ is) sound
     (subst (IsBefore header.epoch) (sym (header_of_area layout image (other a))) before)
 
 -- an area that is harmless is not chosen
-idle_before : (s : Standing) (idle : Idle) (image : Image) → IsIdle s idle image → IsBefore s.epoch (header_in s.layout image (other s.area))
+idle_before : (s : Standing) (idle : Idle) (image : Image) → IsIdle s idle image
+    → IsBefore s.epoch (header_in s.layout image (other s.area))
 idle_before s Older image is = by_gate (is_open (image (gate_at s.layout (other s.area))))
   where
     by_gate : (gate : Bool) → IsBefore s.epoch (if gate then Some (header_of (image (header_at s.layout (other s.area)))) else None)
@@ -138,14 +152,17 @@ module _ (s : Standing) (old new : Image) (same : SameButArea s.layout (other s.
       rw (gate, header) refl
 
   -- while the other area is harmless the journal stands as before
-  stands : (sectors base : ℕ) (ports : State) (idle : Idle) → IsRead sectors old s base ports → IsIdle s idle new → IsRead sectors new s base ports
+  stands : (sectors base : ℕ) (ports : State) (idle : Idle) → IsRead sectors old s base ports → IsIdle s idle new
+      → IsRead sectors new s base ports
   stands sectors base ports idle is harmless =
       let own = in_use_header s.layout old s.area _ is.in_use in
       record {
         layout = front_same sectors ∙ is.layout;
         in_use = put_in_use s.layout new s.area _ (own_header ∙ own.0) own.1 (idle_before s idle new harmless);
-        ports_are = ports_from-same s.layout s.area old new 0 s.layout.ports (λ i above below. in_area i (omega (arith, above)) (omega (arith, below))) ∙ is.ports_are;
-        log = log_from-same s.layout s.area s.epoch old new 0 s.layout.slots base ports (λ i above below. in_area i (omega (arith, above)) (omega (arith, below))) ∙ is.log;
+        ports_are = ports_from-same s.layout s.area old new 0 s.layout.ports (λ i above below.
+            in_area i (omega (arith, above)) (omega (arith, below))) ∙ is.ports_are;
+        log = log_from-same s.layout s.area s.epoch old new 0 s.layout.slots base ports (λ i above below.
+            in_area i (omega (arith, above)) (omega (arith, below))) ∙ is.log;
       }
 
   pub other_frame : (sectors : ℕ) (was idle : Idle) → IsKeptAs sectors s was old → IsIdle s idle new → IsKeptAs sectors s idle new
@@ -154,17 +171,20 @@ module _ (s : Standing) (old new : Image) (same : SameButArea s.layout (other s.
       put : (base : ℕ) × (ports : State) × IsRead sectors old s base ports → IsKeptAs sectors s idle new
       put (base, ports, is) = record {
         stands = read_stands sectors new s base ports (stands sectors base ports idle is harmless);
-        rest = λ k above below. ap is_open (in_area (slot_at s.layout s.area k) (omega arith) (omega (arith, below))) ∙ kept.rest k above below;
+        rest = λ k above below. ap is_open (in_area (slot_at s.layout s.area k) (omega arith) (omega (arith, below)))
+            ∙ kept.rest k above below;
         other_area = harmless;
       }
 
 -- ---- an area that was written whole
 
 -- with all slots closed it has no log but its base
-pub log-none : (layout : Layout) (a : Area) (epoch : ℕ) (image : Image) (left base : ℕ) (state : State) → (0 < left → is_open (image (slot_at layout a 0)) ≡ false)
+pub log-none : (layout : Layout) (a : Area) (epoch : ℕ) (image : Image) (left base : ℕ) (state : State)
+    → (0 < left → is_open (image (slot_at layout a 0)) ≡ false)
     → log_from layout a epoch image 0 left base state ≡ Ok (record { used = 0; number = base; state = state })
 log-none layout a epoch image zero base state shut = refl
-log-none layout a epoch image (suc left) base state shut = let closed : is_open (image (slot_at layout a 0)) ≡ false = shut (omega arith) in rw closed refl
+log-none layout a epoch image (suc left) base state shut = let closed : is_open (image (slot_at layout a 0)) ≡ false = shut (omega arith) in
+    rw closed refl
 
 -- closed slots, a header, and the records of a state
 pub record IsWhole (layout : Layout) (a : Area) (header : Header) (state : State) (image : Image) : Type 0 where
@@ -174,11 +194,13 @@ pub record IsWhole (layout : Layout) (a : Area) (header : Header) (state : State
 
 -- how a journal stands that was written so
 abbrev pub standing_with : Layout → Area → Header → State → Standing
-standing_with layout a header state = record { layout = layout; area = a; epoch = header.epoch; used = 0; number = header.base; state = state }
+standing_with layout a header state =
+    record { layout = layout; area = a; epoch = header.epoch; used = 0; number = header.base; state = state }
 
 pub whole_stands : (sectors : ℕ) (layout : Layout) (a : Area) (header : Header) (state : State) (idle : Idle) (image : Image)
     → layout_in sectors image ≡ Ok layout → is_open (image (gate_at layout a)) ≡ true → is_sound header ≡ true
-    → IsBefore header.epoch (header_in layout image (other a)) → IsIdle (standing_with layout a header state) idle image → IsWhole layout a header state image
+    → IsBefore header.epoch (header_in layout image (other a)) → IsIdle (standing_with layout a header state) idle image
+    → IsWhole layout a header state image
     → IsKeptAs sectors (standing_with layout a header state) idle image
 whole_stands sectors layout a header state idle image laid_out gate sound before harmless whole = record {
   stands = read_stands sectors image (standing_with layout a header state) header.base state (record {

@@ -12,7 +12,8 @@ one_sector n some most = omega arith
 pub drop-zeros : (n m : ℕ) → n ≤ m → drop {A = ℕ} n (replicate m 0) ≡ replicate {A = ℕ} (m - n) 0
 drop-zeros zero m within = let all : m - 0 ≡ m = omega arith in rw all refl
 drop-zeros (suc n) zero within = absurd (omega arith)
-drop-zeros (suc n) (suc m) within = let same : m - n ≡ suc m - suc n = omega arith in drop-zeros n m (omega arith) ∙ ap (λ (k : ℕ). replicate {A = ℕ} k 0) same
+drop-zeros (suc n) (suc m) within = let same : m - n ≡ suc m - suc n = omega arith in drop-zeros n m (omega arith)
+    ∙ ap (λ (k : ℕ). replicate {A = ℕ} k 0) same
 
 -- octets that were pushed, and then filled with zeros to the end of their last sector
 pub padded-front : (front : List ℕ) (octets long : ℕ) → octets ≡ SECTOR_OCTETS * sectors_reached (length front) → long ≡ length front

@@ -1,12 +1,14 @@
 -- The disk calls of a batch, one after the other, on an honest disk.
-use Rattle.std.proofs.Common.{◌≡◌, ◌≢◌, ◌≤◌, ◌<◌, inl, inr, ℕ, zero, suc, ◌+◌, ◌*◌, nat_lt, if◌then◌else◌, Bool, true, false, IsTrue, List, [], ◌∷◌, ◌++◌, length, Some, None, refl, sym, ◌∙◌, ap, subst, arith}
+use Rattle.std.proofs.Common.{◌≡◌, ◌≢◌, ◌≤◌, ◌<◌, inl, inr, ℕ, zero, suc, ◌+◌, ◌*◌, nat_lt, if◌then◌else◌, Bool, true, false, IsTrue, List}
+use Rattle.std.proofs.Common.{[], ◌∷◌, ◌++◌, length, Some, None, refl, sym, ◌∙◌, ap, subst, arith}
 use Rattle.std.proofs.lemmas.Bool.{cases_lt}
 use Rattle.std.proofs.lemmas.Bool.Decides.{nat_tests}
 use Rattle.iol_types.specs.Command.{CommandValue}
 use Rattle.iol_types.specs.State.{State, after, legal}
 use Rattle.iol_disk.specs.Content.{Image, Content, reads, IsImage, IsSettled, wrote, synced}
 use Rattle.iol_disk.specs.Disk.{Disk}
-use Rattle.iol_disk.proofs.DiskLaws.{reads-is_image, image-settled, image-synced, image-wrote, reads-wrote_here, reads-wrote_other, HasOnTheWay}
+use Rattle.iol_disk.proofs.DiskLaws.{reads-is_image, image-settled, image-synced, image-wrote, reads-wrote_here, reads-wrote_other}
+use Rattle.iol_disk.proofs.DiskLaws.{HasOnTheWay}
 use Rattle.iol_slots.specs.Gate.{is_open, open_gate}
 use Rattle.iol_slots.proofs.SlotLaws.{is_open-open_gate}
 use Rattle.iol_journal.specs.Layout.{slot_at, body_at}
@@ -38,130 +40,156 @@ pub record IsFit (s : Standing) (commands : List CommandValue) (body : List ℕ)
   pub read_back : (rest : List ℕ) → batch_of s.epoch (s.number + 1) (body ++ rest) ≡ Some commands
   pub passes : legal s.state commands ≡ true
 
-module _ (s : Standing) (idle : Idle) (commands : List CommandValue) (body : List ℕ) (sectors : ℕ) (fit : IsFit s commands body sectors) where
-  but_slot : (n : ℕ) (was image : Image) → slot_at s.layout s.area s.used ≤ n → n < slot_at s.layout s.area s.used + 1 + BODY_SECTORS
-      → ((i : ℕ) → i ≢ n → image i ≡ was i) → SameButSlot s was image
-  but_slot n was image above below same i (inl before) = same i (omega arith)
-  but_slot n was image above below same i (inr behind) = same i (omega arith)
+module _ (s : Standing) (idle : Idle) (commands : List CommandValue) (body : List ℕ) (sectors : ℕ) (fit : IsFit s commands body sectors)
+  where
+    but_slot : (n : ℕ) (was image : Image) → slot_at s.layout s.area s.used ≤ n → n < slot_at s.layout s.area s.used + 1 + BODY_SECTORS
+        → ((i : ℕ) → i ≢ n → image i ≡ was i) → SameButSlot s was image
+    but_slot n was image above below same i (inl before) = same i (omega arith)
+    but_slot n was image above below same i (inr behind) = same i (omega arith)
 
-  -- the write of a sector of the body
-  body_kept : (size j : ℕ) → j < sectors → (was image : Image) → IsKeptAs size s idle was
-      → ((i : ℕ) → i ≢ body_at s.layout s.area s.used j → image i ≡ was i) → IsKeptAs size s idle image
-  body_kept size j below was image kept same =
-      kept_closed size s idle was image fit.room (but_slot (body_at s.layout s.area s.used j) was image (omega arith) (omega (arith, fit.short)) same) kept
-      (ap is_open (same (slot_at s.layout s.area s.used) (omega arith)) ∙ kept.rest s.used (omega arith) fit.room)
+    -- the write of a sector of the body
+    body_kept : (size j : ℕ) → j < sectors → (was image : Image) → IsKeptAs size s idle was
+        → ((i : ℕ) → i ≢ body_at s.layout s.area s.used j → image i ≡ was i) → IsKeptAs size s idle image
+    body_kept size j below was image kept same =
+        kept_closed size s idle was image fit.room
+        (but_slot (body_at s.layout s.area s.used j) was image (omega arith) (omega (arith, fit.short)) same) kept
+        (ap is_open (same (slot_at s.layout s.area s.used) (omega arith)) ∙ kept.rest s.used (omega arith) fit.room)
 
-  -- the body in an image that differs in the gate alone from what is settled
-  body_read : (c : Content) (was image : Image) → IsImage c was → HasWritten s body sectors c → IsSettled c
-      → ((i : ℕ) → i ≢ slot_at s.layout s.area s.used → image i ≡ was i)
-      → batch_of s.epoch (s.number + 1) (octets_at image (body_at s.layout s.area s.used 0) BODY_SECTORS) ≡ Some commands
-  body_read c was image is written settled same = read_at (octets_at-in_slot image body (body_at s.layout s.area s.used 0) sectors BODY_SECTORS there fit.whole fit.short)
-    where
-      there : (j : ℕ) → j < sectors → image (body_at s.layout s.area s.used 0 + j) ≡ sector_of body j
-      there j below =
-          let place : body_at s.layout s.area s.used 0 + j ≡ body_at s.layout s.area s.used j = omega arith in
-          ap image place ∙ same (body_at s.layout s.area s.used j) (omega arith)
-          ∙ ap (λ (i : Image). i (body_at s.layout s.area s.used j)) (image-settled c was settled is) ∙ written j below
+    -- the body in an image that differs in the gate alone from what is settled
+    body_read : (c : Content) (was image : Image) → IsImage c was → HasWritten s body sectors c → IsSettled c
+        → ((i : ℕ) → i ≢ slot_at s.layout s.area s.used → image i ≡ was i)
+        → batch_of s.epoch (s.number + 1) (octets_at image (body_at s.layout s.area s.used 0) BODY_SECTORS) ≡ Some commands
+    body_read c was image is written settled same =
+        read_at (octets_at-in_slot image body (body_at s.layout s.area s.used 0) sectors BODY_SECTORS there fit.whole fit.short)
+      where
+        there : (j : ℕ) → j < sectors → image (body_at s.layout s.area s.used 0 + j) ≡ sector_of body j
+        there j below =
+            let place : body_at s.layout s.area s.used 0 + j ≡ body_at s.layout s.area s.used j = omega arith in
+            ap image place ∙ same (body_at s.layout s.area s.used j) (omega arith)
+            ∙ ap (λ (i : Image). i (body_at s.layout s.area s.used j)) (image-settled c was settled is) ∙ written j below
 
-      read_at : (rest : List ℕ) × (octets_at image (body_at s.layout s.area s.used 0) BODY_SECTORS ≡ body ++ rest)
-          → batch_of s.epoch (s.number + 1) (octets_at image (body_at s.layout s.area s.used 0) BODY_SECTORS) ≡ Some commands
-      read_at (rest, at) = ap (batch_of s.epoch (s.number + 1)) at ∙ fit.read_back rest
+        read_at : (rest : List ℕ) × (octets_at image (body_at s.layout s.area s.used 0) BODY_SECTORS ≡ body ++ rest)
+            → batch_of s.epoch (s.number + 1) (octets_at image (body_at s.layout s.area s.used 0) BODY_SECTORS) ≡ Some commands
+        read_at (rest, at) = ap (batch_of s.epoch (s.number + 1)) at ∙ fit.read_back rest
 
-  -- the write of the gate
-  gate_between : (size : ℕ) (c : Content) (was image : Image) → IsKeptAs size s idle was → IsImage c was → HasWritten s body sectors c → IsSettled c
-      → ((i : ℕ) → i ≢ slot_at s.layout s.area s.used → image i ≡ was i) → IsBetween size s idle commands image
-  gate_between size c was image kept is written settled same =
-      let apart = but_slot (slot_at s.layout s.area s.used) was image (omega arith) (omega arith) same in (
-        λ closed. kept_closed size s idle was image fit.room apart kept closed,
-        λ opened. kept_open size s idle was image commands fit.room apart kept opened (body_read c was image is written settled same) fit.passes,
-      )
+    -- the write of the gate
+    gate_between : (size : ℕ) (c : Content) (was image : Image) → IsKeptAs size s idle was → IsImage c was → HasWritten s body sectors c
+        → IsSettled c
+        → ((i : ℕ) → i ≢ slot_at s.layout s.area s.used → image i ≡ was i) → IsBetween size s idle commands image
+    gate_between size c was image kept is written settled same =
+        let apart = but_slot (slot_at s.layout s.area s.used) was image (omega arith) (omega arith) same in (
+          λ closed. kept_closed size s idle was image fit.room apart kept closed,
+          λ opened. kept_open size s idle was image commands fit.room apart kept opened (body_read c was image is written settled same)
+              fit.passes,
+        )
 
-  body_after : (size j : ℕ) (c : Content) → j < sectors → EachKept size s idle c × HasWritten s body j c
-      → EachKept size s idle (wrote (body_at s.layout s.area s.used j) (sector_of body j) c)
-      × HasWritten s body (j + 1) (wrote (body_at s.layout s.area s.used j) (sector_of body j) c)
-  body_after size j c below (each, written) = (λ image is. kept image is, λ k less. written_at k less)
-    where
-      kept : (image : Image) → IsImage (wrote (body_at s.layout s.area s.used j) (sector_of body j) c) image → IsKeptAs size s idle image
-      kept image is = let w = image-wrote (body_at s.layout s.area s.used j) (sector_of body j) c image is in body_kept size j below w.0 image (each w.0 w.1) w.2
+    body_after : (size j : ℕ) (c : Content) → j < sectors → EachKept size s idle c × HasWritten s body j c
+        → EachKept size s idle (wrote (body_at s.layout s.area s.used j) (sector_of body j) c)
+        × HasWritten s body (j + 1) (wrote (body_at s.layout s.area s.used j) (sector_of body j) c)
+    body_after size j c below (each, written) = (λ image is. kept image is, λ k less. written_at k less)
+      where
+        kept : (image : Image) → IsImage (wrote (body_at s.layout s.area s.used j) (sector_of body j) c) image → IsKeptAs size s idle image
+        kept image is = let w = image-wrote (body_at s.layout s.area s.used j) (sector_of body j) c image is in
+            body_kept size j below w.0 image (each w.0 w.1) w.2
 
-      written_at : (k : ℕ) → k < j + 1 → reads (wrote (body_at s.layout s.area s.used j) (sector_of body j) c) (body_at s.layout s.area s.used k) ≡ sector_of body k
-      written_at k less = elim (cases_lt k j) [
-        | inl before ↦ reads-wrote_other (body_at s.layout s.area s.used j) (sector_of body j) c (body_at s.layout s.area s.used k) (omega arith) ∙ written k before
-        | inr last ↦
-            let e : k ≡ j = omega arith in
-            subst (λ (i : ℕ). reads (wrote (body_at s.layout s.area s.used j) (sector_of body j) c) (body_at s.layout s.area s.used i) ≡ sector_of body i) (sym e)
-            (reads-wrote_here (body_at s.layout s.area s.used j) (sector_of body j) c)
-      ]
+        written_at : (k : ℕ) → k < j + 1
+            → reads (wrote (body_at s.layout s.area s.used j) (sector_of body j) c) (body_at s.layout s.area s.used k) ≡ sector_of body k
+        written_at k less = elim (cases_lt k j) [
+          | inl before ↦ reads-wrote_other (body_at s.layout s.area s.used j) (sector_of body j) c (body_at s.layout s.area s.used k)
+              (omega arith) ∙ written k before
+          | inr last ↦
+              let e : k ≡ j = omega arith in
+              subst (λ (i : ℕ). reads (wrote (body_at s.layout s.area s.used j) (sector_of body j) c) (body_at s.layout s.area s.used i)
+              ≡ sector_of body i) (sym e)
+              (reads-wrote_here (body_at s.layout s.area s.used j) (sector_of body j) c)
+        ]
 
-  -- what holds before the call that comes next
-  next_body : (size j : ℕ) (q : Phase) (c : Content) (test : Bool) → test ≡ nat_lt (j + 1) sectors → j < sectors → (if test then Body (j + 1) else SyncBody) ≡ q
-      → EachKept size s idle c × HasWritten s body (j + 1) c → Holds size s idle commands body sectors q c
-  next_body size j q c true test below is holds = subst (λ (p : Phase). Holds size s idle commands body sectors p c) is holds
-  next_body size j q c false test below is holds =
-      let last : j + 1 ≡ sectors = grind (arith, nat_tests) in
-      subst (λ (p : Phase). Holds size s idle commands body sectors p c) is (holds.0, subst (λ (n : ℕ). HasWritten s body n c) last holds.1)
+    -- what holds before the call that comes next
+    next_body : (size j : ℕ) (q : Phase) (c : Content) (test : Bool) → test ≡ nat_lt (j + 1) sectors → j < sectors
+        → (if test then Body (j + 1) else SyncBody) ≡ q
+        → EachKept size s idle c × HasWritten s body (j + 1) c → Holds size s idle commands body sectors q c
+    next_body size j q c true test below is holds = subst (λ (p : Phase). Holds size s idle commands body sectors p c) is holds
+    next_body size j q c false test below is holds =
+        let last : j + 1 ≡ sectors = grind (arith, nat_tests) in
+        subst (λ (p : Phase). Holds size s idle commands body sectors p c) is
+        (holds.0, subst (λ (n : ℕ). HasWritten s body n c) last holds.1)
 
-  holds_next : (size : ℕ) (p q : Phase) (c : Content) → IsPhase sectors p → next_phase sectors p ≡ Some q → Holds size s idle commands body sectors p c
-      → Holds size s idle commands body sectors q (content_after (call_of s body p) c)
-  holds_next size (Body j) q c in_phase next holds =
-      next_body size j q _ (nat_lt (j + 1) sectors) refl in_phase (phase_of _ q next) (body_after size j c in_phase holds)
-  holds_next size SyncBody q c in_phase next holds =
-      subst (λ (p : Phase). Holds size s idle commands body sectors p (synced c)) (phase_of _ q next)
-      (λ image is. subst (IsKeptAs size s idle) (sym (image-synced c image is)) (holds.0 (reads c) (reads-is_image c)), λ j below. holds.1 j below, λ i. refl)
-  holds_next size Gate q c in_phase next holds =
-      subst (λ (p : Phase). Holds size s idle commands body sectors p (wrote (slot_at s.layout s.area s.used) open_gate c)) (phase_of _ q next) (
-        between,
-        (between (reads (wrote (slot_at s.layout s.area s.used) open_gate c)) (reads-is_image (wrote (slot_at s.layout s.area s.used) open_gate c))).1
-            (ap is_open (reads-wrote_here (slot_at s.layout s.area s.used) open_gate c) ∙ is_open-open_gate),
-      )
-    where
-      between : (image : Image) → IsImage (wrote (slot_at s.layout s.area s.used) open_gate c) image → IsBetween size s idle commands image
-      between image is =
-          let w = image-wrote (slot_at s.layout s.area s.used) open_gate c image is in
-          gate_between size c w.0 image (holds.0 w.0 w.1) w.1 holds.1 holds.2 w.2
-  holds_next size SyncGate q c in_phase next holds = cc
+    holds_next : (size : ℕ) (p q : Phase) (c : Content) → IsPhase sectors p → next_phase sectors p ≡ Some q
+        → Holds size s idle commands body sectors p c
+        → Holds size s idle commands body sectors q (content_after (call_of s body p) c)
+    holds_next size (Body j) q c in_phase next holds =
+        next_body size j q _ (nat_lt (j + 1) sectors) refl in_phase (phase_of _ q next) (body_after size j c in_phase holds)
+    holds_next size SyncBody q c in_phase next holds =
+        subst (λ (p : Phase). Holds size s idle commands body sectors p (synced c)) (phase_of _ q next) (
+          λ image is. subst (IsKeptAs size s idle) (sym (image-synced c image is)) (holds.0 (reads c) (reads-is_image c)),
+          λ j below.
+              holds.1 j below,
+          λ i. refl,
+        )
+    holds_next size Gate q c in_phase next holds =
+        subst (λ (p : Phase). Holds size s idle commands body sectors p (wrote (slot_at s.layout s.area s.used) open_gate c))
+        (phase_of _ q next) (
+          between,
+          (between (reads (wrote (slot_at s.layout s.area s.used) open_gate c))
+              (reads-is_image (wrote (slot_at s.layout s.area s.used) open_gate c))).1
+              (ap is_open (reads-wrote_here (slot_at s.layout s.area s.used) open_gate c) ∙ is_open-open_gate),
+        )
+      where
+        between : (image : Image) → IsImage (wrote (slot_at s.layout s.area s.used) open_gate c) image
+            → IsBetween size s idle commands image
+        between image is =
+            let w = image-wrote (slot_at s.layout s.area s.used) open_gate c image is in
+            gate_between size c w.0 image (holds.0 w.0 w.1) w.1 holds.1 holds.2 w.2
+    holds_next size SyncGate q c in_phase next holds = cc
 
-  pub next_holds : (d d' : Disk) (p q : Phase) → IsPhase sectors p → next_phase sectors p ≡ Some q → Made (call_of s body p ∷ []) d d'
-      → (IsTrue d.honest → Holds d.sectors s idle commands body sectors p d.content)
-      → IsTrue d'.honest → Holds d'.sectors s idle commands body sectors q d'.content
-  next_holds d d' p q in_phase next made holds h' =
-      let after_ = made.after in
-      let h : IsTrue d.honest = subst IsTrue after_.honest h' in
-      subst (λ (n : ℕ). Holds n s idle commands body sectors q d'.content) (sym after_.sectors)
-      (subst (λ (c : Content). Holds d.sectors s idle commands body sectors q c) (sym (after_.content h)) (holds_next d.sectors p q d.content in_phase next (holds h)))
+    pub next_holds : (d d' : Disk) (p q : Phase) → IsPhase sectors p → next_phase sectors p ≡ Some q → Made (call_of s body p ∷ []) d d'
+        → (IsTrue d.honest → Holds d.sectors s idle commands body sectors p d.content)
+        → IsTrue d'.honest → Holds d'.sectors s idle commands body sectors q d'.content
+    next_holds d d' p q in_phase next made holds h' =
+        let after_ = made.after in
+        let h : IsTrue d.honest = subst IsTrue after_.honest h' in
+        subst (λ (n : ℕ). Holds n s idle commands body sectors q d'.content) (sym after_.sectors)
+        (subst (λ (c : Content). Holds d.sectors s idle commands body sectors q c) (sym (after_.content h))
+        (holds_next d.sectors p q d.content in_phase next (holds h)))
 
-  at_end : (size : ℕ) (p : Phase) (c : Content) → next_phase sectors p ≡ None → Holds size s idle commands body sectors p c
-      → EachKept size (with_batch s commands) idle (content_after (call_of s body p) c)
-  at_end size (Body j) c none holds = cc
-  at_end size SyncBody c none holds = cc
-  at_end size Gate c none holds = cc
-  at_end size SyncGate c none holds = λ image is. subst (IsKeptAs size (with_batch s commands) idle) (sym (image-synced c image is)) holds.1
+    at_end : (size : ℕ) (p : Phase) (c : Content) → next_phase sectors p ≡ None → Holds size s idle commands body sectors p c
+        → EachKept size (with_batch s commands) idle (content_after (call_of s body p) c)
+    at_end size (Body j) c none holds = cc
+    at_end size SyncBody c none holds = cc
+    at_end size Gate c none holds = cc
+    at_end size SyncGate c none holds = λ image is.
+        subst (IsKeptAs size (with_batch s commands) idle) (sym (image-synced c image is)) holds.1
 
-  -- after the last call
-  pub batch_durable : (d d' : Disk) (p : Phase) → next_phase sectors p ≡ None → Made (call_of s body p ∷ []) d d'
-      → (IsTrue d.honest → Holds d.sectors s idle commands body sectors p d.content)
-      → IsTrue d'.honest → EachKept d'.sectors (with_batch s commands) idle d'.content
-  batch_durable d d' p none made holds h' =
-      let after_ = made.after in
-      let h : IsTrue d.honest = subst IsTrue after_.honest h' in
-      subst (λ (n : ℕ). EachKept n (with_batch s commands) idle d'.content) (sym after_.sectors)
-      (subst (λ (c : Content). EachKept d.sectors (with_batch s commands) idle c) (sym (after_.content h)) (at_end d.sectors p d.content none (holds h)))
+    -- after the last call
+    pub batch_durable : (d d' : Disk) (p : Phase) → next_phase sectors p ≡ None → Made (call_of s body p ∷ []) d d'
+        → (IsTrue d.honest → Holds d.sectors s idle commands body sectors p d.content)
+        → IsTrue d'.honest → EachKept d'.sectors (with_batch s commands) idle d'.content
+    batch_durable d d' p none made holds h' =
+        let after_ = made.after in
+        let h : IsTrue d.honest = subst IsTrue after_.honest h' in
+        subst (λ (n : ℕ). EachKept n (with_batch s commands) idle d'.content) (sym after_.sectors)
+        (subst (λ (c : Content). EachKept d.sectors (with_batch s commands) idle c) (sym (after_.content h))
+        (at_end d.sectors p d.content none (holds h)))
 
-  -- the images on the way of a call
-  pub on_the_way : (size : ℕ) (p : Phase) (c : Content) → IsPhase sectors p → Holds size s idle commands body sectors p c
-      → HasOnTheWay (call_of s body p ∷ []) c (KeptEither size s.number s.state commands)
-  on_the_way size (Body j) c in_phase holds zero image is = inl (kept_means size s idle image (holds.0 image is))
-  on_the_way size (Body j) c in_phase holds (suc place) image is = inl (kept_means size s idle image ((body_after size j c in_phase holds).0 image (left_behind _ image place is)))
-  on_the_way size SyncBody c in_phase holds zero image is = inl (kept_means size s idle image (holds.0 image is))
-  on_the_way size SyncBody c in_phase holds (suc place) image is =
-      inl (kept_means size s idle image ((holds_next size SyncBody Gate c tt refl holds).0 image (left_behind _ image place is)))
-  on_the_way size Gate c in_phase holds zero image is = inl (kept_means size s idle image (holds.0 image is))
-  on_the_way size Gate c in_phase holds (suc place) image is = between_means_either size s idle commands image ((holds_next size Gate SyncGate c tt refl holds).0 image (left_behind _ image place is))
-  on_the_way size SyncGate c in_phase holds zero image is = between_means_either size s idle commands image (holds.0 image is)
-  on_the_way size SyncGate c in_phase holds (suc place) image is =
-      inr (kept_means size (with_batch s commands) idle image (at_end size SyncGate c refl holds image (left_behind _ image place is)))
+    -- the images on the way of a call
+    pub on_the_way : (size : ℕ) (p : Phase) (c : Content) → IsPhase sectors p → Holds size s idle commands body sectors p c
+        → HasOnTheWay (call_of s body p ∷ []) c (KeptEither size s.number s.state commands)
+    on_the_way size (Body j) c in_phase holds zero image is = inl (kept_means size s idle image (holds.0 image is))
+    on_the_way size (Body j) c in_phase holds (suc place) image is =
+        inl (kept_means size s idle image ((body_after size j c in_phase holds).0 image (left_behind _ image place is)))
+    on_the_way size SyncBody c in_phase holds zero image is = inl (kept_means size s idle image (holds.0 image is))
+    on_the_way size SyncBody c in_phase holds (suc place) image is =
+        inl (kept_means size s idle image ((holds_next size SyncBody Gate c tt refl holds).0 image (left_behind _ image place is)))
+    on_the_way size Gate c in_phase holds zero image is = inl (kept_means size s idle image (holds.0 image is))
+    on_the_way size Gate c in_phase holds (suc place) image is =
+        between_means_either size s idle commands image
+        ((holds_next size Gate SyncGate c tt refl holds).0 image (left_behind _ image place is))
+    on_the_way size SyncGate c in_phase holds zero image is = between_means_either size s idle commands image (holds.0 image is)
+    on_the_way size SyncGate c in_phase holds (suc place) image is =
+        inr (kept_means size (with_batch s commands) idle image (at_end size SyncGate c refl holds image (left_behind _ image place is)))
 
-pub fit_of : (d : Disk) (s : Standing) (commands : List CommandValue) (p : Phase) → IsPlanned d s commands p → IsFit s commands (body_for s commands) (sectors_for s commands)
+pub fit_of : (d : Disk) (s : Standing) (commands : List CommandValue) (p : Phase) → IsPlanned d s commands p
+    → IsFit s commands (body_for s commands) (sectors_for s commands)
 fit_of d s commands p planned = record {
   room = planned.room;
   whole = planned.whole;
@@ -171,7 +199,8 @@ fit_of d s commands p planned = record {
 }
 
 -- a journal at rest means its number and state
-pub rest_means : (d d' : Disk) (s s' : Standing) (idle idle' : Idle) → d' ≡ d → s' ≡ s → idle' ≡ idle → IsAtRest d s idle → IsAtRest d' s' idle' × EachMeans d' s'.number s'.state
+pub rest_means : (d d' : Disk) (s s' : Standing) (idle idle' : Idle) → d' ≡ d → s' ≡ s → idle' ≡ idle → IsAtRest d s idle
+    → IsAtRest d' s' idle' × EachMeans d' s'.number s'.state
 rest_means d d' s s' idle idle' same_disk same_standing same_idle rest =
     subst (λ (e : Disk). IsAtRest e s' idle' × EachMeans e s'.number s'.state) (sym same_disk)
     (subst (λ (t : Standing). IsAtRest d t idle' × EachMeans d t.number t.state) (sym same_standing)
@@ -179,8 +208,17 @@ rest_means d d' s s' idle idle' same_disk same_standing same_idle rest =
     (rest, λ h image is. kept_means d.sectors s idle image (rest h image is))))
 
 -- the standing behind a batch, as the step makes it
-pub standing_behind : (place : Place) (number number' : ℕ) (state state' : State) (commands : List CommandValue) → number' ≡ number + length commands → state' ≡ after state commands
-    → standing_at (record { layout = place.layout; area = place.area; epoch = place.epoch; used = place.used + 1; idle = place.idle }) number' state'
+pub standing_behind : (place : Place) (number number' : ℕ) (state state' : State) (commands : List CommandValue) → number' ≡ number
+    + length commands → state' ≡ after state commands
+    → standing_at (record { layout = place.layout; area = place.area; epoch = place.epoch; used = place.used + 1; idle = place.idle })
+    number' state'
     ≡ with_batch (standing_at place number state) commands
 standing_behind place number number' state state' commands same_number same_state =
-    λ j. record { layout = place.layout; area = place.area; epoch = place.epoch; used = place.used + 1; number = same_number j; state = same_state j }
+    λ j. record {
+      layout = place.layout;
+      area = place.area;
+      epoch = place.epoch;
+      used = place.used + 1;
+      number = same_number j;
+      state = same_state j;
+    }

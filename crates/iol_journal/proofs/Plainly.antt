@@ -1,5 +1,6 @@
 -- Sectors, ports and slots that are read one after another off a list of sectors.
-use Rattle.std.proofs.Common.{◌≡◌, ◌<◌, ℕ, ◌+◌, ◌-◌, ◌*◌, Bool, List, [], ◌∷◌, ◌++◌, length, take, Option, Result, Ok, refl, sym, ◌∙◌, ap, arith}
+use Rattle.std.proofs.Common.{◌≡◌, ◌<◌, ℕ, ◌+◌, ◌-◌, ◌*◌, Bool, List, [], ◌∷◌, ◌++◌, length, take, Option, Result, Ok, refl, sym, ◌∙◌, ap}
+use Rattle.std.proofs.Common.{arith}
 use Rattle.std.proofs.lemmas.List.{take_more_set}
 use Rattle.iol_types.specs.State.{Port, State, with_port}
 use Rattle.iol_disk.specs.Content.{Image}
@@ -26,28 +27,34 @@ front_grows state new p number port is at inside =
     rw (is, place) (take_more_set state p port inside)
 
 -- a gate that stands at a place
-pub gate_at_place : (image : Image) (place gate : ℕ) (answer expected : Bool) → gate ≡ place → answer ≡ is_open (image gate) → answer ≡ expected
+pub gate_at_place : (image : Image) (place gate : ℕ) (answer expected : Bool) → gate ≡ place → answer ≡ is_open (image gate) → answer
+    ≡ expected
     → is_open (image place) ≡ expected
 gate_at_place image place gate answer expected at told is = ap (λ (s : ℕ). is_open (image s)) (sym at) ∙ sym told ∙ is
 
 -- why a journal does not stand is why there is no meaning
-pub no_meaning : (sectors : ℕ) (image : Image) (told : RecoverCause) → SaysWhy (standing_in sectors image) told → SaysWhy (meaning sectors image) told
+pub no_meaning : (sectors : ℕ) (image : Image) (told : RecoverCause) → SaysWhy (standing_in sectors image) told
+    → SaysWhy (meaning sectors image) told
 no_meaning sectors image told is = cause_before (standing_in sectors image) _ told is
 
 -- where all parts are read, they are the meaning
-pub all_read : (sectors : ℕ) (image : Image) (layout : Layout) (used : InUse) (ports : State) (log : Log) → layout_in sectors image ≡ Ok layout
+pub all_read : (sectors : ℕ) (image : Image) (layout : Layout) (used : InUse) (ports : State) (log : Log) → layout_in sectors image
+    ≡ Ok layout
     → in_use_in layout image ≡ Ok used → ports_from layout used.area image 0 layout.ports ≡ Ok ports
     → log_from layout used.area used.header.epoch image 0 layout.slots used.header.base ports ≡ Ok log
     → meaning sectors image ≡ Ok (record { number = log.number; state = log.state })
-all_read sectors image layout used ports log laid_out in_use state is = rw (stands sectors image layout used ports log laid_out in_use state is) refl
+all_read sectors image layout used ports log laid_out in_use state is =
+    rw (stands sectors image layout used ports log laid_out in_use state is) refl
 
 -- an open slot, whose body leads on, or does not
-pub slot_reached : (image : Image) (layout : Layout) (a : Area) (epoch k number sector : ℕ) (state : State) (body : List ℕ) (end : Option Meaning)
+pub slot_reached : (image : Image) (layout : Layout) (a : Area) (epoch k number sector : ℕ) (state : State) (body : List ℕ)
+    (end : Option Meaning)
     → sector ≡ body_at layout a k 0 → body ≡ octets_at image sector BODY_SECTORS → length body ≡ SECTOR_OCTETS * BODY_SECTORS
     → (HoldsRecords body → reached number state (batch_of epoch (number + 1) body) ≡ end)
     → reached number state (batch_of epoch (number + 1) (octets_at image (body_at layout a k 0) BODY_SECTORS)) ≡ end
 slot_reached image layout a epoch k number sector state body end at is size leads =
-    ap (λ (octets : List ℕ). reached number state (batch_of epoch (number + 1) octets)) (ap (λ (s : ℕ). octets_at image s BODY_SECTORS) (sym at) ∙ sym is)
+    ap (λ (octets : List ℕ). reached number state (batch_of epoch (number + 1) octets))
+    (ap (λ (s : ℕ). octets_at image s BODY_SECTORS) (sym at) ∙ sym is)
     ∙ leads (λ small. omega arith)
 
 abbrev pub ok_log : Log → Result Log Cause

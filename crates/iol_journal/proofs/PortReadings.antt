@@ -20,15 +20,19 @@ in_all : (image : Image) (first sectors read : ℕ) (octets : List ℕ) → octe
 in_all image first sectors read octets is some not_short =
     let more = octets_at image (first + read) (sectors - read) in
     let all : octets_at image first sectors ≡ octets ++ more =
-    ap (octets_at image first) (omega (arith, some)) ∙ octets_at-add image first read (sectors - read) ∙ ap (λ (front : List ℕ). front ++ more) (sym is) in
-    ap (λ (os : List ℕ). port_of (port_record_at os)) all ∙ ap port_of (port_record_at-append octets more not_short) ∙ port_of-extended more (port_record_at octets)
+    ap (octets_at image first) (omega (arith, some)) ∙ octets_at-add image first read (sectors - read)
+    ∙ ap (λ (front : List ℕ). front ++ more) (sym is) in
+    ap (λ (os : List ℕ). port_of (port_record_at os)) all ∙ ap port_of (port_record_at-append octets more not_short)
+    ∙ port_of-extended more (port_record_at octets)
 
 module _ (image : Image) (first sectors read : ℕ) (octets : List ℕ) (is : octets ≡ octets_at image first read) (some : read ≤ sectors) where
   pub port-read : (port : Port) (rest : List ℕ) → port_record_at octets ≡ Ok (port, rest) → port_in image first sectors ≡ Ok port
   port-read port rest found =
-      ap (λ (o : Option Port). or_damaged o first) (in_all image first sectors read octets is some (λ short. let both = sym found ∙ short in cc) ∙ ap port_of found)
+      ap (λ (o : Option Port). or_damaged o first)
+      (in_all image first sectors read octets is some (λ short. let both = sym found ∙ short in cc) ∙ ap port_of found)
 
-  pub port-damaged : (fault : RecordFault) → (fault ≡ Short → ⊥) → port_record_at octets ≡ Err fault → port_in image first sectors ≡ Err (damaged first)
+  pub port-damaged : (fault : RecordFault) → (fault ≡ Short → ⊥) → port_record_at octets ≡ Err fault → port_in image first sectors
+      ≡ Err (damaged first)
   port-damaged fault other fails =
       ap (λ (o : Option Port). or_damaged o first)
       (in_all image first sectors read octets is some (λ short. other (let both = sym fails ∙ short in cc)) ∙ ap port_of fails)

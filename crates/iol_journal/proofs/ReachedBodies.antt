@@ -1,5 +1,6 @@
 -- The batch of a slot's body lies in the sectors that its records reach.
-use Rattle.std.proofs.Common.{◌≡◌, ◌≤◌, inl, inr, ℕ, ◌+◌, ◌-◌, ◌*◌, true, false, if◌then◌else◌, List, [], ◌++◌, length, take, drop, None, refl, sym, ◌∙◌, ap, subst, arith, add-zero}
+use Rattle.std.proofs.Common.{◌≡◌, ◌≤◌, inl, inr, ℕ, ◌+◌, ◌-◌, ◌*◌, true, false, if◌then◌else◌, List, [], ◌++◌, length, take, drop, None}
+use Rattle.std.proofs.Common.{refl, sym, ◌∙◌, ap, subst, arith, add-zero}
 use Rattle.std.specs.Int.{w16, w32, w64, from_be_bytes}
 use Rattle.std.proofs.lemmas.Bool.{cases_lt}
 use Rattle.std.proofs.lemmas.Bool.Decides.{nat_tests}
@@ -41,9 +42,11 @@ one_more old now first j body longer same so_far more h =
     ∙ ap (λ octets. octets_at (reads old.content) first j ++ octets) (sym (octets_at-one (reads old.content) (first + j)))
     ∙ sym (octets_at-add (reads old.content) first j 1)
 
-pub front-kept : (n place : ℕ) (body more : List ℕ) → place + n ≤ length body → take n (drop place (body ++ more)) ≡ take n (drop place body)
+pub front-kept : (n place : ℕ) (body more : List ℕ) → place + n ≤ length body → take n (drop place (body ++ more))
+    ≡ take n (drop place body)
 front-kept n place body more within =
-    ap (take n) (drop-append-le place body more (omega arith)) ∙ take-append-le n (drop place body) more (omega (arith, length-drop place body))
+    ap (take n) (drop-append-le place body more (omega arith))
+    ∙ take-append-le n (drop place body) more (omega (arith, length-drop place body))
 
 head_of-append : (body more : List ℕ) → BODY_HEAD_OCTETS ≤ length body → head_of (body ++ more) ≡ head_of body
 unfolding head_of
@@ -74,7 +77,8 @@ batch_of-append epoch first body more some reach = rw (head_of-append body more 
     ]
 
 -- the sectors from the first on begin with it
-first_sector : (image : Image) (sector n : ℕ) (front body : List ℕ) → 1 ≤ n → front ≡ octets_at image sector 1 → body ≡ octets_at image sector n
+first_sector : (image : Image) (sector n : ℕ) (front body : List ℕ) → 1 ≤ n → front ≡ octets_at image sector 1 → body
+    ≡ octets_at image sector n
     → body ≡ front ++ octets_at image (sector + 1) (n - 1)
 first_sector image sector n front body some first is =
     let count : n ≡ 1 + (n - 1) = omega arith in
@@ -104,11 +108,13 @@ pub batch_of-front : (image : Image) (sector n : ℕ) (front body : List ℕ) �
     → batch_of epoch first body ≡ batch_of epoch first (octets_at image sector BODY_SECTORS)
 batch_of-front image sector n front body read epoch first =
     let count : n + (BODY_SECTORS - n) ≡ BODY_SECTORS = omega (arith, read.within) in
-    sym (batch_of-append epoch first body (octets_at image (sector + n) (BODY_SECTORS - n)) (omega (arith, read.size, read.some)) (holds_records image sector n front body read))
+    sym (batch_of-append epoch first body (octets_at image (sector + n) (BODY_SECTORS - n)) (omega (arith, read.size, read.some))
+    (holds_records image sector n front body read))
     ∙ ap (λ (octets : List ℕ). batch_of epoch first (octets ++ octets_at image (sector + n) (BODY_SECTORS - n))) read.all
     ∙ ap (batch_of epoch first) (sym (octets_at-add image sector n (BODY_SECTORS - n)) ∙ ap (octets_at image sector) count)
 
-pub batch_of-misfit : (epoch first : ℕ) (body : List ℕ) (head : Head) → head ≡ head_of body → fits head epoch first ≡ false → batch_of epoch first body ≡ None
+pub batch_of-misfit : (epoch first : ℕ) (body : List ℕ) (head : Head) → head ≡ head_of body → fits head epoch first ≡ false
+    → batch_of epoch first body ≡ None
 unfolding batch_of
 batch_of-misfit epoch first body head is misfit = rw (← is, misfit) refl
 

@@ -29,7 +29,8 @@ synced-then old mid new after same = record {
 pub synced-reads : (old new : Disk) → After synced old new → IsTrue old.honest → reads new.content ≡ reads old.content
 synced-reads old new after h = ap reads (after.content h)
 
-pub synced-only : (old new : Disk) → After synced old new → IsTrue old.honest → (image : Image) → IsImage new.content image → image ≡ reads old.content
+pub synced-only : (old new : Disk) → After synced old new → IsTrue old.honest → (image : Image) → IsImage new.content image → image
+    ≡ reads old.content
 synced-only old new after h image is = image-synced old.content image (subst (λ (c : Content). IsImage c image) (after.content h) is)
 
 -- what is found after a sync is what the disk read as before it
@@ -54,8 +55,10 @@ cause_after old mid part whole told after carries is = λ h.
 pub areas_found : (old first second : Disk) (layout : Layout) (used : InUse) → After synced old first → Same first second
     → Shows first (λ image. layout_in first.sectors image ≡ Ok layout) → Shows second (λ image. in_use_in layout image ≡ Ok used)
     → Shows old (λ image. (layout_in old.sectors image ≡ Ok layout) × (in_use_in layout image ≡ Ok used))
-areas_found old first second layout used after same laid_out in_use h =
-    (layout_after old first layout after laid_out h, found_after old second (in_use_in layout) used (synced-then old first second after same) in_use h)
+areas_found old first second layout used after same laid_out in_use h = (
+  layout_after old first layout after laid_out h,
+  found_after old second (in_use_in layout) used (synced-then old first second after same) in_use h,
+)
 
 pub chosen_after : (old first second : Disk) (layout : Layout) (used : InUse) → After synced old first → Same first second
     → Shows first (λ image. layout_in first.sectors image ≡ Ok layout) → Shows second (λ image. in_use_in layout image ≡ Ok used)
@@ -69,7 +72,8 @@ no_read (write sector octets) is = cc
 no_read sync is = cc
 
 -- a sync that failed ends a recovery
-pub recovery_failed : (T : Type 0) (told : DiskFault) (old new : Disk) → FailedIn (sync ∷ []) told old new → MakesRecovery {T = T} old new (Err (cause.Disk told))
+pub recovery_failed : (T : Type 0) (told : DiskFault) (old new : Disk) → FailedIn (sync ∷ []) told old new
+    → MakesRecovery {T = T} old new (Err (cause.Disk told))
 recovery_failed T Read old new failed = absurd (no_read failed.call failed.failed.kind)
 recovery_failed T Write old new failed = failed
 recovery_failed T Sync old new failed = failed

@@ -30,7 +30,8 @@ idle_by_header s idle image is = by_test (nat_lt (header_of (image (header_at s.
     by_test false test Closed is = is
 
 -- a kept image is kept as the journal stands on it
-kept_as_found : (sectors : ℕ) (s : Standing) (image : Image) → IsKept sectors image → standing_in sectors image ≡ Ok s → IsKeptAs sectors s (idle_in s image) image
+kept_as_found : (sectors : ℕ) (s : Standing) (image : Image) → IsKept sectors image → standing_in sectors image ≡ Ok s
+    → IsKeptAs sectors s (idle_in s image) image
 unfolding IsKept
 kept_as_found sectors s image kept stands =
     let same = same_standing kept.0 s (sym kept.2.stands ∙ stands) in
@@ -57,7 +58,8 @@ same_meaning : (m n : Meaning) → ◌≡◌ {A = Result Meaning Cause} (Ok m) (
 same_meaning m n is = cc
 
 -- on a disk all of whose images mean the same, what is found is that, and each image means it still
-pub means-after : (old new : Disk) (s : Standing) (idle : Idle) (number : ℕ) (state : State) → new.sectors ≡ old.sectors → new.honest ≡ old.honest
+pub means-after : (old new : Disk) (s : Standing) (idle : Idle) (number : ℕ) (state : State) → new.sectors ≡ old.sectors → new.honest
+    ≡ old.honest
     → Shows old (λ image. standing_in old.sectors image ≡ Ok s)
     → Shows old (λ image. idle ≡ idle_in s image)
     → Shows old (λ read. (image : Image) → IsImage new.content image → image ≡ read)

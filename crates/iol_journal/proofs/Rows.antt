@@ -1,5 +1,6 @@
 -- Writes to sectors one behind the other, and images that have what was written.
-use Rattle.std.proofs.Common.{◌≡◌, ◌≢◌, ◌≤◌, ◌<◌, ◌⊎◌, inl, inr, ℕ, zero, suc, ◌+◌, List, [], ◌∷◌, ◌++◌, length, map, take, slice_get, Some, refl, ◌∙◌, ap, subst, arith}
+use Rattle.std.proofs.Common.{◌≡◌, ◌≢◌, ◌≤◌, ◌<◌, ◌⊎◌, inl, inr, ℕ, zero, suc, ◌+◌, List, [], ◌∷◌, ◌++◌, length, map, take, slice_get, Some}
+use Rattle.std.proofs.Common.{refl, ◌∙◌, ap, subst, arith}
 use Rattle.std.specs.List.{range_with_len}
 use Rattle.std.proofs.lemmas.Bool.{cases_lt}
 use Rattle.iol_disk.specs.Content.{Image, Content, IsImage, reads, wrote}
@@ -24,13 +25,15 @@ row-higher low high high' [] le row = omega (arith, le, row)
 row-higher low high high' (write sector octets ∷ calls) le row = (row.0, row-higher (sector + 1) high high' calls le row.1)
 row-higher low high high' (sync ∷ calls) le row = absurd row
 
-pub row-append : (low mid high : ℕ) (first second : List Call) → IsRow low mid first → IsRow mid high second → IsRow low high (first ++ second)
+pub row-append : (low mid high : ℕ) (first second : List Call) → IsRow low mid first → IsRow mid high second
+    → IsRow low high (first ++ second)
 row-append low mid high [] second a b = row-wider mid low high second a b
 row-append low mid high (write sector octets ∷ first) second a b = (a.0, row-append (sector + 1) mid high first second a.1 b)
 row-append low mid high (sync ∷ first) second a b = absurd a
 
 -- places that rise
-pub row-map : (place : ℕ → ℕ) (octets : ℕ → List ℕ) (low high s n : ℕ) → ((k : ℕ) → place k + 1 ≤ place (k + 1)) → low ≤ place s → place (s + n) ≤ high
+pub row-map : (place : ℕ → ℕ) (octets : ℕ → List ℕ) (low high s n : ℕ) → ((k : ℕ) → place k + 1 ≤ place (k + 1)) → low ≤ place s
+    → place (s + n) ≤ high
     → IsRow low high (map (λ k. write (place k) (octets k)) (range_with_len s n))
 row-map place octets low high s zero rises first last =
     let here : place (s + 0) ≡ place s = ap place (omega arith) in omega (arith, first, last, here)
@@ -40,7 +43,8 @@ row-map place octets low high s (suc n) rises first last =
 
 -- ---- what an image has
 
-pub has-append : (first second : List Call) (image : Image) → HasWrites (first ++ second) image → HasWrites first image × HasWrites second image
+pub has-append : (first second : List Call) (image : Image) → HasWrites (first ++ second) image → HasWrites first image
+    × HasWrites second image
 has-append [] second image has = (tt, has)
 has-append (write sector octets ∷ first) second image has = let rest = has-append first second image has.1 in ((has.0, rest.0), rest.1)
 has-append (sync ∷ first) second image has = has-append first second image has
@@ -51,7 +55,8 @@ at_or_behind s k from = elim (cases_lt s k) [
   | inr here ↦ inl (omega (arith, here, from))
 ]
 
-pub has-map : (place : ℕ → ℕ) (octets : ℕ → List ℕ) (s n : ℕ) (image : Image) → HasWrites (map (λ k. write (place k) (octets k)) (range_with_len s n)) image
+pub has-map : (place : ℕ → ℕ) (octets : ℕ → List ℕ) (s n : ℕ) (image : Image)
+    → HasWrites (map (λ k. write (place k) (octets k)) (range_with_len s n)) image
     → (k : ℕ) → s ≤ k → k < s + n → image (place k) ≡ octets k
 has-map place octets s zero image has k from below = absurd (omega (arith, from, below))
 has-map place octets s (suc n) image has k from below =
@@ -78,7 +83,8 @@ pub record IsWritten (low high : ℕ) (calls : List Call) (old new : Image) : Ty
   pub written : HasWrites calls new
   pub others : (i : ℕ) → (i < low) ⊎ (high ≤ i) → new i ≡ old i
 
-pub row-written : (low high : ℕ) (calls : List Call) (c : Content) → IsRow low high calls → IsWritten low high calls (reads c) (reads (content_after_all calls c))
+pub row-written : (low high : ℕ) (calls : List Call) (c : Content) → IsRow low high calls
+    → IsWritten low high calls (reads c) (reads (content_after_all calls c))
 row-written low high [] c row = record { written = tt; others = λ i apart. refl }
 row-written low high (write sector octets ∷ calls) c row =
     let after = wrote sector octets c in
@@ -106,7 +112,8 @@ pub record IsNth (low high : ℕ) (calls : List Call) (i : ℕ) : Type 0 where
   pub at_place : slice_get calls i ≡ Some (write sector octets)
   pub from : low ≤ sector
   pub below : sector < high
-  pub more : (old new : Image) → ((k : ℕ) → k ≢ sector → new k ≡ old k) → new sector ≡ octets → HasWrites (take i calls) old → HasWrites (take (suc i) calls) new
+  pub more : (old new : Image) → ((k : ℕ) → k ≢ sector → new k ≡ old k) → new sector ≡ octets → HasWrites (take i calls) old
+      → HasWrites (take (suc i) calls) new
 
 pub row-nth : (low high : ℕ) (calls : List Call) (i : ℕ) → IsRow low high calls → i < length calls → IsNth low high calls i
 row-nth low high [] i row less = absurd (omega (arith, less))
@@ -131,6 +138,7 @@ row-nth low high (write sector octets ∷ calls) (suc i) row less =
     }
 
 -- nothing is left behind one call
-pub left_behind : (c : Content) (image : Image) (place : ℕ) → IsImage (content_after_all (take {A = Call} place []) c) image → IsImage c image
+pub left_behind : (c : Content) (image : Image) (place : ℕ) → IsImage (content_after_all (take {A = Call} place []) c) image
+    → IsImage c image
 left_behind c image zero is = is
 left_behind c image (suc place) is = is

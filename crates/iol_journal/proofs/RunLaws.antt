@@ -1,5 +1,6 @@
 -- What keeps a run, over disks and lists of commands alone.
-use Rattle.std.proofs.Common.{◌≡◌, ◌≤◌, inl, inr, ⊎_elim, ℕ, zero, suc, ◌+◌, true, IsTrue, List, [], ◌∷◌, ◌++◌, length, take, slice_index_or, All, refl, sym, ◌∙◌, ap, subst, arith, append_assoc, length-append}
+use Rattle.std.proofs.Common.{◌≡◌, ◌≤◌, inl, inr, ⊎_elim, ℕ, zero, suc, ◌+◌, true, IsTrue, List, [], ◌∷◌, ◌++◌, length, take}
+use Rattle.std.proofs.Common.{slice_index_or, All, refl, sym, ◌∙◌, ap, subst, arith, append_assoc, length-append}
 use Rattle.std.proofs.Math.Seq.{take-append_seam}
 use Rattle.std.proofs.lemmas.List.{take-append-le}
 use Rattle.std.proofs.lemmas.List.Sums.{fold-append}
@@ -11,7 +12,8 @@ use Rattle.iol_disk.specs.Disk.{Disk}
 use Rattle.iol_disk.specs.Moments.{LeavesOnly}
 use Rattle.iol_disk.proofs.Images.{since-now}
 use Rattle.iol_journal.specs.Kept.{KeptMeans, KeptEither, EachMeans}
-use Rattle.iol_journal.specs.Runs.{Mark, Run, accepted, number_of, state_of, HasPrefix, IsMarked, IsRun, begun, with_mark, with_commands, with_batch_begun, with_batch_written}
+use Rattle.iol_journal.specs.Runs.{Mark, Run, accepted, number_of, state_of, HasPrefix, IsMarked, IsRun, begun, with_mark, with_commands}
+use Rattle.iol_journal.specs.Runs.{with_batch_begun, with_batch_written}
 
 -- an image has this prefix of what a run has accepted
 abbrev Has : ℕ → Run → ℕ → Image → Type 0
@@ -19,38 +21,52 @@ Has sectors r least image = HasPrefix sectors r.first r.start (accepted r) least
 
 -- a prefix with more has less
 fewer : (sectors : ℕ) (r : Run) (least less : ℕ) (image : Image) → less ≤ least → Has sectors r least image → Has sectors r less image
-fewer sectors r least less image le has = record { count = has.count; within = has.within; reaches = omega (arith, le, has.reaches); means = has.means }
+fewer sectors r least less image le has =
+    record { count = has.count; within = has.within; reaches = omega (arith, le, has.reaches); means = has.means }
 
 -- what is written is a prefix
-written_prefix : (sectors : ℕ) (r : Run) (image : Image) → KeptMeans sectors (number_of r) (state_of r) image → Has sectors r (number_of r) image
+written_prefix : (sectors : ℕ) (r : Run) (image : Image) → KeptMeans sectors (number_of r) (state_of r) image
+    → Has sectors r (number_of r) image
 written_prefix sectors r image kept = record {
   count = length r.written;
   within = omega (arith, length-append r.written (r.underway ++ r.queued));
   reaches = omega arith;
-  means = subst (λ (cs : List CommandValue). KeptMeans sectors (number_of r) (after r.start cs) image) (sym (take-append_seam r.written (r.underway ++ r.queued))) kept;
+  means = subst (λ (cs : List CommandValue). KeptMeans sectors (number_of r) (after r.start cs) image)
+      (sym (take-append_seam r.written (r.underway ++ r.queued))) kept;
 }
 
 -- and with the batch that is underway it is another
-underway_prefix : (sectors : ℕ) (r : Run) (image : Image) → KeptMeans sectors (number_of r + length r.underway) (after (state_of r) r.underway) image → Has sectors r (number_of r) image
+underway_prefix : (sectors : ℕ) (r : Run) (image : Image)
+    → KeptMeans sectors (number_of r + length r.underway) (after (state_of r) r.underway) image → Has sectors r (number_of r) image
 underway_prefix sectors r image kept = record {
   count = length (r.written ++ r.underway);
-  within = omega (arith, length-append r.written r.underway, length-append r.written (r.underway ++ r.queued), length-append r.underway r.queued);
+  within = omega (
+    arith,
+    length-append r.written r.underway,
+    length-append r.written (r.underway ++ r.queued),
+    length-append r.underway r.queued,
+  );
   reaches = omega (arith, length-append r.written r.underway);
-  means = subst (λ (n : ℕ). KeptMeans sectors n (after r.start (take (length (r.written ++ r.underway)) (accepted r))) image) (omega (arith, length-append r.written r.underway))
+  means = subst (λ (n : ℕ). KeptMeans sectors n (after r.start (take (length (r.written ++ r.underway)) (accepted r))) image)
+      (omega (arith, length-append r.written r.underway))
       (subst (λ (s : State). KeptMeans sectors (number_of r + length r.underway) s image) same kept);
 }
   where
-    same : after (after r.start r.written) r.underway ≡ after r.start (take (length (r.written ++ r.underway)) (r.written ++ (r.underway ++ r.queued)))
+    same : after (after r.start r.written) r.underway
+        ≡ after r.start (take (length (r.written ++ r.underway)) (r.written ++ (r.underway ++ r.queued)))
     same =
         sym (fold-append apply r.start r.written r.underway)
-        ∙ ap (after r.start) (sym (take-append_seam (r.written ++ r.underway) r.queued) ∙ ap (take (length (r.written ++ r.underway))) (append_assoc r.written r.underway r.queued))
+        ∙ ap (after r.start) (sym (take-append_seam (r.written ++ r.underway) r.queued)
+        ∙ ap (take (length (r.written ++ r.underway))) (append_assoc r.written r.underway r.queued))
 
-pub either_prefix : (sectors : ℕ) (r : Run) (image : Image) → KeptEither sectors (number_of r) (state_of r) r.underway image → Has sectors r (number_of r) image
+pub either_prefix : (sectors : ℕ) (r : Run) (image : Image) → KeptEither sectors (number_of r) (state_of r) r.underway image
+    → Has sectors r (number_of r) image
 either_prefix sectors r image (inl kept) = written_prefix sectors r image kept
 either_prefix sectors r image (inr kept) = underway_prefix sectors r image kept
 
 -- a run stays one where each of its marks does
-marks_by : (old new : Disk) (r s : Run) → s.marks ≡ r.marks → legal s.start (accepted s) ≡ true → ((mark : Mark) → IsMarked old r mark → IsMarked new s mark) → IsRun old r → IsRun new s
+marks_by : (old new : Disk) (r s : Run) → s.marks ≡ r.marks → legal s.start (accepted s) ≡ true
+    → ((mark : Mark) → IsMarked old r mark → IsMarked new s mark) → IsRun old r → IsRun new s
 marks_by old new r s same passes goes run = record {
   passes = passes;
   marks = subst (All (IsMarked new s)) (sym same) (λ k mark below. goes (slice_index_or r.marks k mark) (run.marks k mark below));
@@ -58,7 +74,8 @@ marks_by old new r s same passes goes run = record {
 
 -- calls keep it of which a stop leaves images that have P, where each image with P has what a mark says
 keeps : (old new : Disk) (r : Run) (P : Image → Type 0) → LeavesOnly old new P
-    → ((mark : Mark) → IsMarked old r mark → IsTrue old.honest → (image : Image) → P image → Has old.sectors r mark.acknowledged image) → IsRun old r → IsRun new r
+    → ((mark : Mark) → IsMarked old r mark → IsTrue old.honest → (image : Image) → P image → Has old.sectors r mark.acknowledged image)
+    → IsRun old r → IsRun new r
 keeps old new r P leaves has run = marks_by old new r r refl run.passes goes run
   where
     goes : (mark : Mark) → IsMarked old r mark → IsMarked new r mark
@@ -76,20 +93,25 @@ pub no_image_added : (old new : Disk) (r : Run) → LeavesOnly old new (IsImage 
 no_image_added old new r leaves = keeps old new r (IsImage old.content) leaves (λ mark was h image is. was.each h image (inr is))
 
 -- calls of which a stop leaves images with all that is written keep it
-pub stays : (old new : Disk) (r : Run) (P : Image → Type 0) → LeavesOnly old new P → ((image : Image) → P image → HasPrefix old.sectors r.first r.start (accepted r) (number_of r) image) → IsRun old r → IsRun new r
+pub stays : (old new : Disk) (r : Run) (P : Image → Type 0) → LeavesOnly old new P
+    → ((image : Image) → P image → HasPrefix old.sectors r.first r.start (accepted r) (number_of r) image) → IsRun old r → IsRun new r
 stays old new r P leaves has =
     keeps old new r P leaves (λ mark was h image p. fewer old.sectors r (number_of r) mark.acknowledged image was.written (has image p))
 
 -- those of a checkpoint
-pub checkpoint_stays : (old new : Disk) (r : Run) → LeavesOnly old new (KeptMeans old.sectors (number_of r) (state_of r)) → IsRun old r → IsRun new r
+pub checkpoint_stays : (old new : Disk) (r : Run) → LeavesOnly old new (KeptMeans old.sectors (number_of r) (state_of r)) → IsRun old r
+    → IsRun new r
 checkpoint_stays old new r leaves = stays old new r (KeptMeans old.sectors (number_of r) (state_of r)) leaves (written_prefix old.sectors r)
 
 -- those of a batch
-pub batch_stays : (old new : Disk) (r : Run) → LeavesOnly old new (KeptEither old.sectors (number_of r) (state_of r) r.underway) → IsRun old r → IsRun new r
-batch_stays old new r leaves = stays old new r (KeptEither old.sectors (number_of r) (state_of r) r.underway) leaves (either_prefix old.sectors r)
+pub batch_stays : (old new : Disk) (r : Run) → LeavesOnly old new (KeptEither old.sectors (number_of r) (state_of r) r.underway)
+    → IsRun old r → IsRun new r
+batch_stays old new r leaves =
+    stays old new r (KeptEither old.sectors (number_of r) (state_of r) r.underway) leaves (either_prefix old.sectors r)
 
 -- the same commands, of which more are written
-regrouped : (d : Disk) (r s : Run) → s.first ≡ r.first → s.start ≡ r.start → s.marks ≡ r.marks → accepted s ≡ accepted r → length r.written ≤ length s.written → IsRun d r → IsRun d s
+regrouped : (d : Disk) (r s : Run) → s.first ≡ r.first → s.start ≡ r.start → s.marks ≡ r.marks → accepted s ≡ accepted r → length r.written
+    ≤ length s.written → IsRun d r → IsRun d s
 regrouped d r s first start marks same more run =
     marks_by d d r s marks (rw (start, same) run.passes) goes run
   where
@@ -101,14 +123,16 @@ regrouped d r s first start marks same more run =
     }
 
 -- a batch is begun of the first commands of the queue
-pub batch_begins : (d : Disk) (r : Run) (batch behind : List CommandValue) → r.underway ≡ [] → r.queued ≡ batch ++ behind → IsRun d r → IsRun d (with_batch_begun r batch behind)
+pub batch_begins : (d : Disk) (r : Run) (batch behind : List CommandValue) → r.underway ≡ [] → r.queued ≡ batch ++ behind → IsRun d r
+    → IsRun d (with_batch_begun r batch behind)
 batch_begins d r batch behind none is =
     regrouped d r (with_batch_begun r batch behind) refl refl refl
     (ap (λ (cs : List CommandValue). r.written ++ cs) (sym is ∙ ap (λ (cs : List CommandValue). cs ++ r.queued) (sym none))) (omega arith)
 
 -- the batch is written
 pub batch_ends : (d : Disk) (r : Run) → IsRun d r → IsRun d (with_batch_written r)
-batch_ends d r = regrouped d r (with_batch_written r) refl refl refl (append_assoc r.written r.underway r.queued) (omega (arith, length-append r.written r.underway))
+batch_ends d r = regrouped d r (with_batch_written r) refl refl refl (append_assoc r.written r.underway r.queued)
+    (omega (arith, length-append r.written r.underway))
 
 -- a run with a moment now
 abbrev with_mark_now : Disk → Run → ℕ → Run
@@ -127,7 +151,9 @@ marked d r acknowledged le here run = record { passes = run.passes; marks = all 
     fresh = record {
       written = le;
       passed = λ h. omega arith;
-      each = λ h image left. fewer d.sectors r (number_of r) acknowledged image le (either_prefix d.sectors r image (here h image (since-now d.content image left)));
+      each = λ h image left.
+          fewer d.sectors r (number_of r) acknowledged image le
+          (either_prefix d.sectors r image (here h image (since-now d.content image left)));
     }
 
     all : All (IsMarked d (with_mark_now d r acknowledged)) (record { clock = clock d.content; acknowledged = acknowledged } ∷ r.marks)
@@ -135,7 +161,8 @@ marked d r acknowledged le here run = record { passes = run.passes; marks = all 
     all (suc k) mark below = again (slice_index_or r.marks k mark) (run.marks k mark (omega (arith, below)))
 
 -- more commands are accepted, each of which passes in the state that it meets
-pub accepts : (d : Disk) (r : Run) (commands : List CommandValue) → legal (after r.start (accepted r)) commands ≡ true → IsRun d r → IsRun d (with_commands r commands)
+pub accepts : (d : Disk) (r : Run) (commands : List CommandValue) → legal (after r.start (accepted r)) commands ≡ true → IsRun d r
+    → IsRun d (with_commands r commands)
 accepts d r commands pass run = marks_by d d r (with_commands r commands) refl passes goes run
   where
     same : accepted (with_commands r commands) ≡ accepted r ++ commands
@@ -146,19 +173,23 @@ accepts d r commands pass run = marks_by d d r (with_commands r commands) refl p
     passes : legal r.start (accepted (with_commands r commands)) ≡ true
     passes = rw (same, legal-append r.start (accepted r) commands, run.passes, pass) refl
 
-    more : (sectors least : ℕ) (image : Image) → Has sectors r least image → HasPrefix sectors r.first r.start (accepted r ++ commands) least image
+    more : (sectors least : ℕ) (image : Image) → Has sectors r least image
+        → HasPrefix sectors r.first r.start (accepted r ++ commands) least image
     more sectors least image has = record {
       count = has.count;
       within = omega (arith, has.within, length-append (accepted r) commands);
       reaches = has.reaches;
-      means = subst (λ (cs : List CommandValue). KeptMeans sectors (r.first + has.count) (after r.start cs) image) (sym (take-append-le has.count (accepted r) commands has.within)) has.means;
+      means = subst (λ (cs : List CommandValue). KeptMeans sectors (r.first + has.count) (after r.start cs) image)
+          (sym (take-append-le has.count (accepted r) commands has.within)) has.means;
     }
 
     goes : (mark : Mark) → IsMarked d r mark → IsMarked d (with_commands r commands) mark
     goes mark was = record {
       written = was.written;
       passed = was.passed;
-      each = λ h image left. subst (λ (cs : List CommandValue). HasPrefix d.sectors r.first r.start cs mark.acknowledged image) (sym same) (more d.sectors mark.acknowledged image (was.each h image left));
+      each = λ h image left.
+          subst (λ (cs : List CommandValue). HasPrefix d.sectors r.first r.start cs mark.acknowledged image) (sym same)
+          (more d.sectors mark.acknowledged image (was.each h image left));
     }
 
 abbrev nothing : ℕ → State → Run

@@ -21,10 +21,15 @@ use Rattle.iol_journal.proofs.RunLaws.{batch_begins, batch_ends, batch_stays, ch
 pub run_of_begun : {D : Type 0} (disk : D → Disk) (j : JournalView D) (w : WritingView D) {r : Run} {commands behind : List CommandValue}
     → w.disk ≡ j.disk → w.standing ≡ j.standing → w.commands ≡ commands → IsUnderway disk w
     → r.queued ≡ commands ++ behind → IsRunAtRest disk r j → IsRunWriting disk (with_batch_begun r commands behind) w
-run_of_begun {D = D} disk j w {r = r} {commands = commands} {behind = behind} same_disk same_standing same_commands under queued (rests, (run, number, state), none) = (
+run_of_begun {D = D} disk j w {r = r} {commands = commands} {behind = behind} same_disk same_standing same_commands under queued (
+  rests,
+  (run, number, state),
+  none,
+) = (
   under,
   (
-    subst (λ (d : D). IsRun (disk d) (with_batch_begun r commands behind)) (sym same_disk) (batch_begins (disk j.disk) r commands behind none queued run),
+    subst (λ (d : D). IsRun (disk d) (with_batch_begun r commands behind)) (sym same_disk)
+        (batch_begins (disk j.disk) r commands behind none queued run),
     ap (λ (s : Standing). s.number) same_standing ∙ number,
     ap (λ (s : Standing). s.state) same_standing ∙ state,
   ),
@@ -35,7 +40,8 @@ run_of_begun {D = D} disk j w {r = r} {commands = commands} {behind = behind} sa
 pub run_of_call : {D : Type 0} (disk : D → Disk) (w : WritingView D) {r : Run} (left : D)
     → LeavesOnly (disk w.disk) (disk left) (KeptEither (disk w.disk).sectors w.standing.number w.standing.state w.commands)
     → IsRunWriting disk r w → IsRun (disk left) r
-run_of_call disk w {r = r} left leaves (under, (run, number, state), commands) = batch_stays (disk w.disk) (disk left) r (rw (← number, ← state, commands) leaves) run
+run_of_call disk w {r = r} left leaves (under, (run, number, state), commands) =
+    batch_stays (disk w.disk) (disk left) r (rw (← number, ← state, commands) leaves) run
 
 -- the batch is written
 pub run_of_written : {D : Type 0} (disk : D → Disk) (w : WritingView D) (j : JournalView D) {r : Run}
@@ -47,7 +53,8 @@ run_of_written disk w j {r = r} rests standing leaves (under, (run, number, stat
   (
     batch_ends (disk j.disk) r (run_of_call disk w j.disk leaves (under, (run, number, state), commands)),
     ap (λ (s : Standing). s.number) standing ∙ omega (arith, number, ap length commands, length-append r.written r.underway),
-    ap (λ (s : Standing). s.state) standing ∙ ap (λ (s : State). after s w.commands) state ∙ ap (after (state_of r)) (sym commands) ∙ sym (fold-append apply r.start r.written r.underway),
+    ap (λ (s : Standing). s.state) standing ∙ ap (λ (s : State). after s w.commands) state ∙ ap (after (state_of r)) (sym commands)
+        ∙ sym (fold-append apply r.start r.written r.underway),
   ),
   refl,
 )
@@ -78,7 +85,8 @@ marked_at_rest disk r j acknowledged le (rests, (run, number, state), none) = (
 
 -- a moment, while a batch is
 pub marked_underway : {D : Type 0} (disk : D → Disk) (r : Run) (w : WritingView D) (acknowledged : ℕ) → acknowledged ≤ number_of r
-    → IsRunWriting disk r w → IsRunWriting disk (with_mark r (record { clock = clock (disk w.disk).content; acknowledged = acknowledged })) w
+    → IsRunWriting disk r w
+    → IsRunWriting disk (with_mark r (record { clock = clock (disk w.disk).content; acknowledged = acknowledged })) w
 marked_underway disk r w acknowledged le (under, (run, number, state), commands) = (
   under,
   (
@@ -91,8 +99,10 @@ marked_underway disk r w acknowledged le (under, (run, number, state), commands)
 )
 
 -- a moment, while a checkpoint is on its way
-pub marked_checkpointing : {D : Type 0} (disk : D → Disk) (r : Run) (c : CheckpointingView D) (acknowledged : ℕ) → acknowledged ≤ number_of r
-    → IsRunCheckpointing disk r c → IsRunCheckpointing disk (with_mark r (record { clock = clock (disk c.disk).content; acknowledged = acknowledged })) c
+pub marked_checkpointing : {D : Type 0} (disk : D → Disk) (r : Run) (c : CheckpointingView D) (acknowledged : ℕ) → acknowledged
+    ≤ number_of r
+    → IsRunCheckpointing disk r c
+    → IsRunCheckpointing disk (with_mark r (record { clock = clock (disk c.disk).content; acknowledged = acknowledged })) c
 marked_checkpointing disk r c acknowledged le (under, (run, number, state), none) = (
   under,
   (
@@ -109,6 +119,10 @@ pub run_of_found : {D : Type 0} (disk : D → Disk) (j : JournalView D) → IsAt
     → IsRunAtRest disk (begun (clock (disk j.disk).content) j.standing.number j.standing.state) j
 run_of_found disk j rests = (
   rests,
-  (run_begins (disk j.disk) j.standing.number j.standing.state (rest_means_its_state (disk j.disk) j.standing j.idle rests), omega arith, refl),
+  (
+    run_begins (disk j.disk) j.standing.number j.standing.state (rest_means_its_state (disk j.disk) j.standing j.idle rests),
+    omega arith,
+    refl,
+  ),
   refl,
 )

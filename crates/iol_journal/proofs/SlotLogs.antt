@@ -1,5 +1,6 @@
 -- A log that is read slot by slot.
-use Rattle.std.proofs.Common.{◌≡◌, ℕ, ◌+◌, Bool, true, false, if◌then◌else◌, List, length, Option, Some, None, Result, Ok, Err, refl, sym, ◌∙◌, ap, add-one}
+use Rattle.std.proofs.Common.{◌≡◌, ℕ, ◌+◌, Bool, true, false, if◌then◌else◌, List, length, Option, Some, None, Result, Ok, Err, refl, sym}
+use Rattle.std.proofs.Common.{◌∙◌, ap, add-one}
 use Rattle.iol_types.specs.Command.{CommandValue}
 use Rattle.iol_types.specs.State.{State, after, legal}
 use Rattle.iol_disk.specs.Content.{Image, reads}
@@ -20,11 +21,13 @@ use Rattle.iol_journal.specs.declared.geometry.TheConstants.{BODY_SECTORS}
 -- commands that are there and legal lead on
 goes_on : (sector number : ℕ) (state : State) (next : Meaning) (rest : ℕ → State → Result Log Cause) (commands : Option (List CommandValue))
     → reached number state commands ≡ Some next
-    → (or_damaged commands sector >>= λ cs. if_sound (legal state cs) sector cs >>= λ all. rest (number + length all) (after state all)) ≡ rest next.number next.state
+    → (or_damaged commands sector >>= λ cs. if_sound (legal state cs) sector cs >>= λ all. rest (number + length all) (after state all))
+    ≡ rest next.number next.state
 goes_on sector number state next rest None is = cc
 goes_on sector number state next rest (Some commands) is = by_test (legal state commands) is
   where
-    by_test : (passes : Bool) → (if passes then Some (record { number = number + length commands; state = after state commands }) else None) ≡ Some next
+    by_test : (passes : Bool) → (if passes then Some (record { number = number + length commands; state = after state commands }) else None)
+        ≡ Some next
         → (if_sound passes sector commands >>= λ all. rest (number + length all) (after state all)) ≡ rest next.number next.state
     by_test true is =
         let ends : Meaning = record { number = number + length commands; state = after state commands } in
@@ -34,11 +37,14 @@ goes_on sector number state next rest (Some commands) is = by_test (legal state 
 
 stops_at : (sector number : ℕ) (state : State) (rest : ℕ → State → Result Log Cause) (commands : Option (List CommandValue))
     → reached number state commands ≡ None
-    → (or_damaged commands sector >>= λ cs. if_sound (legal state cs) sector cs >>= λ all. rest (number + length all) (after state all)) ≡ Err (damaged sector)
+    → (or_damaged commands sector >>= λ cs. if_sound (legal state cs) sector cs >>= λ all. rest (number + length all) (after state all))
+    ≡ Err (damaged sector)
 stops_at sector number state rest None is = refl
 stops_at sector number state rest (Some commands) is = by_test (legal state commands) is
   where
-    by_test : (passes : Bool) → if◌then◌else◌ {A = Option Meaning} passes (Some (record { number = number + length commands; state = after state commands })) None ≡ None
+    by_test : (passes : Bool)
+        → if◌then◌else◌ {A = Option Meaning} passes (Some (record { number = number + length commands; state = after state commands })) None
+        ≡ None
         → (if_sound passes sector commands >>= λ all. rest (number + length all) (after state all)) ≡ Err (damaged sector)
     by_test true is = cc
     by_test false is = refl

@@ -36,7 +36,8 @@ pub ports-more : (layout : Layout) (a : Area) (image : Image) (p left : ℕ) (fr
 unfolding ports_from
 ports-more layout a image p left front port is = rw (add-one, is) (with_front-one front port (ports_from layout a image (p + 1) left))
 
-with_front-why : (front : State) (ports : Result State Cause) (told : RecoverCause) → SaysWhy ports told → SaysWhy (with_front front ports) told
+with_front-why : (front : State) (ports : Result State Cause) (told : RecoverCause) → SaysWhy ports told
+    → SaysWhy (with_front front ports) told
 with_front-why front (Ok ports) (cause.Disk fault) is = tt
 with_front-why front (Err why) (cause.Disk fault) is = tt
 with_front-why front (Ok ports) cause.NotFormatted is = absurd cc
@@ -48,14 +49,17 @@ with_front-why front (Err why) cause.Memory is = tt
 
 -- a port's record that says none
 pub ports-stopped : (layout : Layout) (a : Area) (image : Image) (p left : ℕ) (front : State) (told : RecoverCause)
-    → SaysWhy (port_in image (port_at layout a p) layout.port_sectors) told → SaysWhy (with_front front (ports_from layout a image p (left + 1))) told
+    → SaysWhy (port_in image (port_at layout a p) layout.port_sectors) told
+    → SaysWhy (with_front front (ports_from layout a image p (left + 1))) told
 unfolding ports_from
 ports-stopped layout a image p left front told is =
     with_front-why front (ports_from layout a image p (left + 1)) told
-    (rw add-one (cause_before (port_in image (port_at layout a p) layout.port_sectors) (λ port. ports_from layout a image (p + 1) left >>= λ ports. Ok (port ∷ ports)) told is))
+    (rw add-one (cause_before (port_in image (port_at layout a p) layout.port_sectors) (λ port.
+    ports_from layout a image (p + 1) left >>= λ ports. Ok (port ∷ ports)) told is))
 
 -- no port is left
-pub ports-ended : (layout : Layout) (a : Area) (image : Image) (p : ℕ) (front : State) → with_front front (ports_from layout a image p 0) ≡ Ok front
+pub ports-ended : (layout : Layout) (a : Area) (image : Image) (p : ℕ) (front : State) → with_front front (ports_from layout a image p 0)
+    ≡ Ok front
 unfolding ports_from
 ports-ended layout a image p front = simp append-nil
 
@@ -67,8 +71,11 @@ port_placed image place sector count sectors answer here whole says =
     (subst (λ (s : ℕ). Says (λ port. port) (port_in image s count) answer) here says)
 
 -- and on a disk that calls left the same
-pub port_shown : (old now : Disk) (place sector count sectors : ℕ) (answer : Result Port RecoverCause) → Same old now → sector ≡ place → count ≡ sectors
-    → Shows now (λ image. Says (λ port. port) (port_in image sector count) answer) → Shows old (λ image. Says (λ port. port) (port_in image place sectors) answer)
+pub port_shown : (old now : Disk) (place sector count sectors : ℕ) (answer : Result Port RecoverCause) → Same old now → sector ≡ place
+    → count ≡ sectors
+    → Shows now (λ image. Says (λ port. port) (port_in image sector count) answer)
+    → Shows old (λ image. Says (λ port. port) (port_in image place sectors) answer)
 port_shown old now place sector count sectors answer same here whole says h =
     port_placed (reads old.content) place sector count sectors answer here whole
-    (subst (λ (image : Image). Says (λ port. port) (port_in image sector count) answer) (same-reads old now same h) (says (same-honest old now same h)))
+    (subst (λ (image : Image). Says (λ port. port) (port_in image sector count) answer) (same-reads old now same h)
+    (says (same-honest old now same h)))

@@ -1,5 +1,6 @@
 -- The disk calls of a checkpoint, one after another.
-use Rattle.std.proofs.Common.{◌≡◌, ◌≤◌, ◌<◌, ℕ, zero, suc, ◌+◌, ◌-◌, ◌*◌, nat_lt, if◌then◌else◌, List, [], ◌∷◌, ◌++◌, length, map, drop, slice_get, Option, Some, None, unwrap_or, IfSome, refl, sym, ◌∙◌, ap, arith, length-append}
+use Rattle.std.proofs.Common.{◌≡◌, ◌≤◌, ◌<◌, ℕ, zero, suc, ◌+◌, ◌-◌, ◌*◌, nat_lt, if◌then◌else◌, List, [], ◌∷◌, ◌++◌, length, map, drop}
+use Rattle.std.proofs.Common.{slice_get, Option, Some, None, unwrap_or, IfSome, refl, sym, ◌∙◌, ap, arith, length-append}
 use Rattle.std.specs.List.{range_with_len}
 use Rattle.std.proofs.lemmas.Bool.Decides.{nat_tests}
 use Rattle.std.proofs.lemmas.List.FromFn.{length-map-range_with_len}
@@ -8,11 +9,13 @@ use Rattle.iol_disk.specs.Calls.{Call, sync}
 use Rattle.iol_journal.specs.AreaPlans.{AreRecords}
 use Rattle.iol_journal.specs.AreaWrites.{slot_write, slot_writes}
 use Rattle.iol_journal.specs.Meaning.{Standing}
-use Rattle.iol_journal.specs.Checkpoints.{next_area, snapshot_writes, clearing_calls, close_write, last_calls, snapshot_calls, checkpoint_calls, first_stage, call_at, next_stage, IsStage, stage_calls}
+use Rattle.iol_journal.specs.Checkpoints.{next_area, snapshot_writes, clearing_calls, close_write, last_calls, snapshot_calls}
+use Rattle.iol_journal.specs.Checkpoints.{checkpoint_calls, first_stage, call_at, next_stage, IsStage, stage_calls}
 use Rattle.iol_journal.specs.declared.place.Idle.{Idle}
 use Rattle.iol_journal.specs.declared.place.Idle.TheVariants.{Older, Closed}
 use Rattle.iol_journal.specs.declared.stage.Stage.{Stage}
-use Rattle.iol_journal.specs.declared.stage.Stage.TheVariants.{ClearHeader, SyncHeader, CloseGate, SyncClosed, CloseSlot, SyncSlots, WriteHeader, WriteRecord, SyncRecords, OpenGate, SyncOpen}
+use Rattle.iol_journal.specs.declared.stage.Stage.TheVariants.{ClearHeader, SyncHeader, CloseGate, SyncClosed, CloseSlot, SyncSlots}
+use Rattle.iol_journal.specs.declared.stage.Stage.TheVariants.{WriteHeader, WriteRecord, SyncRecords, OpenGate, SyncOpen}
 use Rattle.iol_journal.proofs.Chains.{by_test}
 
 -- the calls behind one, with the stage that comes next
@@ -27,10 +30,12 @@ drop-call (call ∷ calls) zero below = refl
 drop-call (call ∷ calls) (suc i) below = drop-call calls i (omega (arith, below))
 
 module _ (s : Standing) where
-  slots_from : (k n : ℕ) → n ≡ s.layout.slots - k → map (slot_write s.layout (next_area s)) (range_with_len k (s.layout.slots - k)) ≡ map (slot_write s.layout (next_area s)) (range_with_len k n)
+  slots_from : (k n : ℕ) → n ≡ s.layout.slots - k → map (slot_write s.layout (next_area s)) (range_with_len k (s.layout.slots - k))
+      ≡ map (slot_write s.layout (next_area s)) (range_with_len k n)
   slots_from k n is = ap (λ (m : ℕ). map (slot_write s.layout (next_area s)) (range_with_len k m)) (sym is)
 
-  slot_first : (k : ℕ) → k < s.layout.slots → stage_calls s (CloseSlot k) ≡ slot_write s.layout (next_area s) k ∷ stage_calls s (CloseSlot (k + 1))
+  slot_first : (k : ℕ) → k < s.layout.slots → stage_calls s (CloseSlot k) ≡ slot_write s.layout (next_area s) k
+      ∷ stage_calls s (CloseSlot (k + 1))
   slot_first k below =
       ap (λ (calls : List Call). calls ++ snapshot_calls s) (slots_from k (suc (s.layout.slots - (k + 1))) (omega (arith, below)))
 
@@ -40,7 +45,8 @@ module _ (s : Standing) where
   all_slots : 1 ≤ s.layout.slots → slot_writes s.layout (next_area s) ++ snapshot_calls s ≡ stage_calls s (CloseSlot 0)
   all_slots some = ap (λ (calls : List Call). calls ++ snapshot_calls s) (sym (slots_from 0 s.layout.slots (omega arith)))
 
-  record_first : (i : ℕ) → i < length (snapshot_writes s) → stage_calls s (WriteRecord i) ≡ call_at s (WriteRecord i) ∷ stage_calls s (WriteRecord (i + 1))
+  record_first : (i : ℕ) → i < length (snapshot_writes s) → stage_calls s (WriteRecord i) ≡ call_at s (WriteRecord i)
+      ∷ stage_calls s (WriteRecord (i + 1))
   record_first i below =
       let next : suc i ≡ i + 1 = omega arith in
       ap (λ (calls : List Call). calls ++ last_calls s) (drop-call (snapshot_writes s) i below)
@@ -72,11 +78,13 @@ module _ (s : Standing) where
   first_call SyncSlots some in_stage = refl
   first_call WriteHeader some in_stage =
       ap (λ (calls : List Call). call_at s WriteHeader ∷ calls)
-      (one_of 0 (length (snapshot_writes s)) (WriteRecord 0) SyncRecords (stage_calls s (WriteRecord 0)) (λ more. refl) (λ last. records_ended 0 (omega (arith, last))))
+      (one_of 0 (length (snapshot_writes s)) (WriteRecord 0) SyncRecords (stage_calls s (WriteRecord 0)) (λ more. refl) (λ last.
+      records_ended 0 (omega (arith, last))))
   first_call (WriteRecord i) some in_stage =
       record_first i in_stage
       ∙ ap (λ (calls : List Call). call_at s (WriteRecord i) ∷ calls)
-      (one_of (i + 1) (length (snapshot_writes s)) (WriteRecord (i + 1)) SyncRecords _ (λ more. refl) (λ last. records_ended (i + 1) (omega (arith, last, in_stage))))
+      (one_of (i + 1) (length (snapshot_writes s)) (WriteRecord (i + 1)) SyncRecords _ (λ more. refl) (λ last.
+      records_ended (i + 1) (omega (arith, last, in_stage))))
   first_call SyncRecords some in_stage = refl
   first_call OpenGate some in_stage = refl
   first_call SyncOpen some in_stage = refl
@@ -95,8 +103,10 @@ module _ (s : Standing) where
   in_next SyncClosed some = omega (arith, some)
   in_next (CloseSlot k) some = by_test (nat_lt (k + 1) s.layout.slots) _ (λ less. rw less (grind (arith, nat_tests))) (λ last. rw last tt)
   in_next SyncSlots some = tt
-  in_next WriteHeader some = by_test (nat_lt 0 (length (snapshot_writes s))) _ (λ less. rw less (grind (arith, nat_tests))) (λ last. rw last tt)
-  in_next (WriteRecord i) some = by_test (nat_lt (i + 1) (length (snapshot_writes s))) _ (λ less. rw less (grind (arith, nat_tests))) (λ last. rw last tt)
+  in_next WriteHeader some =
+      by_test (nat_lt 0 (length (snapshot_writes s))) _ (λ less. rw less (grind (arith, nat_tests))) (λ last. rw last tt)
+  in_next (WriteRecord i) some =
+      by_test (nat_lt (i + 1) (length (snapshot_writes s))) _ (λ less. rw less (grind (arith, nat_tests))) (λ last. rw last tt)
   in_next SyncRecords some = tt
   in_next OpenGate some = tt
   in_next SyncOpen some = tt

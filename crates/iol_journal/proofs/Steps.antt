@@ -1,5 +1,6 @@
 -- What a step of a batch makes of the disk, as its one call says.
-use Rattle.std.proofs.Common.{◌≡◌, ◌≤◌, ℕ, ◌+◌, nat_lt, if◌then◌else◌, Bool, true, false, List, [], ◌∷◌, Option, Some, None, IsTrue, Result, Ok, Err, refl, sym, ◌∙◌, ap, subst, arith}
+use Rattle.std.proofs.Common.{◌≡◌, ◌≤◌, ℕ, ◌+◌, nat_lt, if◌then◌else◌, Bool, true, false, List, [], ◌∷◌, Option, Some, None, IsTrue, Result}
+use Rattle.std.proofs.Common.{Ok, Err, refl, sym, ◌∙◌, ap, subst, arith}
 use Rattle.std.proofs.lemmas.Bool.Decides.{nat_tests}
 use Rattle.iol_types.specs.Command.{CommandValue}
 use Rattle.iol_types.proofs.StateLemmas.{length-after}
@@ -35,7 +36,8 @@ in_next sectors Gate q in_phase next = subst (IsPhase sectors) (phase_of _ q nex
 in_next sectors SyncGate q in_phase next = cc
 
 -- the call of a phase, for the body that the batch has
-body_is : (s : Standing) (commands : List CommandValue) (body : List ℕ) (p : Phase) (result : Result Unit DiskFault) (old new : Disk) → body ≡ body_for s commands
+body_is : (s : Standing) (commands : List CommandValue) (body : List ℕ) (p : Phase) (result : Result Unit DiskFault) (old new : Disk) → body
+    ≡ body_for s commands
     → Makes (call_of s body p ∷ []) old new result → Makes (call_of s (body_for s commands) p ∷ []) old new result
 body_is s commands body p result old new is makes = subst (λ (b : List ℕ). Makes (call_of s b p ∷ []) old new result) is makes
 
@@ -49,8 +51,10 @@ module _ (s : Standing) (idle : Idle) (commands : List CommandValue) (body : Lis
       → LeavesOnly old new (KeptEither old.sectors s.number s.state commands)
   moment result makes holds = by_result result (body_is s commands body p result old new same_body makes)
     where
-      way : IsTrue old.honest → HasOnTheWay (call_of s (body_for s commands) p ∷ []) old.content (KeptEither old.sectors s.number s.state commands)
-      way h = on_the_way s idle commands (body_for s commands) (sectors_for s commands) (fit_of old s commands p planned) old.sectors p old.content planned.in_phase (holds h)
+      way : IsTrue old.honest
+          → HasOnTheWay (call_of s (body_for s commands) p ∷ []) old.content (KeptEither old.sectors s.number s.state commands)
+      way h = on_the_way s idle commands (body_for s commands) (sectors_for s commands) (fit_of old s commands p planned) old.sectors p
+          old.content planned.in_phase (holds h)
 
       by_result : (result : Result Unit DiskFault) → Makes (call_of s (body_for s commands) p ∷ []) old new result
           → LeavesOnly old new (KeptEither old.sectors s.number s.state commands)
@@ -64,7 +68,8 @@ module _ (s : Standing) (idle : Idle) (commands : List CommandValue) (body : Lis
   pub underway : (q : Phase) → Some q ≡ next_phase sectors p → Made (call_of s body p ∷ []) old new → Before
       → IsTrue new.honest → Holds new.sectors s idle commands (body_for s commands) (sectors_for s commands) q new.content
   underway q is made holds =
-      next_holds s idle commands (body_for s commands) (sectors_for s commands) (fit_of old s commands p planned) old new p q planned.in_phase
+      next_holds s idle commands (body_for s commands) (sectors_for s commands) (fit_of old s commands p planned) old new p q
+      planned.in_phase
       (sym (next_is (Some q) is)) (subst (λ (b : List ℕ). Made (call_of s b p ∷ []) old new) same_body made) holds
 
   -- behind the last call
@@ -93,7 +98,8 @@ module _ (s : Standing) (idle : Idle) (commands : List CommandValue) (body : Lis
   left q = calls_from s (body_for s commands) (sectors_for s commands) q
 
   -- the first of the calls that are left is made, or fails
-  pub makes_first : (q : Phase) → Some q ≡ next_phase sectors p → Made (call_of s body p ∷ []) old new → MakesFirst (left p) (left q) old new
+  pub makes_first : (q : Phase) → Some q ≡ next_phase sectors p → Made (call_of s body p ∷ []) old new
+      → MakesFirst (left p) (left q) old new
   makes_first q is made = record {
     call = call_of s (body_for s commands) p;
     order = first_call s (body_for s commands) (sectors_for s commands) p q planned.in_phase (sym (next_is (Some q) is));
@@ -117,7 +123,8 @@ module _ (s : Standing) (idle : Idle) (commands : List CommandValue) (body : Lis
       }
 
 -- the journal rests behind its last call
-pub resting_behind : (d d' : Disk) (s : Standing) (commands : List CommandValue) (p : Phase) → IsPlanned d s commands p → d'.sectors ≡ d.sectors → IsResting d' (with_batch s commands)
+pub resting_behind : (d d' : Disk) (s : Standing) (commands : List CommandValue) (p : Phase) → IsPlanned d s commands p → d'.sectors
+    ≡ d.sectors → IsResting d' (with_batch s commands)
 resting_behind d d' s commands p planned same = record {
   fits = subst (λ (n : ℕ). total s.layout ≤ n) (sym same) planned.fits;
   within = omega (arith, planned.room);
@@ -132,5 +139,7 @@ pub moment_of : {D : Type 0} (disk : D → Disk) {w v : WritingView D} {plan : P
     → Makes (call_of w.standing plan.body.items w.phase ∷ []) (disk w.disk) (disk left) result → IsUnderway disk v
     → LeavesOnly (disk v.disk) (disk left) (KeptEither (disk v.disk).sectors v.standing.number v.standing.state v.commands)
 moment_of {D = D} disk {w = w} {plan = plan} left result view planned is_plan makes =
-    subst (λ (u : WritingView D). IsUnderway disk u → LeavesOnly (disk u.disk) (disk left) (KeptEither (disk u.disk).sectors u.standing.number u.standing.state u.commands)) view
-    (moment w.standing w.idle w.commands plan.body.items plan.sectors w.phase (disk w.disk) (disk left) planned is_plan.body is_plan.sectors result makes)
+    subst (λ (u : WritingView D). IsUnderway disk u
+    → LeavesOnly (disk u.disk) (disk left) (KeptEither (disk u.disk).sectors u.standing.number u.standing.state u.commands)) view
+    (moment w.standing w.idle w.commands plan.body.items plan.sectors w.phase (disk w.disk) (disk left) planned is_plan.body is_plan.sectors
+    result makes)

@@ -1,5 +1,6 @@
 -- What the writes of a format leave: an empty journal.
-use Rattle.std.proofs.Common.{◌≡◌, ◌≢◌, ◌≤◌, ◌<◌, ◌⊎◌, ℕ, zero, suc, ◌+◌, List, [], ◌∷◌, ◌++◌, replicate, inl, inr, sym, ◌∙◌, ap, subst, arith}
+use Rattle.std.proofs.Common.{◌≡◌, ◌≢◌, ◌≤◌, ◌<◌, ◌⊎◌, ℕ, zero, suc, ◌+◌, List, [], ◌∷◌, ◌++◌, replicate, inl, inr, sym, ◌∙◌, ap, subst}
+use Rattle.std.proofs.Common.{arith}
 use Rattle.std.proofs.lemmas.List.{length-replicate}
 use Rattle.iol_types.specs.State.{blank, empty_state, IsPort}
 use Rattle.iol_disk.specs.Content.{Image, Content, reads, wrote}
@@ -37,7 +38,8 @@ blank-records g = are-records (layout_of g) A (empty_state g.ports) (omega arith
 
 slots-row : (g : Geometry) → IsRow (slot_at (layout_of g) A 0) (slot_at (layout_of g) A g.slots) (slot_writes (layout_of g) A)
 slots-row g =
-    row-map (slot_at (layout_of g) A) (λ k. closed_gate) (slot_at (layout_of g) A 0) (slot_at (layout_of g) A g.slots) 0 g.slots (λ k. omega arith) (omega arith) (omega arith)
+    row-map (slot_at (layout_of g) A) (λ k. closed_gate) (slot_at (layout_of g) A 0) (slot_at (layout_of g) A g.slots) 0 g.slots (λ k.
+    omega arith) (omega arith) (omega arith)
 
 -- ---- the gates and the headers
 
@@ -49,12 +51,15 @@ gated g c = wrote (gate_at (layout_of g) A) open_gate (said g c)
 
 areas-written : (g : Geometry) (c : Content) → IsGeometry g → HasAreas g (reads (content_after_all (gate_writes g) c))
 areas-written g c is = record {
-  geometry = ap geometry_of (other GEOMETRY (omega arith) (omega arith) ∙ reads-wrote_here GEOMETRY (geometry_octets g) c) ∙ geometry_of-octets g is;
-  a_open = ap is_open (reads-wrote_other (gate_at (layout_of g) B) closed_gate (gated g c) (gate_at (layout_of g) A) (omega arith) ∙ reads-wrote_here (gate_at (layout_of g) A) open_gate (said g c)) ∙ is_open-open_gate;
+  geometry = ap geometry_of (other GEOMETRY (omega arith) (omega arith) ∙ reads-wrote_here GEOMETRY (geometry_octets g) c)
+      ∙ geometry_of-octets g is;
+  a_open = ap is_open (reads-wrote_other (gate_at (layout_of g) B) closed_gate (gated g c) (gate_at (layout_of g) A) (omega arith)
+      ∙ reads-wrote_here (gate_at (layout_of g) A) open_gate (said g c)) ∙ is_open-open_gate;
   b_closed = ap is_open (reads-wrote_here (gate_at (layout_of g) B) closed_gate (gated g c)) ∙ is_open-closed_gate;
 }
   where
-    other : (i : ℕ) → i ≢ gate_at (layout_of g) A → i ≢ gate_at (layout_of g) B → reads (content_after_all (gate_writes g) c) i ≡ reads (said g c) i
+    other : (i : ℕ) → i ≢ gate_at (layout_of g) A → i ≢ gate_at (layout_of g) B → reads (content_after_all (gate_writes g) c) i
+        ≡ reads (said g c) i
     other i no_a no_b =
         reads-wrote_other (gate_at (layout_of g) B) closed_gate (gated g c) i no_b
         ∙ reads-wrote_other (gate_at (layout_of g) A) open_gate (said g c) i no_a
@@ -70,17 +75,21 @@ record HasHeaders (g : Geometry) (old new : Image) : Type 0 where
 headers-written : (g : Geometry) (c : Content) → HasHeaders g (reads c) (reads (content_after_all (header_writes g) c))
 headers-written g c = record {
   first_epoch =
-      ap header_of (reads-wrote_other (header_at (layout_of g) B) (header_octets 0 0) (with_header g c) (header_at (layout_of g) A) (omega arith)
+      ap header_of (reads-wrote_other (header_at (layout_of g) B) (header_octets 0 0) (with_header g c) (header_at (layout_of g) A)
+      (omega arith)
       ∙ reads-wrote_here (header_at (layout_of g) A) (header_octets 1 0) c)
       ∙ header_of-octets 1 0 (omega arith) (omega arith);
-  others = λ i no_a no_b. reads-wrote_other (header_at (layout_of g) B) (header_octets 0 0) (with_header g c) i no_b ∙ reads-wrote_other (header_at (layout_of g) A) (header_octets 1 0) c i no_a;
+  others = λ i no_a no_b. reads-wrote_other (header_at (layout_of g) B) (header_octets 0 0) (with_header g c) i no_b
+      ∙ reads-wrote_other (header_at (layout_of g) A) (header_octets 1 0) c i no_a;
 }
 
 -- ---- all parts
 
 put-together : (g : Geometry) (gates slots headers ports : Image) → HasAreas g gates
-    → IsWritten (slot_at (layout_of g) A 0) (slot_at (layout_of g) A g.slots) (slot_writes (layout_of g) A) gates slots → HasHeaders g slots headers
-    → IsWritten (port_at (layout_of g) A 0) (slot_at (layout_of g) A 0) (port_writes (layout_of g) A 0 (empty_state g.ports)) headers ports → IsEmptyJournal g ports
+    → IsWritten (slot_at (layout_of g) A 0) (slot_at (layout_of g) A g.slots) (slot_writes (layout_of g) A) gates slots
+    → HasHeaders g slots headers
+    → IsWritten (port_at (layout_of g) A 0) (slot_at (layout_of g) A 0) (port_writes (layout_of g) A 0 (empty_state g.ports)) headers ports
+    → IsEmptyJournal g ports
 put-together g gates slots headers ports areas closed headed recorded = record {
   areas = record {
     geometry = rw (kept GEOMETRY (inl (omega arith)) (inl (omega arith)) (omega arith) (omega arith)) areas.geometry;
@@ -89,7 +98,8 @@ put-together g gates slots headers ports areas closed headed recorded = record {
   };
   whole = record {
     shut = λ k below.
-        ap is_open (recorded.others (slot_at (layout_of g) A k) (inr (omega arith)) ∙ headed.others (slot_at (layout_of g) A k) (omega arith) (omega (arith, below))
+        ap is_open (recorded.others (slot_at (layout_of g) A k) (inr (omega arith))
+        ∙ headed.others (slot_at (layout_of g) A k) (omega arith) (omega (arith, below))
         ∙ has-map (slot_at (layout_of g) A) (λ j. closed_gate) 0 g.slots slots closed.written k (omega arith) (omega (arith, below)))
         ∙ is_open-closed_gate;
     head = ap header_of (recorded.others (header_at (layout_of g) A) (inl (omega arith))) ∙ headed.first_epoch;
@@ -97,7 +107,8 @@ put-together g gates slots headers ports areas closed headed recorded = record {
   };
 }
   where
-    kept : (i : ℕ) → (i < port_at (layout_of g) A 0) ⊎ (slot_at (layout_of g) A 0 ≤ i) → (i < slot_at (layout_of g) A 0) ⊎ (slot_at (layout_of g) A g.slots ≤ i)
+    kept : (i : ℕ) → (i < port_at (layout_of g) A 0) ⊎ (slot_at (layout_of g) A 0 ≤ i) → (i < slot_at (layout_of g) A 0)
+        ⊎ (slot_at (layout_of g) A g.slots ≤ i)
         → i ≢ header_at (layout_of g) A → i ≢ header_at (layout_of g) B → ports i ≡ gates i
     kept i no_port no_slot no_a no_b = recorded.others i no_port ∙ headed.others i no_a no_b ∙ closed.others i no_slot
 

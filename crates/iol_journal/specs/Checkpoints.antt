@@ -1,5 +1,6 @@
 -- A checkpoint: its disk calls in their order, and what holds of an honest disk before each.
-use Rattle.std.specs.Prelude.{◌≡◌, ◌≢◌, ◌≤◌, ◌<◌, ℕ, ◌+◌, ◌-◌, nat_lt, true, false, if◌then◌else◌, List, [], ◌∷◌, ◌++◌, length, map, take, drop, slice_get, Option, Some, None, unwrap_or}
+use Rattle.std.specs.Prelude.{◌≡◌, ◌≢◌, ◌≤◌, ◌<◌, ℕ, ◌+◌, ◌-◌, nat_lt, true, false, if◌then◌else◌, List, [], ◌∷◌, ◌++◌, length, map, take}
+use Rattle.std.specs.Prelude.{drop, slice_get, Option, Some, None, unwrap_or}
 use Rattle.std.specs.List.{range_with_len}
 use Rattle.iol_disk.specs.Calls.{Call, write, sync}
 use Rattle.iol_disk.specs.Content.{Image, Content, IsImage, IsSettled, reads}
@@ -18,7 +19,8 @@ use Rattle.iol_journal.specs.declared.header.TheConstants.{LAST_NUMBER}
 use Rattle.iol_journal.specs.declared.place.Idle.{Idle}
 use Rattle.iol_journal.specs.declared.place.Idle.TheVariants.{Older, Closed}
 use Rattle.iol_journal.specs.declared.stage.Stage.{Stage}
-use Rattle.iol_journal.specs.declared.stage.Stage.TheVariants.{ClearHeader, SyncHeader, CloseGate, SyncClosed, CloseSlot, SyncSlots, WriteHeader, WriteRecord, SyncRecords, OpenGate, SyncOpen}
+use Rattle.iol_journal.specs.declared.stage.Stage.TheVariants.{ClearHeader, SyncHeader, CloseGate, SyncClosed, CloseSlot, SyncSlots}
+use Rattle.iol_journal.specs.declared.stage.Stage.TheVariants.{WriteHeader, WriteRecord, SyncRecords, OpenGate, SyncOpen}
 
 -- the area that a checkpoint writes: the one that is not in use (format, Orders of disk calls)
 abbrev pub next_area : Standing → Area
@@ -128,7 +130,8 @@ pub record IsPrepared (s : Standing) (records : ℕ) (image : Image) : Type 0 wh
 -- with the gate of its area open, an image that is otherwise as what is read stands so and can go on (own)
 abbrev pub OpensTo : ℕ → Standing → Content → Type 0
 OpensTo size t c =
-    (image : Image) → ((i : ℕ) → i ≢ gate_at t.layout t.area → image i ≡ reads c i) → is_open (image (gate_at t.layout t.area)) ≡ true → IsKeptAs size t Older image
+    (image : Image) → ((i : ℕ) → i ≢ gate_at t.layout t.area → image i ≡ reads c i) → is_open (image (gate_at t.layout t.area)) ≡ true
+    → IsKeptAs size t Older image
 
 -- an image while the gate of the other area is on its way: with the gate closed the journal stands as before, with the
 -- gate open as after the checkpoint (own)

@@ -28,11 +28,13 @@ first_standing state = record { layout = layout_of two_by_four; area = A; epoch 
 
 -- a journal of them with so many slots used and commands so far, whose ports were never configured (own)
 abbrev pub standing_of : ℕ → ℕ → Standing
-standing_of used number = record { layout = layout_of two_by_four; area = A; epoch = 1; used = used; number = number; state = empty_state 2 }
+standing_of used number =
+    record { layout = layout_of two_by_four; area = A; epoch = 1; used = used; number = number; state = empty_state 2 }
 
 -- for worked examples: the disk calls of a checkpoint into area B, of 2 ports that were never configured and 4 slots, under
 -- epoch 2 and behind 4 commands (format, Orders of disk calls)
 abbrev pub checkpoint_of_two_by_four : List Call
 checkpoint_of_two_by_four =
     write 90 closed_gate ∷ sync ∷ write 110 closed_gate ∷ write 127 closed_gate ∷ write 144 closed_gate ∷ write 161 closed_gate ∷ sync
-    ∷ write 91 (header_octets 2 4) ∷ write 92 (padded BLANK_RECORD) ∷ write 101 (padded BLANK_RECORD) ∷ sync ∷ write 90 open_gate ∷ sync ∷ []
+    ∷ write 91 (header_octets 2 4) ∷ write 92 (padded BLANK_RECORD) ∷ write 101 (padded BLANK_RECORD) ∷ sync ∷ write 90 open_gate ∷ sync
+    ∷ []

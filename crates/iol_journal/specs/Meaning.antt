@@ -1,5 +1,6 @@
 -- What an image of a disk means: the state of a master after a number of commands, or why it means none.
-use Rattle.std.specs.Prelude.{ℕ, zero, suc, ◌+◌, ◌==◌, nat_le, nat_lt, Bool, true, false, ◌&&◌, if◌then◌else◌, List, [], ◌∷◌, length, Option, Some, None, Result, Ok, Err}
+use Rattle.std.specs.Prelude.{ℕ, zero, suc, ◌+◌, ◌==◌, nat_le, nat_lt, Bool, true, false, ◌&&◌, if◌then◌else◌, List, [], ◌∷◌, length}
+use Rattle.std.specs.Prelude.{Option, Some, None, Result, Ok, Err}
 use Rattle.iol_types.specs.State.{Port, State, after, legal}
 use Rattle.iol_record.specs.Reading.{◌>>=◌, port_record_at}
 use Rattle.iol_record.specs.declared.fault.RecordFault.{RecordFault}
@@ -39,7 +40,8 @@ is_formatted sectors image = nat_lt DISK_GATE sectors && is_open (image DISK_GAT
 abbrev pub layout_in : ℕ → Image → Result Layout Cause
 layout_in sectors image =
     if is_formatted sectors image
-    then (or_damaged (geometry_of (image GEOMETRY)) GEOMETRY >>= λ g. if_sound (nat_le (total (layout_of g)) sectors) GEOMETRY (layout_of g))
+    then (or_damaged (geometry_of (image GEOMETRY)) GEOMETRY >>= λ g.
+    if_sound (nat_le (total (layout_of g)) sectors) GEOMETRY (layout_of g))
     else Err unformatted
 
 -- the header of an area, where the area's gate is open (format, Recovery)
@@ -113,7 +115,14 @@ standing_in sectors image =
     >>= λ layout. in_use_in layout image
     >>= λ used. ports_from layout used.area image 0 layout.ports
     >>= λ ports. log_from layout used.area used.header.epoch image 0 layout.slots used.header.base ports
-    >>= λ log. Ok (record { layout = layout; area = used.area; epoch = used.header.epoch; used = log.used; number = log.number; state = log.state })
+    >>= λ log. Ok (record {
+      layout = layout;
+      area = used.area;
+      epoch = used.header.epoch;
+      used = log.used;
+      number = log.number;
+      state = log.state;
+    })
 
 -- a meaning: the state of a master after so many commands (own)
 pub record Meaning : Type 0 where

@@ -43,4 +43,6 @@ Holds size s idle commands body sectors SyncGate c =
 -- a batch is on its way on an honest disk: what its phase says holds (own)
 abbrev pub IsUnderway : {D : Type 0} → (D → Disk) → WritingView D → Type 0
 IsUnderway disk w =
-    IsTrue (disk w.disk).honest → Holds (disk w.disk).sectors w.standing w.idle w.commands (body_for w.standing w.commands) (sectors_for w.standing w.commands) w.phase (disk w.disk).content
+    IsTrue (disk w.disk).honest
+    → Holds (disk w.disk).sectors w.standing w.idle w.commands (body_for w.standing w.commands) (sectors_for w.standing w.commands)
+    w.phase (disk w.disk).content

@@ -61,7 +61,8 @@ impl AreaPlan {
     // Writes the header.
     pub(crate) fn write_header<D: SectorDisk>(&self, disk: &mut D) -> Result<(), DiskFault>
         requires { total self.now.layout ≤ (D.disk disk.old).sectors }
-        ensures { Makes (header_write self.now.layout self.now.area self.now.header.epoch self.now.header.base ∷ []) (D.disk disk.old) (D.disk disk.new) result }
+        ensures { Makes (header_write self.now.layout self.now.area self.now.header.epoch self.now.header.base ∷ []) (D.disk disk.old)
+            (D.disk disk.new) result }
     {
         disk.write(self.layout.header(self.area), &self.header.octets())
     }

@@ -25,7 +25,8 @@ pub(crate) fn make<D: SectorDisk>(
     requires whole { length plan.now.body.items ≡ SECTOR_OCTETS * plan.now.sectors }
     requires short { plan.now.sectors ≤ BODY_SECTORS }
     requires in_phase { IsPhase plan.now.sectors phase }
-    ensures makes { (number : ℕ) (state : State) → Makes (call_of (standing_at place.now number state) plan.now.body.items phase ∷ []) (D.disk disk.old) (D.disk disk.new) result }
+    ensures makes { (number : ℕ) (state : State)
+        → Makes (call_of (standing_at place.now number state) plan.now.body.items phase ∷ []) (D.disk disk.old) (D.disk disk.new) result }
 {
     let slot = place.slot();
     match phase {

@@ -36,7 +36,8 @@ impl<D: SectorDisk> Model for Checkpointing<D> {
     ghost view = { λ c. record { disk = c.disk; standing = standing_at c.place c.number c.state; history = c.history; stage = c.stage } };
 
     ghost invariant = { λ c. IsDrafted (D.disk c.disk) (standing_at c.place c.number c.state) c.stage
-        × IsAreaPlan c.place.layout (next_area (standing_at c.place c.number c.state)) (next_header (standing_at c.place c.number c.state)) c.state c.plan
+        × IsAreaPlan c.place.layout (next_area (standing_at c.place c.number c.state)) (next_header (standing_at c.place c.number c.state))
+        c.state c.plan
         × LeadsTo (standing_at c.place c.number c.state) c.history };
 }
 
@@ -76,9 +77,15 @@ impl<D: SectorDisk> Checkpointing<D> {
         plan: AreaPlan,
     ) -> Checkpointing<D>
         requires drafted { IsDrafted (D.disk disk) (standing_at place number state) (first_stage place.idle) }
-        requires plan { IsAreaPlan place.layout (next_area (standing_at place number state)) (next_header (standing_at place number state)) state plan }
+        requires plan { IsAreaPlan place.layout (next_area (standing_at place number state)) (next_header (standing_at place number state))
+            state plan }
         requires history { LeadsTo (standing_at place number state) history }
-        ensures { result ≡ record { disk = disk; standing = standing_at place number state; history = history; stage = first_stage place.idle } }
+        ensures { result ≡ record {
+          disk = disk;
+          standing = standing_at place number state;
+          history = history;
+          stage = first_stage place.idle;
+        } }
     {
         let stage = Stage::first(place.idle);
         Checkpointing {
@@ -121,8 +128,10 @@ impl<D: SectorDisk> Checkpointing<D> {
         ensures run { (r : Run) → IsRunCheckpointing D.disk r self → HasCheckpointed D.disk r result }
         ensures more { IfGoesOn result (λ c. (c.standing ≡ self.standing) × (c.history ≡ self.history)) }
         // The other area is in use, under the next epoch, with no slot used.
-        ensures done { IfCheckpointed result (λ journal. (journal.standing ≡ checkpointed self.standing) × (journal.idle ≡ Older) × (journal.history ≡ self.history)) }
-        ensures durable { IsCheckpointUnderway D.disk self → IfCheckpointed result (λ journal. IsAtRest (D.disk journal.disk) journal.standing journal.idle
+        ensures done { IfCheckpointed result (λ journal. (journal.standing ≡ checkpointed self.standing) × (journal.idle ≡ Older)
+            × (journal.history ≡ self.history)) }
+        ensures durable { IsCheckpointUnderway D.disk self
+            → IfCheckpointed result (λ journal. IsAtRest (D.disk journal.disk) journal.standing journal.idle
             × EachMeans (D.disk journal.disk) journal.standing.number journal.standing.state) }
     {
         let Checkpointing {

@@ -20,7 +20,8 @@ use iol_disk::{DiskFault, SectorDisk};
 pub fn erase<D: SectorDisk>(disk: &mut D) -> Result<(), DiskFault>
     ensures makes { MakesErasure (D.disk disk.old) (D.disk disk.new) result }
     // At any moment each image means what one meant before, or is not formatted.
-    ensures any_moment { LeavesOnly (D.disk disk.old) (D.disk disk.new) (MeansAsBeforeOrNothing (D.disk disk.old).sectors (D.disk disk.old).content) }
+    ensures any_moment { LeavesOnly (D.disk disk.old) (D.disk disk.new)
+        (MeansAsBeforeOrNothing (D.disk disk.old).sectors (D.disk disk.old).content) }
     // No image is formatted.
     ensures done { OnOk result (EachUnformatted (D.disk disk.new)) }
     ensures size { (D.disk disk.new).sectors ≡ (D.disk disk.old).sectors }

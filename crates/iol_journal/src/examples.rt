@@ -57,16 +57,20 @@ pub fn sector_0()
         ≡ (0x49 ∷ 0x4F ∷ 0x4C ∷ 0x53 ∷ 0x01 ∷ 0x02 ∷ 0x00 ∷ 0x04 ∷ 0x00 ∷ 0x10 ∷ []) ++ replicate 502 0 }
     ensures read { geometry_of ((0x49 ∷ 0x4F ∷ 0x4C ∷ 0x53 ∷ 0x01 ∷ 0x20 ∷ 0x01 ∷ 0x00 ∷ 0x00 ∷ 0x10 ∷ []) ++ replicate 502 7)
         ≡ Some (record { ports = 32; slots = 256 }) }
-    ensures other_mark { geometry_of ((0x49 ∷ 0x4F ∷ 0x4C ∷ 0x54 ∷ 0x01 ∷ 0x02 ∷ 0x00 ∷ 0x04 ∷ 0x00 ∷ 0x10 ∷ []) ++ replicate 502 0) ≡ None }
-    ensures other_version { geometry_of ((0x49 ∷ 0x4F ∷ 0x4C ∷ 0x53 ∷ 0x02 ∷ 0x02 ∷ 0x00 ∷ 0x04 ∷ 0x00 ∷ 0x10 ∷ []) ++ replicate 502 0) ≡ None }
-    ensures other_body { geometry_of ((0x49 ∷ 0x4F ∷ 0x4C ∷ 0x53 ∷ 0x01 ∷ 0x02 ∷ 0x00 ∷ 0x04 ∷ 0x00 ∷ 0x11 ∷ []) ++ replicate 502 0) ≡ None }
+    ensures other_mark { geometry_of ((0x49 ∷ 0x4F ∷ 0x4C ∷ 0x54 ∷ 0x01 ∷ 0x02 ∷ 0x00 ∷ 0x04 ∷ 0x00 ∷ 0x10 ∷ []) ++ replicate 502 0)
+        ≡ None }
+    ensures other_version { geometry_of ((0x49 ∷ 0x4F ∷ 0x4C ∷ 0x53 ∷ 0x02 ∷ 0x02 ∷ 0x00 ∷ 0x04 ∷ 0x00 ∷ 0x10 ∷ []) ++ replicate 502 0)
+        ≡ None }
+    ensures other_body { geometry_of ((0x49 ∷ 0x4F ∷ 0x4C ∷ 0x53 ∷ 0x01 ∷ 0x02 ∷ 0x00 ∷ 0x04 ∷ 0x00 ∷ 0x11 ∷ []) ++ replicate 502 0)
+        ≡ None }
 {}
 
 /// The header of an area in its first epoch, and which headers are sound.
 #[tactic(auto, unfolding(crate::specs::Header::header_of, crate::specs::Octets::padded))]
 pub fn headers()
     ensures written { header_octets 1 258 ≡ (0 ∷ 0 ∷ 0 ∷ 0 ∷ 0 ∷ 0 ∷ 0 ∷ 1 ∷ 0 ∷ 0 ∷ 0 ∷ 0 ∷ 0 ∷ 0 ∷ 1 ∷ 2 ∷ []) ++ replicate 496 0 }
-    ensures read { header_of ((0 ∷ 0 ∷ 0 ∷ 0 ∷ 0 ∷ 0 ∷ 0 ∷ 1 ∷ 0 ∷ 0 ∷ 0 ∷ 0 ∷ 0 ∷ 0 ∷ 1 ∷ 2 ∷ []) ++ replicate 496 7) ≡ record { epoch = 1; base = 258 } }
+    ensures read { header_of ((0 ∷ 0 ∷ 0 ∷ 0 ∷ 0 ∷ 0 ∷ 0 ∷ 1 ∷ 0 ∷ 0 ∷ 0 ∷ 0 ∷ 0 ∷ 0 ∷ 1 ∷ 2 ∷ []) ++ replicate 496 7)
+        ≡ record { epoch = 1; base = 258 } }
     ensures first { is_sound (record { epoch = 1; base = 0 }) ≡ true }
     ensures never_used { is_sound (record { epoch = 0; base = 0 }) ≡ false }
     ensures too_new { is_sound (record { epoch = 2; base = 0 }) ≡ false }
@@ -128,10 +132,12 @@ pub fn first_causes()
     ensures closed_disk { layout_in 178 (λ i. closed_gate) ≡ Err unformatted }
     ensures no_geometry { layout_in 2 (λ i. open_gate) ≡ Err (damaged 0) }
     ensures no_area { greatest (layout_of two_by_four) None None ≡ Err (damaged 2) }
-    ensures one_epoch { greatest (layout_of two_by_four) (Some (record { epoch = 1; base = 0 })) (Some (record { epoch = 1; base = 5 })) ≡ Err (damaged 91) }
+    ensures one_epoch { greatest (layout_of two_by_four) (Some (record { epoch = 1; base = 0 })) (Some (record { epoch = 1; base = 5 }))
+        ≡ Err (damaged 91) }
     ensures newer_b { greatest (layout_of two_by_four) (Some (record { epoch = 1; base = 0 })) (Some (record { epoch = 2; base = 1 }))
         ≡ Ok (record { area = Area.B; header = record { epoch = 2; base = 1 } }) }
-    ensures unsound_a { greatest (layout_of two_by_four) (Some (record { epoch = 3; base = 0 })) (Some (record { epoch = 2; base = 1 })) ≡ Err (damaged 3) }
+    ensures unsound_a { greatest (layout_of two_by_four) (Some (record { epoch = 3; base = 0 })) (Some (record { epoch = 2; base = 1 }))
+        ≡ Err (damaged 3) }
     ensures unsound_b { greatest (layout_of two_by_four) None (Some (record { epoch = 0; base = 0 })) ≡ Err (damaged 91) }
 {}
 
@@ -144,5 +150,6 @@ pub fn refusals()
     ensures no_port { batch_refusal (standing_of 3 9) 10 (Configure 3 example_config ∷ []) ≡ Some BeginCause.Misfit }
     ensures taken { batch_refusal (standing_of 3 9) 10 (replicate 64 (Configure 1 example_config)) ≡ None }
     ensures last { batch_refusal (standing_of 0 4611686018427387903) 4611686018427387904 (Configure 1 example_config ∷ []) ≡ None }
-    ensures past_the_last { batch_refusal (standing_of 0 4611686018427387904) 4611686018427387905 (Configure 1 example_config ∷ []) ≡ Some BeginCause.Misfit }
+    ensures past_the_last { batch_refusal (standing_of 0 4611686018427387904) 4611686018427387905 (Configure 1 example_config ∷ [])
+        ≡ Some BeginCause.Misfit }
 {}

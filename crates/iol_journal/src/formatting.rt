@@ -81,7 +81,8 @@ pub fn format<D: SectorDisk>(
     // Until its first sync, and where it refuses, each image was one before.
     ensures any_moment { LeavesOnly (D.disk disk.old) (D.disk disk.new)
         (λ image. IsImage (D.disk disk.old).content image ⊎ IsEmptyOrUnformatted geometry (D.disk disk.old).sectors image) }
-    ensures untouched { IfErr result (λ fault. IfUntouched fault (LeavesOnly (D.disk disk.old) (D.disk disk.new) (IsImage (D.disk disk.old).content))) }
+    ensures untouched { IfErr result (λ fault.
+        IfUntouched fault (LeavesOnly (D.disk disk.old) (D.disk disk.new) (IsImage (D.disk disk.old).content))) }
     // Where the gate of the disk is open nothing is written, and the answer is not Ok.
     ensures kept { Shows (D.disk disk.old) (λ image. is_open (image DISK_GATE) ≡ true)
         → LeavesOnly (D.disk disk.old) (D.disk disk.new) (IsImage (D.disk disk.old).content) }
@@ -145,7 +146,8 @@ fn write_gates<D: SectorDisk>(disk: &mut D, geometry: Geometry) -> Result<(), Di
 // Writes the header of the area, and that of area B, which was never in use.
 fn write_headers<D: SectorDisk>(disk: &mut D, plan: &AreaPlan) -> Result<(), DiskFault>
     requires { total plan.now.layout ≤ (D.disk disk.old).sectors }
-    ensures { Makes (header_write plan.now.layout plan.now.area plan.now.header.epoch plan.now.header.base ∷ header_write plan.now.layout Area.B 0 0 ∷ [])
+    ensures { Makes (header_write plan.now.layout plan.now.area plan.now.header.epoch plan.now.header.base
+        ∷ header_write plan.now.layout Area.B 0 0 ∷ [])
         (D.disk disk.old) (D.disk disk.new) result }
 {
     plan.write_header(disk)?;

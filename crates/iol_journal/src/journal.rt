@@ -30,7 +30,8 @@ impl<D: SectorDisk> Model for Journal<D> {
 
     ghost Value = { JournalView D };
 
-    ghost view = { λ j. record { disk = j.disk; standing = standing_at j.place j.number j.state; idle = j.place.idle; history = j.history } };
+    ghost view = { λ j.
+        record { disk = j.disk; standing = standing_at j.place j.number j.state; idle = j.place.idle; history = j.history } };
 
     ghost invariant = { λ j. IsResting (D.disk j.disk) (standing_at j.place j.number j.state)
         × LeadsTo (standing_at j.place j.number j.state) j.history };
@@ -160,7 +161,8 @@ impl<D: SectorDisk> Journal<D> {
     /// # Errors
     /// `TooLarge`, `NeedsCheckpoint`, `Memory` or `Misfit`, in this order; journal and batch are handed back.
     pub fn begin(self, batch: Batch) -> Result<Writing<D>, BeginFault<D>>
-        ensures begun { IfOk result (λ w. (w.disk ≡ self.disk) × (w.standing ≡ self.standing) × (w.idle ≡ self.idle) × (w.history ≡ self.history)
+        ensures begun { IfOk result (λ w. (w.disk ≡ self.disk) × (w.standing ≡ self.standing) × (w.idle ≡ self.idle)
+            × (w.history ≡ self.history)
             × (w.commands ≡ values batch.commands.items) × (w.phase ≡ Body 0)) }
         // Its steps make these disk calls, 19 at most.
         ensures calls { IfOk result (λ w. calls_left w ≡ batch_calls self.standing (values batch.commands.items)) }
@@ -236,7 +238,8 @@ impl<D: SectorDisk> Journal<D> {
     /// Out of memory; the journal is handed back.
     pub fn checkpoint(self) -> Result<Checkpointing<D>, CheckpointFault<D>>
         requires { 0 < self.standing.used }
-        ensures begun { IfOk result (λ c. (c.disk ≡ self.disk) × (c.standing ≡ self.standing) × (c.stage ≡ first_stage self.idle) × (c.history ≡ self.history)) }
+        ensures begun { IfOk result (λ c. (c.disk ≡ self.disk) × (c.standing ≡ self.standing) × (c.stage ≡ first_stage self.idle)
+            × (c.history ≡ self.history)) }
         // Its steps make these disk calls: one for each slot, nine for each port, and nine more, at most.
         ensures calls { IfOk result (λ c. stages_left c ≡ checkpoint_calls self.standing self.idle) }
         ensures at_most { IfOk result (λ c. length (stages_left c) ≤ self.standing.layout.slots + 9 * self.standing.layout.ports + 9) }
@@ -268,7 +271,8 @@ impl<D: SectorDisk> Journal<D> {
     // What a checkpoint writes into the other area.
     fn plan_area(&self) -> Result<AreaPlan, AllocError>
         requires { 0 < self.now.standing.used }
-        ensures plan { IfOk result (IsAreaPlan self.now.standing.layout (next_area self.now.standing) (next_header self.now.standing) self.now.standing.state) }
+        ensures plan { IfOk result
+            (IsAreaPlan self.now.standing.layout (next_area self.now.standing) (next_header self.now.standing) self.now.standing.state) }
         ensures records { OnOk result (AreRecords self.now.standing.layout (next_area self.now.standing) self.now.standing.state) }
         ensures sectors { OnOk result (self.now.standing.layout.port_sectors ≤ 9) }
     {

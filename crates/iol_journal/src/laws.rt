@@ -35,5 +35,6 @@ pub fn rest_means_its_state()
 /// A batch that is not too large and goes on where the journal stands is refused for want of a slot alone.
 pub fn following_batch_wants_a_slot()
     ensures { (s : Standing) (first : ℕ) (commands : List CommandValue) → is_too_large commands ≡ false → follows s first commands ≡ true
-        → (batch_refusal s first commands ≡ None) ⊎ ((batch_refusal s first commands ≡ Some BeginCause.NeedsCheckpoint) × (s.used ≡ s.layout.slots)) }
+        → (batch_refusal s first commands ≡ None)
+        ⊎ ((batch_refusal s first commands ≡ Some BeginCause.NeedsCheckpoint) × (s.used ≡ s.layout.slots)) }
 {}

@@ -55,7 +55,8 @@ pub(crate) struct Areas {
 pub(crate) fn find_areas<D: SectorDisk>(disk: &mut D, layout: Layout) -> Result<Areas, RecoverCause>
     requires { total layout ≤ (D.disk disk.old).sectors }
     ensures finds { Finds (λ areas. areas.in_use) (D.disk disk.old) (in_use_in layout) result }
-    ensures other { IfOk result (λ areas. Shows (D.disk disk.old) (λ image. areas.other ≡ header_of (image (header_at layout (other areas.in_use.area))))) }
+    ensures other { IfOk result (λ areas.
+        Shows (D.disk disk.old) (λ image. areas.other ≡ header_of (image (header_at layout (other areas.in_use.area))))) }
     ensures base { IfOk result (λ areas. areas.in_use.header.base ≤ LAST_NUMBER) }
     ensures begun { IfOk result (λ areas. areas.in_use.header.epoch ≤ areas.in_use.header.base + 1) }
     ensures counted { Counted (D.disk disk.old) (D.disk disk.new) result }
@@ -82,7 +83,8 @@ fn read_open_headers<D: SectorDisk>(
     layout: Layout,
 ) -> Result<(Option<Header>, Option<Header>), DiskFault>
     requires { total layout ≤ (D.disk disk.old).sectors }
-    ensures read { IfOk result (λ (a, b). Shows (D.disk disk.old) (λ image. (a ≡ header_in layout image Area.A) × (b ≡ header_in layout image Area.B))) }
+    ensures read { IfOk result (λ (a, b).
+        Shows (D.disk disk.old) (λ image. (a ≡ header_in layout image Area.A) × (b ≡ header_in layout image Area.B))) }
     ensures same { Same (D.disk disk.old) (D.disk disk.new) }
     ensures fault { FailsOnlyAs DiskFault.Read (D.disk disk.old) (D.disk disk.new) result }
 {
@@ -110,7 +112,8 @@ fn read_if<D: SectorDisk>(
     wanted: bool,
 ) -> Result<Option<Header>, DiskFault>
     requires { total layout ≤ (D.disk disk.old).sectors }
-    ensures read { IfOk result (λ header. Shows (D.disk disk.old) (λ image. header ≡ (if wanted then Some (header_of (image (header_at layout area))) else None))) }
+    ensures read { IfOk result (λ header.
+        Shows (D.disk disk.old) (λ image. header ≡ (if wanted then Some (header_of (image (header_at layout area))) else None))) }
     ensures same { Same (D.disk disk.old) (D.disk disk.new) }
     ensures fault { FailsOnlyAs DiskFault.Read (D.disk disk.old) (D.disk disk.new) result }
 {

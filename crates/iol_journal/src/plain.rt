@@ -31,7 +31,8 @@ pub fn plain_meaning(
     alloc: Global,
     image: &[[u8; SECTOR_OCTETS]],
 ) -> Result<Result<(u64, MasterState), RecoverCause>, AllocError>
-    ensures says { IfOk result (Says (λ (number, state). record { number = number; state = state }) (meaning (length image.now) (image_of image.now))) }
+    ensures says { IfOk result
+        (Says (λ (number, state). record { number = number; state = state }) (meaning (length image.now) (image_of image.now))) }
     ensures no_fault { IfOk result (λ answer. IfErr answer (λ told. IsFault told → ⊥)) }
 {
     match read_all(alloc, image) {
@@ -46,7 +47,8 @@ fn read_all(
     alloc: Global,
     image: &[[u8; SECTOR_OCTETS]],
 ) -> Result<(u64, MasterState), RecoverCause>
-    ensures says { Says (λ (number, state). record { number = number; state = state }) (meaning (length image.now) (image_of image.now)) result }
+    ensures says { Says (λ (number, state). record { number = number; state = state }) (meaning (length image.now) (image_of image.now))
+        result }
     ensures no_disk { IfErr result (λ told. IsDiskFault told → ⊥) }
 {
     let layout = read_layout(image)?;

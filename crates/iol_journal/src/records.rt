@@ -54,7 +54,8 @@ fn push_record(
     requires bound { first < 10000 }
     requires small { length octets.now ≤ SECTOR_OCTETS * 9 }
     ensures { OnOk result (map write_of records.new.items
-        ≡ map write_of records.old.items ++ map (λ j. write (first + j) (sector_of octets.now j)) (range_with_len 0 (length octets.now / SECTOR_OCTETS))) }
+        ≡ map write_of records.old.items
+        ++ map (λ j. write (first + j) (sector_of octets.now j)) (range_with_len 0 (length octets.now / SECTOR_OCTETS))) }
 {
     for j in 0..octets.len() / SECTOR_OCTETS {
         let mut sector = [0; SECTOR_OCTETS];

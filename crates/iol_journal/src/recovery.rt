@@ -51,22 +51,26 @@ impl<D: SectorDisk> Journal<D> {
     /// The cause that is met first in the order of reading (docs/FORMATS.md, "Recovery"); the disk is handed back.
     pub fn recover(alloc: Global, disk: D) -> Result<(Journal<D>, MasterState), RecoverFault<D>>
         // It is how the journal stands on what the disk reads as.
-        ensures found { IfOk result (λ found. Shows (D.disk disk) (λ image. standing_in (D.disk disk).sectors image ≡ Ok found.0.standing)) }
+        ensures found { IfOk result (λ found.
+            Shows (D.disk disk) (λ image. standing_in (D.disk disk).sectors image ≡ Ok found.0.standing)) }
         ensures state { IfOk result (λ found. found.1 ≡ found.0.standing.state) }
         // On a kept image the journal is at rest.
         ensures at_rest { IfOk result (λ found. Shows (D.disk disk) (IsKept (D.disk disk).sectors)
             → IsAtRest (D.disk found.0.disk) found.0.standing found.0.idle) }
         ensures idle { IfOk result (λ found. Shows (D.disk disk) (λ image. found.0.idle ≡ idle_in found.0.standing image)) }
-        ensures cause { IfErr result (λ fault. Shows (D.disk disk) (λ image. SaysWhy (standing_in (D.disk disk).sectors image) fault.cause)) }
+        ensures cause { IfErr result (λ fault.
+            Shows (D.disk disk) (λ image. SaysWhy (standing_in (D.disk disk).sectors image) fault.cause)) }
         // It makes one sync and reads, and a fault is that of the call that failed.
         ensures makes { MakesRecovery (D.disk disk) (D.disk (recovered_disk result)) (cause_of result) }
         // Memory is asked for only behind a sound geometry and an area in use.
         ensures memory { IfErr result (λ fault. fault.cause ≡ RecoverCause.Memory → Shows (D.disk disk) (HasChosen (D.disk disk).sectors)) }
         // Where all images mean the same, that is what is found, and each image means it still.
-        ensures means { IfOk result (λ found. (number : ℕ) (state : State) → IsTrue (D.disk disk).honest → EachMeans (D.disk disk) number state
+        ensures means { IfOk result (λ found. (number : ℕ) (state : State) → IsTrue (D.disk disk).honest
+            → EachMeans (D.disk disk) number state
             → (found.0.standing.number ≡ number) × (found.0.standing.state ≡ state)
             × IsAtRest (D.disk found.0.disk) found.0.standing found.0.idle × EachMeans (D.disk found.0.disk) number state) }
-        ensures history { IfOk result (λ found. found.0.history ≡ record { first = found.0.standing.number; start = found.1; commands = [] }) }
+        ensures history { IfOk result (λ found. found.0.history
+            ≡ record { first = found.0.standing.number; start = found.1; commands = [] }) }
         // No image is added.
         ensures any_moment { LeavesOnly (D.disk disk) (D.disk (recovered_disk result)) (IsImage (D.disk disk).content) }
         // Each run on the disk stays one.
@@ -100,9 +104,11 @@ fn find<D: SectorDisk>(alloc: Global, disk: &mut D) -> Result<Found, RecoverCaus
     ensures memory { result ≡ Err RecoverCause.Memory → Shows (D.disk disk.old) (HasChosen (D.disk disk.old).sectors) }
     ensures finds { Finds (λ found. standing_at found.place found.number found.state) (D.disk disk.old)
         (standing_in (D.disk disk.old).sectors) result }
-    ensures idle { IfOk result (λ found. Shows (D.disk disk.old) (λ image. found.place.idle ≡ idle_in (standing_at found.place found.number found.state) image)) }
+    ensures idle { IfOk result (λ found.
+        Shows (D.disk disk.old) (λ image. found.place.idle ≡ idle_in (standing_at found.place found.number found.state) image)) }
     // What it read is the only image.
-    ensures settled { OnOk result (Shows (D.disk disk.old) (λ read. (image : Image) → IsImage (D.disk disk.new).content image → image ≡ read)) }
+    ensures settled { OnOk result
+        (Shows (D.disk disk.old) (λ read. (image : Image) → IsImage (D.disk disk.new).content image → image ≡ read)) }
     ensures any_moment { LeavesOnly (D.disk disk.old) (D.disk disk.new) (IsImage (D.disk disk.old).content) }
     ensures resting { IfOk result (λ found. IsResting (D.disk disk.new) (standing_at found.place found.number found.state)) }
     ensures copy { IfOk result (λ found. found.copy ≡ found.state) }

@@ -1,6 +1,7 @@
 //! The commands of an area's slots, applied in order.
 
-ghost use Rattle.std.specs.Prelude.{◌≡◌, ◌≤◌, ◌<◌, ◌+◌, ◌++◌, ℕ, length, drop, IsTrue, IfOk, IfErr, IfSome, IfNone, OnOk, Ok, Err, Some, None, if◌then◌else◌};
+ghost use Rattle.std.specs.Prelude.{◌≡◌, ◌≤◌, ◌<◌, ◌+◌, ◌++◌, ℕ, length, drop, IsTrue, IfOk, IfErr, IfSome, IfNone, OnOk, Ok, Err, Some};
+ghost use Rattle.std.specs.Prelude.{None, if◌then◌else◌};
 ghost use Rattle.iol_types.specs.Command.{value_of};
 ghost use Rattle.iol_record.specs.Reading.{command_at};
 ghost use Rattle.iol_record.specs.declared.fault.RecordFault.{RecordFault};

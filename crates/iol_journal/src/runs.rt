@@ -55,12 +55,14 @@ pub fn marked_checkpointing<D: SectorDisk>()
 
 /// The disk calls of a checkpoint keep a run.
 pub fn checkpoint_stays()
-    ensures { (old new : Disk) (r : Run) → LeavesOnly old new (KeptMeans old.sectors (number_of r) (state_of r)) → IsRun old r → IsRun new r }
+    ensures { (old new : Disk) (r : Run) → LeavesOnly old new (KeptMeans old.sectors (number_of r) (state_of r)) → IsRun old r
+        → IsRun new r }
 {}
 
 /// Batches and checkpoints in any number and order keep a run.
 pub fn stretches_keep_a_run()
-    ensures { (old : Disk) (r : Run) (stretches : List Stretch) → r.underway ≡ [] → r.queued ≡ [] → AreStretches old (number_of r) (state_of r) stretches
+    ensures { (old : Disk) (r : Run) (stretches : List Stretch) → r.underway ≡ [] → r.queued ≡ []
+        → AreStretches old (number_of r) (state_of r) stretches
         → IsRun old r → IsRun (disk_after old stretches) (record r { written = r.written ++ commands_in stretches }) }
 {}
 

@@ -23,7 +23,8 @@ pub(crate) fn make_stage<D: SectorDisk>(
     requires fits { total plan.now.layout ≤ (D.disk disk.old).sectors }
     requires row { IsRow 0 (D.disk disk.old).sectors (map write_of plan.now.records.items) }
     requires in_stage { IsStage plan.now.layout.slots (length plan.now.records.items) stage }
-    ensures { (s : Standing) → IsAreaPlan s.layout (next_area s) (next_header s) s.state plan.now → Makes (call_at s stage ∷ []) (D.disk disk.old) (D.disk disk.new) result }
+    ensures { (s : Standing) → IsAreaPlan s.layout (next_area s) (next_header s) s.state plan.now
+        → Makes (call_at s stage ∷ []) (D.disk disk.old) (D.disk disk.new) result }
 {
     let area_gate = gate(plan.layout.gate(plan.area));
     match stage {

@@ -183,9 +183,11 @@ impl<D: SectorDisk> Writing<D> {
             × EachMeans (D.disk journal.disk) journal.standing.number journal.standing.state) }
         // Each run whose batch this is goes on: each image since a moment of it has all that was acknowledged by then.
         ensures run { (r : Run) → IsRunWriting D.disk r self → HasStepped D.disk r result }
-        ensures more { IfMore result (λ w. (w.standing ≡ self.standing) × (w.idle ≡ self.idle) × (w.history ≡ self.history) × (w.commands ≡ self.commands)) }
+        ensures more { IfMore result (λ w. (w.standing ≡ self.standing) × (w.idle ≡ self.idle) × (w.history ≡ self.history)
+            × (w.commands ≡ self.commands)) }
         // The batch is behind those before it.
-        ensures done { IfDone result (λ journal written. (journal.standing ≡ with_batch self.standing self.commands) × (journal.idle ≡ self.idle)
+        ensures done { IfDone result (λ journal written. (journal.standing ≡ with_batch self.standing self.commands)
+            × (journal.idle ≡ self.idle)
             × (journal.history ≡ written_behind self.history self.commands)
             × (written.first ≡ self.standing.number + 1) × (written.commands ≡ self.commands)) }
     {

@@ -66,12 +66,17 @@ mismatch_at number =
 
 fault_at : List ℕ → PortFault
 fault_at (zero ∷ error ∷ additional ∷ []) = fault.Refused error additional
-fault_at numbers = unwrap_or (find (λ why. bytes_eq (fault_numbers why) numbers) (fault.Unexpected ∷ fault.Size ∷ fault.List ∷ fault.Busy ∷ fault.Memory ∷ fault.Empty ∷ fault.Reserved ∷ fault.WrongService ∷ fault.Length ∷ fault.Check ∷ fault.Stopped ∷ fault.NotAllowed ∷ fault.WrongDevice ∷ fault.Taken ∷ fault.Same ∷ fault.Exhausted ∷ [])) fault.Unexpected
+fault_at numbers = unwrap_or
+    (find (λ why. bytes_eq (fault_numbers why) numbers) (fault.Unexpected ∷ fault.Size ∷ fault.List ∷ fault.Busy ∷ fault.Memory
+    ∷ fault.Empty ∷ fault.Reserved ∷ fault.WrongService ∷ fault.Length ∷ fault.Check ∷ fault.Stopped ∷ fault.NotAllowed ∷ fault.WrongDevice
+    ∷ fault.Taken ∷ fault.Same ∷ fault.Exhausted ∷ [])) fault.Unexpected
 
 status_at : List ℕ → PortStatus
 status_at (zero ∷ why) = status.Failed (fault_at why)
 status_at (suc zero ∷ why ∷ []) = status.Mismatch (mismatch_at why)
-status_at numbers = unwrap_or (find (λ one. bytes_eq (status_numbers one) numbers) (status.Off ∷ status.Lost ∷ status.Starting ∷ status.Ready ∷ status.ReadyLocked ∷ status.ReadyEmpty ∷ status.Uploading ∷ status.Storing ∷ status.Downloading ∷ [])) status.Off
+status_at numbers = unwrap_or
+    (find (λ one. bytes_eq (status_numbers one) numbers) (status.Off ∷ status.Lost ∷ status.Starting ∷ status.Ready ∷ status.ReadyLocked
+    ∷ status.ReadyEmpty ∷ status.Uploading ∷ status.Storing ∷ status.Downloading ∷ [])) status.Off
 
 mismatch_back : (why : IdentFault) → mismatch_at (mismatch_number why) ≡ why
 unfolding mismatch_at

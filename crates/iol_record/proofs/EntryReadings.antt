@@ -1,5 +1,6 @@
 -- Entries read one behind the other, as a loop reads them.
-use Rattle.std.proofs.Common.{◌≡◌, ℕ, ◌+◌, ◌<◌, ◌≤◌, inl, inr, subst, arith, List, [], ◌∷◌, ◌++◌, Result, Ok, Err, refl, sym, ap, ◌∙◌, add-one, append_assoc}
+use Rattle.std.proofs.Common.{◌≡◌, ℕ, ◌+◌, ◌<◌, ◌≤◌, inl, inr, subst, arith, List, [], ◌∷◌, ◌++◌, Result, Ok, Err, refl, sym, ap, ◌∙◌}
+use Rattle.std.proofs.Common.{add-one, append_assoc}
 use Rattle.std.specs.Prelude.{IsOk, min}
 use Rattle.std.proofs.Math.Nat.{min-eq_left}
 use Rattle.std.proofs.lemmas.Bool.{cases_lt}
@@ -48,7 +49,8 @@ first-read count octets some read = rw (min-eq_left some) (by (entry_at [] octet
     by (Err fault) is ok = cc
 
 -- an entry that is not read is the fault of all
-pub at-fault : (built : List Entry) (left count : ℕ) (octets old : List ℕ) (fault : RecordFault) → IsReadFault (entry_at built octets) fault (entry_at built octets)
+pub at-fault : (built : List Entry) (left count : ℕ) (octets old : List ℕ) (fault : RecordFault)
+    → IsReadFault (entry_at built octets) fault (entry_at built octets)
     → all_with built (left + 1) octets ≡ entries_at count [] old → (IsOk (entry_at built octets) → IsOk (entries_at (min 1 count) [] old))
     → IsReadFault (entries_at (min 1 count) [] old) fault (entries_at count [] old)
 at-fault built left count octets old Memory is all begun = begun is
@@ -57,12 +59,15 @@ at-fault built left count octets old BadTag is all begun = sym all ∙ with-faul
 at-fault built left count octets old BadField is all begun = sym all ∙ with-fault built left octets BadField is
 
 -- once an entry is read in its turn, the first one is
-pub has-begun : (built : List Entry) (counter count : ℕ) (octets old : List ℕ) → counter < count → (counter ≡ 0 → (built ≡ []) × (octets ≡ old))
+pub has-begun : (built : List Entry) (counter count : ℕ) (octets old : List ℕ) → counter < count
+    → (counter ≡ 0 → (built ≡ []) × (octets ≡ old))
     → (1 ≤ counter → IsOk (entries_at (min 1 count) [] old)) → IsOk (entry_at built octets) → IsOk (entries_at (min 1 count) [] old)
 has-begun built counter count octets old left start begun read =
     elim (cases_lt 0 counter) [
       | inl some ↦ begun (omega (arith, some))
       | inr none ↦
           let first = start (omega (arith, none)) in
-          first-read count old (omega (arith, left)) (subst (λ (o : List ℕ). IsOk (entry_at [] o)) first.1 (subst (λ (entries : List Entry). IsOk (entry_at entries octets)) first.0 read))
+          first-read count old (omega (arith, left))
+          (subst (λ (o : List ℕ). IsOk (entry_at [] o)) first.1
+          (subst (λ (entries : List Entry). IsOk (entry_at entries octets)) first.0 read))
     ]

@@ -1,9 +1,11 @@
 -- Each field reads back what its octets spell.
-use Rattle.std.proofs.Common.{◌≡◌, ℕ, ◌+◌, ◌^◌, ◌<◌, ◌≤◌, get_or, is_some, subst, List, [], ◌∷◌, length, Bool, true, false, cond, leb, eqb, Option, Some, None, ◌⊎◌, inl, inr, refl, sym, ap, ◌∙◌, ◌-◌, arith}
+use Rattle.std.proofs.Common.{◌≡◌, ℕ, ◌+◌, ◌^◌, ◌<◌, ◌≤◌, get_or, is_some, subst, List, [], ◌∷◌, length, Bool, true, false, cond, leb, eqb}
+use Rattle.std.proofs.Common.{Option, Some, None, ◌⊎◌, inl, inr, refl, sym, ap, ◌∙◌, ◌-◌, arith}
 use Rattle.std.specs.Prelude.{find, ◌&&◌}
 use Rattle.std.specs.Int.{w8, w16, w32, w64, from_be_bytes, to_be_bytes}
 use Rattle.std.proofs.lemmas.Bool.{leb-true, le-leb, eqb-true, and_parts}
-use Rattle.std.proofs.lemmas.Nat.{be_bytes_2, be_bytes_4, be_bytes_8, from_be_bytes-to_be_bytes_2, from_be_bytes-to_be_bytes_4, from_be_bytes-to_be_bytes_8}
+use Rattle.std.proofs.lemmas.Nat.{be_bytes_2, be_bytes_4, be_bytes_8, from_be_bytes-to_be_bytes_2, from_be_bytes-to_be_bytes_4}
+use Rattle.std.proofs.lemmas.Nat.{from_be_bytes-to_be_bytes_8}
 use Rattle.iol_types.specs.declared.config.PortMode.{PortMode}
 use Rattle.iol_types.specs.declared.config.PortMode.TheVariants.{Deactivated, IolManual, IolAutostart, DigitalInput, DigitalOutput}
 use Rattle.iol_types.specs.declared.config.Validation.{Validation}
@@ -22,7 +24,9 @@ use Rattle.iol_types.specs.Key.{is_reserved}
 use Rattle.iol_types.specs.DataSet.{Entry, data_at, octets_of}
 use Rattle.iol_record.specs.declared.reader.Tag.{Tag}
 use Rattle.iol_record.specs.declared.reader.Tag.TheVariants as tag
-use Rattle.iol_record.specs.Reading.{from_to, tag_octet, tag_of, has_set, new_key, tag_field, port_field, mode_field, validation_field, vendor_field, device_field, revision_field, checksum_field, count_field, flag_field, index_field, subindex_field, length_field}
+use Rattle.iol_record.specs.Reading.{from_to, tag_octet, tag_of, has_set, new_key, tag_field, port_field, mode_field, validation_field}
+use Rattle.iol_record.specs.Reading.{vendor_field, device_field, revision_field, checksum_field, count_field, flag_field, index_field}
+use Rattle.iol_record.specs.Reading.{subindex_field, length_field}
 use Rattle.iol_record.proofs.Readers.{AreOctets, IsField}
 
 -- ---- the values of numbers
@@ -52,10 +56,14 @@ validation_of-octet BackupAndRestore = refl
 validation_of-octet Restore = refl
 
 mode_octet-of : (n : ℕ) (mode : PortMode) → mode_of n ≡ Some mode → n ≡ mode_octet mode
-mode_octet-of n mode e = sym (eqb-true _ _ (find-passes (λ m. eqb (mode_octet m) n) (Deactivated ∷ IolManual ∷ IolAutostart ∷ DigitalInput ∷ DigitalOutput ∷ []) mode e))
+mode_octet-of n mode e =
+    sym (eqb-true _ _ (find-passes (λ m. eqb (mode_octet m) n) (Deactivated ∷ IolManual ∷ IolAutostart ∷ DigitalInput ∷ DigitalOutput ∷ [])
+    mode e))
 
 validation_octet-of : (n : ℕ) (validation : Validation) → validation_of n ≡ Some validation → n ≡ validation_octet validation
-validation_octet-of n validation e = sym (eqb-true _ _ (find-passes (λ v. eqb (validation_octet v) n) (NoCheck ∷ TypeCompatibleV10 ∷ TypeCompatibleV11 ∷ BackupAndRestore ∷ Restore ∷ []) validation e))
+validation_octet-of n validation e =
+    sym (eqb-true _ _ (find-passes (λ v. eqb (validation_octet v) n) (NoCheck ∷ TypeCompatibleV10 ∷ TypeCompatibleV11 ∷ BackupAndRestore
+    ∷ Restore ∷ []) validation e))
 
 from_to-some : (least most n : ℕ) → least ≤ n → n ≤ most → from_to least most n ≡ Some n
 from_to-some least most n low high = rw (le-leb least n low, le-leb n most high) refl
@@ -90,7 +98,8 @@ octet_field value fault code InRange again found = record {
       (one.1 ∙ ap (λ n. n ∷ []) is.0, is.1);
 }
 
-from_to_field : (fault : RecordFault) (least most : ℕ) → IsField (record { width = w8; value = from_to least most; fault = fault }) (λ n. n ∷ []) (λ n. (least ≤ n) × (n ≤ most))
+from_to_field : (fault : RecordFault) (least most : ℕ)
+    → IsField (record { width = w8; value = from_to least most; fault = fault }) (λ n. n ∷ []) (λ n. (least ≤ n) × (n ≤ most))
 from_to_field fault least most =
     octet_field (from_to least most) fault (λ n. n) (λ n. (least ≤ n) × (n ≤ most))
     (λ n in_range. from_to-some least most n in_range.0 in_range.1)
@@ -122,20 +131,24 @@ has_set-octet true = refl
 flag_octet-of : (n : ℕ) (flag : Bool) → has_set n ≡ Some flag → n ≡ flag_octet flag
 flag_octet-of n flag e = by (eqb n NO_SET) (eqb n SET) refl refl e
   where
-    by : (none set : Bool) → eqb n NO_SET ≡ none → eqb n SET ≡ set → cond none (Some false) (cond set (Some true) None) ≡ Some flag → n ≡ flag_octet flag
+    by : (none set : Bool) → eqb n NO_SET ≡ none → eqb n SET ≡ set → cond none (Some false) (cond set (Some true) None) ≡ Some flag → n
+        ≡ flag_octet flag
     by true set is_none is_set e = let same : false ≡ flag = cc in eqb-true n NO_SET is_none ∙ ap flag_octet same
     by false true is_none is_set e = let same : true ≡ flag = cc in eqb-true n SET is_set ∙ ap flag_octet same
     by false false is_none is_set e = absurd cc
 
 pub flag_reads : IsField flag_field (λ flag. flag_octet flag ∷ []) (λ _. Unit {0})
-flag_reads = octet_field has_set BadField flag_octet (λ _. Unit {0}) (λ flag _. has_set-octet flag) (λ n flag e. (flag_octet-of n flag e, tt))
+flag_reads = octet_field has_set BadField flag_octet (λ _. Unit {0}) (λ flag _. has_set-octet flag) (λ n flag e.
+    (flag_octet-of n flag e, tt))
 
 pub mode_reads : IsField mode_field (λ mode. mode_octet mode ∷ []) (λ _. Unit {0})
-mode_reads = octet_field mode_of BadField mode_octet (λ _. Unit {0}) (λ mode _. mode_of-octet mode) (λ n mode e. (mode_octet-of n mode e, tt))
+mode_reads = octet_field mode_of BadField mode_octet (λ _. Unit {0}) (λ mode _. mode_of-octet mode) (λ n mode e.
+    (mode_octet-of n mode e, tt))
 
 pub validation_reads : IsField validation_field (λ validation. validation_octet validation ∷ []) (λ _. Unit {0})
 validation_reads =
-    octet_field validation_of BadField validation_octet (λ _. Unit {0}) (λ validation _. validation_of-octet validation) (λ n validation e. (validation_octet-of n validation e, tt))
+    octet_field validation_of BadField validation_octet (λ _. Unit {0}) (λ validation _. validation_of-octet validation) (λ n validation e.
+    (validation_octet-of n validation e, tt))
 
 -- ---- fields of several octets
 
@@ -173,7 +186,8 @@ checksum_reads = record {
 pub device_reads : IsField device_field (to_be_bytes w32) IsDeviceNumber
 device_reads = record {
   wide = λ n. refl;
-  again = λ n lt. ap (from_to 0 (DEVICE_NUMBERS - 1)) (from_be_bytes-to_be_bytes_4 n (omega (arith, lt))) ∙ from_to-some 0 (DEVICE_NUMBERS - 1) n (omega arith) (omega (arith, lt));
+  again = λ n lt. ap (from_to 0 (DEVICE_NUMBERS - 1)) (from_be_bytes-to_be_bytes_4 n (omega (arith, lt)))
+      ∙ from_to-some 0 (DEVICE_NUMBERS - 1) n (omega arith) (omega (arith, lt));
   takes = λ octets n len are e.
       let found = from_to-is 0 (DEVICE_NUMBERS - 1) (from_be_bytes w32 octets) n e in
       (sym (be_bytes_4 octets n len are (sym found.0)), omega (arith, found.0, found.2));
@@ -206,7 +220,10 @@ index_reads = record {
   takes = λ octets n len are e.
       let found = unless (is_reserved (record { index = from_be_bytes w16 octets; subindex = 0 })) (from_be_bytes w16 octets) n e in (
         sym (be_bytes_2 octets n len are (sym found.1)),
-        record { below = omega (arith, found.1, are 0, are 1); free = ap (λ i. is_reserved (record { index = i; subindex = 0 })) (sym found.1) ∙ found.0 },
+        record {
+          below = omega (arith, found.1, are 0, are 1);
+          free = ap (λ i. is_reserved (record { index = i; subindex = 0 })) (sym found.1) ∙ found.0;
+        },
       );
 }
 
@@ -216,7 +233,8 @@ pub record IsNewKey (others : List Entry) (index : ℕ) (key : Key) : Type 0 whe
   pub subindex : key.subindex < 2 ^ 8
   pub absent : is_some (data_at others key) ≡ false
 
-pub subindex_reads : (others : List Entry) (index : ℕ) → IsField (subindex_field others index) (λ key. key.subindex ∷ []) (IsNewKey others index)
+pub subindex_reads : (others : List Entry) (index : ℕ)
+    → IsField (subindex_field others index) (λ key. key.subindex ∷ []) (IsNewKey others index)
 subindex_reads others index = record {
   wide = λ key. refl;
   again = λ key is. ap (λ i. new_key others i key.subindex) (sym is.has_index) ∙ rw is.absent refl;
@@ -224,7 +242,8 @@ subindex_reads others index = record {
       let one = one_octet octets len in
       let here : one.0 < 256 = ap-octet one.0 octets one.1 are in
       let named = named-octet one.0 octets one.1 e in
-      let found = unless (is_some (data_at others (record { index = index; subindex = one.0 }))) (record { index = index; subindex = one.0 }) key named in (
+      let found = unless (is_some (data_at others (record { index = index; subindex = one.0 })))
+      (record { index = index; subindex = one.0 }) key named in (
         one.1 ∙ ap (λ (k : Key). k.subindex ∷ []) found.1,
         record {
           has_index = ap (λ (k : Key). k.index) (sym found.1);
@@ -237,7 +256,8 @@ subindex_reads others index = record {
     ap-octet : (n : ℕ) (octets : List ℕ) → octets ≡ n ∷ [] → AreOctets octets → n < 256
     ap-octet n octets is are = subst (λ (os : List ℕ). get_or os 0 0 < 256) is (are 0)
 
-    named-octet : (n : ℕ) (octets : List ℕ) {key : Key} → octets ≡ n ∷ [] → new_key others index (from_be_bytes w8 octets) ≡ Some key → new_key others index n ≡ Some key
+    named-octet : (n : ℕ) (octets : List ℕ) {key : Key} → octets ≡ n ∷ [] → new_key others index (from_be_bytes w8 octets) ≡ Some key
+        → new_key others index n ≡ Some key
     named-octet n octets is e = ap (λ os. new_key others index (from_be_bytes w8 os)) (sym is) ∙ e
 
 -- a length with which an entry and the others make no set that is too large
@@ -251,5 +271,10 @@ length_reads others =
     (λ count is. rw (le-leb _ _ is.short, le-leb _ _ is.fits) refl)
     (λ n count e.
     let is = some_if (leb n MOST_ENTRY_OCTETS && leb (octets_of others + ENTRY_HEAD_OCTETS + n) MOST_SET_OCTETS) n count e in
-    let tests = and_parts _ _ is.0 in
-    (is.1, record { short = subst (λ k. k ≤ MOST_ENTRY_OCTETS) is.1 (leb-true _ _ tests.0); fits = subst (λ k. octets_of others + ENTRY_HEAD_OCTETS + k ≤ MOST_SET_OCTETS) is.1 (leb-true _ _ tests.1) }))
+    let tests = and_parts _ _ is.0 in (
+      is.1,
+      record {
+        short = subst (λ k. k ≤ MOST_ENTRY_OCTETS) is.1 (leb-true _ _ tests.0);
+        fits = subst (λ k. octets_of others + ENTRY_HEAD_OCTETS + k ≤ MOST_SET_OCTETS) is.1 (leb-true _ _ tests.1);
+      },
+    ))

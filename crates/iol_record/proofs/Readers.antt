@@ -1,9 +1,11 @@
 -- What holds of each reader of a field or a record, and that readers put together keep it.
-use Rattle.std.proofs.Common.{◌≡◌, ℕ, Bool, true, false, ◌+◌, ◌-◌, ◌<◌, ◌≤◌, List, [], ◌++◌, length, get_or, take, drop, Option, Some, None, Result, Ok, Err, inl, inr, refl, sym, ap, subst, ◌∙◌, append_assoc, arith}
+use Rattle.std.proofs.Common.{◌≡◌, ℕ, Bool, true, false, ◌+◌, ◌-◌, ◌<◌, ◌≤◌, List, [], ◌++◌, length, get_or, take, drop, Option, Some, None}
+use Rattle.std.proofs.Common.{Result, Ok, Err, inl, inr, refl, sym, ap, subst, ◌∙◌, append_assoc, arith}
 use Rattle.std.specs.Option.{ok_or}
 use Rattle.std.specs.Int.{Width, byte_len, from_be_bytes}
 use Rattle.std.proofs.lemmas.Bool.{cases_lt, le-ltb, lt-ltb}
-use Rattle.std.proofs.lemmas.List.{append-nil, take_at, drop_at, take-append-drop, take-append-le, drop-append-le, length-append, length-take, get_or-drop, get_or-take, get_or_past}
+use Rattle.std.proofs.lemmas.List.{append-nil, take_at, drop_at, take-append-drop, take-append-le, drop-append-le, length-append}
+use Rattle.std.proofs.lemmas.List.{length-take, get_or-drop, get_or-take, get_or_past}
 use Rattle.iol_record.specs.declared.fault.RecordFault.{RecordFault}
 use Rattle.iol_record.specs.declared.fault.RecordFault.TheVariants.{Short, BadField}
 use Rattle.iol_record.specs.Reading.{Reading, Field, ◌>>=◌, octets_at, next_number, field_at, both, followed, joined, if_so, tested}
@@ -41,7 +43,8 @@ pub record IsReader {A : Type 0} (reader : Reading A) (spelling : A → List ℕ
   -- what is spelled is read, whatever follows
   pub again : (value : A) (rest : List ℕ) → InRange value → reader (spelling value ++ rest) ≡ Ok (value, rest)
   -- what is read is spelled
-  pub takes : (octets : List ℕ) (value : A) (rest : List ℕ) → AreOctets octets → reader octets ≡ Ok (value, rest) → Splits octets (spelling value) rest × InRange value
+  pub takes : (octets : List ℕ) (value : A) (rest : List ℕ) → AreOctets octets → reader octets ≡ Ok (value, rest)
+      → Splits octets (spelling value) rest × InRange value
   pub stays : Stays reader
 
 -- ---- steps of a reading
@@ -52,12 +55,14 @@ done x = Ok x
 ok_is : {A : Type 0} (x y : A) → done x ≡ done y → x ≡ y
 ok_is x y e = cc
 
-bind_ok : {A B : Type 0} (r : Result A RecordFault) (next : A → Result B RecordFault) (y : B) → (r >>= next) ≡ Ok y → (x : A) × (r ≡ Ok x) × (next x ≡ Ok y)
+bind_ok : {A B : Type 0} (r : Result A RecordFault) (next : A → Result B RecordFault) (y : B) → (r >>= next) ≡ Ok y → (x : A) × (r ≡ Ok x)
+    × (next x ≡ Ok y)
 bind_ok (Ok x) next y e = (x, refl, e)
 bind_ok (Err fault) next y e = absurd cc
 
 bind_stays : {A B : Type 0} (more : List ℕ) (r : Result (A × List ℕ) RecordFault) (next : A × List ℕ → Result (B × List ℕ) RecordFault)
-    → ((x : A × List ℕ) → r ≡ Ok x → next (x.0, x.1 ++ more) ≡ extended more (next x)) → (extended more r >>= next) ≡ extended more (r >>= next)
+    → ((x : A × List ℕ) → r ≡ Ok x → next (x.0, x.1 ++ more) ≡ extended more (next x)) → (extended more r >>= next)
+    ≡ extended more (r >>= next)
 bind_stays more (Ok x) next h = h x refl
 bind_stays more (Err fault) next h = refl
 
@@ -67,28 +72,34 @@ bind_stays more (Err fault) next h = refl
 pub record IsField {A : Type 0} (field : Field A) (spelling : A → List ℕ) (InRange : A → Type 0) : Type 0 where
   pub wide : (value : A) → length (spelling value) ≡ byte_len field.width
   pub again : (value : A) → InRange value → field.value (from_be_bytes field.width (spelling value)) ≡ Some value
-  pub takes : (octets : List ℕ) (value : A) → length octets ≡ byte_len field.width → AreOctets octets → field.value (from_be_bytes field.width octets) ≡ Some value → (octets ≡ spelling value) × InRange value
+  pub takes : (octets : List ℕ) (value : A) → length octets ≡ byte_len field.width → AreOctets octets
+      → field.value (from_be_bytes field.width octets) ≡ Some value → (octets ≡ spelling value) × InRange value
 
 -- the value of a number, and what follows
 abbrev valued : {A : Type 0} → Option A → RecordFault → List ℕ → Result (A × List ℕ) RecordFault
 valued o fault rest = ok_or o fault >>= λ value. Ok (value, rest)
 
-valued_ok : {A : Type 0} (o : Option A) (fault : RecordFault) (rest : List ℕ) (x : A × List ℕ) → valued o fault rest ≡ Ok x → (o ≡ Some x.0) × (rest ≡ x.1)
+valued_ok : {A : Type 0} (o : Option A) (fault : RecordFault) (rest : List ℕ) (x : A × List ℕ) → valued o fault rest ≡ Ok x → (o ≡ Some x.0)
+    × (rest ≡ x.1)
 valued_ok None fault rest x e = absurd cc
 valued_ok (Some value) fault rest x e = let is = ok_is (value, rest) x e in (ap (λ y. Some y.0) is, ap (λ y. y.1) is)
 
-valued_more : {A : Type 0} (o : Option A) (fault : RecordFault) (rest more : List ℕ) → valued o fault (rest ++ more) ≡ extended more (valued o fault rest)
+valued_more : {A : Type 0} (o : Option A) (fault : RecordFault) (rest more : List ℕ) → valued o fault (rest ++ more)
+    ≡ extended more (valued o fault rest)
 valued_more None fault rest more = refl
 valued_more (Some value) fault rest more = refl
 
-number-whole : (width : Width) (octets : List ℕ) → byte_len width ≤ length octets → next_number width octets ≡ Ok (from_be_bytes width (take (byte_len width) octets), drop (byte_len width) octets)
+number-whole : (width : Width) (octets : List ℕ) → byte_len width ≤ length octets → next_number width octets
+    ≡ Ok (from_be_bytes width (take (byte_len width) octets), drop (byte_len width) octets)
 number-whole width octets le = rw (le-ltb (length octets) (byte_len width) le) refl
 
 number-short : (width : Width) (octets : List ℕ) → length octets < byte_len width → next_number width octets ≡ Err Short
 number-short width octets lt = rw (lt-ltb (length octets) (byte_len width) lt) refl
 
 field-whole : {A : Type 0} (field : Field A) (octets : List ℕ) → byte_len field.width ≤ length octets
-    → field_at field octets ≡ valued (field.value (from_be_bytes field.width (take (byte_len field.width) octets))) field.fault (drop (byte_len field.width) octets)
+    → field_at field octets
+    ≡ valued (field.value (from_be_bytes field.width (take (byte_len field.width) octets))) field.fault
+    (drop (byte_len field.width) octets)
 field-whole field octets le = rw (number-whole field.width octets le) refl
 
 field-short : {A : Type 0} (field : Field A) (octets : List ℕ) → length octets < byte_len field.width → field_at field octets ≡ Err Short
@@ -96,32 +107,38 @@ field-short field octets lt = rw (number-short field.width octets lt) refl
 
 -- a field that is read is whole
 field-ok : {A : Type 0} (field : Field A) (octets : List ℕ) (x : A × List ℕ) → field_at field octets ≡ Ok x
-    → (byte_len field.width ≤ length octets) × (field.value (from_be_bytes field.width (take (byte_len field.width) octets)) ≡ Some x.0) × (drop (byte_len field.width) octets ≡ x.1)
+    → (byte_len field.width ≤ length octets) × (field.value (from_be_bytes field.width (take (byte_len field.width) octets)) ≡ Some x.0)
+    × (drop (byte_len field.width) octets ≡ x.1)
 field-ok field octets x e =
     elim (cases_lt (length octets) (byte_len field.width)) [
       | inl lt ↦ let short = field-short field octets lt in absurd cc
       | inr le ↦ let v = valued_ok _ _ _ x (sym (field-whole field octets le) ∙ e) in (le, v.0, v.1)
     ]
 
-field-again : {A : Type 0} (field : Field A) (spelling : A → List ℕ) (InRange : A → Type 0) → IsField field spelling InRange → (value : A) (rest : List ℕ) → InRange value
+field-again : {A : Type 0} (field : Field A) (spelling : A → List ℕ) (InRange : A → Type 0) → IsField field spelling InRange
+    → (value : A) (rest : List ℕ) → InRange value
     → field_at field (spelling value ++ rest) ≡ Ok (value, rest)
 field-again field spelling InRange is value rest in_range =
     let k = byte_len field.width in
     let wide : length (spelling value) ≡ k = is.wide value in
     let long : k ≤ length (spelling value ++ rest) = omega (arith, length-append (spelling value) rest) in
-    field-whole field (spelling value ++ rest) long ∙ rw (take_at (spelling value) rest k wide, drop_at (spelling value) rest k wide, is.again value in_range) refl
+    field-whole field (spelling value ++ rest) long
+    ∙ rw (take_at (spelling value) rest k wide, drop_at (spelling value) rest k wide, is.again value in_range) refl
 
-field-takes : {A : Type 0} (field : Field A) (spelling : A → List ℕ) (InRange : A → Type 0) → IsField field spelling InRange → (octets : List ℕ) (value : A) (rest : List ℕ)
+field-takes : {A : Type 0} (field : Field A) (spelling : A → List ℕ) (InRange : A → Type 0) → IsField field spelling InRange
+    → (octets : List ℕ) (value : A) (rest : List ℕ)
     → AreOctets octets → field_at field octets ≡ Ok (value, rest) → Splits octets (spelling value) rest × InRange value
 field-takes field spelling InRange is octets value rest are e =
     let k = byte_len field.width in
     let ok = field-ok field octets (value, rest) e in
     let len : length (take k octets) ≡ k = omega (arith, length-take k octets, ok.0) in
     let taken = is.takes (take k octets) value len (AreOctets-take k octets are) ok.1 in
-    let parts : octets ≡ spelling value ++ rest = sym (take-append-drop k octets) ∙ ap (λ f. f ++ drop k octets) taken.0 ∙ ap (λ r. spelling value ++ r) ok.2 in
+    let parts : octets ≡ spelling value ++ rest = sym (take-append-drop k octets) ∙ ap (λ f. f ++ drop k octets) taken.0
+    ∙ ap (λ r. spelling value ++ r) ok.2 in
     (record { parts = parts; rest_octets = subst AreOctets ok.2 (AreOctets-drop k octets are) }, taken.1)
 
-field-stays : {A : Type 0} (field : Field A) (octets more : List ℕ) → (field_at field octets ≡ Err Short → ⊥) → field_at field (octets ++ more) ≡ extended more (field_at field octets)
+field-stays : {A : Type 0} (field : Field A) (octets more : List ℕ) → (field_at field octets ≡ Err Short → ⊥)
+    → field_at field (octets ++ more) ≡ extended more (field_at field octets)
 field-stays field octets more not_short =
     elim (cases_lt (length octets) (byte_len field.width)) [
       | inl lt ↦ absurd (not_short (field-short field octets lt))
@@ -134,7 +151,8 @@ field-stays field octets more not_short =
           ∙ sym (ap (extended more) (field-whole field octets le))
     ]
 
-pub field_reads : {A : Type 0} (field : Field A) (spelling : A → List ℕ) (InRange : A → Type 0) → IsField field spelling InRange → IsReader (field_at field) spelling InRange
+pub field_reads : {A : Type 0} (field : Field A) (spelling : A → List ℕ) (InRange : A → Type 0) → IsField field spelling InRange
+    → IsReader (field_at field) spelling InRange
 field_reads field spelling InRange is = record {
   again = field-again field spelling InRange is;
   takes = field-takes field spelling InRange is;
@@ -144,7 +162,8 @@ field_reads field spelling InRange is = record {
 -- ---- two readers, one behind the other
 
 both-again : {A B : Type 0} (first : Reading A) (second : Reading B) (a : A) (b : B) (s t rest : List ℕ)
-    → first (s ++ (t ++ rest)) ≡ Ok (a, t ++ rest) → second (t ++ rest) ≡ Ok (b, rest) → both first second ((s ++ t) ++ rest) ≡ Ok ((a, b), rest)
+    → first (s ++ (t ++ rest)) ≡ Ok (a, t ++ rest) → second (t ++ rest) ≡ Ok (b, rest) → both first second ((s ++ t) ++ rest)
+    ≡ Ok ((a, b), rest)
 both-again first second a b s t rest e f = rw (append_assoc s t rest, e, f) refl
 
 -- what both read, each by itself
@@ -171,18 +190,25 @@ both-stays {A} {B} first second octets more not_short one two =
 pub both_reads : {A B : Type 0} (first : Reading A) (second : Reading B) (s : A → List ℕ) (t : B → List ℕ) (P : A → Type 0) (Q : B → Type 0)
     → IsReader first s P → IsReader second t Q → IsReader (both first second) (λ x. s x.0 ++ t x.1) (λ x. P x.0 × Q x.1)
 both_reads first second s t P Q one two = record {
-  again = λ x rest in_range. both-again first second x.0 x.1 (s x.0) (t x.1) rest (one.again x.0 (t x.1 ++ rest) in_range.0) (two.again x.1 rest in_range.1);
+  again = λ x rest in_range.
+      both-again first second x.0 x.1 (s x.0) (t x.1) rest (one.again x.0 (t x.1 ++ rest) in_range.0) (two.again x.1 rest in_range.1);
   takes = λ octets x rest are e.
       let ok = both-ok first second octets (x, rest) e in
       let p = one.takes octets x.0 ok.0 are ok.1 in
-      let q = two.takes ok.0 x.1 rest p.0.rest_octets ok.2 in
-      (record { parts = p.0.parts ∙ ap (λ r. s x.0 ++ r) q.0.parts ∙ sym (append_assoc (s x.0) (t x.1) rest); rest_octets = q.0.rest_octets }, (p.1, q.1));
+      let q = two.takes ok.0 x.1 rest p.0.rest_octets ok.2 in (
+        record {
+          parts = p.0.parts ∙ ap (λ r. s x.0 ++ r) q.0.parts ∙ sym (append_assoc (s x.0) (t x.1) rest);
+          rest_octets = q.0.rest_octets;
+        },
+        (p.1, q.1),
+      );
   stays = λ octets more not_short. both-stays first second octets more not_short (one.stays octets more) (λ rest. two.stays rest more);
 }
 
 -- ---- the range of a value, in other words
 
-pub in_other_words : {A : Type 0} {reader : Reading A} {spelling : A → List ℕ} {P Q : A → Type 0} → ((a : A) → Q a → P a) → ((a : A) → P a → Q a)
+pub in_other_words : {A : Type 0} {reader : Reading A} {spelling : A → List ℕ} {P Q : A → Type 0} → ((a : A) → Q a → P a)
+    → ((a : A) → P a → Q a)
     → IsReader reader spelling P → IsReader reader spelling Q
 in_other_words forth back reads = record {
   again = λ a rest is. reads.again a rest (forth a is);
@@ -198,7 +224,8 @@ pub record AreParts {A B : Type 0} (whole : A → B) (s : A → List ℕ) (t : B
   pub spelled : (a : A) → t (whole a) ≡ s a
   pub in_range : (a : A) → P a → Q (whole a)
 
-joined-ok : {A B : Type 0} (whole : A → B) (reader : Reading A) (octets : List ℕ) (b : B) (rest : List ℕ) → joined whole reader octets ≡ Ok (b, rest)
+joined-ok : {A B : Type 0} (whole : A → B) (reader : Reading A) (octets : List ℕ) (b : B) (rest : List ℕ) → joined whole reader octets
+    ≡ Ok (b, rest)
     → (a : A) × (reader octets ≡ Ok (a, rest)) × (whole a ≡ b)
 joined-ok whole reader octets b rest e =
     let x = bind_ok (reader octets) (λ a. Ok (whole a.0, a.1)) (b, rest) e in
@@ -229,7 +256,8 @@ pub record HasFirst {A B : Type 0} (s : A → List ℕ) (t u : B → List ℕ) (
   pub spelled : (a : A) (b : B) → Q a b → u b ≡ s a ++ t b
   pub in_range : (a : A) (b : B) → P a → Q a b → R b
 
-followed-ok : {A B : Type 0} (first : Reading A) (second : A → Reading B) (octets : List ℕ) (x : B × List ℕ) → followed first second octets ≡ Ok x
+followed-ok : {A B : Type 0} (first : Reading A) (second : A → Reading B) (octets : List ℕ) (x : B × List ℕ) → followed first second octets
+    ≡ Ok x
     → (a : A × List ℕ) × (first octets ≡ Ok a) × (second a.0 a.1 ≡ Ok x)
 followed-ok first second octets x e = bind_ok (first octets) (λ a. second a.0 a.1) x e
 
@@ -239,14 +267,16 @@ pub followed_reads : {A B : Type 0} (first : Reading A) (second : A → Reading 
 followed_reads {A} {B} first second s t u P Q R has one two = record {
   again = λ b rest in_range.
       let a = has.first b in_range in
-      ap (λ front. followed first second (front ++ rest)) (has.spelled a.0 b a.2) ∙ ap (followed first second) (append_assoc (s a.0) (t b) rest)
+      ap (λ front. followed first second (front ++ rest)) (has.spelled a.0 b a.2)
+      ∙ ap (followed first second) (append_assoc (s a.0) (t b) rest)
       ∙ rw (one.again a.0 (t b ++ rest) a.1) ((two a.0).again b rest a.2);
   takes = λ octets b rest are e.
       let ok = followed-ok first second octets (b, rest) e in
       let p = one.takes octets ok.0.0 ok.0.1 are ok.1 in
       let q = (two ok.0.0).takes ok.0.1 b rest p.0.rest_octets ok.2 in
       let parts : octets ≡ u b ++ rest =
-      p.0.parts ∙ ap (λ r. s ok.0.0 ++ r) q.0.parts ∙ sym (append_assoc (s ok.0.0) (t b) rest) ∙ ap (λ front. front ++ rest) (sym (has.spelled ok.0.0 b q.1)) in
+      p.0.parts ∙ ap (λ r. s ok.0.0 ++ r) q.0.parts ∙ sym (append_assoc (s ok.0.0) (t b) rest)
+      ∙ ap (λ front. front ++ rest) (sym (has.spelled ok.0.0 b q.1)) in
       (record { parts = parts; rest_octets = q.0.rest_octets }, has.in_range ok.0.0 b p.1 q.1);
   stays = λ octets more not_short.
       let next : A × List ℕ → Result (B × List ℕ) RecordFault = λ a. second a.0 a.1 in
@@ -275,7 +305,8 @@ octets-short count octets lt = rw (lt-ltb (length octets) count lt) refl
 pub octets_reads : (count : ℕ) → IsReader (octets_at count) (λ octets. octets) (λ octets. length octets ≡ count)
 octets_reads count = record {
   again = λ front rest is.
-      octets-whole count (front ++ rest) (omega (arith, is, length-append front rest)) ∙ rw (take_at front rest count is, drop_at front rest count is) refl;
+      octets-whole count (front ++ rest) (omega (arith, is, length-append front rest))
+      ∙ rw (take_at front rest count is, drop_at front rest count is) refl;
   takes = λ octets front rest are e.
       elim (cases_lt (length octets) count) [
         | inl lt ↦ let short = octets-short count octets lt in absurd cc
@@ -305,7 +336,8 @@ passed : {A : Type 0} (b : Bool) (x y : A × List ℕ) → ok_or (if_so b x) Bad
 passed true x y e = (refl, ok_is x y e)
 passed false x y e = absurd cc
 
-passed_more : {A : Type 0} (b : Bool) (x : A × List ℕ) (more : List ℕ) → ok_or (if_so b (x.0, x.1 ++ more)) BadField ≡ extended more (ok_or (if_so b x) BadField)
+passed_more : {A : Type 0} (b : Bool) (x : A × List ℕ) (more : List ℕ) → ok_or (if_so b (x.0, x.1 ++ more)) BadField
+    ≡ extended more (ok_or (if_so b x) BadField)
 passed_more true x more = refl
 passed_more false x more = refl
 
@@ -327,20 +359,24 @@ tested_reads test reader s P reads = record {
 
 -- what is read where a spelling stands in front
 pub only_front : {A : Type 0} {reader : Reading A} {spelling : A → List ℕ} {InRange : A → Type 0} → IsReader reader spelling InRange
-    → (octets front : List ℕ) (value : A) (rest : List ℕ) → front ≡ spelling value → InRange value → octets ≡ front ++ rest → reader octets ≡ Ok (value, rest)
+    → (octets front : List ℕ) (value : A) (rest : List ℕ) → front ≡ spelling value → InRange value → octets ≡ front ++ rest → reader octets
+    ≡ Ok (value, rest)
 only_front {A} {reader} reads octets front value rest spelled in_range whole =
     ap reader (whole ∙ ap (λ f. f ++ rest) spelled) ∙ reads.again value rest in_range
 
 -- a value is read from so many octets, which are its spelling, and no other value stands in front
-pub record Decodes {A : Type 0} (reader : Reading A) (spelling : A → List ℕ) (InRange : A → Type 0) (octets : List ℕ) (value : A) (count : ℕ) : Type 0 where
+pub record Decodes {A : Type 0} (reader : Reading A) (spelling : A → List ℕ) (InRange : A → Type 0) (octets : List ℕ) (value : A)
+    (count : ℕ) : Type 0 where
   pub within : count ≤ length octets
   pub front : take count octets ≡ spelling value
   pub in_range : InRange value
-  pub only : (front rest : List ℕ) (other : A) → front ≡ spelling other → InRange other → octets ≡ front ++ rest → (value ≡ other) × (count ≡ length front)
+  pub only : (front rest : List ℕ) (other : A) → front ≡ spelling other → InRange other → octets ≡ front ++ rest → (value ≡ other)
+      × (count ≡ length front)
   pub exact : reader octets ≡ Ok (value, drop count octets)
 
 same_front : {A : Type 0} (reader : Reading A) (octets front : List ℕ) (value other : A) (rest behind : List ℕ)
-    → reader octets ≡ Ok (other, behind) → reader octets ≡ Ok (value, rest) → octets ≡ front ++ behind → (value ≡ other) × (length octets - length rest ≡ length front)
+    → reader octets ≡ Ok (other, behind) → reader octets ≡ Ok (value, rest) → octets ≡ front ++ behind → (value ≡ other)
+    × (length octets - length rest ≡ length front)
 same_front reader octets front value other rest behind e f whole =
     let is = ok_is (value, rest) (other, behind) (sym f ∙ e) in
     let same : length rest ≡ length behind = ap (λ x. length x.1) is in
@@ -348,7 +384,8 @@ same_front reader octets front value other rest behind e f whole =
     (ap (λ x. x.0) is, omega (arith, same, long))
 
 pub decodes : {A : Type 0} {reader : Reading A} {spelling : A → List ℕ} {InRange : A → Type 0} → IsReader reader spelling InRange
-    → (octets : List ℕ) (value : A) (rest : List ℕ) (count : ℕ) → AreOctets octets → reader octets ≡ Ok (value, rest) → length octets - length rest ≡ count
+    → (octets : List ℕ) (value : A) (rest : List ℕ) (count : ℕ) → AreOctets octets → reader octets ≡ Ok (value, rest)
+    → length octets - length rest ≡ count
     → Decodes reader spelling InRange octets value count
 decodes {A} {reader} {spelling} reads octets value rest count are e is =
     let taken = reads.takes octets value rest are e in
@@ -361,18 +398,21 @@ decodes {A} {reader} {spelling} reads octets value rest count are e is =
       front = ap (take count) parts ∙ take_at (spelling value) rest count len;
       in_range = taken.1;
       only = λ front more other spelled in_range whole.
-          let same = same_front reader octets front value other rest more (only_front reads octets front other more spelled in_range whole) e whole in
+          let same = same_front reader octets front value other rest more (only_front reads octets front other more spelled in_range whole)
+          e whole in
           (same.0, sym is ∙ same.1);
       exact = e ∙ ap (λ r. Ok (value, r)) behind;
     }
 
 -- a value is not read where a fault is
-pub no_fault_at : {A : Type 0} (reader : Reading A) (octets : List ℕ) (value : A) (rest : List ℕ) (fault : RecordFault) → reader octets ≡ Ok (value, rest) → reader octets ≡ Err fault → ⊥
+pub no_fault_at : {A : Type 0} (reader : Reading A) (octets : List ℕ) (value : A) (rest : List ℕ) (fault : RecordFault) → reader octets
+    ≡ Ok (value, rest) → reader octets ≡ Err fault → ⊥
 no_fault_at {A} reader octets value rest fault e f = let is : done {A = A × List ℕ} (value, rest) ≡ Err fault = sym e ∙ f in cc
 
 -- no spelling begins another
 pub begins_none : {A : Type 0} {reader : Reading A} {spelling : A → List ℕ} {InRange : A → Type 0} → IsReader reader spelling InRange
-    → (front rest : List ℕ) (one two : A) → front ≡ spelling one → InRange one → front ++ rest ≡ spelling two → InRange two → (one ≡ two) × (rest ≡ [])
+    → (front rest : List ℕ) (one two : A) → front ≡ spelling one → InRange one → front ++ rest ≡ spelling two → InRange two → (one ≡ two)
+    × (rest ≡ [])
 begins_none {A} {reader} reads front rest one two is_one one_in_range is_two two_in_range =
     let first = only_front reads (front ++ rest) front one rest is_one one_in_range refl in
     let second = only_front reads (front ++ rest) (front ++ rest) two [] is_two two_in_range (sym (append-nil (front ++ rest))) in

@@ -1,5 +1,6 @@
 -- Records read back: a record is read, whatever follows it, and what is read is a record.
-use Rattle.std.proofs.Common.{◌≡◌, ℕ, ◌<◌, ◌≤◌, ◌^◌, Bool, true, false, List, [], ◌∷◌, ◌++◌, length, Option, Some, None, Ok, Err, refl, ap, ◌∙◌, subst, arith}
+use Rattle.std.proofs.Common.{◌≡◌, ℕ, ◌<◌, ◌≤◌, ◌^◌, Bool, true, false, List, [], ◌∷◌, ◌++◌, length, Option, Some, None, Ok, Err, refl, ap}
+use Rattle.std.proofs.Common.{◌∙◌, subst, arith}
 use Rattle.std.specs.Prelude.{IfSome, ◌==◌, ◌&&◌}
 use Rattle.std.proofs.lemmas.Bool.{and_parts, eqb-true}
 use Rattle.std.specs.Int.{w64, to_be_bytes}
@@ -17,9 +18,12 @@ use Rattle.iol_record.specs.declared.reader.Tag.{Tag}
 use Rattle.iol_record.specs.declared.reader.Tag.TheVariants as tag
 use Rattle.iol_record.specs.declared.encode.TheConstants.{LARGEST_COMMAND_RECORD, LARGEST_PORT_RECORD}
 use Rattle.iol_record.specs.Record.{config_octets, set_octets, command_octets, stored_octets, port_octets, IsCommandRecord, IsPortRecord}
-use Rattle.iol_record.specs.Reading.{tag_octet, config_at, arguments_at, command_at, followed, field_at, flag_field, stored_at, may_stand, port_parts_at, port_record_at}
-use Rattle.iol_record.proofs.Readers.{extended, Splits, IsReader, field_reads, both_reads, joined_reads, followed_reads, tested_reads, nothing_reads, in_other_words, only_front}
-use Rattle.iol_record.proofs.Fields.{flag_octet, tag_reads, port_reads, mode_reads, validation_reads, vendor_reads, device_reads, revision_reads, flag_reads}
+use Rattle.iol_record.specs.Reading.{tag_octet, config_at, arguments_at, command_at, followed, field_at, flag_field, stored_at, may_stand}
+use Rattle.iol_record.specs.Reading.{port_parts_at, port_record_at}
+use Rattle.iol_record.proofs.Readers.{extended, Splits, IsReader, field_reads, both_reads, joined_reads, followed_reads, tested_reads}
+use Rattle.iol_record.proofs.Readers.{nothing_reads, in_other_words, only_front}
+use Rattle.iol_record.proofs.Fields.{flag_octet, tag_reads, port_reads, mode_reads, validation_reads, vendor_reads, device_reads}
+use Rattle.iol_record.proofs.Fields.{revision_reads, flag_reads}
 use Rattle.iol_record.proofs.SetReaders.{set_reads, length-set_octets}
 
 -- ---- configurations
@@ -77,7 +81,8 @@ configure_reads =
 clear_reads : IsReader (arguments_at tag.Clear) arguments_octets (IsTagged tag.Clear)
 unfolding arguments_at
 clear_reads =
-    joined_reads Clear _ _ arguments_octets _ (IsTagged tag.Clear) (record { made = made; spelled = λ port. refl; in_range = λ port is. (refl, is) })
+    joined_reads Clear _ _ arguments_octets _ (IsTagged tag.Clear)
+    (record { made = made; spelled = λ port. refl; in_range = λ port is. (refl, is) })
     (field_reads _ _ _ port_reads)
   where
     made : (command : CommandValue) → IsTagged tag.Clear command → (port : ℕ) × (Clear port ≡ command) × IsPortNumber port
@@ -94,7 +99,8 @@ store_of parts = Store parts.0 parts.1.0 parts.1.1
 store_reads : IsReader (arguments_at tag.Store) arguments_octets (IsTagged tag.Store)
 unfolding arguments_at
 store_reads =
-    joined_reads store_of _ _ arguments_octets _ (IsTagged tag.Store) (record { made = made; spelled = λ parts. refl; in_range = λ parts is. (refl, (is.0, is.1.0, is.1.1)) })
+    joined_reads store_of _ _ arguments_octets _ (IsTagged tag.Store)
+    (record { made = made; spelled = λ parts. refl; in_range = λ parts is. (refl, (is.0, is.1.0, is.1.1)) })
     (both_reads _ _ _ _ _ _ (field_reads _ _ _ port_reads) (both_reads _ _ _ _ _ _ (field_reads _ _ _ revision_reads) set_reads))
   where
     made : (command : CommandValue) → IsTagged tag.Store command
@@ -149,10 +155,12 @@ stored_of parts = Some (record { set = parts.1; recorded = parts.0 })
 set_stored_reads : IsReader (stored_at true) behind_flag (IsFlagged true)
 unfolding stored_at
 set_stored_reads =
-    joined_reads stored_of _ _ behind_flag _ (IsFlagged true) (record { made = made; spelled = λ parts. refl; in_range = λ parts is. (refl, is) })
+    joined_reads stored_of _ _ behind_flag _ (IsFlagged true)
+    (record { made = made; spelled = λ parts. refl; in_range = λ parts is. (refl, is) })
     (both_reads _ _ _ _ _ _ config_reads set_reads)
   where
-    made : (stored : Option Stored) → IsFlagged true stored → (parts : PortConfig × SetValue) × (stored_of parts ≡ stored) × (IsConfig parts.0 × IsSet parts.1)
+    made : (stored : Option Stored) → IsFlagged true stored → (parts : PortConfig × SetValue) × (stored_of parts ≡ stored)
+        × (IsConfig parts.0 × IsSet parts.1)
     made None is = let other = is.0 in cc
     made (Some stored) is = ((stored.recorded, stored.set), refl, is.1)
 
@@ -167,11 +175,13 @@ nothing_stored_reads = record {
     nothing : IsReader {A = Option Stored} (λ octets. Ok (None, octets)) (λ _. []) (λ stored. stored ≡ None)
     nothing = nothing_reads None
 
-    again : (stored : Option Stored) (rest : List ℕ) → IsFlagged false stored → stored_at false (behind_flag stored ++ rest) ≡ Ok (stored, rest)
+    again : (stored : Option Stored) (rest : List ℕ) → IsFlagged false stored → stored_at false (behind_flag stored ++ rest)
+        ≡ Ok (stored, rest)
     again None rest is = refl
     again (Some stored) rest is = let other = is.0 in cc
 
-    taken : (octets : List ℕ) (stored : Option Stored) (rest : List ℕ) → Splits octets [] rest × (stored ≡ None) → Splits octets (behind_flag stored) rest × IsFlagged false stored
+    taken : (octets : List ℕ) (stored : Option Stored) (rest : List ℕ) → Splits octets [] rest × (stored ≡ None)
+        → Splits octets (behind_flag stored) rest × IsFlagged false stored
     taken octets None rest is = (is.0, (refl, tt))
     taken octets (Some stored) rest is = let other = is.1 in cc
 
@@ -232,24 +242,29 @@ port_parts_read =
 tested-is_port : (config : PortConfig) (revision : ℕ) (stored : Option Stored) → HasParts (port_of (config, (revision, stored)))
     → may_stand (port_of (config, (revision, stored))) ≡ true → IsPort (port_of (config, (revision, stored)))
 tested-is_port config revision None parts may = record { config = parts.config; revision = parts.revision; set = tt; stored = tt }
-tested-is_port config revision (Some stored) parts may = record { config = parts.config; revision = parts.revision; set = parts.stored.1; stored = may }
+tested-is_port config revision (Some stored) parts may =
+    record { config = parts.config; revision = parts.revision; set = parts.stored.1; stored = may }
 
 is_port-tested : (config : PortConfig) (revision : ℕ) (stored : Option Stored) → IsPort (port_of (config, (revision, stored)))
     → HasParts (port_of (config, (revision, stored))) × (may_stand (port_of (config, (revision, stored))) ≡ true)
 is_port-tested config revision None port = (record { config = port.config; revision = port.revision; stored = tt }, refl)
-is_port-tested config revision (Some stored) port =
-    (record { config = port.config; revision = port.revision; stored = (recorded-in_range config stored port.set port.stored, port.set) }, port.stored)
+is_port-tested config revision (Some stored) port = (
+  record { config = port.config; revision = port.revision; stored = (recorded-in_range config stored port.set port.stored, port.set) },
+  port.stored,
+)
 
 pub port_record_reads : IsReader port_record_at port_octets IsPort
 unfolding port_record_at
 port_record_reads =
-    in_other_words (λ port is. is_port-tested port.config port.revision port.stored is) (λ port is. tested-is_port port.config port.revision port.stored is.0 is.1)
+    in_other_words (λ port is. is_port-tested port.config port.revision port.stored is) (λ port is.
+    tested-is_port port.config port.revision port.stored is.0 is.1)
     (tested_reads may_stand port_parts_at port_octets HasParts port_parts_read)
 
 -- ---- for the crates above
 
 -- a command's record is read, whatever follows it
-pub command_at-record : (front rest : List ℕ) (command : CommandValue) → IsCommandRecord front command → command_at (front ++ rest) ≡ Ok (command, rest)
+pub command_at-record : (front rest : List ℕ) (command : CommandValue) → IsCommandRecord front command → command_at (front ++ rest)
+    ≡ Ok (command, rest)
 command_at-record front rest command is = only_front command_reads (front ++ rest) front command rest is.spelling is.in_range refl
 
 -- a port's record is read, whatever follows it
@@ -257,7 +272,8 @@ pub port_record_at-record : (front rest : List ℕ) (port : Port) → IsPortReco
 port_record_at-record front rest port is = only_front port_record_reads (front ++ rest) front port rest is.spelling is.in_range refl
 
 -- a command's record has at least one octet, and at most the largest's
-pub length-command_record : (front : List ℕ) (command : CommandValue) → IsCommandRecord front command → (0 < length front) × (length front ≤ LARGEST_COMMAND_RECORD)
+pub length-command_record : (front : List ℕ) (command : CommandValue) → IsCommandRecord front command → (0 < length front)
+    × (length front ≤ LARGEST_COMMAND_RECORD)
 length-command_record front (Configure port config) is = let long = ap length is.spelling in (omega (arith, long), omega (arith, long))
 length-command_record front (Clear port) is = let long = ap length is.spelling in (omega (arith, long), omega (arith, long))
 length-command_record front (Store port revision set) is =
@@ -270,14 +286,16 @@ pub length-port_octets : (port : Port) → IsPort port → (0 < length (port_oct
 length-port_octets port is = by_stored port.config port.revision port.stored is.set
   where
     by_stored : (config : PortConfig) (revision : ℕ) (stored : Option Stored) → IfSome stored (λ stored. IsSet stored.set)
-        → (0 < length (port_octets (port_of (config, (revision, stored))))) × (length (port_octets (port_of (config, (revision, stored)))) ≤ LARGEST_PORT_RECORD)
+        → (0 < length (port_octets (port_of (config, (revision, stored)))))
+        × (length (port_octets (port_of (config, (revision, stored)))) ≤ LARGEST_PORT_RECORD)
     by_stored config revision None set = (omega arith, omega arith)
     by_stored config revision (Some stored) set =
         let all = length-set_octets stored.set in
         (omega (arith, all), omega (arith, all, set.entries.fits))
 
 -- what is not short as a port is read the same before more octets
-pub port_record_at-append : (octets more : List ℕ) → (port_record_at octets ≡ Err Short → ⊥) → port_record_at (octets ++ more) ≡ extended more (port_record_at octets)
+pub port_record_at-append : (octets more : List ℕ) → (port_record_at octets ≡ Err Short → ⊥) → port_record_at (octets ++ more)
+    ≡ extended more (port_record_at octets)
 port_record_at-append = port_record_reads.stays
 
 -- no octets are short as a port

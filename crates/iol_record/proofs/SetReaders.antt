@@ -1,5 +1,6 @@
 -- Entries and sets read back.
-use Rattle.std.proofs.Common.{◌≡◌, ℕ, ◌<◌, ◌+◌, ◌^◌, zero, suc, List, [], ◌∷◌, ◌++◌, length, Ok, refl, ap, sym, subst, arith, append_assoc, length-append}
+use Rattle.std.proofs.Common.{◌≡◌, ℕ, ◌<◌, ◌+◌, ◌^◌, zero, suc, List, [], ◌∷◌, ◌++◌, length, Ok, refl, ap, sym, subst, arith, append_assoc}
+use Rattle.std.proofs.Common.{length-append}
 use Rattle.std.specs.List.{flat_map}
 use Rattle.std.proofs.lemmas.List.{append-nil}
 use Rattle.std.proofs.lemmas.List.Sums.{sum_by-append}
@@ -12,9 +13,11 @@ use Rattle.iol_types.specs.DataSet.{Entry, AreEntries, SetValue, IsSet, octets_o
 use Rattle.iol_types.specs.Numbers.{IsDeviceNumber}
 use Rattle.iol_record.specs.declared.records.SetHead.{SetHead}
 use Rattle.iol_record.specs.Record.{entry_octets, set_octets}
-use Rattle.iol_record.specs.Reading.{Reading, followed, joined, field_at, octets_at, subindex_field, length_field, entry_at, entries_at, set_head_at, set_with, set_at}
+use Rattle.iol_record.specs.Reading.{Reading, followed, joined, field_at, octets_at, subindex_field, length_field, entry_at, entries_at}
+use Rattle.iol_record.specs.Reading.{set_head_at, set_with, set_at}
 use Rattle.iol_record.proofs.Readers.{Splits, IsReader, field_reads, octets_reads, both_reads, joined_reads, followed_reads, nothing_reads}
-use Rattle.iol_record.proofs.Fields.{IsFreeIndex, IsNewKey, IsLength, index_reads, subindex_reads, length_reads, vendor_reads, device_reads, checksum_reads, count_reads}
+use Rattle.iol_record.proofs.Fields.{IsFreeIndex, IsNewKey, IsLength, index_reads, subindex_reads, length_reads, vendor_reads, device_reads}
+use Rattle.iol_record.proofs.Fields.{checksum_reads, count_reads}
 
 -- ---- entries
 
@@ -23,7 +26,8 @@ module _ (others : List Entry) where
   abbrev IsOf : Key → ℕ → Entry → Type 0
   IsOf key count entry = (entry.0 ≡ key) × (length entry.1 ≡ count)
 
-  data_reads : (key : Key) (count : ℕ) → IsReader (joined (λ (octets : List ℕ). (key, octets)) (octets_at count)) (λ (entry : Entry). entry.1) (IsOf key count)
+  data_reads : (key : Key) (count : ℕ)
+      → IsReader (joined (λ (octets : List ℕ). (key, octets)) (octets_at count)) (λ (entry : Entry). entry.1) (IsOf key count)
   data_reads key count =
       joined_reads (λ (octets : List ℕ). (key, octets)) _ _ (λ (entry : Entry). entry.1) _ (IsOf key count)
       (record {
@@ -57,7 +61,8 @@ module _ (others : List Entry) where
   abbrev behind_index : ℕ → Reading Entry
   behind_index index = followed (field_at (subindex_field others index)) behind_key
 
-  behind_index_reads : (index : ℕ) → IsReader (behind_index index) (λ (entry : Entry). entry.0.subindex ∷ length entry.1 ∷ entry.1) (HasIndex index)
+  behind_index_reads : (index : ℕ)
+      → IsReader (behind_index index) (λ (entry : Entry). entry.0.subindex ∷ length entry.1 ∷ entry.1) (HasIndex index)
   behind_index_reads index =
       followed_reads _ behind_key _ (λ (entry : Entry). length entry.1 ∷ entry.1) _ _ HasKey (HasIndex index)
       (record {
@@ -113,30 +118,41 @@ abbrev IsBegunBy : ℕ → List Entry → Entry → List Entry → Type 0
 IsBegunBy count others entry all = (more : List Entry) × (all ≡ entry ∷ more) × AreSoMany count (others ++ entry ∷ []) more
 
 pub entries_read : (count : ℕ) (others : List Entry) → IsReader (entries_at count others) all_octets (AreSoMany count others)
-entries_read zero others = record { again = again; takes = λ octets more rest are e. taken octets more rest (nothing.takes octets more rest are e); stays = nothing.stays }
+entries_read zero others =
+    record {
+      again = again;
+      takes = λ octets more rest are e. taken octets more rest (nothing.takes octets more rest are e);
+      stays = nothing.stays;
+    }
   where
     nothing : IsReader {A = List Entry} (λ octets. Ok ([], octets)) (λ _. []) (λ more. more ≡ [])
     nothing = nothing_reads []
 
-    again : (more : List Entry) (rest : List ℕ) → AreSoMany zero others more → entries_at zero others (all_octets more ++ rest) ≡ Ok (more, rest)
+    again : (more : List Entry) (rest : List ℕ) → AreSoMany zero others more → entries_at zero others (all_octets more ++ rest)
+        ≡ Ok (more, rest)
     again [] rest is = refl
     again (entry ∷ more) rest is = absurd (omega (arith, is.0))
 
-    taken : (octets : List ℕ) (more : List Entry) (rest : List ℕ) → Splits octets [] rest × (more ≡ []) → Splits octets (all_octets more) rest × AreSoMany zero others more
+    taken : (octets : List ℕ) (more : List Entry) (rest : List ℕ) → Splits octets [] rest × (more ≡ [])
+        → Splits octets (all_octets more) rest × AreSoMany zero others more
     taken octets [] rest is = (is.0, (refl, tt))
     taken octets (entry ∷ more) rest is = let other = is.1 in cc
 entries_read (suc count) others =
-    followed_reads (entry_at others) (behind count others) entry_octets (λ more. all_octets (rest_of more)) all_octets _ (IsBegunBy count others) (AreSoMany (suc count) others)
-    (record { first = first; spelled = spelled; in_range = in_range }) (entry_reads others) (λ entry. behind_reads entry (entries_read count (others ++ entry ∷ [])))
+    followed_reads (entry_at others) (behind count others) entry_octets (λ more. all_octets (rest_of more)) all_octets _
+    (IsBegunBy count others) (AreSoMany (suc count) others)
+    (record { first = first; spelled = spelled; in_range = in_range }) (entry_reads others) (λ entry.
+    behind_reads entry (entries_read count (others ++ entry ∷ [])))
   where
     first : (all : List Entry) → AreSoMany (suc count) others all → (entry : Entry) × IsNext others entry × IsBegunBy count others entry all
     first [] is = absurd (omega (arith, is.0))
     first (entry ∷ more) is = (entry, is.1.0, (more, refl, (omega (arith, is.0), is.1.1)))
 
-    spelled : (entry : Entry) (all : List Entry) → IsBegunBy count others entry all → all_octets all ≡ entry_octets entry ++ all_octets (rest_of all)
+    spelled : (entry : Entry) (all : List Entry) → IsBegunBy count others entry all → all_octets all ≡ entry_octets entry
+        ++ all_octets (rest_of all)
     spelled entry all is = rw is.1 refl
 
-    in_range : (entry : Entry) (all : List Entry) → IsNext others entry → IsBegunBy count others entry all → AreSoMany (suc count) others all
+    in_range : (entry : Entry) (all : List Entry) → IsNext others entry → IsBegunBy count others entry all
+        → AreSoMany (suc count) others all
     in_range entry all next is = rw is.1 (omega (arith, is.2.0), (next, is.2.1))
 
     behind_reads : (entry : Entry) → IsReader (entries_at count (others ++ entry ∷ [])) all_octets (AreSoMany count (others ++ entry ∷ []))
@@ -167,8 +183,10 @@ are_entries : (others more : List Entry) → AreEntries others → AreNext other
 are_entries others [] are next = subst AreEntries (sym (append-nil others)) are
 are_entries others (entry ∷ more) are next =
     let in_range : IsKey entry.0 = record { index = next.0.0.below; subindex = next.0.1.0.subindex } in
-    let may : MayBeAdded others entry.0 entry.1 = record { free = next.0.0.free; short = next.0.1.1.short; absent = next.0.1.0.absent; fits = next.0.1.1.fits } in
-    subst AreEntries (append_assoc others (entry ∷ []) more) (are_entries (others ++ entry ∷ []) more (one-more others entry.0 entry.1 are in_range may) next.1)
+    let may : MayBeAdded others entry.0 entry.1 =
+    record { free = next.0.0.free; short = next.0.1.1.short; absent = next.0.1.0.absent; fits = next.0.1.1.fits } in
+    subst AreEntries (append_assoc others (entry ∷ []) more)
+    (are_entries (others ++ entry ∷ []) more (one-more others entry.0 entry.1 are in_range may) next.1)
 
 -- the octets of the numbers in front of the entries
 abbrev head_octets : SetHead → List ℕ
@@ -188,7 +206,11 @@ unfolding set_head_at
 head_reads =
     joined_reads head_of _ _ head_octets _ IsHead
     (record {
-      made = λ head is. ((head.vendor, (head.device, (head.checksum, head.count))), refl, (is.vendor, (is.device, (is.checksum, is.count))));
+      made = λ head is. (
+        (head.vendor, (head.device, (head.checksum, head.count))),
+        refl,
+        (is.vendor, (is.device, (is.checksum, is.count))),
+      );
       spelled = λ parts. refl;
       in_range = λ parts is. record { vendor = is.0; device = is.1.0; checksum = is.1.1.0; count = is.1.1.1 };
     })

@@ -1,5 +1,6 @@
 -- Entries spelled one behind the other.
-use Rattle.std.proofs.Common.{◌≡◌, ℕ, ◌+◌, ◌<◌, length, arith, zero, suc, List, [], ◌∷◌, ◌++◌, Some, None, slice_get, take, ap, sym, ◌∙◌, add-one, append_assoc}
+use Rattle.std.proofs.Common.{◌≡◌, ℕ, ◌+◌, ◌<◌, length, arith, zero, suc, List, [], ◌∷◌, ◌++◌, Some, None, slice_get, take, ap, sym, ◌∙◌}
+use Rattle.std.proofs.Common.{add-one, append_assoc}
 use Rattle.std.specs.List.{flat_map}
 use Rattle.std.proofs.lemmas.Grind.{flat_map-append}
 use Rattle.std.proofs.lemmas.List.{append-nil}
@@ -19,7 +20,8 @@ pub spelled-one_more : (entries : List Entry) (place : ℕ) (entry : Entry) (old
 spelled-one_more entries place entry old before after is so_far then_after =
     let more : flat_map entry_octets (take (place + 1) entries) ≡ flat_map entry_octets (take place entries) ++ entry_octets entry =
     rw (add-one, take-one_more entries place entry is)
-    (flat_map-append entry_octets (take place entries) (entry ∷ []) ∙ ap (λ o. flat_map entry_octets (take place entries) ++ o) (append-nil (entry_octets entry))) in
+    (flat_map-append entry_octets (take place entries) (entry ∷ [])
+    ∙ ap (λ o. flat_map entry_octets (take place entries) ++ o) (append-nil (entry_octets entry))) in
     then_after ∙ ap (λ o. o ++ entry_octets entry) so_far ∙ append_assoc old _ _ ∙ ap (λ o. old ++ o) (sym more)
 
 -- a place among the entries has one
@@ -29,7 +31,8 @@ no_more (entry ∷ entries) zero none below = cc
 no_more (entry ∷ entries) (suc place) none below = no_more entries place none (omega (arith, below))
 
 -- octets written one behind the other
-pub three_behind : (old first second third : List ℕ) {one two three : List ℕ} → one ≡ old ++ first → two ≡ one ++ second → three ≡ two ++ third
+pub three_behind : (old first second third : List ℕ) {one two three : List ℕ} → one ≡ old ++ first → two ≡ one ++ second → three ≡ two
+    ++ third
     → three ≡ old ++ (first ++ (second ++ third))
 three_behind old first second third is_one is_two is_three =
     is_three ∙ ap (λ front. front ++ third) (is_two ∙ ap (λ front. front ++ second) is_one)

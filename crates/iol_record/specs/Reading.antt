@@ -1,5 +1,6 @@
 -- What is read from the front of any octets: a value and the octets behind it, or the fault that comes first.
-use Rattle.std.specs.Prelude.{◌≡◌, ◌+◌, ◌-◌, ℕ, zero, suc, nat_lt, nat_le, nat_eq, ◌&&◌, if◌then◌else◌, Bool, true, false, List, [], ◌∷◌, ◌++◌, length, take, drop, min, find, Option, Some, None, is_some, Result, Ok, Err, MatchResult, IsOk}
+use Rattle.std.specs.Prelude.{◌≡◌, ◌+◌, ◌-◌, ℕ, zero, suc, nat_lt, nat_le, nat_eq, ◌&&◌, if◌then◌else◌, Bool, true, false, List, [], ◌∷◌}
+use Rattle.std.specs.Prelude.{◌++◌, length, take, drop, min, find, Option, Some, None, is_some, Result, Ok, Err, MatchResult, IsOk}
 use Rattle.std.specs.Option.{ok_or, option_map_or}
 use Rattle.std.specs.Int.{Width, w8, w16, w32, w64, byte_len, from_be_bytes}
 use Rattle.iol_types.specs.declared.config.PortConfig.{PortConfig}
@@ -94,11 +95,16 @@ flag_field = record { width = w8; value = has_set; fault = BadField }
 -- the fields of an entry behind others: an Index that is not reserved, a Subindex with which it is none of their keys,
 -- and a length with which it and they make no set that is too large (format, Records)
 abbrev pub index_field : Field ℕ
-index_field = record { width = w16; value = λ index. if is_reserved (record { index = index; subindex = 0 }) then None else Some index; fault = BadField }
+index_field = record {
+  width = w16;
+  value = λ index. if is_reserved (record { index = index; subindex = 0 }) then None else Some index;
+  fault = BadField;
+}
 
 abbrev pub new_key : List Entry → ℕ → ℕ → Option Key
 new_key others index subindex =
-    if is_some (data_at others (record { index = index; subindex = subindex })) then None else Some (record { index = index; subindex = subindex })
+    if is_some (data_at others (record { index = index; subindex = subindex })) then None else Some
+    (record { index = index; subindex = subindex })
 
 abbrev pub subindex_field : List Entry → ℕ → Field Key
 subindex_field others index = record { width = w8; value = new_key others index; fault = BadField }
@@ -156,7 +162,8 @@ entry_at others =
 -- the reading of so many entries behind others (format, Records)
 abbrev pub entries_at : ℕ → List Entry → Reading (List Entry)
 entries_at zero others octets = Ok ([], octets)
-entries_at (suc n) others octets = followed (entry_at others) (λ entry. joined (λ more. entry ∷ more) (entries_at n (others ++ entry ∷ []))) octets
+entries_at (suc n) others octets =
+    followed (entry_at others) (λ entry. joined (λ more. entry ∷ more) (entries_at n (others ++ entry ∷ []))) octets
 
 -- the reading of the numbers in front of the entries of a set: vendor, device, checksum, count (format, Records)
 unfoldable pub set_head_at : Reading SetHead
@@ -176,7 +183,8 @@ set_at = followed set_head_at (λ head. joined (set_with head) (entries_at head.
 unfoldable pub arguments_at : Tag → Reading CommandValue
 arguments_at tag.Configure = joined (λ (port, config). Configure port config) (both (field_at port_field) config_at)
 arguments_at tag.Clear = joined Clear (field_at port_field)
-arguments_at tag.Store = joined (λ (port, (revision, set)). Store port revision set) (both (field_at port_field) (both (field_at revision_field) set_at))
+arguments_at tag.Store =
+    joined (λ (port, (revision, set)). Store port revision set) (both (field_at port_field) (both (field_at revision_field) set_at))
 
 -- the reading of a command: its tag, and what stands behind that (format, Records)
 unfoldable pub command_at : Reading CommandValue
@@ -207,7 +215,8 @@ set_begun_at = followed set_head_at (λ head. entries_at (min 1 head.count) [])
 
 -- the reading of a Store as far as the first entry of its set; no other command has a set (format, Records)
 unfoldable pub begun_behind : Tag → Reading (List Entry)
-begun_behind tag.Store octets = followed (field_at port_field) (λ port. followed (field_at revision_field) (λ revision. set_begun_at)) octets
+begun_behind tag.Store octets =
+    followed (field_at port_field) (λ port. followed (field_at revision_field) (λ revision. set_begun_at)) octets
 begun_behind other octets = Err BadTag
 
 unfoldable pub store_begun_at : Reading (List Entry)
@@ -219,7 +228,8 @@ stored_begun_at true octets = followed config_at (λ recorded. set_begun_at) oct
 stored_begun_at false octets = Err BadField
 
 unfoldable pub port_begun_at : Reading (List Entry)
-port_begun_at = followed config_at (λ config. followed (field_at revision_field) (λ revision. followed (field_at flag_field) stored_begun_at))
+port_begun_at = followed config_at (λ config.
+    followed (field_at revision_field) (λ revision. followed (field_at flag_field) stored_begun_at))
 
 -- what a function answers is what is read: a value and the octets behind it, or the fault (own)
 abbrev pub Reads : {X A : Type 0} → (X → A × List ℕ) → Result X RecordFault → Result (A × List ℕ) RecordFault → Type 0
@@ -231,5 +241,6 @@ IsReadFault begun Memory reading = IsOk begun
 IsReadFault begun fault reading = reading ≡ Err fault
 
 -- what a function answers is what is read, unless it is out of memory (own)
-abbrev pub ReadsOrMemory : {X A B : Type 0} → (X → A × List ℕ) → Result B RecordFault → Result X RecordFault → Result (A × List ℕ) RecordFault → Type 0
+abbrev pub ReadsOrMemory : {X A B : Type 0} → (X → A × List ℕ) → Result B RecordFault → Result X RecordFault
+    → Result (A × List ℕ) RecordFault → Type 0
 ReadsOrMemory view begun answer reading = MatchResult answer (λ x. reading ≡ Ok (view x)) (λ fault. IsReadFault begun fault reading)

@@ -33,7 +33,8 @@ pub fn decode_command(alloc: Global, octets: &[u8]) -> Result<(Command, usize), 
         → IsCommandRecord front command → octets.now ≡ front ++ rest
         → (result ≡ Err RecordFault.Memory) ⊎ IsOkAnd result (λ (found, count). (value_of found ≡ command) × (count ≡ length front)) }
     // A fault is the first one, or memory at a set that is whole and in range as far as its first entry.
-    ensures exact { ReadsOrMemory (λ (command, count). (value_of command, drop count octets.now)) (store_begun_at octets.now) result (command_at octets.now) }
+    ensures exact { ReadsOrMemory (λ (command, count). (value_of command, drop count octets.now)) (store_begun_at octets.now) result
+        (command_at octets.now) }
 {
     let mut reader = Reader::new(octets);
     let command = reader.command(alloc)?;
@@ -61,7 +62,8 @@ pub fn decode_port(alloc: Global, octets: &[u8]) -> Result<(PortState, usize), R
         → IsPortRecord front port → octets.now ≡ front ++ rest
         → (result ≡ Err RecordFault.Memory) ⊎ IsOkAnd result (λ (found, count). (found ≡ port) × (count ≡ length front)) }
     // A fault is the first one, or memory at a set that is whole and in range as far as its first entry.
-    ensures exact { ReadsOrMemory (λ (port, count). (port, drop count octets.now)) (port_begun_at octets.now) result (port_record_at octets.now) }
+    ensures exact { ReadsOrMemory (λ (port, count). (port, drop count octets.now)) (port_begun_at octets.now) result
+        (port_record_at octets.now) }
 {
     let mut reader = Reader::new(octets);
     let port = reader.port_state(alloc)?;

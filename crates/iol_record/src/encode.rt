@@ -7,7 +7,8 @@ ghost use Rattle.iol_types.specs.DataSet.{IsSet};
 ghost use Rattle.iol_types.specs.Command.{Configure, Clear, Store, value_of};
 ghost use Rattle.iol_types.specs.Port.{stored_of};
 ghost use Rattle.iol_record.specs.declared.encode.TheConstants.{LARGEST_COMMAND_RECORD};
-ghost use Rattle.iol_record.specs.Record.{config_octets, command_octets, entry_octets, set_octets, stored_octets, IsCommandRecord, IsPortRecord};
+ghost use Rattle.iol_record.specs.Record.{config_octets, command_octets, entry_octets, set_octets, stored_octets, IsCommandRecord};
+ghost use Rattle.iol_record.specs.Record.{IsPortRecord};
 
 use crate::reader::{CLEAR, CONFIGURE, NO_SET, SET, STORE};
 use iol_types::{Command, DataSet, Key, PortConfig, PortId, PortState, StoredSet};
@@ -78,7 +79,8 @@ fn push_device(octets: &mut Vec<u8>, set: &DataSet) -> Result<(), AllocError>
 }
 
 fn push_counts(octets: &mut Vec<u8>, set: &DataSet) -> Result<(), AllocError>
-    ensures { OnOk result (octets.new.items ≡ octets.old.items ++ (to_be_bytes w32 set.now.checksum ++ to_be_bytes w16 (length set.now.entries))) }
+    ensures { OnOk result (octets.new.items ≡ octets.old.items
+        ++ (to_be_bytes w32 set.now.checksum ++ to_be_bytes w16 (length set.now.entries))) }
 {
     octets.extend_from_slice(&set.checksum().to_be_bytes())?;
     octets.extend_from_slice(&entry_count(set).to_be_bytes())?;

@@ -10,7 +10,8 @@ ghost use Rattle.iol_record.specs.declared.encode.TheConstants.{LARGEST_COMMAND_
 ghost use Rattle.iol_record.specs.Record.{command_octets, port_octets, IsCommandRecord, IsPortRecord};
 ghost use Rattle.iol_record.specs.Reading.{command_at, port_record_at, store_begun_at, port_begun_at};
 ghost use Rattle.iol_record.specs.Reading.{field_at, tag_field, port_field, mode_field, validation_field, vendor_field, device_field};
-ghost use Rattle.iol_record.specs.Reading.{revision_field, checksum_field, count_field, flag_field, index_field, subindex_field, length_field};
+ghost use Rattle.iol_record.specs.Reading.{revision_field, checksum_field, count_field, flag_field, index_field, subindex_field};
+ghost use Rattle.iol_record.specs.Reading.{length_field};
 ghost use Rattle.iol_record.specs.declared.reader.Tag.TheVariants as tag;
 
 use crate::fault::RecordFault;
@@ -140,7 +141,10 @@ pub fn ports_without_right_to_their_set()
     ensures set_vendor { port_record_at (slice_set PORT_WITH_SET_RECORD 26 0xF5) ≡ Err RecordFault.BadField }
     ensures device { port_record_at (slice_set PORT_WITH_SET_RECORD 30 0xCE) ≡ Err RecordFault.BadField }
     ensures restore { port_record_at (slice_set PORT_WITH_SET_RECORD 1 0x04)
-        ≡ Ok (record { config = record example_config { validation = Validation.Restore }; revision = 1; stored = Some example_stored }, []) }
+        ≡ Ok (
+          record { config = record example_config { validation = Validation.Restore }; revision = 1; stored = Some example_stored },
+          [],
+        ) }
 {}
 
 /// Each field, at its least and greatest number and at those beside them.

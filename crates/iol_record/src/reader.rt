@@ -1,7 +1,9 @@
 //! The fields of records, each read from the front of the octets that are left.
 ghost use Rattle.std.specs.Prelude.{◌≡◌, ◌≤◌, ◌^◌, ◌<◌, List, length, take, drop, IfOk, IfErr, OnOk};
 ghost use Rattle.std.specs.Int.{w8};
-ghost use Rattle.iol_record.specs.Reading.{Reads, next_number, octets_at, field_at, tag_field, port_field, mode_field, validation_field, vendor_field, device_field, revision_field, checksum_field, count_field, flag_field, index_field, subindex_field, length_field, config_at};
+ghost use Rattle.iol_record.specs.Reading.{Reads, next_number, octets_at, field_at, tag_field, port_field, mode_field, validation_field};
+ghost use Rattle.iol_record.specs.Reading.{vendor_field, device_field, revision_field, checksum_field, count_field, flag_field};
+ghost use Rattle.iol_record.specs.Reading.{index_field, subindex_field, length_field, config_at};
 
 use crate::fault::RecordFault;
 use iol_types::{

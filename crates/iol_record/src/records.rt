@@ -4,7 +4,9 @@ ghost use Rattle.std.specs.Option.{option_map};
 ghost use Rattle.iol_types.specs.Command.{value_of};
 ghost use Rattle.iol_types.specs.DataSet.{Entry};
 ghost use Rattle.iol_types.specs.Port.{stored_of};
-ghost use Rattle.iol_record.specs.Reading.{Reads, ReadsOrMemory, IsReadFault, field_at, flag_field, followed, entry_at, entries_at, set_head_at, set_at, set_begun_at, arguments_at, begun_behind, command_at, store_begun_at, stored_at, stored_begun_at, port_record_at, port_begun_at};
+ghost use Rattle.iol_record.specs.Reading.{Reads, ReadsOrMemory, IsReadFault, field_at, flag_field, followed, entry_at, entries_at};
+ghost use Rattle.iol_record.specs.Reading.{set_head_at, set_at, set_begun_at, arguments_at, begun_behind, command_at, store_begun_at};
+ghost use Rattle.iol_record.specs.Reading.{stored_at, stored_begun_at, port_record_at, port_begun_at};
 ghost use Rattle.iol_record.specs.declared.reader.Tag.TheVariants as tag;
 
 use crate::fault::RecordFault;
@@ -26,7 +28,8 @@ impl<'a> Reader<'a> {
     // An entry, which is added behind the others.
     #[tactic(auto, unfolding(crate::specs::Reading::entry_at))]
     fn entry(&mut self, others: &mut SetBuilder) -> Result<(), RecordFault>
-        ensures read { OnOk result ((entry : Entry) × (entry_at others.old self.old ≡ Ok (entry, self.new)) × (others.new ≡ others.old ++ entry ∷ [])) }
+        ensures read { OnOk result ((entry : Entry) × (entry_at others.old self.old ≡ Ok (entry, self.new))
+            × (others.new ≡ others.old ++ entry ∷ [])) }
         ensures fault { IfErr result (λ fault. IsReadFault (entry_at others.old self.old) fault (entry_at others.old self.old)) }
     {
         let index = self.index()?;
@@ -41,7 +44,8 @@ impl<'a> Reader<'a> {
 
     // So many entries.
     fn entries(&mut self, alloc: Global, count: u16) -> Result<SetBuilder, RecordFault>
-        ensures read { ReadsOrMemory (λ entries. (entries, self.new)) (entries_at (min 1 count) [] self.old) result (entries_at count [] self.old) }
+        ensures read { ReadsOrMemory (λ entries. (entries, self.new)) (entries_at (min 1 count) [] self.old) result
+            (entries_at count [] self.old) }
         ensures begun { OnOk result (IsOk (entries_at (min 1 count) [] self.old)) }
     {
         let mut entries = SetBuilder::new(alloc);
@@ -83,7 +87,8 @@ impl<'a> Reader<'a> {
     // What stands behind the tag of a Store.
     #[tactic(auto, unfolding(crate::specs::Reading::arguments_at, crate::specs::Reading::begun_behind))]
     fn store(&mut self, alloc: Global) -> Result<Command, RecordFault>
-        ensures { ReadsOrMemory (λ command. (value_of command, self.new)) (begun_behind tag.Store self.old) result (arguments_at tag.Store self.old) }
+        ensures { ReadsOrMemory (λ command. (value_of command, self.new)) (begun_behind tag.Store self.old) result
+            (arguments_at tag.Store self.old) }
     {
         Ok(Command::Store {
             port: self.port()?,
@@ -110,7 +115,8 @@ impl<'a> Reader<'a> {
     // What a port has stored, by its flag.
     #[tactic(auto, unfolding(crate::specs::Reading::stored_at, crate::specs::Reading::stored_begun_at, crate::specs::Reading::config_at))]
     fn stored(&mut self, alloc: Global) -> Result<Option<StoredSet>, RecordFault>
-        ensures { ReadsOrMemory (λ stored. (option_map stored_of stored, self.new)) (followed (field_at flag_field) stored_begun_at self.old) result
+        ensures { ReadsOrMemory (λ stored. (option_map stored_of stored, self.new))
+            (followed (field_at flag_field) stored_begun_at self.old) result
             (followed (field_at flag_field) stored_at self.old) }
     {
         if !self.has_set()? {

@@ -1,5 +1,6 @@
 -- A core stays in step with its flusher where a batch is taken, published and acknowledged.
-use Rattle.std.proofs.Common.{◌≡◌, refl, ◌≤◌, ◌+◌, ◌&&◌, ◌||◌, ◌==◌, ℕ, nat_lt, nat_le, Bool, true, false, List, ◌++◌, length, take, drop, Some, None, ap, sym, ◌∙◌, subst, arith, length-append}
+use Rattle.std.proofs.Common.{◌≡◌, refl, ◌≤◌, ◌+◌, ◌&&◌, ◌||◌, ◌==◌, ℕ, nat_lt, nat_le, Bool, true, false, List, ◌++◌, length, take, drop}
+use Rattle.std.proofs.Common.{Some, None, ap, sym, ◌∙◌, subst, arith, length-append}
 use Rattle.std.proofs.Math.Seq.{take-append_seam, drop-append_seam}
 use Rattle.std.proofs.lemmas.Bool.{eq-eqb, le-leb}
 use Rattle.std.proofs.lemmas.Bool.Decides.{nat_tests}
@@ -28,7 +29,8 @@ use Rattle.iol_journal.specs.declared.header.TheConstants.{LAST_NUMBER}
 use Rattle.iol_run.specs.CoreOnDisk.{IsInFlight, IsDurable, HasFlight, IsAtRest, IsInStep, KeepsRunning}
 
 -- the batch that a core gives is the first of what waits, and in flight then
-pub taken_flight : (old new : CoreView) (room : ℕ) (batch : Batch) → IsTaken old room new batch → IsInFlight new (values batch.commands.items)
+pub taken_flight : (old new : CoreView) (room : ℕ) (batch : Batch) → IsTaken old room new batch
+    → IsInFlight new (values batch.commands.items)
 taken_flight old new room batch is = record {
   behind = drop new.flight old.queue;
   queue =
@@ -55,12 +57,14 @@ all false b c d one two three four = one
 taken_fits : (start : Start) (published : List CommandValue) (old new : CoreView) (s : Standing) (batch : Batch)
     → s.number ≡ start.number + length published → s.state ≡ after start.state published → IsDurable start old published
     → IsTaken old MOST_RECORD_OCTETS new batch → legal old.durable (values batch.commands.items) ≡ true
-    → (length (values batch.commands.items) ≤ 64) × (batch.first + length (values batch.commands.items) ≤ LAST_NUMBER + 1) → FitsBatch s batch
+    → (length (values batch.commands.items) ≤ 64) × (batch.first + length (values batch.commands.items) ≤ LAST_NUMBER + 1)
+    → FitsBatch s batch
 taken_fits start published old new s batch number state durable is passes bound = record {
   small =
       small (length (values batch.commands.items)) (length (records_of (values batch.commands.items))) bound.0
       (subst (λ (cs : List CommandValue). length (records_of cs) ≤ MOST_RECORD_OCTETS) (sym is.commands) is.longest.fits);
-  next = all (nat_le 1 count) (batch.first == s.number + 1) (nat_le (s.number + count) LAST_NUMBER) (legal s.state (values batch.commands.items))
+  next = all (nat_le 1 count) (batch.first == s.number + 1) (nat_le (s.number + count) LAST_NUMBER)
+      (legal s.state (values batch.commands.items))
       (le-leb 1 count (taken_flight old new MOST_RECORD_OCTETS batch is).some)
       (eq-eqb batch.first (s.number + 1) here)
       (le-leb (s.number + count) LAST_NUMBER (omega (arith, here, bound.1)))
@@ -87,7 +91,8 @@ module _ {D : Type 0} where
           → flush.IsInStep start s published → IsDurable start old published → IsDurable start new list × HasFlight new t × GoesOn t
       given (Resting j) published t list taken same stands durable = (
         subst (λ (cs : List CommandValue). IsDurable start new cs) (sym same)
-            (subst (λ (c : CoreView). IsDurable start c published) (sym is.others) (record { number = durable.number; state = durable.state })),
+            (subst (λ (c : CoreView). IsDurable start c published) (sym is.others)
+            (record { number = durable.number; state = durable.state })),
         subst (λ (u : Stage D). HasFlight new u) (sym taken) (taken_flight old new MOST_RECORD_OCTETS batch is),
         subst (λ (u : Stage D). GoesOn u) (sym taken)
             (taken_fits start published old new j.standing batch stands.number stands.state durable is passes bound),
@@ -101,14 +106,18 @@ module _ {D : Type 0} where
   -- the run goes on
   pub given_running : (disk : D → Disk) (start : Start) (old new : CoreView) (before behind : FlusherView D) (batch : Batch)
       → HasTaken before.stage batch behind.stage → behind.published ≡ before.published → IsTaken old MOST_RECORD_OCTETS new batch
-      → KeepsRunning disk start (record { core = old; flusher = before; committed = None }) (record { core = new; flusher = behind; committed = None })
+      → KeepsRunning disk start (record { core = old; flusher = before; committed = None })
+      (record { core = new; flusher = behind; committed = None })
   given_running disk start old new before behind batch taken same is = record {
     goes_on = λ marks was.
         subst (λ (cs : List CommandValue). IsFlushing disk start.number start.state cs new.queue marks behind.stage) (sym same)
         (subst (λ (cs : List CommandValue). IsFlushing disk start.number start.state before.published cs marks behind.stage)
         (sym (ap (λ (c : CoreView). c.queue) is.others))
-        (gives disk start.number start.state before.published old.queue marks before.stage behind.stage batch taken
-        (drop new.flight old.queue, sym (take-append-drop new.flight old.queue) ∙ ap (λ (cs : List CommandValue). cs ++ drop new.flight old.queue) (sym is.commands))
+        (gives disk start.number start.state before.published old.queue marks before.stage behind.stage batch taken (
+          drop new.flight old.queue,
+          sym (take-append-drop new.flight old.queue)
+              ∙ ap (λ (cs : List CommandValue). cs ++ drop new.flight old.queue) (sym is.commands),
+        )
         was));
   }
 
@@ -117,12 +126,15 @@ module _ {D : Type 0} where
       → HasPublished old.stage old.published new committed → IsInStep start core old None → IsInStep start core new (Some committed)
   published_in_step start core old new committed has was = published old.stage old.published has was.0 was.1
     where
-      published : (s : Stage D) (list : List CommandValue) → HasPublished s list new committed → IsDurable start core list → HasFlight core s
-          → IsDurable start core committed.before × (new.published ≡ committed.before ++ committed.commands) × IsInFlight core committed.commands × IsAtRest new.stage
+      published : (s : Stage D) (list : List CommandValue) → HasPublished s list new committed → IsDurable start core list
+          → HasFlight core s
+          → IsDurable start core committed.before × (new.published ≡ committed.before ++ committed.commands)
+          × IsInFlight core committed.commands × IsAtRest new.stage
       published (Publishing j written) list has durable flight = (
         subst (λ (cs : List CommandValue). IsDurable start core cs) (sym has.1) durable,
         ap (λ (v : FlusherView D). v.published) has.0
-            ∙ (ap (λ (cs : List CommandValue). cs ++ written.commands) (sym has.1) ∙ ap (λ (cs : List CommandValue). committed.before ++ cs) (sym has.2)),
+            ∙ (ap (λ (cs : List CommandValue). cs ++ written.commands) (sym has.1)
+            ∙ ap (λ (cs : List CommandValue). committed.before ++ cs) (sym has.2)),
         subst (λ (cs : List CommandValue). IsInFlight core cs) (sym has.2) flight,
         subst (λ (v : FlusherView D). IsAtRest v.stage) (sym has.0) tt,
       )
@@ -144,7 +156,8 @@ module _ {D : Type 0} where
   list_is (Failed d f) list new committed has = absurd has
 
   -- and the list that was published before
-  pub before_is : (s : Stage D) (list : List CommandValue) (new : FlusherView D) (committed : CommittedView) → HasPublished s list new committed
+  pub before_is : (s : Stage D) (list : List CommandValue) (new : FlusherView D) (committed : CommittedView)
+      → HasPublished s list new committed
       → committed.before ≡ list
   before_is (Publishing j written) list new committed has = has.1
   before_is (Resting j) list new committed has = absurd has
@@ -155,45 +168,58 @@ module _ {D : Type 0} where
 
   pub published_running : (disk : D → Disk) (start : Start) (core : CoreView) (old new : FlusherView D) (committed : CommittedView)
       → HasPublished old.stage old.published new committed
-      → KeepsRunning disk start (record { core = core; flusher = old; committed = None }) (record { core = core; flusher = new; committed = Some committed })
+      → KeepsRunning disk start (record { core = core; flusher = old; committed = None })
+      (record { core = core; flusher = new; committed = Some committed })
   published_running disk start core old new committed has = record {
     goes_on = λ marks was.
         let next = publishes disk start.number start.state old.published core.queue marks old.stage old.published new committed has was in
-        let behind : drop (length committed.commands) core.queue ≡ next.0 = ap (drop (length committed.commands)) next.1 ∙ drop-append_seam committed.commands next.0 in
-        subst (λ (cs : List CommandValue). IsFlushing disk start.number start.state cs (drop (length committed.commands) core.queue) marks new.stage)
+        let behind : drop (length committed.commands) core.queue ≡ next.0 = ap (drop (length committed.commands)) next.1
+        ∙ drop-append_seam committed.commands next.0 in
+        subst (λ (cs : List CommandValue).
+        IsFlushing disk start.number start.state cs (drop (length committed.commands) core.queue) marks new.stage)
         (sym (list_is old.stage old.published new committed has))
-        (subst (λ (cs : List CommandValue). IsFlushing disk start.number start.state (old.published ++ committed.commands) cs marks new.stage) (sym behind) next.2);
+        (subst (λ (cs : List CommandValue).
+        IsFlushing disk start.number start.state (old.published ++ committed.commands) cs marks new.stage) (sym behind) next.2);
   }
 
 -- a published batch that is still in flight is the one that the core waits for
-pub in_flight : (start : Start) (core : CoreView) (committed : CommittedView) → IsDurable start core committed.before → IsInFlight core committed.commands
+pub in_flight : (start : Start) (core : CoreView) (committed : CommittedView) → IsDurable start core committed.before
+    → IsInFlight core committed.commands
     → batches.IsInFlight start core committed
 in_flight start core committed durable is = record {
   flies = omega (arith, is.flight, is.some);
   follows = sym durable.number;
-  commands = sym (ap (λ (n : ℕ). take n core.queue) is.flight ∙ (ap (take (length committed.commands)) is.queue ∙ take-append_seam committed.commands is.behind));
+  commands = sym (ap (λ (n : ℕ). take n core.queue) is.flight
+      ∙ (ap (take (length committed.commands)) is.queue ∙ take-append_seam committed.commands is.behind));
 }
 
 -- what is behind it once it is acknowledged
-acknowledged_queue : (core : CoreView) (commands seen : List CommandValue) → IsInFlight core commands → (acknowledged core seen).queue ≡ drop (length commands) core.queue
+acknowledged_queue : (core : CoreView) (commands seen : List CommandValue) → IsInFlight core commands → (acknowledged core seen).queue
+    ≡ drop (length commands) core.queue
 acknowledged_queue core commands seen is = ap (λ (n : ℕ). drop n core.queue) is.flight
 
 acknowledged_durable : (start : Start) (core : CoreView) (committed : CommittedView) (seen published : List CommandValue)
     → published ≡ committed.before ++ committed.commands → IsDurable start core committed.before → IsInFlight core committed.commands
     → IsDurable start (acknowledged core seen) published
-acknowledged_durable start core committed seen published same durable is = subst (λ (cs : List CommandValue). IsDurable start (acknowledged core seen) cs) (sym same)
+acknowledged_durable start core committed seen published same durable is =
+    subst (λ (cs : List CommandValue). IsDurable start (acknowledged core seen) cs) (sym same)
     (record {
       number = omega (arith, durable.number, is.flight, length-append committed.before committed.commands);
       state =
           ap (after core.durable) (sym ((in_flight start core committed durable is).commands))
-          ∙ (ap (λ (s : State). after s committed.commands) durable.state ∙ sym (fold-append apply start.state committed.before committed.commands));
+          ∙ (ap (λ (s : State). after s committed.commands) durable.state
+          ∙ sym (fold-append apply start.state committed.before committed.commands));
     })
 
 module _ {D : Type 0} where
-  pub acknowledged_in_step : (start : Start) (core : CoreView) (flusher : FlusherView D) (committed : CommittedView) (seen : List CommandValue)
+  pub acknowledged_in_step : (start : Start) (core : CoreView) (flusher : FlusherView D) (committed : CommittedView)
+      (seen : List CommandValue)
       → IsInStep start core flusher (Some committed) → IsInStep start (acknowledged core seen) flusher None
-  acknowledged_in_step start core flusher committed seen was =
-      (acknowledged_durable start core committed seen flusher.published was.1 was.0 was.2, (rests flusher.stage was.3).0, (rests flusher.stage was.3).1)
+  acknowledged_in_step start core flusher committed seen was = (
+    acknowledged_durable start core committed seen flusher.published was.1 was.0 was.2,
+    (rests flusher.stage was.3).0,
+    (rests flusher.stage was.3).1,
+  )
     where
       rests : (s : Stage D) → IsAtRest s → HasFlight (acknowledged core seen) s × GoesOn s
       rests (Resting j) at = (refl, tt)
@@ -203,7 +229,8 @@ module _ {D : Type 0} where
       rests (Publishing j written) at = absurd at
       rests (Failed d f) at = absurd at
 
-  pub acknowledged_running : (disk : D → Disk) (start : Start) (core : CoreView) (flusher : FlusherView D) (committed : CommittedView) (seen : List CommandValue)
+  pub acknowledged_running : (disk : D → Disk) (start : Start) (core : CoreView) (flusher : FlusherView D) (committed : CommittedView)
+      (seen : List CommandValue)
       → IsInStep start core flusher (Some committed)
       → KeepsRunning disk start (record { core = core; flusher = flusher; committed = Some committed })
       (record { core = acknowledged core seen; flusher = flusher; committed = None })

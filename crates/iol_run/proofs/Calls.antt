@@ -32,7 +32,8 @@ waits_with (Some committed) core permits = refl
 
 module _ {D : Type 0} where
   -- other permits leave what is in flight
-  pub flight_with : (core : CoreView) (permits : List (Option Grant)) (stage : Stage D) → HasFlight core stage → HasFlight (with_permits core permits) stage
+  pub flight_with : (core : CoreView) (permits : List (Option Grant)) (stage : Stage D) → HasFlight core stage
+      → HasFlight (with_permits core permits) stage
   flight_with core permits (Resting j) is = is
   flight_with core permits (Given j b) is = in_flight_with core permits (values b.commands.items) is
   flight_with core permits (Checkpointing c b) is = in_flight_with core permits (values b.commands.items) is
@@ -40,7 +41,8 @@ module _ {D : Type 0} where
   flight_with core permits (Publishing j written) is = in_flight_with core permits written.commands is
   flight_with core permits (Failed d f) is = is
 
-  permits_in_step : (start : Start) (core : CoreView) (permits : List (Option Grant)) (flusher : FlusherView D) (committed : Option CommittedView)
+  permits_in_step : (start : Start) (core : CoreView) (permits : List (Option Grant)) (flusher : FlusherView D)
+      (committed : Option CommittedView)
       → IsInStep start core flusher committed → IsInStep start (with_permits core permits) flusher committed
   permits_in_step start core permits flusher None is =
       (record { number = is.0.number; state = is.0.state }, flight_with core permits flusher.stage is.1, is.2)
@@ -59,15 +61,18 @@ module _ {D : Type 0} where
       subst (λ (c : CoreView). IsInStep start c flusher committed) (sym is) (change_in_step start old change flusher committed was)
 
   -- a call of a port leaves the core in step
-  pub call_in_step : (start : Start) (call : Call) (old new : CoreView) (heard : Reply) (flusher : FlusherView D) (committed : Option CommittedView)
+  pub call_in_step : (start : Start) (call : Call) (old new : CoreView) (heard : Reply) (flusher : FlusherView D)
+      (committed : Option CommittedView)
       → Replies call old new heard → IsInStep start old flusher committed → IsInStep start new flusher committed
   call_in_step start call old new heard flusher committed is was =
       let becomes = replied 0 call old new heard is in
       changed_in_step start old new becomes.change flusher committed becomes.new_is was
 
-  pub changed_running : (disk : D → Disk) (start : Start) (old new : CoreView) (change : Change) (flusher : FlusherView D) (committed : Option CommittedView)
+  pub changed_running : (disk : D → Disk) (start : Start) (old new : CoreView) (change : Change) (flusher : FlusherView D)
+      (committed : Option CommittedView)
       → new ≡ changed old change → IsPassing old change → IsInStep start old flusher committed
-      → KeepsRunning disk start (record { core = old; flusher = flusher; committed = committed }) (record { core = new; flusher = flusher; committed = committed })
+      → KeepsRunning disk start (record { core = old; flusher = flusher; committed = committed })
+      (record { core = new; flusher = flusher; committed = committed })
   changed_running disk start old new (Permits permits) flusher committed is passes step = record {
     goes_on = λ marks was.
         subst (λ (cs : List CommandValue). IsFlushing disk start.number start.state flusher.published cs marks flusher.stage)
@@ -76,7 +81,8 @@ module _ {D : Type 0} where
   changed_running disk start old new (Waits command permits) flusher committed is passes step = record {
     goes_on = λ marks was.
         subst (λ (cs : List CommandValue). IsFlushing disk start.number start.state flusher.published cs marks flusher.stage)
-        (sym (ap (waiting_of committed) is ∙ (waits_with committed (queued old command) permits ∙ waits_more start old flusher committed command step)))
+        (sym (ap (waiting_of committed) is
+        ∙ (waits_with committed (queued old command) permits ∙ waits_more start old flusher committed command step)))
         (accepts_more disk start.number start.state flusher.published (waiting_of committed old) marks flusher.stage (command ∷ [])
         (ap (λ (s : State). is_none (check s command) && true) (live_is start old flusher committed step)
         ∙ ap (λ (f : Option CommandFault). is_none f && true) passes)
@@ -84,9 +90,11 @@ module _ {D : Type 0} where
   }
 
   -- and the run goes on
-  pub call_running : (disk : D → Disk) (start : Start) (call : Call) (old new : CoreView) (heard : Reply) (flusher : FlusherView D) (committed : Option CommittedView)
+  pub call_running : (disk : D → Disk) (start : Start) (call : Call) (old new : CoreView) (heard : Reply) (flusher : FlusherView D)
+      (committed : Option CommittedView)
       → Replies call old new heard → Passes call old heard → IsInStep start old flusher committed
-      → KeepsRunning disk start (record { core = old; flusher = flusher; committed = committed }) (record { core = new; flusher = flusher; committed = committed })
+      → KeepsRunning disk start (record { core = old; flusher = flusher; committed = committed })
+      (record { core = new; flusher = flusher; committed = committed })
   call_running disk start call old new heard flusher committed is passes step =
       let becomes = replied 0 call old new heard is in
       changed_running disk start old new becomes.change flusher committed becomes.new_is (becomes.passing passes) step

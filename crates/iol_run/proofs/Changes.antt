@@ -1,5 +1,6 @@
 -- What a call of a port makes of a core, and what is told of it.
-use Rattle.std.proofs.Common.{◌≡◌, refl, ◌+◌, ◌≤◌, ℕ, nat_le, Bool, true, false, if◌then◌else◌, List, [], ◌∷◌, length, Option, Some, None, Result, Ok, Err, ap, sym, ◌∙◌, rules, arith}
+use Rattle.std.proofs.Common.{◌≡◌, refl, ◌+◌, ◌≤◌, ℕ, nat_le, Bool, true, false, if◌then◌else◌, List, [], ◌∷◌, length, Option, Some, None}
+use Rattle.std.proofs.Common.{Result, Ok, Err, ap, sym, ◌∙◌, rules, arith}
 use Rattle.std.proofs.lemmas.Bool.Decides.{nat_tests}
 use Rattle.iol_types.specs.Command.{CommandValue}
 use Rattle.iol_types.specs.DataSet.{SetValue}
@@ -20,9 +21,11 @@ use Rattle.iol_core.specs.declared.ticket.SubmitFault.TheVariants as fault
 use Rattle.iol_core.specs.declared.upload.FinishFault.{FinishFault}
 use Rattle.iol_core.specs.declared.upload.FinishFault.TheVariants as finish
 use Rattle.iol_core.specs.declared.upload.PermitFault.{PermitFault}
-use Rattle.iol_port.specs.Calls.{Call, Attend, BeginUpload, FinishUpload, AbandonUpload, AskTicket, BeginDownload, EndDownload, Replies, Passes}
+use Rattle.iol_port.specs.Calls.{Call, Attend, BeginUpload, FinishUpload, AbandonUpload, AskTicket, BeginDownload, EndDownload, Replies}
+use Rattle.iol_port.specs.Calls.{Passes}
 use Rattle.iol_port.specs.Ending.{ended, released}
-use Rattle.iol_port.specs.Stage.{Stage, Settled, Paging, Attending, BeginningUpload, BeginningDownload, Exchanging, Uploading, Filing, Filed, Storing, Downloading, Breaking, Returning, Returned}
+use Rattle.iol_port.specs.Stage.{Stage, Settled, Paging, Attending, BeginningUpload, BeginningDownload, Exchanging, Uploading, Filing}
+use Rattle.iol_port.specs.Stage.{Filed, Storing, Downloading, Breaking, Returning, Returned}
 use Rattle.iol_port.specs.declared.stage.Held.{Held}
 use Rattle.iol_port.specs.declared.stage.Held.TheVariants as held
 use Rattle.iol_port.specs.declared.call.Reply.{Reply}
@@ -70,7 +73,8 @@ pub record Becomes (P : Type 0) (old new : CoreView) (told : List Event) : Type 
 
 -- a permit comes back, if it is out
 pub without_permit : (core : CoreView) (port : ℕ) (there : Bool)
-    → (if there then with_permit core port None else core) ≡ with_permits core ((if there then with_permit core port None else core).permits)
+    → (if there then with_permit core port None else core)
+    ≡ with_permits core ((if there then with_permit core port None else core).permits)
 without_permit core port true = refl
 without_permit core port false = refl
 
@@ -110,14 +114,17 @@ module _ (P : Type 0) where
   begun_download old new port vendor device checksum (Err download.Taken) is = stays old new [] is.1 tt
   begun_download old new port vendor device checksum (Err download.Same) is = stays old new [] is.1 tt
 
-  abandoned : (old new : CoreView) (port : ℕ) (there : Bool) → new ≡ (if there then with_permit old port None else old) → Becomes P old new []
-  abandoned old new port there is = permitted old new ((if there then with_permit old port None else old).permits) (is ∙ without_permit old port there)
+  abandoned : (old new : CoreView) (port : ℕ) (there : Bool) → new ≡ (if there then with_permit old port None else old)
+      → Becomes P old new []
+  abandoned old new port there is =
+      permitted old new ((if there then with_permit old port None else old).permits) (is ∙ without_permit old port there)
 
 attended : (port : ℕ) (work : Option Work) → AreQuiet (attended_told port work)
 attended port None = tt
 attended port (Some work) = (tt, tt)
 
-finished : (port : ℕ) (old new : CoreView) (grant : UploadGrant) (set : SetValue) (answer : Result ℕ FinishFault) → IsFinish old grant set new answer
+finished : (port : ℕ) (old new : CoreView) (grant : UploadGrant) (set : SetValue) (answer : Result ℕ FinishFault)
+    → IsFinish old grant set new answer
     → Becomes (Passes (FinishUpload grant set) old (reply.FinishedUpload answer)) old new (filed_told (Some (store_of grant set)) answer)
 finished port old new grant set (Ok n) is = record {
   change = Waits (store_of grant set) new.permits;

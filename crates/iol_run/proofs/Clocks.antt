@@ -31,7 +31,8 @@ later_still old mid new one two = record {
   clocks = λ h. omega (arith, one.clocks h, two.clocks (subst (λ (b : Bool). IsTrue b) (sym one.honest) h));
 }
 
-after_later : (change : Content → Content) → ((c : Content) → clock c ≤ clock (change c)) → (old new : Disk) → After change old new → IsLater old new
+after_later : (change : Content → Content) → ((c : Content) → clock c ≤ clock (change c)) → (old new : Disk) → After change old new
+    → IsLater old new
 after_later change later old new is = record {
   honest = is.honest;
   clocks = λ h. subst (λ (c : Content). clock old.content ≤ clock c) (sym (is.content h)) (later old.content);
@@ -72,7 +73,8 @@ rise_stamped : (before t : ℕ) (told : List Event) → before ≤ t → ClocksR
 rise_stamped before t [] le = le
 rise_stamped before t (e ∷ told) le = (le, rise_stamped t t told (omega arith))
 
-rise_more : (before mid t : ℕ) (events : List Stamp) (told : List Event) → ClocksRise before mid events → mid ≤ t → ClocksRise before t (events ++ stamped t told)
+rise_more : (before mid t : ℕ) (events : List Stamp) (told : List Event) → ClocksRise before mid events → mid ≤ t
+    → ClocksRise before t (events ++ stamped t told)
 rise_more before mid t [] told rise le = rise_stamped before t told (omega (arith, rise, le))
 rise_more before mid t (e ∷ events) told rise le = (rise.0, rise_more e.clock mid t events told rise.1 le)
 
@@ -92,10 +94,12 @@ module _ {D L : Type 0} (disk : D → Disk) (connection : L → ℕ) (allows : L
   steps_later : (begun : ℕ) (steps : List Step) (waits : ℕ) (old new : RunView D L) → HasMade disk connection allows steps waits old new
       → GoesLater begun old new
   steps_later begun [] waits old new made =
-      subst (λ (r : RunView D L). GoesLater begun old r) (sym made.1) (record { begun_is = refl; later = later_same (disk_at old); rise = λ h was. was })
+      subst (λ (r : RunView D L). GoesLater begun old r) (sym made.1)
+      (record { begun_is = refl; later = later_same (disk_at old); rise = λ h was. was })
   steps_later begun (step ∷ steps) waits old new made =
       let mid = made.2 in
-      let one = step_later (disk_at old) (disk_at mid) made.3.0 (disk_step disk connection allows step old.master mid.master old.ports mid.ports made.3.0 made.0 made.3.1) in
+      let one = step_later (disk_at old) (disk_at mid) made.3.0
+      (disk_step disk connection allows step old.master mid.master old.ports mid.ports made.3.0 made.0 made.3.1) in
       let rest = steps_later begun steps made.1 mid new made.5 in
       record {
         begun_is = rest.begun_is ∙ made.3.3;
@@ -107,8 +111,10 @@ module _ {D L : Type 0} (disk : D → Disk) (connection : L → ℕ) (allows : L
       }
 
   -- of a schedule that was run from a fresh run on
-  pub clocks_rise : (steps : List Step) (waits : ℕ) (journal : JournalView D) (links : List L) (old new : RunView D L) → IsFresh disk journal links old
-      → HasMade disk connection allows steps waits old new → IsTrue (disk_at new).honest → ClocksRise new.begun (clock_of disk new.master) new.events
+  pub clocks_rise : (steps : List Step) (waits : ℕ) (journal : JournalView D) (links : List L) (old new : RunView D L)
+      → IsFresh disk journal links old
+      → HasMade disk connection allows steps waits old new → IsTrue (disk_at new).honest
+      → ClocksRise new.begun (clock_of disk new.master) new.events
   clocks_rise steps waits journal links old new fresh made honest =
       let all = steps_later old.begun steps waits old new made in
       subst (λ (t : ℕ). ClocksRise t (clock_of disk new.master) new.events) (sym all.begun_is)

@@ -1,5 +1,6 @@
 -- A core of a run stands as what was told says.
-use Rattle.std.proofs.Common.{◌≡◌, ◌≤◌, refl, ◌+◌, ◌-◌, ℕ, nat_le, Bool, true, false, List, [], ◌∷◌, ◌++◌, length, take, drop, Option, Some, None, Result, Ok, Err, ap, sym, ◌∙◌, subst, arith, append-nil, append_assoc, length-append}
+use Rattle.std.proofs.Common.{◌≡◌, ◌≤◌, refl, ◌+◌, ◌-◌, ℕ, nat_le, Bool, true, false, List, [], ◌∷◌, ◌++◌, length, take, drop, Option, Some}
+use Rattle.std.proofs.Common.{None, Result, Ok, Err, ap, sym, ◌∙◌, subst, arith, append-nil, append_assoc, length-append}
 use Rattle.std.proofs.Math.Seq.{take-append_seam}
 use Rattle.std.proofs.lemmas.List.{take-append-drop, length-take-le}
 use Rattle.std.proofs.lemmas.List.Sums.{fold-append}
@@ -62,7 +63,8 @@ module _ (first : ℕ) (start : State) where
 
   -- events that accept and acknowledge nothing, where the core has the same commands
   quiet : (events more : List Stamp) (old new : CoreView) → accepted more ≡ [] → ((n : ℕ) → acked n more ≡ n) → new.queue ≡ old.queue
-      → new.durable ≡ old.durable → new.number ≡ old.number → new.flight ≤ length new.queue → Stands events old → Stands (events ++ more) new
+      → new.durable ≡ old.durable → new.number ≡ old.number → new.flight ≤ length new.queue → Stands events old
+      → Stands (events ++ more) new
   quiet events more old new none acks queue durable number flight is = record {
     done = is.done;
     accepted_is =
@@ -101,7 +103,8 @@ module _ (first : ℕ) (start : State) where
   }
 
   -- commands are acknowledged
-  acknowledges : (t : ℕ) (events : List Stamp) (seen : List CommandValue) (old new : CoreView) → new ≡ acknowledged old seen → Stands events old
+  acknowledges : (t : ℕ) (events : List Stamp) (seen : List CommandValue) (old new : CoreView) → new ≡ acknowledged old seen
+      → Stands events old
       → Stands (events ++ stamped t (Acknowledged new.number ∷ [])) new
   acknowledges t events seen old new same is = record {
     done = is.done ++ front;
@@ -140,13 +143,15 @@ module _ (first : ℕ) (start : State) where
       (subst (λ (c : CoreView). c.flight ≤ length c.queue) (sym is.1) was.flight) was
 
   -- what a call of a port makes of the core
-  becomes_stands : (P : Type 0) (t : ℕ) (events : List Stamp) (old new : CoreView) (told : List Event) → Becomes P old new told → Stands events old
+  becomes_stands : (P : Type 0) (t : ℕ) (events : List Stamp) (old new : CoreView) (told : List Event) → Becomes P old new told
+      → Stands events old
       → Stands (events ++ stamped t told) new
   becomes_stands P t events old new told becomes was = by becomes.change becomes.new_is becomes.tells
     where
       by : (change : Change) → new ≡ changed old change → Tells old change told → Stands (events ++ stamped t told) new
       by (Permits permits) is tells =
-          quiet events (stamped t told) old new (quiet_accepted t told tells) (λ n. quiet_acked t n told tells) (ap (λ (c : CoreView). c.queue) is)
+          quiet events (stamped t told) old new (quiet_accepted t told tells) (λ n. quiet_acked t n told tells)
+          (ap (λ (c : CoreView). c.queue) is)
           (ap (λ (c : CoreView). c.durable) is) (ap (λ (c : CoreView). c.number) is)
           (subst (λ (c : CoreView). c.flight ≤ length c.queue) (sym is) was.flight) was
       by (Waits command permits) is tells =
@@ -155,8 +160,10 @@ module _ (first : ℕ) (start : State) where
           (ap (λ (c : CoreView). c.number) is) (ap (λ (c : CoreView). c.flight) is) was)
 
   module _ {D : Type 0} where
-    port_stands : {L : Type 0} (number : L → ℕ) (steps : L → LinkCall → LinkAnswer → L → Type 0) (there : Bool) (t port : ℕ) (events : List Stamp)
-        (old new : CoreOnDiskView D) (ports last : PortsView L) (told : List Event) → StepsIf number steps there port old new ports last told
+    port_stands : {L : Type 0} (number : L → ℕ) (steps : L → LinkCall → LinkAnswer → L → Type 0) (there : Bool) (t port : ℕ)
+        (events : List Stamp)
+        (old new : CoreOnDiskView D) (ports last : PortsView L) (told : List Event)
+        → StepsIf number steps there port old new ports last told
         → Stands events old.core → Stands (events ++ stamped t told) new.core
     port_stands number steps true t port events old new ports last told is was =
         let becomes = step_becomes number steps is.before is.after is.link is.linked old.core new.core is.called is.status is.steps_as in
@@ -169,11 +176,13 @@ module _ (first : ℕ) (start : State) where
     port_stands number steps false t port events old new ports last told is was =
         stays events (stamped t told) old.core new.core (ap (stamped t) is.2) (ap (λ (m : CoreOnDiskView D). m.core) is.0) was
 
-    takes_stands : (t : ℕ) (events : List Stamp) (old new : CoreOnDiskView D) (told : List Event) (turned : Turned) → Takes old new told turned
+    takes_stands : (t : ℕ) (events : List Stamp) (old new : CoreOnDiskView D) (told : List Event) (turned : Turned)
+        → Takes old new told turned
         → Stands events old.core → Stands (events ++ stamped t told) new.core
     takes_stands t events old new told Made is was =
         subst (λ (es : List Event). Stands (events ++ stamped t es) new.core) (sym is.5)
-        (quiet events [] old.core new.core refl (λ n. refl) queue (ap (λ (c : CoreView). c.durable) is.1.others) (ap (λ (c : CoreView). c.number) is.1.others)
+        (quiet events [] old.core new.core refl (λ n. refl) queue (ap (λ (c : CoreView). c.durable) is.1.others)
+        (ap (λ (c : CoreView). c.number) is.1.others)
         (subst (λ (cs : List CommandValue). new.core.flight ≤ length cs) (sym queue) is.1.longest.within) was)
       where
         queue : new.core.queue ≡ old.core.queue
@@ -204,7 +213,8 @@ module _ (first : ℕ) (start : State) where
       serves_stands need.Stopped t events old new told turned is was =
           stays events (stamped t told) old.core new.core (ap (stamped t) is.2) (ap (λ (m : CoreOnDiskView D). m.core) is.1) was
 
-      turn_stands : (committed : Option CommittedView) (t : ℕ) (events : List Stamp) (old new : CoreOnDiskView D) (told : List Event) (turned : Turned)
+      turn_stands : (committed : Option CommittedView) (t : ℕ) (events : List Stamp) (old new : CoreOnDiskView D) (told : List Event)
+          (turned : Turned)
           → IsTurn disk committed old new told turned → Stands events old.core → Stands (events ++ stamped t told) new.core
       turn_stands (Some committed) t events old new told turned is was =
           subst (λ (es : List Event). Stands (events ++ stamped t es) new.core) (sym is.1.3)
@@ -212,8 +222,10 @@ module _ (first : ℕ) (start : State) where
       turn_stands None t events old new told turned is was = serves_stands (need_of old.flusher.stage) t events old new told turned is was
 
       -- a step of a run
-      pub step_stands : {L : Type 0} (number : L → ℕ) (steps : L → LinkCall → LinkAnswer → L → Type 0) (step : Step) (t : ℕ) (events : List Stamp)
-          (old new : CoreOnDiskView D) (ports last : PortsView L) (told : List Event) (turned : Turned) → Does disk number steps step old new ports last told turned
+      pub step_stands : {L : Type 0} (number : L → ℕ) (steps : L → LinkCall → LinkAnswer → L → Type 0) (step : Step) (t : ℕ)
+          (events : List Stamp)
+          (old new : CoreOnDiskView D) (ports last : PortsView L) (told : List Event) (turned : Turned)
+          → Does disk number steps step old new ports last told turned
           → Stands events old.core → Stands (events ++ stamped t told) new.core
       step_stands number steps (Client change) t events old new ports last told turned is was =
           subst (λ (es : List Event). Stands (events ++ stamped t es) new.core) (sym is.2.4)

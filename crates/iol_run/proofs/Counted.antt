@@ -1,5 +1,6 @@
 -- What the events of a run count: how many commands were accepted and acknowledged, and that a failure of the disk was told.
-use Rattle.std.proofs.Common.{◌≡◌, ◌≤◌, refl, ◌+◌, inl, inr, ℕ, nat_le, Bool, true, false, List, [], ◌∷◌, ◌++◌, length, Option, Some, None, Result, Ok, Err, ap, sym, ◌∙◌, subst, arith, length-append, length-drop}
+use Rattle.std.proofs.Common.{◌≡◌, ◌≤◌, refl, ◌+◌, inl, inr, ℕ, nat_le, Bool, true, false, List, [], ◌∷◌, ◌++◌, length, Option, Some, None}
+use Rattle.std.proofs.Common.{Result, Ok, Err, ap, sym, ◌∙◌, subst, arith, length-append, length-drop}
 use Rattle.iol_types.specs.Command.{CommandValue, command_of}
 use Rattle.iol_disk.specs.Disk.{Disk}
 use Rattle.iol_core.specs.Core.{CoreView, live_number}
@@ -81,17 +82,20 @@ module _ (first t : ℕ) where
       → IsCounted first new (events ++ stamped t told)
   silent_counted old new events told none same was =
       subst (λ (es : List Event). IsCounted first new (events ++ stamped t es)) (sym none)
-      (more_counted old new events [] (omega (arith, same.number, same.waits)) (sym same.number) (stays_told old new events [] same.stopped was) was)
+      (more_counted old new events [] (omega (arith, same.number, same.waits)) (sym same.number)
+      (stays_told old new events [] same.stopped was) was)
 
   -- events that accept and acknowledge nothing
-  quiet_counted : (old new : CoreView) (events : List Stamp) (told : List Event) → AreQuiet told → IsAlike old new → IsCounted first old events
+  quiet_counted : (old new : CoreView) (events : List Stamp) (told : List Event) → AreQuiet told → IsAlike old new
+      → IsCounted first old events
       → IsCounted first new (events ++ stamped t told)
   quiet_counted old new events told quiet same was =
       more_counted old new events (stamped t told) (omega (arith, ap length (quiet_accepted t told quiet), same.number, same.waits))
       (quiet_acked t old.number told quiet ∙ sym same.number) (stays_told old new events (stamped t told) same.stopped was) was
 
   -- what a call of a port makes of the core
-  becomes_counted : (P : Type 0) (old new : CoreView) (events : List Stamp) (told : List Event) → Becomes P old new told → IsCounted first old events
+  becomes_counted : (P : Type 0) (old new : CoreView) (events : List Stamp) (told : List Event) → Becomes P old new told
+      → IsCounted first old events
       → IsCounted first new (events ++ stamped t told)
   becomes_counted P old new events told becomes was = by_change becomes.change becomes.new_is becomes.tells
     where
@@ -104,15 +108,27 @@ module _ (first t : ℕ) where
       by_change (Waits command permits) is tells =
           subst (λ (es : List Event). IsCounted first new (events ++ stamped t es)) (sym tells)
           (more_counted old new events (stamped t (Accepted (live_number old + 1) command ∷ []))
-          (omega (arith, ap (λ (c : CoreView). c.number) is, ap (λ (c : CoreView). length c.queue) is, length-append old.queue (command ∷ [])))
+          (omega (
+            arith,
+            ap (λ (c : CoreView). c.number) is,
+            ap (λ (c : CoreView). length c.queue) is,
+            length-append old.queue (command ∷ []),
+          ))
           (sym (ap (λ (c : CoreView). c.number) is))
-          (stays_told old new events (stamped t (Accepted (live_number old + 1) command ∷ [])) (ap (λ (c : CoreView). c.stopped) is) was) was)
+          (stays_told old new events (stamped t (Accepted (live_number old + 1) command ∷ [])) (ap (λ (c : CoreView). c.stopped) is) was)
+          was)
 
-  submit_counted : (old new : CoreView) (command : CommandValue) (events : List Stamp) (answer : Result ℕ SubmitFault) → IsSubmit old command new answer
+  submit_counted : (old new : CoreView) (command : CommandValue) (events : List Stamp) (answer : Result ℕ SubmitFault)
+      → IsSubmit old command new answer
       → IsCounted first old events → IsCounted first new (events ++ stamped t (submit_told command answer))
   submit_counted old new command events (Ok n) is was =
       more_counted old new events (stamped t (Accepted n command ∷ []))
-      (omega (arith, ap (λ (c : CoreView). c.number) is.2, ap (λ (c : CoreView). length c.queue) is.2, length-append old.queue (command ∷ [])))
+      (omega (
+        arith,
+        ap (λ (c : CoreView). c.number) is.2,
+        ap (λ (c : CoreView). length c.queue) is.2,
+        length-append old.queue (command ∷ []),
+      ))
       (sym (ap (λ (c : CoreView). c.number) is.2))
       (stays_told old new events (stamped t (Accepted n command ∷ [])) (ap (λ (c : CoreView). c.stopped) is.2) was) was
   submit_counted old new command events (Err f) is was =
@@ -122,18 +138,28 @@ module _ (first t : ℕ) where
       (stays_told old new events (stamped t (Refused (refusal_of f) ∷ [])) (ap (λ (c : CoreView). c.stopped) is.1) was) was
 
   module _ {D : Type 0} (layout : Layout) where
-    acknowledged_counted : (old new : CoreOnDiskView D) (committed : CommittedView) (events : List Stamp) (told : List Event) → Acknowledges old new told
-        → IsServed layout old.core old.flusher.stage (Some committed) → IsCounted first old.core events → IsCounted first new.core (events ++ stamped t told)
+    acknowledged_counted : (old new : CoreOnDiskView D) (committed : CommittedView) (events : List Stamp) (told : List Event)
+        → Acknowledges old new told
+        → IsServed layout old.core old.flusher.stage (Some committed) → IsCounted first old.core events
+        → IsCounted first new.core (events ++ stamped t told)
     acknowledged_counted old new committed events told is served was =
         subst (λ (es : List Event). IsCounted first new.core (events ++ stamped t es)) (sym is.3)
         (more_counted old.core new.core events (stamped t (Acknowledged new.core.number ∷ []))
-        (omega (arith, ap (λ (c : CoreView). c.number) is.0, ap (λ (c : CoreView). length c.queue) is.0, length-drop old.core.flight old.core.queue, within.1))
-        refl (stays_told old.core new.core events (stamped t (Acknowledged new.core.number ∷ [])) (ap (λ (c : CoreView). c.stopped) is.0) was) was)
+        (omega (
+          arith,
+          ap (λ (c : CoreView). c.number) is.0,
+          ap (λ (c : CoreView). length c.queue) is.0,
+          length-drop old.core.flight old.core.queue,
+          within.1,
+        ))
+        refl (stays_told old.core new.core events (stamped t (Acknowledged new.core.number ∷ [])) (ap (λ (c : CoreView). c.stopped) is.0)
+        was) was)
       where
         within : (1 ≤ old.core.flight) × (old.core.flight ≤ length old.core.queue)
         within = flies_within old.core committed.commands served.batch.0
 
-    same_counted : (old new : CoreOnDiskView D) (events : List Stamp) (told : List Event) → new ≡ old → told ≡ [] → IsCounted first old.core events
+    same_counted : (old new : CoreOnDiskView D) (events : List Stamp) (told : List Event) → new ≡ old → told ≡ []
+        → IsCounted first old.core events
         → IsCounted first new.core (events ++ stamped t told)
     same_counted old new events told same none was =
         silent_counted old.core new.core events told none (alike_same old.core new.core (ap (λ (m : CoreOnDiskView D). m.core) same)) was
@@ -169,16 +195,19 @@ module _ (first t : ℕ) where
           silent_counted old.core new.core events told is.1.4 (alike_same old.core new.core is.1.2) was
       serves_counted need.Stopped old new events told turned is was = same_counted old new events told is.1 is.2 was
 
-      turn_counted : (committed : Option CommittedView) (old new : CoreOnDiskView D) (events : List Stamp) (told : List Event) (turned : Turned)
+      turn_counted : (committed : Option CommittedView) (old new : CoreOnDiskView D) (events : List Stamp) (told : List Event)
+          (turned : Turned)
           → old.committed ≡ committed → IsTurn disk committed old new told turned → Served layout old → IsCounted first old.core events
           → IsCounted first new.core (events ++ stamped t told)
       turn_counted (Some committed) old new events told turned there is served was =
           acknowledged_counted old new committed events told is.1
           (subst (λ (c : Option CommittedView). IsServed layout old.core old.flusher.stage c) there served) was
-      turn_counted None old new events told turned there is served was = serves_counted (need_of old.flusher.stage) old new events told turned is was
+      turn_counted None old new events told turned there is served was =
+          serves_counted (need_of old.flusher.stage) old new events told turned is was
 
       -- a step of a port: its call, and then its status
-      port_counted : {L : Type 0} (number : L → ℕ) (steps : L → LinkCall → LinkAnswer → L → Type 0) (there : Bool) (port : ℕ) (old new : CoreOnDiskView D)
+      port_counted : {L : Type 0} (number : L → ℕ) (steps : L → LinkCall → LinkAnswer → L → Type 0) (there : Bool) (port : ℕ)
+          (old new : CoreOnDiskView D)
           (ports last : PortsView L) (events : List Stamp) (told : List Event) → StepsIf number steps there port old new ports last told
           → IsCounted first old.core events → IsCounted first new.core (events ++ stamped t told)
       port_counted number steps true port old new ports last events told is was =
@@ -190,8 +219,10 @@ module _ (first t : ℕ) where
       port_counted number steps false port old new ports last events told is was = same_counted old new events told is.0 is.2 was
 
       -- each step keeps it
-      pub step_counted : {L : Type 0} (number : L → ℕ) (steps : L → LinkCall → LinkAnswer → L → Type 0) (step : Step) (old new : CoreOnDiskView D)
-          (ports last : PortsView L) (events : List Stamp) (told : List Event) (turned : Turned) → Does disk number steps step old new ports last told turned
+      pub step_counted : {L : Type 0} (number : L → ℕ) (steps : L → LinkCall → LinkAnswer → L → Type 0) (step : Step)
+          (old new : CoreOnDiskView D)
+          (ports last : PortsView L) (events : List Stamp) (told : List Event) (turned : Turned)
+          → Does disk number steps step old new ports last told turned
           → Served layout old → IsCounted first old.core events → IsCounted first new.core (events ++ stamped t told)
       step_counted number steps (Client change) old new ports last events told turned is served was =
           subst (λ (es : List Event). IsCounted first new.core (events ++ stamped t es)) (sym is.2.4)

@@ -29,14 +29,18 @@ use Rattle.iol_run.specs.declared.schedule.Trace.{Trace}
 
 module _ {D : Type 0} (disk : D → Disk) (start : Start) where
   abbrev marked : ℕ → List Stamp → List CommandValue → List CommandValue → Stage D → Type 0
-  marked t events published waiting stage = IsFlushing disk start.number start.state published waiting (marks_of t start.number events) stage
+  marked t events published waiting stage =
+      IsFlushing disk start.number start.state published waiting (marks_of t start.number events) stage
 
   -- a run begins where the journal's does
   pub begins : {L : Type 0} (j : JournalView D) (links : List L) (run : RunView D L) → IsFresh disk j links run
       → IsRunAtRest disk (journal.begun (clock (disk j.disk).content) start.number start.state) j → IsMarked disk start run
   begins j links run fresh resting =
-      subst (λ (es : List Stamp). marked run.begun es run.master.flusher.published (waiting_of run.master.committed run.master.core) run.master.flusher.stage) (sym fresh.events)
-      (subst (λ (published : List CommandValue). marked run.begun [] published (waiting_of run.master.committed run.master.core) run.master.flusher.stage) (sym fresh.published)
+      subst (λ (es : List Stamp).
+      marked run.begun es run.master.flusher.published (waiting_of run.master.committed run.master.core) run.master.flusher.stage)
+      (sym fresh.events)
+      (subst (λ (published : List CommandValue).
+      marked run.begun [] published (waiting_of run.master.committed run.master.core) run.master.flusher.stage) (sym fresh.published)
       (subst (λ (waiting : List CommandValue). marked run.begun [] [] waiting run.master.flusher.stage)
       (sym (ap (λ c. waiting_of c run.master.core) fresh.committed ∙ fresh.queue))
       (subst (λ (s : Stage D). marked run.begun [] [] [] s) (sym fresh.stage)
@@ -55,7 +59,8 @@ module _ {D : Type 0} (disk : D → Disk) (start : Start) where
 
       here : HoldsBy d start.number start.state (accepted run.events) (marks_of run.begun start.number run.events)
       here =
-          subst (λ (cs : List CommandValue). HoldsBy d start.number start.state cs (marks_of run.begun start.number run.events)) (sym told.accepted_is)
+          subst (λ (cs : List CommandValue). HoldsBy d start.number start.state cs (marks_of run.begun start.number run.events))
+          (sym told.accepted_is)
           (holds disk start.number start.state run.master.flusher.published (waiting_of run.master.committed run.master.core)
           (marks_of run.begun start.number run.events) run.master.flusher.stage marked)
 

@@ -1,5 +1,6 @@
 -- What a step makes of the disk, and tells of it.
-use Rattle.std.proofs.Common.{◌≡◌, refl, ⊎_elim, ℕ, nat_le, Bool, true, false, List, [], ◌∷◌, ◌++◌, length, Option, Some, None, Result, Ok, Err, ap, sym, subst}
+use Rattle.std.proofs.Common.{◌≡◌, refl, ⊎_elim, ℕ, nat_le, Bool, true, false, List, [], ◌∷◌, ◌++◌, length, Option, Some, None, Result, Ok}
+use Rattle.std.proofs.Common.{Err, ap, sym, subst}
 use Rattle.iol_types.specs.Command.{CommandValue, command_of}
 use Rattle.iol_core.specs.Core.{CoreView}
 use Rattle.iol_core.specs.declared.ticket.SubmitFault.{SubmitFault}
@@ -39,7 +40,8 @@ TellsNone told = (t : ℕ) → HasFailure (stamped t told) → ⊥
 pub data DiskStep (old new : Disk) (told : List Event) : Type 0 where
   Stays : (same : new ≡ old) (sound : TellsNone told) → DiskStep old new told
   Makes : (calls left : List Call) (made : MakesFirst calls left old new) (silent : told ≡ []) → DiskStep old new told
-  Fails : (calls : List Call) (why : DiskFault) (failed : FailsFirst calls why old new) (telling : told ≡ DiskFailed ∷ []) → DiskStep old new told
+  Fails : (calls : List Call) (why : DiskFault) (failed : FailsFirst calls why old new) (telling : told ≡ DiskFailed ∷ [])
+      → DiskStep old new told
 
 silent : (told : List Event) → told ≡ [] → TellsNone told
 silent told is t failed = subst (λ (es : List Event). HasFailure (stamped t es)) is failed
@@ -47,7 +49,8 @@ silent told is t failed = subst (λ (es : List Event). HasFailure (stamped t es)
 telling : (told : List Event) (e : Event) → told ≡ e ∷ [] → (IsFailure e → ⊥) → TellsNone told
 telling told e is sound t failed = ⊎_elim sound (λ never. never) (subst (λ (es : List Event). HasFailure (stamped t es)) is failed)
 
-submitting : (told : List Event) (command : CommandValue) (answer : Result ℕ SubmitFault) → told ≡ submit_told command answer → TellsNone told
+submitting : (told : List Event) (command : CommandValue) (answer : Result ℕ SubmitFault) → told ≡ submit_told command answer
+    → TellsNone told
 submitting told command (Ok n) is = telling told _ is (λ never. never)
 submitting told command (Err f) is = telling told _ is (λ never. never)
 
@@ -69,7 +72,8 @@ module _ {D : Type 0} (disk : D → Disk) where
       → StageStep old.flusher.stage new.flusher.stage told
   flusher_same old new told same sound = Stays (ap (λ (f : FlusherView D). disk (disk_of f.stage)) same) sound
 
-  master_same : (old new : CoreOnDiskView D) (told : List Event) → new ≡ old → TellsNone told → StageStep old.flusher.stage new.flusher.stage told
+  master_same : (old new : CoreOnDiskView D) (told : List Event) → new ≡ old → TellsNone told
+      → StageStep old.flusher.stage new.flusher.stage told
   master_same old new told same sound = flusher_same old new told (ap (λ (m : CoreOnDiskView D). m.flusher) same) sound
 
   taken_disk : (s t : Stage D) (batch : Batch) → HasTaken s batch t → disk (disk_of t) ≡ disk (disk_of s)
@@ -80,7 +84,8 @@ module _ {D : Type 0} (disk : D → Disk) where
   taken_disk (Publishing j written) t batch has = absurd has
   taken_disk (Failed d f) t batch has = absurd has
 
-  published_disk : (s : Stage D) (published : List CommandValue) (new : FlusherView D) (committed : CommittedView) → HasPublished s published new committed
+  published_disk : (s : Stage D) (published : List CommandValue) (new : FlusherView D) (committed : CommittedView)
+      → HasPublished s published new committed
       → disk (disk_of new.stage) ≡ disk (disk_of s)
   published_disk (Publishing j written) published new committed has = ap (λ (f : FlusherView D). disk (disk_of f.stage)) has.0
   published_disk (Resting j) published new committed has = absurd has
@@ -95,7 +100,8 @@ module _ {D : Type 0} (disk : D → Disk) where
   takes_step old new told Idle is = master_same old new told is.1 (silent told is.2)
   takes_step old new told Waited is = master_same old new told is.1 (silent told is.2)
 
-  called_step : (old new : CoreOnDiskView D) (told : List Event) → HasCalled disk old new told → StageStep old.flusher.stage new.flusher.stage told
+  called_step : (old new : CoreOnDiskView D) (told : List Event) → HasCalled disk old new told
+      → StageStep old.flusher.stage new.flusher.stage told
   called_step old new [] is = Makes _ _ is.1.1 refl
   called_step old new (e ∷ told) is = Fails _ is.0 is.3.1 is.1
 
@@ -109,7 +115,8 @@ module _ {D : Type 0} (disk : D → Disk) where
       Stays (published_disk old.flusher.stage old.flusher.published new.flusher is.1.0 is.1.1) (silent told is.1.4)
   serves_step need.Stopped old new told turned is = master_same old new told is.1 (silent told is.2)
 
-  turn_step : (committed : Option CommittedView) (old new : CoreOnDiskView D) (told : List Event) (turned : Turned) → IsTurn disk committed old new told turned
+  turn_step : (committed : Option CommittedView) (old new : CoreOnDiskView D) (told : List Event) (turned : Turned)
+      → IsTurn disk committed old new told turned
       → StageStep old.flusher.stage new.flusher.stage told
   turn_step (Some committed) old new told turned is = flusher_same old new told is.1.1 (telling told _ is.1.3 (λ never. never))
   turn_step None old new told turned is = serves_step (need_of old.flusher.stage) old new told turned is
@@ -118,10 +125,12 @@ module _ {D : Type 0} (disk : D → Disk) where
     port_step : (there : Bool) (port : ℕ) (old new : CoreOnDiskView D) (ports last : PortsView L) (told : List Event)
         → StepsIf connection allows there port old new ports last told → StageStep old.flusher.stage new.flusher.stage told
     port_step true port old new ports last told is =
-        let becomes = step_becomes connection allows is.before is.after is.link is.linked old.core new.core is.called is.status is.steps_as in
+        let becomes = step_becomes connection allows is.before is.after is.link is.linked old.core new.core is.called is.status
+        is.steps_as in
         flusher_same old new told is.flusher
         (subst (λ (es : List Event). TellsNone es) (sym is.told_is)
-        (both is.called is.status (changing old.core becomes.0.change is.called becomes.0.tells) (λ t failed. quiet_fails t is.status becomes.1 failed)))
+        (both is.called is.status (changing old.core becomes.0.change is.called becomes.0.tells) (λ t failed.
+        quiet_fails t is.status becomes.1 failed)))
     port_step false port old new ports last told is = master_same old new told is.0 (silent told is.2)
 
     -- each step does so

@@ -1,5 +1,6 @@
 -- A failure of the disk is told exactly where it was counted.
-use Rattle.std.proofs.Common.{◌≡◌, ◌≤◌, inl, inr, ⊎_elim, ℕ, List, [], ◌∷◌, ◌++◌, map, Result, Ok, Err, IfOk, ap, sym, ◌∙◌, subst, arith, append-nil, append_assoc}
+use Rattle.std.proofs.Common.{◌≡◌, ◌≤◌, inl, inr, ⊎_elim, ℕ, List, [], ◌∷◌, ◌++◌, map, Result, Ok, Err, IfOk, ap, sym, ◌∙◌, subst, arith}
+use Rattle.std.proofs.Common.{append-nil, append_assoc}
 use Rattle.iol_disk.specs.Calls.{Call, write, sync, Made, LeftBy}
 use Rattle.iol_disk.specs.Disk.{Disk, HasFailed}
 use Rattle.iol_flush.specs.Stages.{disk_of}
@@ -47,7 +48,8 @@ counts_more : (old mid new : Disk) (told more : List Stamp) → Counts old mid t
 counts_more old mid new told more one two = record {
   tells = record {
     told = λ failed.
-        ⊎_elim (λ before. failed_first old mid new (one.tells.told before) two.most) (λ behind. failed_then old mid new one.most (two.tells.told behind))
+        ⊎_elim (λ before. failed_first old mid new (one.tells.told before) two.most) (λ behind.
+        failed_then old mid new one.most (two.tells.told behind))
         (failure-append told more failed);
     untold = λ none.
         two.tells.untold (λ behind. none (failure_told told more behind))
@@ -77,7 +79,8 @@ module _ {D L : Type 0} (disk : D → Disk) (connection : L → ℕ) (allows : L
     events : new.events ≡ old.events ++ more
     counts : Counts (disk_at old) (disk_at new) more
 
-  steps_count : (steps : List Step) (waits : ℕ) (old new : RunView D L) → HasMade disk connection allows steps waits old new → HasCounted old new
+  steps_count : (steps : List Step) (waits : ℕ) (old new : RunView D L) → HasMade disk connection allows steps waits old new
+      → HasCounted old new
   steps_count [] waits old new made = record {
     more = [];
     events = ap (λ (r : RunView D L). r.events) made.1 ∙ sym (append-nil old.events);
@@ -86,7 +89,8 @@ module _ {D L : Type 0} (disk : D → Disk) (connection : L → ℕ) (allows : L
   steps_count (step ∷ steps) waits old new made =
       let mid = made.2 in
       let t = clock_of disk mid.master in
-      let one = step_counts t (disk_at old) (disk_at mid) made.3.0 (disk_step disk connection allows step old.master mid.master old.ports mid.ports made.3.0 made.0 made.3.1) in
+      let one = step_counts t (disk_at old) (disk_at mid) made.3.0
+      (disk_step disk connection allows step old.master mid.master old.ports mid.ports made.3.0 made.0 made.3.1) in
       let rest = steps_count steps made.1 mid new made.5 in
       record {
         more = stamped t made.3.0 ++ rest.more;
@@ -97,7 +101,8 @@ module _ {D L : Type 0} (disk : D → Disk) (connection : L → ℕ) (allows : L
       }
 
   -- of a schedule that was run from a fresh run on
-  pub tells_failures : (steps : List Step) (waits : ℕ) (journal : JournalView D) (links : List L) (old new : RunView D L) → IsFresh disk journal links old
+  pub tells_failures : (steps : List Step) (waits : ℕ) (journal : JournalView D) (links : List L) (old new : RunView D L)
+      → IsFresh disk journal links old
       → HasMade disk connection allows steps waits old new → TellsFailures (disk journal.disk) (disk_at new) new.events
   tells_failures steps waits journal links old new fresh made =
       let all = steps_count steps waits old new made in
@@ -113,7 +118,8 @@ recovered_tells given recovered new events made tells = record {
   untold = λ none. tells.untold none ∙ made.no_failure;
 }
 
-pub trace_tells : {D L : Type 0} (result : Result (Trace D L) (RunFault D)) (disk : D → Disk) (given recovered : Disk) → Made (sync ∷ []) given recovered
+pub trace_tells : {D L : Type 0} (result : Result (Trace D L) (RunFault D)) (disk : D → Disk) (given recovered : Disk)
+    → Made (sync ∷ []) given recovered
     → IfOk result (λ trace. TellsFailures recovered (disk trace.disk) (map stamp_of trace.events.items))
     → IfOk result (λ trace. TellsFailures given (disk trace.disk) (map stamp_of trace.events.items))
 trace_tells (Ok trace) disk given recovered made tells =

@@ -28,7 +28,8 @@ module _ {A : Type 0} (say : List Event → List A) where
     called_says old new [] is = over.none
     called_says old new (e ∷ told) is = ap say is.1 ∙ over.failed
 
-    serves_says : (needs : Need) (old new : CoreOnDiskView D) (told : List Event) (turned : Turned) → Serves disk needs old new told turned → say told ≡ []
+    serves_says : (needs : Need) (old new : CoreOnDiskView D) (told : List Event) (turned : Turned) → Serves disk needs old new told turned
+        → say told ≡ []
     serves_says need.Batch old new told turned is = takes_says old new told turned is
     serves_says need.Disk old new told Made is = called_says old new told is.2
     serves_says need.Disk old new told Idle is = absurd is

@@ -1,5 +1,6 @@
 -- Enough turns of the flusher leave all that was accepted acknowledged.
-use Rattle.std.proofs.Common.{◌≡◌, refl, ◌≤◌, ℕ, zero, suc, ◌+◌, ◌-◌, true, List, [], ◌∷◌, ◌++◌, length, replicate, Option, None, ap, sym, ◌∙◌, subst, arith}
+use Rattle.std.proofs.Common.{◌≡◌, refl, ◌≤◌, ℕ, zero, suc, ◌+◌, ◌-◌, true, List, [], ◌∷◌, ◌++◌, length, replicate, Option, None, ap, sym}
+use Rattle.std.proofs.Common.{◌∙◌, subst, arith}
 use Rattle.std.proofs.Math.Nat.{mul-le-mul_left}
 use Rattle.std.proofs.lemmas.List.{take_all}
 use Rattle.iol_disk.specs.Disk.{Disk}
@@ -27,18 +28,21 @@ use Rattle.iol_run.specs.declared.step.Step.TheVariants.{Flush}
 module _ {D L : Type 0} (disk : D → Disk) (connection : L → ℕ) (allows : L → LinkCall → LinkAnswer → L → Type 0) where
   -- steps that were made in two parts
   made_parts : (front rest : List Step) (waits : ℕ) (old new : RunView D L) → HasMade disk connection allows (front ++ rest) waits old new
-      → (mid : RunView D L) × (early late : ℕ) × HasMade disk connection allows front early old mid × (waits ≡ early + late) × HasMade disk connection allows rest late mid new
+      → (mid : RunView D L) × (early late : ℕ) × HasMade disk connection allows front early old mid × (waits ≡ early + late)
+      × HasMade disk connection allows rest late mid new
   made_parts [] rest waits old new made = (old, 0, waits, (refl, refl), omega arith, made)
   made_parts (s ∷ front) rest waits old new made =
       let more = made_parts front rest made.1 made.2 new made.5 in
       (more.0, waits_of made.0 + more.1, more.2, (made.0, more.1, made.2, made.3, refl, more.3), omega (arith, made.4, more.4), more.5)
 
   -- a failure that was told before a step is told after it
-  steps_told : (steps : List Step) (waits : ℕ) (old new : RunView D L) → HasMade disk connection allows steps waits old new → HasFailure old.events → HasFailure new.events
+  steps_told : (steps : List Step) (waits : ℕ) (old new : RunView D L) → HasMade disk connection allows steps waits old new
+      → HasFailure old.events → HasFailure new.events
   steps_told [] waits old new made failed = subst (λ (r : RunView D L). HasFailure r.events) (sym made.1) failed
   steps_told (s ∷ steps) waits old new made failed =
       steps_told steps made.1 made.2 new made.5
-      (subst (λ (es : List Stamp). HasFailure es) (sym made.3.2) (failure_stays old.events (stamped (clock_of disk made.2.master) made.3.0) failed))
+      (subst (λ (es : List Stamp). HasFailure es) (sym made.3.2)
+      (failure_stays old.events (stamped (clock_of disk made.2.master) made.3.0) failed))
 
   module _ (layout : Layout) (first : ℕ) where
     -- what holds of a run between steps
@@ -46,18 +50,22 @@ module _ {D L : Type 0} (disk : D → Disk) (connection : L → ℕ) (allows : L
       pub served : Served layout run.master
       pub counted : IsCounted first run.master.core run.events
 
-    steps_hold : (steps : List Step) (waits : ℕ) (old new : RunView D L) → HasMade disk connection allows steps waits old new → Holds old → Holds new
+    steps_hold : (steps : List Step) (waits : ℕ) (old new : RunView D L) → HasMade disk connection allows steps waits old new → Holds old
+        → Holds new
     steps_hold [] waits old new made was = subst (λ (r : RunView D L). Holds r) (sym made.1) was
     steps_hold (s ∷ steps) waits old new made was =
         let did = made.3 in
         steps_hold steps made.1 made.2 new made.5 (record {
-          served = step_served layout disk connection allows s old.master made.2.master old.ports made.2.ports did.0 made.0 did.1 was.served;
+          served = step_served layout disk connection allows s old.master made.2.master old.ports made.2.ports did.0 made.0 did.1
+              was.served;
           counted = subst (λ (es : List Stamp). IsCounted first made.2.master.core es) (sym did.2)
-              (step_counted first (clock_of disk made.2.master) layout disk connection allows s old.master made.2.master old.ports made.2.ports old.events did.0 made.0 did.1 was.served was.counted);
+              (step_counted first (clock_of disk made.2.master) layout disk connection allows s old.master made.2.master old.ports
+              made.2.ports old.events did.0 made.0 did.1 was.served was.counted);
         })
 
     -- as many turns of the flusher are fewer left, while none waits and no failure is told
-    turns_made : (n waits : ℕ) (old new : RunView D L) → HasMade disk connection allows (replicate n Flush) waits old new → Holds old → waits ≡ 0 → (HasFailure new.events → ⊥)
+    turns_made : (n waits : ℕ) (old new : RunView D L) → HasMade disk connection allows (replicate n Flush) waits old new → Holds old
+        → waits ≡ 0 → (HasFailure new.events → ⊥)
         → left_of layout new.master ≤ left_of layout old.master - n
     turns_made zero waits old new made was none sound =
         subst (λ (r : RunView D L). left_of layout r.master ≤ left_of layout old.master - 0) (sym made.1) (omega arith)
@@ -65,7 +73,8 @@ module _ {D L : Type 0} (disk : D → Disk) (connection : L → ℕ) (allows : L
         omega (
           arith,
           turns_made n made.1 mid new made.5 then_ (omega (arith, none, made.4)) sound,
-          turn_fewer layout disk old.master.committed old.master mid.master made.3.0 made.0 refl made.3.1.1 was.served (omega (arith, none, made.4))
+          turn_fewer layout disk old.master.committed old.master mid.master made.3.0 made.0 refl made.3.1.1 was.served
+              (omega (arith, none, made.4))
               (λ (failed : has_failed old.master.core.stopped ≡ true). quiet (failure_told (was.counted.failure failed)))
               (λ (failed : has_failed mid.master.core.stopped ≡ true). quiet (then_.counted.failure failed)),
         )
@@ -83,7 +92,8 @@ module _ {D L : Type 0} (disk : D → Disk) (connection : L → ℕ) (allows : L
         failure_told failed = steps_told (Flush ∷ []) (waits_of made.0) old mid (made.0, 0, mid, made.3, omega arith, (refl, refl)) failed
 
     -- a run before its first step
-    fresh_holds : (journal : JournalView D) (links : List L) (run : RunView D L) → IsFresh disk journal links run → journal.standing.layout ≡ layout → journal.standing.number ≡ first
+    fresh_holds : (journal : JournalView D) (links : List L) (run : RunView D L) → IsFresh disk journal links run → journal.standing.layout
+        ≡ layout → journal.standing.number ≡ first
         → Holds run
     fresh_holds journal links run fresh same number = record {
       served =
@@ -109,12 +119,14 @@ module _ {D L : Type 0} (disk : D → Disk) (connection : L → ℕ) (allows : L
 
     most_turns : (run : RunView D L) → Holds run → left_of layout run.master ≤ queue_turns layout
     most_turns run is =
-        let left = most_left layout run.master.core run.master.flusher.stage run.master.committed is.served.batch is.served.layout_is is.served.few_calls in
+        let left = most_left layout run.master.core run.master.flusher.stage run.master.committed is.served.batch is.served.layout_is
+        is.served.few_calls in
         let all = mul-le-mul_left (batch_turns layout) is.served.few_wait in
         omega (arith, left, all)
 
     -- where enough turns end a schedule
-    turns_end : (front : List Step) (n waits : ℕ) (old new : RunView D L) → HasMade disk connection allows (front ++ replicate n Flush) waits old new → Holds old → waits ≡ 0
+    turns_end : (front : List Step) (n waits : ℕ) (old new : RunView D L)
+        → HasMade disk connection allows (front ++ replicate n Flush) waits old new → Holds old → waits ≡ 0
         → (HasFailure new.events → ⊥) → queue_turns layout ≤ n → acked first new.events ≡ first + length (accepted new.events)
     turns_end front n waits old new made was none sound enough =
         let parts = made_parts front (replicate n Flush) waits old new made in
@@ -127,12 +139,14 @@ module _ {D L : Type 0} (disk : D → Disk) (connection : L → ℕ) (allows : L
         omega (arith, last.counted.acked_is, last.counted.count, empty)
 
     -- of a schedule that was run from a fresh run on
-    pub all_flushed : (steps : List Step) (ended : Ended) (waits : ℕ) (journal : JournalView D) (links : List L) (old new : RunView D L) → IsFresh disk journal links old
+    pub all_flushed : (steps : List Step) (ended : Ended) (waits : ℕ) (journal : JournalView D) (links : List L) (old new : RunView D L)
+        → IsFresh disk journal links old
         → journal.standing.layout ≡ layout → journal.standing.number ≡ first → HasRun disk connection allows steps ended waits old new
         → AllFlushed (queue_turns layout) steps first ended waits new.events
     all_flushed steps ended waits journal links old new fresh same number run ends whole none sound =
         turns_end ends.before ends.turns waits old new
-        (subst (λ (ss : List Step). HasMade disk connection allows ss waits old new) (take_all run.0 steps (omega (arith, made)) ∙ ends.order) run.2)
+        (subst (λ (ss : List Step). HasMade disk connection allows ss waits old new) (take_all run.0 steps (omega (arith, made))
+        ∙ ends.order) run.2)
         (fresh_holds journal links old fresh same number) none sound ends.enough
       where
         made : run.0 ≡ length steps

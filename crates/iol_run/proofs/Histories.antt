@@ -21,22 +21,29 @@ use Rattle.iol_types.specs.DataSet.{SetValue}
 use Rattle.iol_run.specs.PortSteps.{PortStep, noted_by, awake}
 
 -- the permit to upload that was given last is of the port itself
-granted : (port : ℕ) (history : List Happening) (value : PortValue) (grant : UploadGrant) (conversation : List Exchange) → HasLed port history value
+granted : (port : ℕ) (history : List Happening) (value : PortValue) (grant : UploadGrant) (conversation : List Exchange)
+    → HasLed port history value
     → HasUploaded port grant conversation history → grant.port ≡ port
 granted port [] value grant conversation led uploaded = absurd uploaded
-granted port (Raised code ∷ before) value grant conversation (old, led, is) uploaded = granted port before old grant conversation led uploaded
+granted port (Raised code ∷ before) value grant conversation (old, led, is) uploaded =
+    granted port before old grant conversation led uploaded
 granted port (Did wants (input.Reply (reply.BegunUpload (Ok given))) ∷ before) value grant conversation (old, led, is) uploaded =
     let replied : IsReplyTo (BeginUpload port grant.vendor grant.device grant.connection) (reply.BegunUpload (Ok given)) =
     subst (λ (w : Wanted). ComesOf w (input.Reply (reply.BegunUpload (Ok given)))) uploaded.1 is.1 in
     ap (λ (g : UploadGrant). g.port) (sym uploaded.0) ∙ replied.port_is
 granted port (Did (AnswerTo request) (input.Octets octets) ∷ before) value grant conversation (old, led, is) uploaded =
     granted port before old grant uploaded.0 led uploaded.2
-granted port (Did wants (input.Reply (reply.FinishedUpload (Err (finish.QueueFull permit set)))) ∷ before) value grant conversation (old, led, is) uploaded =
+granted port (Did wants (input.Reply (reply.FinishedUpload (Err (finish.QueueFull permit set)))) ∷ before) value grant conversation (
+  old,
+  led,
+  is,
+) uploaded =
     granted port before old grant conversation led uploaded
 granted port (Did wants heard ∷ before) value grant conversation led uploaded = absurd uploaded
 
 -- and so is that of a set that is filed
-pub filed_port : (port : ℕ) (history : List Happening) (value : PortValue) (grant : UploadGrant) (set : SetValue) → HasLed port history value
+pub filed_port : (port : ℕ) (history : List Happening) (value : PortValue) (grant : UploadGrant) (set : SetValue)
+    → HasLed port history value
     → wanted value.port value.stage ≡ ReplyTo (FinishUpload grant set) → grant.port ≡ port
 filed_port port history value grant set led wants =
     let filed = a_set_is_filed_whole port history value grant set led wants in
@@ -50,7 +57,8 @@ noted_led : (port : ℕ) (value : PortValue) (event : Option ℕ) → Led port v
 noted_led port value None led = led
 noted_led port value (Some code) (history, led) = (Raised code ∷ history, (value, led, refl))
 
-awake_led : (port own : ℕ) (under : Option ℕ) (kept : Bool) (stage : Stage) → Led port (record { port = own; under = under; kept = kept; stage = stage })
+awake_led : (port own : ℕ) (under : Option ℕ) (kept : Bool) (stage : Stage)
+    → Led port (record { port = own; under = under; kept = kept; stage = stage })
     → Led port (awake (record { port = own; under = under; kept = kept; stage = stage }))
 awake_led port own under kept (Settled rest) (history, led) = (
   Did Nothing input.Wake ∷ history,

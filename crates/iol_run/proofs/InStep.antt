@@ -1,5 +1,6 @@
 -- A core stays in step with its flusher, and the run of its journal goes on.
-use Rattle.std.proofs.Common.{◌≡◌, refl, ◌+◌, ◌&&◌, ℕ, Bool, true, false, if◌then◌else◌, List, [], ◌∷◌, ◌++◌, length, drop, Option, Some, None, is_none, Result, Ok, Err, ap, sym, ◌∙◌, subst, arith, rules, append_assoc, length-append}
+use Rattle.std.proofs.Common.{◌≡◌, refl, ◌+◌, ◌&&◌, ℕ, Bool, true, false, if◌then◌else◌, List, [], ◌∷◌, ◌++◌, length, drop, Option, Some}
+use Rattle.std.proofs.Common.{None, is_none, Result, Ok, Err, ap, sym, ◌∙◌, subst, arith, rules, append_assoc, length-append}
 use Rattle.std.proofs.Math.Seq.{drop-append_seam}
 use Rattle.std.proofs.lemmas.List.{drop-append-le}
 use Rattle.std.proofs.lemmas.List.Sums.{fold-append}
@@ -32,7 +33,8 @@ pub accepted_passes : (core : CoreView) (command : CommandValue) → submit_faul
 accepted_passes core command none = submit_causes (is_stopped core) (check (live core) command) (queue_fault core) none
 
 -- one more command waits: what is in flight stays in flight
-pub more_waits : (core : CoreView) (command : CommandValue) (commands : List CommandValue) → IsInFlight core commands → IsInFlight (queued core command) commands
+pub more_waits : (core : CoreView) (command : CommandValue) (commands : List CommandValue) → IsInFlight core commands
+    → IsInFlight (queued core command) commands
 more_waits core command commands is = record {
   behind = is.behind ++ command ∷ [];
   queue = ap (λ (cs : List CommandValue). cs ++ command ∷ []) is.queue ∙ append_assoc commands is.behind (command ∷ []);
@@ -41,7 +43,8 @@ more_waits core command commands is = record {
 }
 
 module _ {D : Type 0} where
-  pub flight_stays : (core : CoreView) (command : CommandValue) (stage : Stage D) → HasFlight core stage → HasFlight (queued core command) stage
+  pub flight_stays : (core : CoreView) (command : CommandValue) (stage : Stage D) → HasFlight core stage
+      → HasFlight (queued core command) stage
   flight_stays core command (Resting j) is = is
   flight_stays core command (Given j b) is = more_waits core command (values b.commands.items) is
   flight_stays core command (Checkpointing c b) is = more_waits core command (values b.commands.items) is
@@ -49,26 +52,31 @@ module _ {D : Type 0} where
   flight_stays core command (Publishing j written) is = more_waits core command written.commands is
   flight_stays core command (Failed d f) is = is
 
-  pub queued_in_step : (start : Start) (core : CoreView) (command : CommandValue) (flusher : FlusherView D) (committed : Option CommittedView)
+  pub queued_in_step : (start : Start) (core : CoreView) (command : CommandValue) (flusher : FlusherView D)
+      (committed : Option CommittedView)
       → IsInStep start core flusher committed → IsInStep start (queued core command) flusher committed
   queued_in_step start core command flusher None is =
       (record { number = is.0.number; state = is.0.state }, flight_stays core command flusher.stage is.1, is.2)
   queued_in_step start core command flusher (Some committed) is =
       (record { number = is.0.number; state = is.0.state }, is.1, more_waits core command committed.commands is.2, is.3)
 
-  pub submit_in_step : (start : Start) (old new : CoreView) (command : CommandValue) (flusher : FlusherView D) (committed : Option CommittedView)
-      (answer : Result ℕ SubmitFault) → IsSubmit old command new answer → IsInStep start old flusher committed → IsInStep start new flusher committed
+  pub submit_in_step : (start : Start) (old new : CoreView) (command : CommandValue) (flusher : FlusherView D)
+      (committed : Option CommittedView)
+      (answer : Result ℕ SubmitFault) → IsSubmit old command new answer → IsInStep start old flusher committed
+      → IsInStep start new flusher committed
   submit_in_step start old new command flusher committed (Ok n) is was =
       subst (λ (c : CoreView). IsInStep start c flusher committed) (sym is.2) (queued_in_step start old command flusher committed was)
   submit_in_step start old new command flusher committed (Err f) is was =
       subst (λ (c : CoreView). IsInStep start c flusher committed) (sym is.1) was
 
 -- what waits behind a batch that is in flight
-pub behind_flight : (core : CoreView) (commands : List CommandValue) (is : IsInFlight core commands) → drop (length commands) core.queue ≡ is.behind
+pub behind_flight : (core : CoreView) (commands : List CommandValue) (is : IsInFlight core commands) → drop (length commands) core.queue
+    ≡ is.behind
 behind_flight core commands is = ap (drop (length commands)) is.queue ∙ drop-append_seam commands is.behind
 
 -- the published list and what waits behind it, where a batch is published and not yet acknowledged
-pub all_of : (core : CoreView) (published before commands : List CommandValue) → published ≡ before ++ commands → (is : IsInFlight core commands)
+pub all_of : (core : CoreView) (published before commands : List CommandValue) → published ≡ before ++ commands
+    → (is : IsInFlight core commands)
     → published ++ drop (length commands) core.queue ≡ before ++ core.queue
 all_of core published before commands same is =
     ap (λ (cs : List CommandValue). cs ++ drop (length commands) core.queue) same
@@ -76,7 +84,8 @@ all_of core published before commands same is =
     ∙ (append_assoc before commands is.behind ∙ ap (λ (cs : List CommandValue). before ++ cs) (sym is.queue)))
 
 -- the live state is that after all commands that were accepted
-pub live_is : {D : Type 0} (start : Start) (core : CoreView) (flusher : FlusherView D) (committed : Option CommittedView) → IsInStep start core flusher committed
+pub live_is : {D : Type 0} (start : Start) (core : CoreView) (flusher : FlusherView D) (committed : Option CommittedView)
+    → IsInStep start core flusher committed
     → after start.state (flusher.published ++ waiting_of committed core) ≡ live core
 live_is start core flusher None is =
     fold-append apply start.state flusher.published core.queue ∙ ap (λ (s : State). after s core.queue) (sym is.0.state)
@@ -85,7 +94,8 @@ live_is start core flusher (Some committed) is =
     ∙ (fold-append apply start.state committed.before core.queue ∙ ap (λ (s : State). after s core.queue) (sym is.0.state))
 
 -- how many were accepted
-pub count_is : {D : Type 0} (start : Start) (core : CoreView) (flusher : FlusherView D) (committed : Option CommittedView) → IsInStep start core flusher committed
+pub count_is : {D : Type 0} (start : Start) (core : CoreView) (flusher : FlusherView D) (committed : Option CommittedView)
+    → IsInStep start core flusher committed
     → start.number + length (flusher.published ++ waiting_of committed core) ≡ core.number + length core.queue
 count_is start core flusher None is = omega (arith, length-append flusher.published core.queue, is.0.number)
 count_is start core flusher (Some committed) is =
@@ -93,7 +103,8 @@ count_is start core flusher (Some committed) is =
     ∙ omega (arith, length-append committed.before core.queue, is.0.number)
 
 -- one more waits behind the published list
-pub waits_more : {D : Type 0} (start : Start) (core : CoreView) (flusher : FlusherView D) (committed : Option CommittedView) (command : CommandValue)
+pub waits_more : {D : Type 0} (start : Start) (core : CoreView) (flusher : FlusherView D) (committed : Option CommittedView)
+    (command : CommandValue)
     → IsInStep start core flusher committed → waiting_of committed (queued core command) ≡ waiting_of committed core ++ command ∷ []
 waits_more start core flusher None command is = refl
 waits_more start core flusher (Some committed) command is =
@@ -101,7 +112,8 @@ waits_more start core flusher (Some committed) command is =
     (omega (arith, ap length is.2.queue, length-append committed.commands is.2.behind))
 
 module _ {D : Type 0} (disk : D → Disk) (start : Start) (marks : List Mark) where
-  pub submit_running : (old new : CoreView) (command : CommandValue) (flusher : FlusherView D) (committed : Option CommittedView) (answer : Result ℕ SubmitFault)
+  pub submit_running : (old new : CoreView) (command : CommandValue) (flusher : FlusherView D) (committed : Option CommittedView)
+      (answer : Result ℕ SubmitFault)
       → IsSubmit old command new answer → IsInStep start old flusher committed
       → IsRunning disk start marks (record { core = old; flusher = flusher; committed = committed })
       → IsRunning disk start marks (record { core = new; flusher = flusher; committed = committed })
@@ -109,7 +121,8 @@ module _ {D : Type 0} (disk : D → Disk) (start : Start) (marks : List Mark) wh
       subst (λ (c : CoreView). IsRunning disk start marks (record { core = c; flusher = flusher; committed = committed })) (sym is.2)
       (subst (λ (cs : List CommandValue). IsFlushing disk start.number start.state flusher.published cs marks flusher.stage)
       (sym (waits_more start old flusher committed command step))
-      (accepts_more disk start.number start.state flusher.published (waiting_of committed old) marks flusher.stage (command ∷ []) passes was))
+      (accepts_more disk start.number start.state flusher.published (waiting_of committed old) marks flusher.stage (command ∷ []) passes
+      was))
     where
       passes : legal (after start.state (flusher.published ++ waiting_of committed old)) (command ∷ []) ≡ true
       passes =
@@ -119,15 +132,18 @@ module _ {D : Type 0} (disk : D → Disk) (start : Start) (marks : List Mark) wh
       subst (λ (c : CoreView). IsRunning disk start marks (record { core = c; flusher = flusher; committed = committed })) (sym is.1) was
 
 -- the run goes on as a contract sees it, from where no batch is to be acknowledged
-pub from_none : {D : Type 0} (disk : D → Disk) (start : Start) (seen next : CoreOnDiskView D) (core : CoreView) (flusher : FlusherView D) (committed : Option CommittedView)
+pub from_none : {D : Type 0} (disk : D → Disk) (start : Start) (seen next : CoreOnDiskView D) (core : CoreView) (flusher : FlusherView D)
+    (committed : Option CommittedView)
     → record { core = core; flusher = flusher; committed = committed } ≡ seen → committed ≡ None
     → KeepsRunning disk start (record { core = core; flusher = flusher; committed = None }) next → KeepsRunning disk start seen next
 from_none {D} disk start seen next core flusher committed is none keeps =
     subst (λ (m : CoreOnDiskView D). KeepsRunning disk start m next)
     (ap (λ (c : Option CommittedView). record { core = core; flusher = flusher; committed = c }) (sym none) ∙ is) keeps
 
-pub to_none : {D : Type 0} (disk : D → Disk) (start : Start) (seen : CoreOnDiskView D) (core : CoreView) (flusher : FlusherView D) (committed : Option CommittedView)
+pub to_none : {D : Type 0} (disk : D → Disk) (start : Start) (seen : CoreOnDiskView D) (core : CoreView) (flusher : FlusherView D)
+    (committed : Option CommittedView)
     → committed ≡ None → KeepsRunning disk start seen (record { core = core; flusher = flusher; committed = None })
     → KeepsRunning disk start seen (record { core = core; flusher = flusher; committed = committed })
 to_none disk start seen core flusher committed none keeps =
-    subst (λ (c : Option CommittedView). KeepsRunning disk start seen (record { core = core; flusher = flusher; committed = c })) (sym none) keeps
+    subst (λ (c : Option CommittedView). KeepsRunning disk start seen (record { core = core; flusher = flusher; committed = c })) (sym none)
+    keeps

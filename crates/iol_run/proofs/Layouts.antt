@@ -17,7 +17,8 @@ use Rattle.iol_run.specs.declared.step.Step.{Step}
 
 within : (layout : Layout) → 1 ≤ layout.slots → layout.port_sectors ≡ 9 → queue_turns layout ≤ 128 * total layout
 within layout some nine =
-    subst (λ (n : ℕ). queue_turns layout ≤ 128 * (2 + 2 * (2 + n * layout.ports + 17 * layout.slots + layout.spare_sectors))) (sym nine) (omega (arith, some))
+    subst (λ (n : ℕ). queue_turns layout ≤ 128 * (2 + 2 * (2 + n * layout.ports + 17 * layout.slots + layout.spare_sectors))) (sym nine)
+    (omega (arith, some))
 
 turns_within : (sectors : ℕ) (image : Image) (s : Standing) → standing_in sectors image ≡ Ok s → queue_turns s.layout ≤ 128 * total s.layout
 turns_within sectors image s is =
@@ -52,4 +53,6 @@ shown_flushed (Ok trace) d s steps found all = λ honest journal stands.
     let events = map stamp_of trace.events.items in
     more_flushed (queue_turns journal.layout) (128 * total journal.layout) steps journal.number trace.ended trace.waits events
     (turns_within d.sectors (reads d.content) journal stands)
-    (shown_trace (Ok trace) d s (λ j trace. AllFlushed (queue_turns j.layout) steps j.number trace.ended trace.waits (map stamp_of trace.events.items)) found all honest journal stands)
+    (shown_trace (Ok trace) d s (λ j trace.
+    AllFlushed (queue_turns j.layout) steps j.number trace.ended trace.waits (map stamp_of trace.events.items)) found all honest journal
+    stands)

@@ -1,5 +1,6 @@
 -- What a step of a port tells of its link is a run of it, and of no other.
-use Rattle.std.proofs.Common.{◌≡◌, refl, inl, inr, ℕ, nat_eq, Bool, true, false, if◌then◌else◌, List, [], ◌∷◌, ◌++◌, Option, Some, None, Result, Ok, Err, ap, sym, ◌∙◌, subst}
+use Rattle.std.proofs.Common.{◌≡◌, refl, inl, inr, ℕ, nat_eq, Bool, true, false, if◌then◌else◌, List, [], ◌∷◌, ◌++◌, Option, Some, None}
+use Rattle.std.proofs.Common.{Result, Ok, Err, ap, sym, ◌∙◌, subst}
 use Rattle.iol_types.specs.Command.{CommandValue}
 use Rattle.iol_core.specs.Core.{CoreView}
 use Rattle.iol_core.specs.declared.port.Work.{Work}
@@ -19,7 +20,8 @@ use Rattle.iol_trace.specs.Links.{IsLinkRun, call_told, calls_told, if_told}
 use Rattle.iol_trace.specs.Own.{at_port}
 use Rattle.iol_run.proofs.Machines.{awake_port}
 use Rattle.iol_run.proofs.Quiet.{stamped_both}
-use Rattle.iol_run.specs.PortSteps.{Hears, HearsCore, HasEvent, IsStatusTold, PortStep, reply_told, attended_told, filed_told, accepted_told, store_in}
+use Rattle.iol_run.specs.PortSteps.{Hears, HearsCore, HasEvent, IsStatusTold, PortStep, reply_told, attended_told, filed_told}
+use Rattle.iol_run.specs.PortSteps.{accepted_told, store_in}
 
 module _ (q t : ℕ) where
   -- the core's replies tell of no link
@@ -66,7 +68,8 @@ module _ {L : Type 0} (connection : L → ℕ) (allows : L → LinkCall → Link
   TellsLink false q events first last = calls_told q events ≡ []
 
   module _ (q t : ℕ) where
-    one_call : (same : Bool) (port : ℕ) → nat_eq port q ≡ same → (made : Answered) (told : List Event) (e : Event) (first last : L) → told ≡ e ∷ []
+    one_call : (same : Bool) (port : ℕ) → nat_eq port q ≡ same → (made : Answered) (told : List Event) (e : Event) (first last : L) → told
+        ≡ e ∷ []
         → call_told q e ≡ at_port q port made → if_told made.call made ≡ made ∷ [] → made.connection ≡ connection first
         → allows first made.call made.answer last → TellsLink same q (stamped t told) first last
     one_call true port is made told e first last one here counts at allowed = record {
@@ -86,21 +89,26 @@ module _ {L : Type 0} (connection : L → ℕ) (allows : L → LinkCall → Link
     no_call true told first last none stays = record { made = []; run = sym stays; told = sym none }
     no_call false told first last none stays = none
 
-    hears_link : (same : Bool) (port : ℕ) → nat_eq port q ≡ same → (wants : Wanted) (heard : Input) (first last : L) (old new : CoreView) (told : List Event)
+    hears_link : (same : Bool) (port : ℕ) → nat_eq port q ≡ same
+        → (wants : Wanted) (heard : Input) (first last : L) (old new : CoreView) (told : List Event)
         → Hears connection allows port wants heard first last old new told → TellsLink same q (stamped t told) first last
     hears_link same port at Nothing heard first last old new told is = absurd is
     hears_link same port at ThePage (input.Page c os) first last old new told is =
-        one_call same port at (record { connection = connection first; call = link.ReadPage; answer = link.Octets os }) told _ first last is.0.3 refl refl refl is.0.1
+        one_call same port at (record { connection = connection first; call = link.ReadPage; answer = link.Octets os }) told _ first last
+        is.0.3 refl refl refl is.0.1
     hears_link same port at ThePage input.Lost first last old new told is =
-        one_call same port at (record { connection = connection first; call = link.ReadPage; answer = link.Gone }) told _ first last is.0.2 refl refl refl is.0.0
+        one_call same port at (record { connection = connection first; call = link.ReadPage; answer = link.Gone }) told _ first last is.0.2
+        refl refl refl is.0.0
     hears_link same port at ThePage input.Wake first last old new told is = absurd is.0
     hears_link same port at ThePage (input.Event c) first last old new told is = absurd is.0
     hears_link same port at ThePage (input.Octets os) first last old new told is = absurd is.0
     hears_link same port at ThePage (input.Reply r) first last old new told is = absurd is.0
     hears_link same port at (AnswerTo request) (input.Octets os) first last old new told is =
-        one_call same port at (record { connection = connection first; call = link.Exchange is.0.0; answer = link.Octets os.items }) told _ first last is.0.2.2 refl refl refl is.0.2.0
+        one_call same port at (record { connection = connection first; call = link.Exchange is.0.0; answer = link.Octets os.items }) told _
+        first last is.0.2.2 refl refl refl is.0.2.0
     hears_link same port at (AnswerTo request) input.Lost first last old new told is =
-        one_call same port at (record { connection = connection first; call = link.Exchange is.0.0; answer = link.Gone }) told _ first last is.0.2.2 refl refl refl is.0.2.0
+        one_call same port at (record { connection = connection first; call = link.Exchange is.0.0; answer = link.Gone }) told _ first last
+        is.0.2.2 refl refl refl is.0.2.0
     hears_link same port at (AnswerTo request) input.Wake first last old new told is = absurd is.0.2
     hears_link same port at (AnswerTo request) (input.Event c) first last old new told is = absurd is.0.2
     hears_link same port at (AnswerTo request) (input.Page c os) first last old new told is = absurd is.0.2
@@ -108,7 +116,8 @@ module _ {L : Type 0} (connection : L → ℕ) (allows : L → LinkCall → Link
     hears_link same port at (ReplyTo call) heard first last old new told is =
         no_call same told first last (core_calls q t port call heard old new told is.0) is.1
 
-    event_run : (old new : PortValue) (first last : L) → HasEvent connection allows old new first last → IsLinkRun connection allows q [] first last
+    event_run : (old new : PortValue) (first last : L) → HasEvent connection allows old new first last
+        → IsLinkRun connection allows q [] first last
     event_run old new first last is = record {
       made = record { connection = connection first; call = TakeEvent; answer = event_answer is.event } ∷ [];
       run = (last, refl, is.took, refl);
@@ -123,15 +132,19 @@ module _ {L : Type 0} (connection : L → ℕ) (allows : L → LinkCall → Link
         ∙ (ap (λ (cs : List Answered). cs ++ calls_told q (stamped t status)) one ∙ two))
 
     -- a step of a port
-    pub step_link : (same : Bool) (before after : PortValue) → nat_eq before.port q ≡ same → (first last : L) (old new : CoreView) (called status : List Event)
-        → PortStep connection allows before after first last old new called status → TellsLink same q (stamped t (called ++ status)) first last
+    pub step_link : (same : Bool) (before after : PortValue) → nat_eq before.port q ≡ same
+        → (first last : L) (old new : CoreView) (called status : List Event)
+        → PortStep connection allows before after first last old new called status
+        → TellsLink same q (stamped t (called ++ status)) first last
     step_link true before after at first last old new called status is =
         subst (λ (ss : List Stamp). IsLinkRun connection allows q ss first last) (sym (stamped_both t called status))
         (joined connection allows q (stamped t called) (stamped t status) first last last
         (joined connection allows q [] (stamped t called) first is.mid last (event_run before is.noted_value first is.mid is.hears_event)
-        (hears_link true _ (ap (λ (n : ℕ). nat_eq n q) (awake_port connection allows before is.noted_value first is.mid is.hears_event) ∙ at) is.acts.wants is.acts.heard is.mid last old new called is.acts.hears))
+        (hears_link true _ (ap (λ (n : ℕ). nat_eq n q) (awake_port connection allows before is.noted_value first is.mid is.hears_event)
+        ∙ at) is.acts.wants is.acts.heard is.mid last old new called is.acts.hears))
         (no_call true status last last (status_calls q t before after status is.told) refl))
     step_link false before after at first last old new called status is =
         told_both called status
-        (hears_link false _ (ap (λ (n : ℕ). nat_eq n q) (awake_port connection allows before is.noted_value first is.mid is.hears_event) ∙ at) is.acts.wants is.acts.heard is.mid last old new called is.acts.hears)
+        (hears_link false _ (ap (λ (n : ℕ). nat_eq n q) (awake_port connection allows before is.noted_value first is.mid is.hears_event)
+        ∙ at) is.acts.wants is.acts.heard is.mid last old new called is.acts.hears)
         (status_calls q t before after status is.told)

@@ -1,5 +1,6 @@
 -- What the steps of a run tell of each port's link is a run of it.
-use Rattle.std.proofs.Common.{◌≡◌, refl, ◌+◌, ◌-◌, ℕ, nat_eq, nat_le, Bool, true, false, List, [], ◌∷◌, ◌++◌, length, Option, Some, None, Result, Ok, Err, slice_get, slice_set, ap, sym, ◌∙◌, subst, arith, append-nil, append_assoc}
+use Rattle.std.proofs.Common.{◌≡◌, refl, ◌+◌, ◌-◌, ℕ, nat_eq, nat_le, Bool, true, false, List, [], ◌∷◌, ◌++◌, length, Option, Some, None}
+use Rattle.std.proofs.Common.{Result, Ok, Err, slice_get, slice_set, ap, sym, ◌∙◌, subst, arith, append-nil, append_assoc}
 use Rattle.std.proofs.lemmas.Bool.{eqb-true}
 use Rattle.std.proofs.lemmas.List.{length-set}
 use Rattle.iol_types.specs.Command.{CommandValue, command_of}
@@ -30,7 +31,8 @@ module _ (q t : ℕ) where
   submit_calls command (Ok n) = refl
   submit_calls command (Err f) = refl
 
-  told_calls : (told : List Event) (rest : List Event) → told ≡ rest → calls_told q (stamped t rest) ≡ [] → calls_told q (stamped t told) ≡ []
+  told_calls : (told : List Event) (rest : List Event) → told ≡ rest → calls_told q (stamped t rest) ≡ [] → calls_told q (stamped t told)
+      ≡ []
   told_calls told rest is none = ap (λ (es : List Event). calls_told q (stamped t es)) is ∙ none
 
   flusher_calls : PassesOver (λ (es : List Event). calls_told q (stamped t es))
@@ -49,15 +51,18 @@ module _ {L : Type 0} (connection : L → ℕ) (allows : L → LinkCall → Link
     pub places : HavePlaces last.machines
     pub links : (place : ℕ) (before : L) → slice_get ports.links place ≡ Some before → Links ports.links last.links more place before
 
-  stays_on : (ports last : PortsView L) (more : List Stamp) → last ≡ ports → HavePlaces ports.machines → ((q : ℕ) → calls_told q more ≡ []) → GoesOn ports last more
+  stays_on : (ports last : PortsView L) (more : List Stamp) → last ≡ ports → HavePlaces ports.machines → ((q : ℕ) → calls_told q more ≡ [])
+      → GoesOn ports last more
   stays_on ports last more same places none =
       subst (λ (p : PortsView L). GoesOn ports p more) (sym same) (record {
         count = refl;
         places = places;
-        links = λ place before is. record { after = before; there = is; run = untouched connection allows (place + 1) more before (none (place + 1)) };
+        links = λ place before is.
+            record { after = before; there = is; run = untouched connection allows (place + 1) more before (none (place + 1)) };
       })
 
-  pub goes_further : (ports mid last : PortsView L) (more rest : List Stamp) → GoesOn ports mid more → GoesOn mid last rest → GoesOn ports last (more ++ rest)
+  pub goes_further : (ports mid last : PortsView L) (more rest : List Stamp) → GoesOn ports mid more → GoesOn mid last rest
+      → GoesOn ports last (more ++ rest)
   goes_further ports mid last more rest one two = record {
     count = two.count ∙ one.count;
     places = two.places;
@@ -77,7 +82,9 @@ module _ {L : Type 0} (connection : L → ℕ) (allows : L → LinkCall → Link
         → StepsThere connection allows port old new ports last told → GoesOn ports last (stamped t told)
     there_goes_on port old new ports last told places is = record {
       count = ap length is.links ∙ length-set ports.links (port - 1) is.linked;
-      places = λ place machine found. machine_place place machine (subst (λ (ms : List PortValue). slice_get ms place ≡ Some machine) is.machines found) (nat_eq place (port - 1)) refl;
+      places = λ place machine found.
+          machine_place place machine (subst (λ (ms : List PortValue). slice_get ms place ≡ Some machine) is.machines found)
+          (nat_eq place (port - 1)) refl;
       links = λ place before found. link_at place before found (nat_eq is.before.port (place + 1)) refl;
     }
       where
@@ -89,12 +96,16 @@ module _ {L : Type 0} (connection : L → ℕ) (allows : L → LinkCall → Link
         machine_place place machine found true eq =
             let at : place ≡ port - 1 = eqb-true place (port - 1) eq in
             ap (λ (m : PortValue). m.port)
-            (one_some machine is.after (sym found ∙ (ap (slice_get (slice_set ports.machines (port - 1) is.after)) at ∙ get_written ports.machines (port - 1) is.after is.before is.machine_is)))
-            ∙ (port_stays connection allows is.before is.after is.link is.linked old.core new.core is.called is.status is.steps_as ∙ (own ∙ omega (arith, at)))
+            (one_some machine is.after (sym found
+            ∙ (ap (slice_get (slice_set ports.machines (port - 1) is.after)) at
+            ∙ get_written ports.machines (port - 1) is.after is.before is.machine_is)))
+            ∙ (port_stays connection allows is.before is.after is.link is.linked old.core new.core is.called is.status is.steps_as
+            ∙ (own ∙ omega (arith, at)))
         machine_place place machine found false eq =
             places place machine (sym (get_other ports.machines (port - 1) place is.after (elsewhere place (port - 1) eq)) ∙ found)
 
-        link_at : (place : ℕ) (before : L) → slice_get ports.links place ≡ Some before → (same : Bool) → nat_eq is.before.port (place + 1) ≡ same
+        link_at : (place : ℕ) (before : L) → slice_get ports.links place ≡ Some before → (same : Bool) → nat_eq is.before.port (place + 1)
+            ≡ same
             → Links ports.links last.links (stamped t told) place before
         link_at place before found true eq =
             let at : place ≡ port - 1 = omega (arith, eqb-true is.before.port (place + 1) eq, own) in
@@ -103,23 +114,28 @@ module _ {L : Type 0} (connection : L → ℕ) (allows : L → LinkCall → Link
               after = is.linked;
               there =
                   ap (λ (ls : List L). slice_get ls place) is.links
-                  ∙ (ap (slice_get (slice_set ports.links (port - 1) is.linked)) at ∙ get_written ports.links (port - 1) is.linked is.link is.link_is);
+                  ∙ (ap (slice_get (slice_set ports.links (port - 1) is.linked)) at
+                  ∙ get_written ports.links (port - 1) is.linked is.link is.link_is);
               run =
                   subst (λ (l : L). IsLinkRun connection allows (place + 1) (stamped t told) l is.linked) first
                   (subst (λ (es : List Event). IsLinkRun connection allows (place + 1) (stamped t es) is.link is.linked) (sym is.told_is)
-                  (step_link connection allows (place + 1) t true is.before is.after eq is.link is.linked old.core new.core is.called is.status is.steps_as));
+                  (step_link connection allows (place + 1) t true is.before is.after eq is.link is.linked old.core new.core is.called
+                  is.status is.steps_as));
             }
         link_at place before found false eq = record {
           after = before;
           there =
               ap (λ (ls : List L). slice_get ls place) is.links
-              ∙ (get_other ports.links (port - 1) place is.linked (λ at. elsewhere is.before.port (place + 1) eq (omega (arith, own, at))) ∙ found);
+              ∙ (get_other ports.links (port - 1) place is.linked (λ at. elsewhere is.before.port (place + 1) eq (omega (arith, own, at)))
+              ∙ found);
           run = untouched connection allows (place + 1) (stamped t told) before
               (ap (λ (es : List Event). calls_told (place + 1) (stamped t es)) is.told_is
-              ∙ step_link connection allows (place + 1) t false is.before is.after eq is.link is.linked old.core new.core is.called is.status is.steps_as);
+              ∙ step_link connection allows (place + 1) t false is.before is.after eq is.link is.linked old.core new.core is.called
+              is.status is.steps_as);
         }
 
-    port_goes_on : (there : Bool) (port : ℕ) (old new : CoreOnDiskView D) (ports last : PortsView L) (told : List Event) → HavePlaces ports.machines
+    port_goes_on : (there : Bool) (port : ℕ) (old new : CoreOnDiskView D) (ports last : PortsView L) (told : List Event)
+        → HavePlaces ports.machines
         → StepsIf connection allows there port old new ports last told → GoesOn ports last (stamped t told)
     port_goes_on true port old new ports last told places is = there_goes_on port old new ports last told places is
     port_goes_on false port old new ports last told places is =
@@ -130,9 +146,11 @@ module _ {L : Type 0} (connection : L → ℕ) (allows : L → LinkCall → Link
         → HavePlaces ports.machines → Does disk connection allows step old new ports last told turned → GoesOn ports last (stamped t told)
     step_goes_on t (Client change) old new ports last told turned places is =
         stays_on ports last (stamped t told) is.1 places (λ q. told_calls q t told _ is.2.4 (submit_calls q t (command_of change) is.2.0))
-    step_goes_on t (Port port) old new ports last told turned places is = port_goes_on t (nat_le port (length ports.links)) port old new ports last told places is.1
+    step_goes_on t (Port port) old new ports last told turned places is =
+        port_goes_on t (nat_le port (length ports.links)) port old new ports last told places is.1
     step_goes_on t Flush old new ports last told turned places is =
-        stays_on ports last (stamped t told) is.0 places (λ q. turn_says (λ (es : List Event). calls_told q (stamped t es)) (flusher_calls q t) disk old.committed old new told turned is.1)
+        stays_on ports last (stamped t told) is.0 places (λ q.
+        turn_says (λ (es : List Event). calls_told q (stamped t es)) (flusher_calls q t) disk old.committed old new told turned is.1)
 
     -- all that a run has told since a moment
     record HasTold (old new : RunView D L) : Type 0 where
@@ -140,7 +158,8 @@ module _ {L : Type 0} (connection : L → ℕ) (allows : L → LinkCall → Link
       events : new.events ≡ old.events ++ more
       on : GoesOn old.ports new.ports more
 
-    steps_go_on : (steps : List Step) (waits : ℕ) (old new : RunView D L) → HavePlaces old.ports.machines → HasMade disk connection allows steps waits old new
+    steps_go_on : (steps : List Step) (waits : ℕ) (old new : RunView D L) → HavePlaces old.ports.machines
+        → HasMade disk connection allows steps waits old new
         → HasTold old new
     steps_go_on [] waits old new places made = record {
       more = [];
@@ -161,10 +180,12 @@ module _ {L : Type 0} (connection : L → ℕ) (allows : L → LinkCall → Link
         }
 
     -- of a schedule that was run from a fresh run on
-    pub all_link_runs : (steps : List Step) (waits : ℕ) (journal : JournalView D) (links : List L) (old new : RunView D L) → IsFresh disk journal links old
+    pub all_link_runs : (steps : List Step) (waits : ℕ) (journal : JournalView D) (links : List L) (old new : RunView D L)
+        → IsFresh disk journal links old
         → HasMade disk connection allows steps waits old new → AreLinkRuns connection allows links new.events new.ports.links
     all_link_runs steps waits journal links old new fresh made =
-        let begun : HavePlaces old.ports.machines = subst (λ (p : PortsView L). HavePlaces p.machines) (sym fresh.ports) (new_places (length links)) in
+        let begun : HavePlaces old.ports.machines =
+        subst (λ (p : PortsView L). HavePlaces p.machines) (sym fresh.ports) (new_places (length links)) in
         let told = steps_go_on steps waits old new begun made in
         let same : old.ports.links ≡ links = ap (λ (p : PortsView L). p.links) fresh.ports in
         record {

@@ -1,5 +1,6 @@
 -- The machines of ports stand at their places.
-use Rattle.std.proofs.Common.{◌≡◌, ◌≢◌, refl, inl, inr, ◌+◌, ℕ, zero, suc, nat_eq, Bool, true, false, Option, List, [], ◌∷◌, ◌++◌, length, Some, None, slice_get, slice_set, ap, sym, ◌∙◌, subst, arith, rules}
+use Rattle.std.proofs.Common.{◌≡◌, ◌≢◌, refl, inl, inr, ◌+◌, ℕ, zero, suc, nat_eq, Bool, true, false, Option, List, [], ◌∷◌, ◌++◌, length}
+use Rattle.std.proofs.Common.{Some, None, slice_get, slice_set, ap, sym, ◌∙◌, subst, arith, rules}
 use Rattle.std.proofs.lemmas.Bool.{eqb-true}
 use Rattle.std.proofs.lemmas.Bool.Decides.{nat_tests}
 use Rattle.std.proofs.lemmas.List.{length-set}
@@ -28,7 +29,8 @@ one_some x y is = cc
 abbrev pub HavePlaces : List PortValue → Type 0
 HavePlaces machines = (place : ℕ) (machine : PortValue) → slice_get machines place ≡ Some machine → machine.port ≡ place + 1
 
-pub machines_more : (before ports : ℕ) → machines_from before ports ++ new_machine (before + ports + 1) ∷ [] ≡ machines_from before (suc ports)
+pub machines_more : (before ports : ℕ) → machines_from before ports ++ new_machine (before + ports + 1) ∷ []
+    ≡ machines_from before (suc ports)
 machines_more before zero = ap (λ (n : ℕ). new_machine n ∷ []) (omega arith)
 machines_more before (suc ports) =
     ap (λ (ms : List PortValue). new_machine (before + 1) ∷ ms)
@@ -49,7 +51,8 @@ machines_new before (suc ports) (suc place) machine is = machines_new (before + 
 pub new_places : (ports : ℕ) → HavePlaces (new_machines ports)
 new_places ports place machine is = ap (λ (m : PortValue). m.port) (machines_new 0 ports place machine is) ∙ omega arith
 
-pub new_are_ports : {L : Type 0} (ports : ℕ) (links : List L) → length links ≡ ports → ArePorts (record { machines = new_machines ports; links = links })
+pub new_are_ports : {L : Type 0} (ports : ℕ) (links : List L) → length links ≡ ports
+    → ArePorts (record { machines = new_machines ports; links = links })
 new_are_ports ports links same = record {
   count = machines_length 0 ports ∙ sym same;
   places = λ place machine is. record {
@@ -73,7 +76,8 @@ is_fed_port old (input.Reply r) new is = ap (λ (v : PortValue). v.port) is ∙ 
 
 module _ {L : Type 0} (connection : L → ℕ) (allows : L → LinkCall → LinkAnswer → L → Type 0) where
   -- the machine that acts is that of its port
-  pub awake_port : (before noted_value : PortValue) (first mid : L) → HasEvent connection allows before noted_value first mid → (awake noted_value).port ≡ before.port
+  pub awake_port : (before noted_value : PortValue) (first mid : L) → HasEvent connection allows before noted_value first mid
+      → (awake noted_value).port ≡ before.port
   awake_port before noted_value first mid is = ap (λ (v : PortValue). v.port) is.new_is ∙ noted_port is.event
     where
       noted_port : (event : Option ℕ) → (noted_by event before).port ≡ before.port
@@ -99,9 +103,11 @@ one_stepped ports place before after linked are there same ready = record {
     at other machine found true eq =
         let is : after ≡ machine =
         one_some after machine
-        (sym (ap (slice_get (slice_set ports.machines place after)) (eqb-true other place eq) ∙ get_written ports.machines place after before there) ∙ found) in
+        (sym (ap (slice_get (slice_set ports.machines place after)) (eqb-true other place eq)
+        ∙ get_written ports.machines place after before there) ∙ found) in
         subst (λ (m : PortValue). IsAtPlace other m) is (record {
           port_is = same ∙ ((are.places place before there).port_is ∙ omega (arith, eqb-true other place eq));
           ready = ready;
         })
-    at other machine found false eq = are.places other machine (sym (get_other ports.machines place other after (elsewhere other place eq)) ∙ found)
+    at other machine found false eq =
+        are.places other machine (sym (get_other ports.machines place other after (elsewhere other place eq)) ∙ found)

@@ -16,7 +16,8 @@ one_wait Waited = omega arith
 
 module _ {D L : Type 0} (disk : D → Disk) (connection : L → ℕ) (allows : L → LinkCall → LinkAnswer → L → Type 0) where
   pub made_more : (steps : List Step) (step : Step) (turned : Turned) (waits : ℕ) (old mid new : RunView D L)
-      → HasMade disk connection allows steps waits old mid → Did disk connection allows step turned mid new → HasMade disk connection allows (steps ++ step ∷ []) (waits + waits_of turned) old new
+      → HasMade disk connection allows steps waits old mid → Did disk connection allows step turned mid new
+      → HasMade disk connection allows (steps ++ step ∷ []) (waits + waits_of turned) old new
   made_more [] step turned waits old mid new made did = (
     turned,
     0,

@@ -1,5 +1,6 @@
 -- The moments of a run: one more with each event.
-use Rattle.std.proofs.Common.{◌≡◌, refl, ◌≤◌, ◌+◌, ℕ, nat_le, Bool, true, false, List, [], ◌∷◌, ◌++◌, length, Option, Some, None, Result, Ok, Err, ap, sym, ◌∙◌, subst, arith, append-nil}
+use Rattle.std.proofs.Common.{◌≡◌, refl, ◌≤◌, ◌+◌, ℕ, nat_le, Bool, true, false, List, [], ◌∷◌, ◌++◌, length, Option, Some, None, Result}
+use Rattle.std.proofs.Common.{Ok, Err, ap, sym, ◌∙◌, subst, arith, append-nil}
 use Rattle.iol_types.specs.Command.{CommandValue, command_of}
 use Rattle.iol_disk.specs.Content.{clock}
 use Rattle.iol_disk.specs.Disk.{Disk}
@@ -42,17 +43,20 @@ module _ {D : Type 0} (disk : D → Disk) (start : Start) (begun : ℕ) where
   mark t n = record { clock = t; acknowledged = n }
 
   -- an event after which no more is acknowledged
-  quiet_mark : (master : CoreOnDiskView D) (events : List Stamp) (e : Event) → acked_by (acked start.number events) e ≡ acked start.number events
+  quiet_mark : (master : CoreOnDiskView D) (events : List Stamp) (e : Event) → acked_by (acked start.number events) e
+      ≡ acked start.number events
       → Marked master events → Marked master (events ++ stamped (clock_of disk master) (e ∷ []))
   quiet_mark master events e same was =
       subst (λ (ms : List Mark). IsRunning disk start ms master)
       (ap (λ (ms : List Mark). mark (clock_of disk master) (acked start.number events) ∷ ms) (sym newest.1)
       ∙ (ap (λ (n : ℕ). mark (clock_of disk master) n ∷ marks_of begun start.number events) (sym same)
       ∙ sym (marks-push (mark begun start.number ∷ []) start.number events (record { event = e; clock = clock_of disk master }))))
-      (marked_later disk start.number start.state master.flusher.published _ (mark (clock_after begun events) (acked start.number events)) newest.0 master.flusher.stage
+      (marked_later disk start.number start.state master.flusher.published _ (mark (clock_after begun events) (acked start.number events))
+      newest.0 master.flusher.stage
       (subst (λ (ms : List Mark). IsRunning disk start ms master) newest.1 was))
     where
-      newest : (older : List Mark) × (marks_of begun start.number events ≡ mark (clock_after begun events) (acked start.number events) ∷ older)
+      newest : (older : List Mark)
+          × (marks_of begun start.number events ≡ mark (clock_after begun events) (acked start.number events) ∷ older)
       newest = marks-newest begun start.number [] events
 
   -- nothing is told
@@ -64,9 +68,11 @@ module _ {D : Type 0} (disk : D → Disk) (start : Start) (begun : ℕ) where
 
   -- an event that acknowledges nothing is told
   told_mark : (master : CoreOnDiskView D) (events : List Stamp) (told : List Event) (e : Event) → told ≡ e ∷ []
-      → acked_by (acked start.number events) e ≡ acked start.number events → Marked master events → Marked master (events ++ stamped (clock_of disk master) told)
+      → acked_by (acked start.number events) e ≡ acked start.number events → Marked master events
+      → Marked master (events ++ stamped (clock_of disk master) told)
   told_mark master events told e one same was =
-      subst (λ (es : List Event). Marked master (events ++ stamped (clock_of disk master) es)) (sym one) (quiet_mark master events e same was)
+      subst (λ (es : List Event). Marked master (events ++ stamped (clock_of disk master) es)) (sym one)
+      (quiet_mark master events e same was)
 
   -- events that acknowledge nothing are told
   unacked_mark : (master : CoreOnDiskView D) (told : List Event) (events : List Stamp) → AcksNone told → Marked master events
@@ -82,8 +88,10 @@ module _ {D : Type 0} (disk : D → Disk) (start : Start) (begun : ℕ) where
   change_unacked old (Permits permits) told tells = quiet_acks told tells
   change_unacked old (Waits command permits) told tells = subst (λ (es : List Event). AcksNone es) (sym tells) ((λ n. refl), tt)
 
-  port_mark : {L : Type 0} (number : L → ℕ) (steps : L → LinkCall → LinkAnswer → L → Type 0) (there : Bool) (port : ℕ) (old new : CoreOnDiskView D)
-      (ports last : PortsView L) (events : List Stamp) (told : List Event) → StepsIf number steps there port old new ports last told → Marked new events
+  port_mark : {L : Type 0} (number : L → ℕ) (steps : L → LinkCall → LinkAnswer → L → Type 0) (there : Bool) (port : ℕ)
+      (old new : CoreOnDiskView D)
+      (ports last : PortsView L) (events : List Stamp) (told : List Event) → StepsIf number steps there port old new ports last told
+      → Marked new events
       → Marked new (events ++ stamped (clock_of disk new) told)
   port_mark number steps true port old new ports last events told is was =
       let becomes = step_becomes number steps is.before is.after is.link is.linked old.core new.core is.called is.status is.steps_as in
@@ -94,7 +102,8 @@ module _ {D : Type 0} (disk : D → Disk) (start : Start) (begun : ℕ) where
   port_mark number steps false port old new ports last events told is was = silent_mark new events told is.2 was
 
   -- what is published is acknowledged while the flusher rests
-  rest_mark : (published waiting : List CommandValue) (marks : List Mark) (n : ℕ) (s : Stage D) → IsAtRest s → n ≤ start.number + length published
+  rest_mark : (published waiting : List CommandValue) (marks : List Mark) (n : ℕ) (s : Stage D) → IsAtRest s → n ≤ start.number
+      + length published
       → IsFlushing disk start.number start.state published waiting marks s
       → IsFlushing disk start.number start.state published waiting (mark (clock (disk (disk_of s)).content) n ∷ marks) s
   rest_mark published waiting marks n (Resting j) at le was = acknowledges disk start.number start.state published waiting marks n j le was
@@ -104,12 +113,14 @@ module _ {D : Type 0} (disk : D → Disk) (start : Start) (begun : ℕ) where
   rest_mark published waiting marks n (Publishing j written) at le was = absurd at
   rest_mark published waiting marks n (Failed d f) at le was = absurd at
 
-  acknowledged_mark : (old new : CoreOnDiskView D) (committed : CommittedView) (events : List Stamp) (told : List Event) → Acknowledges old new told
+  acknowledged_mark : (old new : CoreOnDiskView D) (committed : CommittedView) (events : List Stamp) (told : List Event)
+      → Acknowledges old new told
       → IsInStep start old.core old.flusher (Some committed) → Marked new events → Marked new (events ++ stamped (clock_of disk new) told)
   acknowledged_mark old new committed events told is step was =
       subst (λ (es : List Event). Marked new (events ++ stamped (clock_of disk new) es)) (sym is.3)
       (subst (λ (ms : List Mark). IsRunning disk start ms new)
-      (sym (marks-push (mark begun start.number ∷ []) start.number events (record { event = Acknowledged new.core.number; clock = clock_of disk new })))
+      (sym (marks-push (mark begun start.number ∷ []) start.number events
+      (record { event = Acknowledged new.core.number; clock = clock_of disk new })))
       (rest_mark new.flusher.published _ (marks_of begun start.number events) new.core.number new.flusher.stage
       (subst (λ (f : FlusherView D). IsAtRest f.stage) (sym is.1) step.3)
       (omega (arith, number)) was))
@@ -120,7 +131,8 @@ module _ {D : Type 0} (disk : D → Disk) (start : Start) (begun : ℕ) where
           ∙ ((acknowledged_in_step start old.core old.flusher committed new.core.seen step).0.number
           ∙ ap (λ (f : FlusherView D). start.number + length f.published) (sym is.1))
 
-  takes_mark : (old new : CoreOnDiskView D) (events : List Stamp) (told : List Event) (turned : Turned) → Takes old new told turned → Marked new events
+  takes_mark : (old new : CoreOnDiskView D) (events : List Stamp) (told : List Event) (turned : Turned) → Takes old new told turned
+      → Marked new events
       → Marked new (events ++ stamped (clock_of disk new) told)
   takes_mark old new events told Made is was = silent_mark new events told is.5 was
   takes_mark old new events told Idle is was = silent_mark new events told is.2 was
@@ -131,7 +143,8 @@ module _ {D : Type 0} (disk : D → Disk) (start : Start) (begun : ℕ) where
   called_mark old new events [] is was = silent_mark new events [] refl was
   called_mark old new events (e ∷ told) is was = told_mark new events (e ∷ told) DiskFailed is.1 refl was
 
-  serves_mark : (need : Need) (old new : CoreOnDiskView D) (events : List Stamp) (told : List Event) (turned : Turned) → Serves disk need old new told turned
+  serves_mark : (need : Need) (old new : CoreOnDiskView D) (events : List Stamp) (told : List Event) (turned : Turned)
+      → Serves disk need old new told turned
       → Marked new events → Marked new (events ++ stamped (clock_of disk new) told)
   serves_mark need.Batch old new events told turned is was = takes_mark old new events told turned is was
   serves_mark need.Disk old new events told Made is was = called_mark old new events told is.2 was
@@ -153,9 +166,13 @@ module _ {D : Type 0} (disk : D → Disk) (start : Start) (begun : ℕ) where
 
   -- a step adds the moments of what it tells
   pub step_mark : {L : Type 0} (number : L → ℕ) (steps : L → LinkCall → LinkAnswer → L → Type 0) (step : Step) (old new : CoreOnDiskView D)
-      (ports last : PortsView L) (events : List Stamp) (told : List Event) (turned : Turned) → IsInStep start old.core old.flusher old.committed
-      → Does disk number steps step old new ports last told turned → Marked new events → Marked new (events ++ stamped (clock_of disk new) told)
-  step_mark number steps (Client change) old new ports last events told turned step is was = submit_mark new (command_of change) events told is.2.0 is.2.4 was
+      (ports last : PortsView L) (events : List Stamp) (told : List Event) (turned : Turned)
+      → IsInStep start old.core old.flusher old.committed
+      → Does disk number steps step old new ports last told turned → Marked new events
+      → Marked new (events ++ stamped (clock_of disk new) told)
+  step_mark number steps (Client change) old new ports last events told turned step is was =
+      submit_mark new (command_of change) events told is.2.0 is.2.4 was
   step_mark number steps (Port port) old new ports last events told turned step is was =
       port_mark number steps (nat_le port (length ports.links)) port old new ports last events told is.1 was
-  step_mark number steps Flush old new ports last events told turned step is was = turn_mark old.committed old new events told turned step is.1 was
+  step_mark number steps Flush old new ports last events told turned step is was =
+      turn_mark old.committed old new events told turned step is.1 was

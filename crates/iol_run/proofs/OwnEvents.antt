@@ -1,5 +1,6 @@
 -- A step of a port tells of no other port, nor does any other step.
-use Rattle.std.proofs.Common.{◌≡◌, refl, inl, inr, ℕ, nat_eq, Bool, false, if◌then◌else◌, List, [], ◌∷◌, ◌++◌, Option, Some, None, Result, Ok, Err, ap, sym, ◌∙◌, subst}
+use Rattle.std.proofs.Common.{◌≡◌, refl, inl, inr, ℕ, nat_eq, Bool, false, if◌then◌else◌, List, [], ◌∷◌, ◌++◌, Option, Some, None, Result}
+use Rattle.std.proofs.Common.{Ok, Err, ap, sym, ◌∙◌, subst}
 use Rattle.iol_types.specs.Command.{CommandValue, command_of}
 use Rattle.iol_types.specs.DataSet.{SetValue}
 use Rattle.iol_types.specs.declared.command.Change.{Change}
@@ -77,7 +78,8 @@ module _ (q t : ℕ) where
     reply_own call reply.EndedDownload files = refl
 
     core_own : (call : Call) (heard : Input) (old new : CoreView) (told : List Event)
-        → ((grant : UploadGrant) (set : SetValue) → call ≡ FinishUpload grant set → grant.port ≡ port) → HearsCore port call heard old new told
+        → ((grant : UploadGrant) (set : SetValue) → call ≡ FinishUpload grant set → grant.port ≡ port)
+        → HearsCore port call heard old new told
         → own q (stamped t told) ≡ []
     core_own call (input.Reply heard) old new told files is =
         ap (λ (es : List Event). own q (stamped t es)) is.1 ∙ reply_own call heard files
@@ -107,19 +109,22 @@ module _ (q t : ℕ) where
       hears_own (ReplyTo call) heard link last old new told files is =
           core_own call heard old new told (λ grant set same. files grant set (ap ReplyTo same)) is.0
 
-  status_own : (old new : PortValue) (told : List Event) → nat_eq new.port q ≡ false → IsStatusTold old new told → own q (stamped t told) ≡ []
+  status_own : (old new : PortValue) (told : List Event) → nat_eq new.port q ≡ false → IsStatusTold old new told → own q (stamped t told)
+      ≡ []
   status_own old new told apart (inl is) = ap (λ (es : List Event). own q (stamped t es)) is.0
   status_own old new told apart (inr is) = one_event told _ is.0 (not_own q new.port _ apart)
 
   -- a step of another port
-  pub step_own : {L : Type 0} (number : L → ℕ) (steps : L → LinkCall → LinkAnswer → L → Type 0) (port : ℕ) (before after : PortValue) (link last : L)
+  pub step_own : {L : Type 0} (number : L → ℕ) (steps : L → LinkCall → LinkAnswer → L → Type 0) (port : ℕ) (before after : PortValue)
+      (link last : L)
       (old new : CoreView) (called status : List Event) → before.port ≡ port → nat_eq port q ≡ false → Led port before
       → PortStep number steps before after link last old new called status → own q (stamped t (called ++ status)) ≡ []
   step_own number steps port before after link last old new called status at apart led is =
       ap (own q) (stamped_both t called status)
       ∙ (own-append q (stamped t called) (stamped t status)
       ∙ (ap (λ (es : List Event). es ++ own q (stamped t status)) called_own
-      ∙ status_own before after status (ap (λ (p : ℕ). nat_eq p q) (port_stays number steps before after link last old new called status is ∙ at) ∙ apart) is.told))
+      ∙ status_own before after status
+      (ap (λ (p : ℕ). nat_eq p q) (port_stays number steps before after link last old new called status is ∙ at) ∙ apart) is.told))
     where
       acting : Led port (awake is.noted_value)
       acting = acting_led number steps port before after link last old new called status led is

@@ -16,10 +16,12 @@ status_quiet : (old new : PortValue) (told : List Event) → IsStatusTold old ne
 status_quiet old new told (inl is) = subst (λ (es : List Event). AreQuiet es) (sym is.0) tt
 status_quiet old new told (inr is) = subst (λ (es : List Event). AreQuiet es) (sym is.0) (tt, tt)
 
-told_stays : (P : Type 0) (old new : CoreView) (told : List Event) (e : Event) → told ≡ e ∷ [] → AreQuiet (e ∷ []) → new ≡ old → Becomes P old new told
+told_stays : (P : Type 0) (old new : CoreView) (told : List Event) (e : Event) → told ≡ e ∷ [] → AreQuiet (e ∷ []) → new ≡ old
+    → Becomes P old new told
 told_stays P old new told e is quiet same = stays P old new told same (subst (λ (es : List Event). AreQuiet es) (sym is) quiet)
 
-core_hears : (port : ℕ) (call : Call) (heard : Input) (old new : CoreView) (told : List Event) → HearsCore port call heard old new told → Becomes ⊥ old new told
+core_hears : (port : ℕ) (call : Call) (heard : Input) (old new : CoreView) (told : List Event) → HearsCore port call heard old new told
+    → Becomes ⊥ old new told
 core_hears port call (input.Reply heard) old new told is =
     let becomes = replied port call old new heard is.0 in
     subst (λ (es : List Event). Becomes ⊥ old new es) (sym is.1) (record {

@@ -1,5 +1,6 @@
 -- What the steps of a run tell of each port is a run of its machine.
-use Rattle.std.proofs.Common.{◌≡◌, ◌<◌, refl, ◌+◌, ◌-◌, ℕ, zero, suc, nat_eq, nat_le, Bool, true, false, List, [], ◌∷◌, ◌++◌, length, Some, slice_get, slice_set, get_or, ap, sym, ◌∙◌, subst, arith, append-nil, append_assoc}
+use Rattle.std.proofs.Common.{◌≡◌, ◌<◌, refl, ◌+◌, ◌-◌, ℕ, zero, suc, nat_eq, nat_le, Bool, true, false, List, [], ◌∷◌, ◌++◌, length, Some}
+use Rattle.std.proofs.Common.{slice_get, slice_set, get_or, ap, sym, ◌∙◌, subst, arith, append-nil, append_assoc}
 use Rattle.std.proofs.lemmas.Bool.{eqb-true}
 use Rattle.std.proofs.lemmas.Bool.Decides.{nat_tests}
 use Rattle.std.proofs.lemmas.List.{length-set}
@@ -46,7 +47,8 @@ module _ {L : Type 0} (number : L → ℕ) (steps : L → LinkCall → LinkAnswe
   IsRun port begun made machine link events = IsPortRun number steps first start port begun made machine link events
 
   -- the machine of a run was led to where it is
-  run_led : (port : ℕ) (begun : L) (made : ℕ) (machine : PortValue) (link : L) (events : List Stamp) → IsRun port begun made machine link events
+  run_led : (port : ℕ) (begun : L) (made : ℕ) (machine : PortValue) (link : L) (events : List Stamp)
+      → IsRun port begun made machine link events
       → Led port machine
   run_led port begun zero machine link events is = ([], is.0)
   run_led port begun (suc made) machine link events is =
@@ -54,7 +56,8 @@ module _ {L : Type 0} (number : L → ℕ) (steps : L → LinkCall → LinkAnswe
       (run_led port begun made is.before is.linked is.earlier is.led) is.step
 
   -- its status is the one that was told last
-  run_status : (port : ℕ) (begun : L) (made : ℕ) (machine : PortValue) (link : L) (events : List Stamp) → IsRun port begun made machine link events
+  run_status : (port : ℕ) (begun : L) (made : ℕ) (machine : PortValue) (link : L) (events : List Stamp)
+      → IsRun port begun made machine link events
       → status_shown port events ≡ status_told (status_of machine.stage)
   run_status port begun zero machine link events is =
       ap (status_after Off) is.2 ∙ ap (λ (m : PortValue). status_told (status_of m.stage)) (sym is.0)
@@ -65,7 +68,8 @@ module _ {L : Type 0} (number : L → ℕ) (steps : L → LinkCall → LinkAnswe
       ∙ (ap (status_after Off) (append-nil (own port (is.earlier ++ told)))
       ∙ (ap (status_after Off) (own-append port is.earlier told)
       ∙ (status-append Off (own port is.earlier) (own port told)
-      ∙ step_status port is.clock number steps (status_shown port is.earlier) is.before machine is.linked link is.old is.new is.called is.status
+      ∙ step_status port is.clock number steps (status_shown port is.earlier) is.before machine is.linked link is.old is.new is.called
+      is.status
       (run_status port begun made is.before is.linked is.earlier is.led) there is.step)))))
     where
       told : List Stamp
@@ -78,7 +82,8 @@ module _ {L : Type 0} (number : L → ℕ) (steps : L → LinkCall → LinkAnswe
       there = (led_is port led.0 machine led.1).port_is
 
   -- events that are not the port's own change nothing
-  more_events : (port : ℕ) (begun : L) (made : ℕ) (machine : PortValue) (link : L) (events more : List Stamp) → IsRun port begun made machine link events
+  more_events : (port : ℕ) (begun : L) (made : ℕ) (machine : PortValue) (link : L) (events more : List Stamp)
+      → IsRun port begun made machine link events
       → own port more ≡ [] → IsRun port begun made machine link (events ++ more)
   more_events port begun zero machine link events more is none =
       (is.0, is.1, own-append port events more ∙ (ap (λ (es : List Event). es ++ own port more) is.2 ∙ none))
@@ -124,11 +129,14 @@ module _ {L : Type 0} (number : L → ℕ) (steps : L → LinkCall → LinkAnswe
         runs = λ place begun link machine at linked there.
             let run = is.runs place begun link machine at linked there in
             (run.0, more_events (place + 1) begun run.0 machine link events more run.1 (none (place + 1)));
-        others = λ port beyond. own-append port events more ∙ (ap (λ (es : List Event). es ++ own port more) (is.others port beyond) ∙ none port);
+        others = λ port beyond. own-append port events more
+            ∙ (ap (λ (es : List Event). es ++ own port more) (is.others port beyond) ∙ none port);
       })
 
-  module _ {D : Type 0} (t port : ℕ) (links : List L) (old new : CoreOnDiskView D) (ports last : PortsView L) (events : List Stamp) (told : List Event)
-      (core : IsCoreAfter first start events old.core) (are : HaveRuns links ports events) (is : StepsThere number steps port old new ports last told) where
+  module _ {D : Type 0} (t port : ℕ) (links : List L) (old new : CoreOnDiskView D) (ports last : PortsView L) (events : List Stamp)
+      (told : List Event)
+      (core : IsCoreAfter first start events old.core) (are : HaveRuns links ports events)
+      (is : StepsThere number steps port old new ports last told) where
     abbrev place : ℕ
     place = port - 1
 
@@ -151,10 +159,12 @@ module _ {L : Type 0} (number : L → ℕ) (steps : L → LinkCall → LinkAnswe
     others_own : (q : ℕ) → nat_eq (place + 1) q ≡ false → own q (stamped t told) ≡ []
     others_own q apart =
         ap (λ (es : List Event). own q (stamped t es)) is.told_is
-        ∙ step_own q t number steps (place + 1) is.before is.after is.link is.linked old.core new.core is.called is.status before_port apart led is.steps_as
+        ∙ step_own q t number steps (place + 1) is.before is.after is.link is.linked old.core new.core is.called is.status before_port apart
+        led is.steps_as
 
     -- and behind it
-    after_run : (begun : L) → slice_get links place ≡ Some begun → (made : ℕ) × IsRun (place + 1) begun made is.after is.linked (events ++ stamped t told)
+    after_run : (begun : L) → slice_get links place ≡ Some begun → (made : ℕ)
+        × IsRun (place + 1) begun made is.after is.linked (events ++ stamped t told)
     after_run begun at =
         let run = before_run begun at in (
           suc run.0,
@@ -184,11 +194,13 @@ module _ {L : Type 0} (number : L → ℕ) (steps : L → LinkCall → LinkAnswe
         let link_same : is.linked ≡ link =
         one_some is.linked link
         (sym (ap (λ (ls : List L). slice_get ls other) is.links
-        ∙ (ap (slice_get (slice_set ports.links place is.linked)) here ∙ get_written ports.links place is.linked is.link is.link_is)) ∙ linked) in
+        ∙ (ap (slice_get (slice_set ports.links place is.linked)) here ∙ get_written ports.links place is.linked is.link is.link_is))
+        ∙ linked) in
         let machine_same : is.after ≡ machine =
         one_some is.after machine
         (sym (ap (λ (ms : List PortValue). slice_get ms other) is.machines
-        ∙ (ap (slice_get (slice_set ports.machines place is.after)) here ∙ get_written ports.machines place is.after is.before is.machine_is)) ∙ there) in
+        ∙ (ap (slice_get (slice_set ports.machines place is.after)) here
+        ∙ get_written ports.machines place is.after is.before is.machine_is)) ∙ there) in
         let run = after_run begun (ap (slice_get links) (sym here) ∙ at) in
         subst (λ (n : ℕ). (made : ℕ) × IsRun (n + 1) begun made machine link (events ++ stamped t told)) (sym here)
         (subst (λ (l : L). (made : ℕ) × IsRun (place + 1) begun made machine l (events ++ stamped t told)) link_same
@@ -196,27 +208,38 @@ module _ {L : Type 0} (number : L → ℕ) (steps : L → LinkCall → LinkAnswe
     run_at other false eq = λ begun link machine at linked there.
         let run =
         are.runs other begun link machine at
-        (sym (ap (λ (ls : List L). slice_get ls other) is.links ∙ get_other ports.links place other is.linked (elsewhere other place eq)) ∙ linked)
-        (sym (ap (λ (ms : List PortValue). slice_get ms other) is.machines ∙ get_other ports.machines place other is.after (elsewhere other place eq)) ∙ there) in
-        (run.0, more_events (other + 1) begun run.0 machine link events (stamped t told) run.1 (others_own (other + 1) (apart_next other place eq)))
+        (sym (ap (λ (ls : List L). slice_get ls other) is.links ∙ get_other ports.links place other is.linked (elsewhere other place eq))
+        ∙ linked)
+        (sym (ap (λ (ms : List PortValue). slice_get ms other) is.machines
+        ∙ get_other ports.machines place other is.after (elsewhere other place eq)) ∙ there) in (
+          run.0,
+          more_events (other + 1) begun run.0 machine link events (stamped t told) run.1
+              (others_own (other + 1) (apart_next other place eq)),
+        )
 
     there_runs : HaveRuns links last (events ++ stamped t told)
     there_runs = record {
       count = ap length is.links ∙ (length-set ports.links place is.linked ∙ are.count);
-      machines = ap length is.machines ∙ (length-set ports.machines place is.after ∙ (are.machines ∙ sym (ap length is.links ∙ length-set ports.links place is.linked)));
+      machines = ap length is.machines
+          ∙ (length-set ports.machines place is.after ∙ (are.machines ∙ sym (ap length is.links ∙ length-set ports.links place is.linked)));
       runs = λ other. run_at other (nat_eq other place) refl;
-      others = λ q beyond. own-append q events (stamped t told) ∙ (ap (λ (es : List Event). es ++ own q (stamped t told)) (are.others q beyond) ∙ others_own q (apart_far (place + 1) q (omega (arith, within, beyond))));
+      others = λ q beyond. own-append q events (stamped t told)
+          ∙ (ap (λ (es : List Event). es ++ own q (stamped t told)) (are.others q beyond)
+          ∙ others_own q (apart_far (place + 1) q (omega (arith, within, beyond))));
     }
 
   module _ {D : Type 0} (disk : D → Disk) where
-    port_runs : (there : Bool) (t port : ℕ) (links : List L) (old new : CoreOnDiskView D) (ports last : PortsView L) (events : List Stamp) (told : List Event)
+    port_runs : (there : Bool) (t port : ℕ) (links : List L) (old new : CoreOnDiskView D) (ports last : PortsView L) (events : List Stamp)
+        (told : List Event)
         → IsCoreAfter first start events old.core → HaveRuns links ports events → StepsIf number steps there port old new ports last told
         → HaveRuns links last (events ++ stamped t told)
-    port_runs true t port links old new ports last events told core are is = there_runs t port links old new ports last events told core are is
+    port_runs true t port links old new ports last events told core are is =
+        there_runs t port links old new ports last events told core are is
     port_runs false t port links old new ports last events told core are is =
         ports_stay links ports last events (stamped t told) is.1 (λ q. ap (λ (es : List Event). own q (stamped t es)) is.2) are
 
-    step_runs : (step : Step) (t : ℕ) (links : List L) (old new : CoreOnDiskView D) (ports last : PortsView L) (events : List Stamp) (told : List Event) (turned : Turned)
+    step_runs : (step : Step) (t : ℕ) (links : List L) (old new : CoreOnDiskView D) (ports last : PortsView L) (events : List Stamp)
+        (told : List Event) (turned : Turned)
         → IsCoreAfter first start events old.core → HaveRuns links ports events → Does disk number steps step old new ports last told turned
         → HaveRuns links last (events ++ stamped t told)
     step_runs (Client change) t links old new ports last events told turned core are is =
@@ -228,7 +251,8 @@ module _ {L : Type 0} (number : L → ℕ) (steps : L → LinkCall → LinkAnswe
         ports_stay links ports last events (stamped t told) is.0
         (λ q. turn_says (λ (es : List Event). own q (stamped t es)) (flusher_own q t) disk old.committed old new told turned is.1) are
 
-    all_runs : (schedule : List Step) (waits : ℕ) (links : List L) (old new : RunView D L) → HasMade disk number steps schedule waits old new
+    all_runs : (schedule : List Step) (waits : ℕ) (links : List L) (old new : RunView D L)
+        → HasMade disk number steps schedule waits old new
         → Stands first start old.events old.master.core → HaveRuns links old.ports old.events → HaveRuns links new.ports new.events
     all_runs [] waits links old new made stands are = subst (λ (r : RunView D L). HaveRuns links r.ports r.events) (sym made.1) are
     all_runs (step ∷ schedule) waits links old new made stands are =
@@ -239,10 +263,12 @@ module _ {L : Type 0} (number : L → ℕ) (steps : L → LinkCall → LinkAnswe
         (subst (λ (ss : List Stamp). Stands first start ss mid.master.core) (sym made.3.2)
         (step_stands first start disk number steps step t old.events old.master mid.master old.ports mid.ports told made.0 made.3.1 stands))
         (subst (λ (ss : List Stamp). HaveRuns links mid.ports ss) (sym made.3.2)
-        (step_runs step t links old.master mid.master old.ports mid.ports old.events told made.0 (core_after first start old.events old.master.core stands) are made.3.1))
+        (step_runs step t links old.master mid.master old.ports mid.ports old.events told made.0
+        (core_after first start old.events old.master.core stands) are made.3.1))
 
     -- of a schedule that was run from a fresh run on
-    pub all_port_runs : (schedule : List Step) (waits : ℕ) (journal : JournalView D) (links : List L) (old new : RunView D L) → first ≡ journal.standing.number
+    pub all_port_runs : (schedule : List Step) (waits : ℕ) (journal : JournalView D) (links : List L) (old new : RunView D L) → first
+        ≡ journal.standing.number
         → start ≡ journal.standing.state → IsFresh disk journal links old → HasMade disk number steps schedule waits old new
         → ArePortRuns number steps first start links new.events new.ports.links
     all_port_runs schedule waits journal links old new number_is state_is fresh made =
@@ -277,10 +303,17 @@ module _ {L : Type 0} (number : L → ℕ) (steps : L → LinkCall → LinkAnswe
         new_runs : HaveRuns links old.ports old.events
         new_runs =
             subst (λ (p : PortsView L). HaveRuns links p old.events) (sym fresh.ports)
-            (subst (λ (ss : List Stamp). HaveRuns links (record { machines = new_machines (length links); links = links }) ss) (sym fresh.events) (record {
+            (subst (λ (ss : List Stamp). HaveRuns links (record { machines = new_machines (length links); links = links }) ss)
+            (sym fresh.events) (record {
               count = refl;
               machines = machines_length 0 (length links);
-              runs = λ place begun link machine at linked there.
-                  (zero, (machines_new 0 (length links) place machine there ∙ ap new_machine (omega arith), one_some link begun (sym linked ∙ at), refl));
+              runs = λ place begun link machine at linked there. (
+                zero,
+                (
+                  machines_new 0 (length links) place machine there ∙ ap new_machine (omega arith),
+                  one_some link begun (sym linked ∙ at),
+                  refl,
+                ),
+              );
               others = λ port beyond. refl;
             }))

@@ -35,7 +35,8 @@ module _ {L : Type 0} (number : L → ℕ) (steps : L → LinkCall → LinkAnswe
     hears = (has.hears, refl);
   }
 
-  pub answer_acts : (old new : PortValue) (request : Request) (link last : L) (core : CoreView) (told : Event) → AnswerTo request ≡ wanted old.port old.stage
+  pub answer_acts : (old new : PortValue) (request : Request) (link last : L) (core : CoreView) (told : Event) → AnswerTo request
+      ≡ wanted old.port old.stage
       → HasAnswer number steps request (asked old) new link last told → Acts number steps old new link last core core (told ∷ [])
   answer_acts old new request link last core told wants has = record {
     wants = AnswerTo request;
@@ -44,7 +45,8 @@ module _ {L : Type 0} (number : L → ℕ) (steps : L → LinkCall → LinkAnswe
     hears = ((has.octets, has.shortest, has.hears), refl);
   }
 
-  pub reply_acts : (old new : PortValue) (call : Call) (link : L) (before after : CoreView) (told : List Event) → ReplyTo call ≡ wanted old.port old.stage
+  pub reply_acts : (old new : PortValue) (call : Call) (link : L) (before after : CoreView) (told : List Event) → ReplyTo call
+      ≡ wanted old.port old.stage
       → HasReply call (asked old) new before after told → Acts number steps old new link link before after told
   reply_acts old new call link before after told wants has = record {
     wants = ReplyTo call;

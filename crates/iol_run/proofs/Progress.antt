@@ -1,5 +1,6 @@
 -- Each turn of the flusher that has not to wait leaves fewer turns.
-use Rattle.std.proofs.Common.{◌≡◌, refl, ◌≤◌, ℕ, zero, suc, ◌+◌, ◌-◌, ◌*◌, ◌&&◌, nat_eq, not, Bool, true, false, if◌then◌else◌, List, [], ◌∷◌, length, Option, Some, None, ap, sym, ◌∙◌, subst, arith, rules, length-drop}
+use Rattle.std.proofs.Common.{◌≡◌, refl, ◌≤◌, ℕ, zero, suc, ◌+◌, ◌-◌, ◌*◌, ◌&&◌, nat_eq, not, Bool, true, false, if◌then◌else◌, List, []}
+use Rattle.std.proofs.Common.{◌∷◌, length, Option, Some, None, ap, sym, ◌∙◌, subst, arith, rules, length-drop}
 use Rattle.std.proofs.Math.Nat.{mul-le-mul_right, mul-zero, one-mul}
 use Rattle.iol_disk.specs.Disk.{Disk}
 use Rattle.iol_core.specs.Core.{CoreView}
@@ -39,7 +40,8 @@ less_behind : (each own old new : ℕ) → own + 1 ≤ each → each + new ≤ o
 less_behind each own old new short fewer = omega (arith, short, fewer)
 
 -- where no batch may be taken, none is in flight and the disk has not failed, nothing waits
-nothing_waits : (waits flies : ℕ) (failed : Bool) → (not (nat_eq waits 0) && nat_eq flies 0 && not failed) ≡ false → flies ≡ 0 → (failed ≡ true → ⊥)
+nothing_waits : (waits flies : ℕ) (failed : Bool) → (not (nat_eq waits 0) && nat_eq flies 0 && not failed) ≡ false → flies ≡ 0
+    → (failed ≡ true → ⊥)
     → waits ≡ 0
 nothing_waits zero flies failed none rests sound = refl
 nothing_waits (suc n) flies true none rests sound = absurd (sound refl)
@@ -83,7 +85,8 @@ module _ {D : Type 0} (layout : Layout) where
   acknowledged_fewer : (old new : CoreOnDiskView D) (committed : CommittedView) (told : List Event) → old.committed ≡ Some committed
       → Acknowledges old new told → IsAtRest old.flusher.stage → IsFewer old new
   acknowledged_fewer old new committed told there is at =
-      less_own (own_turns old.flusher.stage old.committed) (own_turns new.flusher.stage new.committed) (turns_behind layout old.core) (turns_behind layout new.core)
+      less_own (own_turns old.flusher.stage old.committed) (own_turns new.flusher.stage new.committed) (turns_behind layout old.core)
+      (turns_behind layout new.core)
       (omega (arith, before, after)) (ap (λ (n : ℕ). batch_turns layout * n) behind)
     where
       before : own_turns old.flusher.stage old.committed ≡ 1
@@ -96,7 +99,12 @@ module _ {D : Type 0} (layout : Layout) where
 
       behind : length new.core.queue - new.core.flight ≡ length old.core.queue - old.core.flight
       behind =
-          omega (arith, ap (λ (c : CoreView). length c.queue) is.0, ap (λ (c : CoreView). c.flight) is.0, length-drop old.core.flight old.core.queue)
+          omega (
+            arith,
+            ap (λ (c : CoreView). length c.queue) is.0,
+            ap (λ (c : CoreView). c.flight) is.0,
+            length-drop old.core.flight old.core.queue,
+          )
 
   taken_own : (s t : Stage D) (batch : Batch) → HasTaken s batch t → HasLayout layout s → own_turns t None + 1 ≤ batch_turns layout
   taken_own (Resting j) t batch has same =
@@ -109,7 +117,8 @@ module _ {D : Type 0} (layout : Layout) where
   taken_own (Publishing j written) t batch has same = absurd has
   taken_own (Failed d f) t batch has same = absurd has
 
-  resting : (core : CoreView) (stage : Stage D) → need_of stage ≡ need.Batch → HasFlight core stage → (own_turns stage None ≡ 0) × (core.flight ≡ 0)
+  resting : (core : CoreView) (stage : Stage D) → need_of stage ≡ need.Batch → HasFlight core stage → (own_turns stage None ≡ 0)
+      × (core.flight ≡ 0)
   resting core (Resting j) is flight = (refl, flight)
   resting core (Given j b) is flight = search rules
   resting core (Checkpointing c b) is flight = search rules
@@ -117,12 +126,15 @@ module _ {D : Type 0} (layout : Layout) where
   resting core (Publishing j written) is flight = search rules
   resting core (Failed d f) is flight = search rules
 
-  takes_fewer : (old new : CoreOnDiskView D) (told : List Event) (turned : Turned) → old.committed ≡ None → need_of old.flusher.stage ≡ need.Batch
-      → Takes old new told turned → IsServed layout old.core old.flusher.stage None → waits_of turned ≡ 0 → (has_failed old.core.stopped ≡ true → ⊥)
+  takes_fewer : (old new : CoreOnDiskView D) (told : List Event) (turned : Turned) → old.committed ≡ None → need_of old.flusher.stage
+      ≡ need.Batch
+      → Takes old new told turned → IsServed layout old.core old.flusher.stage None → waits_of turned ≡ 0
+      → (has_failed old.core.stopped ≡ true → ⊥)
       → IsFewer old new
   takes_fewer old new told Made none needs is was waits sound =
       subst (λ (n : ℕ). left_of new ≤ n + turns_behind layout old.core - 1) (sym before)
-      (less_behind (batch_turns layout) (own_turns new.flusher.stage new.committed) (turns_behind layout old.core) (turns_behind layout new.core)
+      (less_behind (batch_turns layout) (own_turns new.flusher.stage new.committed) (turns_behind layout old.core)
+      (turns_behind layout new.core)
       (subst (λ (c : Option CommittedView). own_turns new.flusher.stage c + 1 ≤ batch_turns layout) (sym is.4)
       (taken_own old.flusher.stage new.flusher.stage is.0 is.2 was.layout_is))
       (subst (λ (n : ℕ). batch_turns layout + turns_behind layout new.core ≤ n) (ap (λ (n : ℕ). batch_turns layout * n) waiting)
@@ -153,14 +165,22 @@ module _ {D : Type 0} (layout : Layout) where
       after : left_of new ≡ 0
       after =
           ap left_of is.1
-          ∙ omega (arith, ap (own_turns old.flusher.stage) none, rest.0, ap (λ (n : ℕ). batch_turns layout * n) behind ∙ mul-zero (batch_turns layout))
+          ∙ omega (
+            arith,
+            ap (own_turns old.flusher.stage) none,
+            rest.0,
+            ap (λ (n : ℕ). batch_turns layout * n) behind
+                ∙ mul-zero (batch_turns layout),
+          )
   takes_fewer old new told Waited none needs is was waits sound = absurd (omega (arith, waits))
 
   module _ (disk : D → Disk) where
-    called_fewer : (old new : CoreOnDiskView D) (told : List Event) → old.committed ≡ None → new.committed ≡ None → need_of old.flusher.stage ≡ need.Disk
+    called_fewer : (old new : CoreOnDiskView D) (told : List Event) → old.committed ≡ None → new.committed ≡ None
+        → need_of old.flusher.stage ≡ need.Disk
         → HasCalled disk old new told → HasFewCalls old.flusher.stage → (has_failed new.core.stopped ≡ true → ⊥) → IsFewer old new
     called_fewer old new [] none after needs is few sound =
-        less_own (own_turns old.flusher.stage old.committed) (own_turns new.flusher.stage new.committed) (turns_behind layout old.core) (turns_behind layout new.core)
+        less_own (own_turns old.flusher.stage old.committed) (own_turns new.flusher.stage new.committed) (turns_behind layout old.core)
+        (turns_behind layout new.core)
         (omega (
           arith,
           ap (own_turns old.flusher.stage) none,
@@ -173,7 +193,8 @@ module _ {D : Type 0} (layout : Layout) where
     called_fewer old new (e ∷ told) none after needs is few sound =
         absurd (sound (ap (λ (c : CoreView). has_failed c.stopped) is.2 ∙ knows (has_failed old.core.stopped)))
 
-    publishing : (stage : Stage D) (published : List CommandValue) (new : FlusherView D) (committed : CommittedView) → HasPublished stage published new committed
+    publishing : (stage : Stage D) (published : List CommandValue) (new : FlusherView D) (committed : CommittedView)
+        → HasPublished stage published new committed
         → own_turns stage None ≡ 2
     publishing (Publishing j written) published new committed has = refl
     publishing (Resting j) published new committed has = absurd has
@@ -184,7 +205,8 @@ module _ {D : Type 0} (layout : Layout) where
 
     publishes_fewer : (old new : CoreOnDiskView D) (told : List Event) → old.committed ≡ None → Publishes old new told → IsFewer old new
     publishes_fewer old new told none is =
-        less_own (own_turns old.flusher.stage old.committed) (own_turns new.flusher.stage new.committed) (turns_behind layout old.core) (turns_behind layout new.core)
+        less_own (own_turns old.flusher.stage old.committed) (own_turns new.flusher.stage new.committed) (turns_behind layout old.core)
+        (turns_behind layout new.core)
         (omega (
           arith,
           ap (own_turns old.flusher.stage) none,
@@ -201,11 +223,14 @@ module _ {D : Type 0} (layout : Layout) where
     stopped core (Writing w) needs flight = search rules
     stopped core (Publishing j written) needs flight = search rules
 
-    serves_fewer : (need : Need) (old new : CoreOnDiskView D) (told : List Event) (turned : Turned) → need_of old.flusher.stage ≡ need → old.committed ≡ None
+    serves_fewer : (need : Need) (old new : CoreOnDiskView D) (told : List Event) (turned : Turned) → need_of old.flusher.stage ≡ need
+        → old.committed ≡ None
         → Serves disk need old new told turned → IsServed layout old.core old.flusher.stage None → waits_of turned ≡ 0
         → (has_failed old.core.stopped ≡ true → ⊥) → (has_failed new.core.stopped ≡ true → ⊥) → IsFewer old new
-    serves_fewer need.Batch old new told turned needs none is was waits before after = takes_fewer old new told turned none needs is was waits before
-    serves_fewer need.Disk old new told Made needs none is was waits before after = called_fewer old new told none is.1 needs is.2 was.few_calls after
+    serves_fewer need.Batch old new told turned needs none is was waits before after =
+        takes_fewer old new told turned none needs is was waits before
+    serves_fewer need.Disk old new told Made needs none is was waits before after =
+        called_fewer old new told none is.1 needs is.2 was.few_calls after
     serves_fewer need.Disk old new told Idle needs none is was waits before after = absurd is
     serves_fewer need.Disk old new told Waited needs none is was waits before after = absurd (omega (arith, waits))
     serves_fewer need.Publish old new told turned needs none is was waits before after = publishes_fewer old new told none is.1
@@ -213,7 +238,8 @@ module _ {D : Type 0} (layout : Layout) where
         absurd (before (stopped old.core old.flusher.stage needs was.batch))
 
     -- a turn that has not to wait leaves fewer, while the disk does not fail
-    pub turn_fewer : (committed : Option CommittedView) (old new : CoreOnDiskView D) (told : List Event) (turned : Turned) → old.committed ≡ committed
+    pub turn_fewer : (committed : Option CommittedView) (old new : CoreOnDiskView D) (told : List Event) (turned : Turned) → old.committed
+        ≡ committed
         → IsTurn disk committed old new told turned → Served layout old → waits_of turned ≡ 0 → (has_failed old.core.stopped ≡ true → ⊥)
         → (has_failed new.core.stopped ≡ true → ⊥) → IsFewer old new
     turn_fewer (Some committed) old new told turned there is was waits before after =
@@ -226,7 +252,12 @@ module _ {D : Type 0} (layout : Layout) where
 -- commands that need a turn each at least are none where no turn is left
 no_turns : (each waits flies : ℕ) → 1 ≤ each → each * (waits - flies) ≡ 0 → flies ≡ 0 → waits ≡ 0
 no_turns each waits flies some none rests =
-    omega (arith, subst (λ (n : ℕ). n ≤ each * (waits - flies)) (one-mul (waits - flies)) (mul-le-mul_right (waits - flies) some), none, rests)
+    omega (
+      arith,
+      subst (λ (n : ℕ). n ≤ each * (waits - flies)) (one-mul (waits - flies)) (mul-le-mul_right (waits - flies) some),
+      none,
+      rests,
+    )
 
 module _ {D : Type 0} (layout : Layout) where
   -- where no turn is left, nothing waits

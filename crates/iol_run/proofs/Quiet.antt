@@ -1,6 +1,7 @@
 -- Events that accept and acknowledge nothing, and tell of no failure.
 use Rattle.std.proofs.Common.{◌≡◌, refl, inl, inr, ℕ, List, [], ◌∷◌, ◌++◌, ap, sym, ◌∙◌, append_assoc}
-use Rattle.iol_trace.specs.Events.{Event, Accepted, Refused, Page, Exchange, Lost, Attended, Changed, Acknowledged, DiskFailed, Stamp, stamped}
+use Rattle.iol_trace.specs.Events.{Event, Accepted, Refused, Page, Exchange, Lost, Attended, Changed, Acknowledged, DiskFailed, Stamp}
+use Rattle.iol_trace.specs.Events.{stamped}
 use Rattle.iol_trace.specs.Words.{IsFailure, HasFailure, accepted, numbers, acked, acked_by, command_in, number_in}
 
 abbrev pub IsQuiet : Event → Type 0
@@ -78,6 +79,7 @@ pub stamped_both : (t : ℕ) (one two : List Event) → stamped t (one ++ two) �
 stamped_both t [] two = refl
 stamped_both t (e ∷ one) two = ap (λ (ss : List Stamp). record { event = e; clock = t } ∷ ss) (stamped_both t one two)
 
-pub stamped_more : (t : ℕ) (events : List Stamp) (one two : List Event) → events ++ stamped t (one ++ two) ≡ (events ++ stamped t one) ++ stamped t two
+pub stamped_more : (t : ℕ) (events : List Stamp) (one two : List Event) → events ++ stamped t (one ++ two) ≡ (events ++ stamped t one)
+    ++ stamped t two
 stamped_more t events one two =
     ap (λ (ss : List Stamp). events ++ ss) (stamped_both t one two) ∙ sym (append_assoc events (stamped t one) (stamped t two))

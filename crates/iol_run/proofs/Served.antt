@@ -1,5 +1,6 @@
 -- What each step keeps of a master: what is in flight is with the flusher, whose journal keeps its layout, and few wait.
-use Rattle.std.proofs.Common.{◌≡◌, refl, ◌≤◌, ℕ, ◌+◌, nat_le, Bool, true, false, if◌then◌else◌, List, [], ◌∷◌, length, Option, Some, None, Result, Ok, Err, ap, sym, ◌∙◌, subst, arith, rules, length-append, length-drop}
+use Rattle.std.proofs.Common.{◌≡◌, refl, ◌≤◌, ℕ, ◌+◌, nat_le, Bool, true, false, if◌then◌else◌, List, [], ◌∷◌, length, Option, Some, None}
+use Rattle.std.proofs.Common.{Result, Ok, Err, ap, sym, ◌∙◌, subst, arith, rules, length-append, length-drop}
 use Rattle.iol_types.specs.Command.{CommandValue, command_of}
 use Rattle.iol_types.specs.State.{check}
 use Rattle.iol_types.specs.declared.command.CommandFault.{CommandFault}
@@ -62,13 +63,15 @@ queue_causes false queue (Some f) none = search rules
 queue_causes false queue None none = none
 
 module _ {D : Type 0} (layout : Layout) where
-  queued_batch : (core : CoreView) (command : CommandValue) (stage : Stage D) (committed : Option CommittedView) → HasBatch core stage committed
+  queued_batch : (core : CoreView) (command : CommandValue) (stage : Stage D) (committed : Option CommittedView)
+      → HasBatch core stage committed
       → HasBatch (queued core command) stage committed
   queued_batch core command stage None is = flight_stays core command stage is
   queued_batch core command stage (Some committed) is = (more_waits core command committed.commands is.0, is.1)
 
   -- one more command waits
-  queued_served : (core : CoreView) (command : CommandValue) (stage : Stage D) (committed : Option CommittedView) → length core.queue + 1 ≤ QUEUE_COMMANDS
+  queued_served : (core : CoreView) (command : CommandValue) (stage : Stage D) (committed : Option CommittedView) → length core.queue + 1
+      ≤ QUEUE_COMMANDS
       → IsServed layout core stage committed → IsServed layout (queued core command) stage committed
   queued_served core command stage committed room was = record {
     batch = queued_batch core command stage committed was.batch;
@@ -78,7 +81,8 @@ module _ {D : Type 0} (layout : Layout) where
   }
 
   -- other permits are out
-  permits_batch : (core : CoreView) (permits : List (Option Grant)) (stage : Stage D) (committed : Option CommittedView) → HasBatch core stage committed
+  permits_batch : (core : CoreView) (permits : List (Option Grant)) (stage : Stage D) (committed : Option CommittedView)
+      → HasBatch core stage committed
       → HasBatch (with_permits core permits) stage committed
   permits_batch core permits stage None is = flight_with core permits stage is
   permits_batch core permits stage (Some committed) is = (in_flight_with core permits committed.commands is.0, is.1)
@@ -99,7 +103,8 @@ module _ {D : Type 0} (layout : Layout) where
   change_served old (Waits command permits) stage committed room was =
       permits_served (queued old command) permits stage committed (queued_served old command stage committed room.1 was)
 
-  submit_served : (old new : CoreView) (command : CommandValue) (stage : Stage D) (committed : Option CommittedView) (answer : Result ℕ SubmitFault)
+  submit_served : (old new : CoreView) (command : CommandValue) (stage : Stage D) (committed : Option CommittedView)
+      (answer : Result ℕ SubmitFault)
       → IsSubmit old command new answer → IsServed layout old stage committed → IsServed layout new stage committed
   submit_served old new command stage committed (Ok n) is was =
       subst (λ (c : CoreView). IsServed layout c stage committed) (sym is.2)
@@ -140,7 +145,8 @@ module _ {D : Type 0} (layout : Layout) where
         batch = taken_flight old new MOST_RECORD_OCTETS batch is;
         layout_is = was.layout_is;
         few_calls = tt;
-        few_wait = subst (λ (cs : List CommandValue). length cs ≤ QUEUE_COMMANDS) (sym (ap (λ (c : CoreView). c.queue) is.others)) was.few_wait;
+        few_wait = subst (λ (cs : List CommandValue). length cs ≤ QUEUE_COMMANDS) (sym (ap (λ (c : CoreView). c.queue) is.others))
+            was.few_wait;
       })
   taken_served old new (Given j b) t batch is has was = absurd has
   taken_served old new (Checkpointing c b) t batch is has was = absurd has
@@ -153,7 +159,8 @@ module _ {D : Type 0} (layout : Layout) where
 
   -- from where no batch is to be acknowledged to where none is
   none_served : (old new : CoreOnDiskView D) → old.committed ≡ None → new.committed ≡ None
-      → (IsServed layout old.core old.flusher.stage None → IsServed layout new.core new.flusher.stage None) → Served layout old → Served layout new
+      → (IsServed layout old.core old.flusher.stage None → IsServed layout new.core new.flusher.stage None) → Served layout old
+      → Served layout new
   none_served old new before after goes was =
       subst (λ (c : Option CommittedView). IsServed layout new.core new.flusher.stage c) (sym after)
       (goes (subst (λ (c : Option CommittedView). IsServed layout old.core old.flusher.stage c) before was))
@@ -174,7 +181,8 @@ module _ {D : Type 0} (layout : Layout) where
   written_layout w (Checkpointing c b) has is = absurd has
   written_layout w (Failed d f) has is = absurd has
 
-  checkpointed_layout : (c : CheckpointingView D) (batch : Batch) (new : Stage D) → HasCheckpointed c batch new → c.standing.layout ≡ layout → HasLayout layout new
+  checkpointed_layout : (c : CheckpointingView D) (batch : Batch) (new : Stage D) → HasCheckpointed c batch new → c.standing.layout ≡ layout
+      → HasLayout layout new
   checkpointed_layout c batch (Checkpointing d kept) has is = ap (λ (s : Standing). s.layout) has.0 ∙ is
   checkpointed_layout c batch (Given j kept) has is = ap (λ (s : Standing). s.layout) has.0 ∙ is
   checkpointed_layout c batch (Resting j) has is = absurd has
@@ -182,7 +190,8 @@ module _ {D : Type 0} (layout : Layout) where
   checkpointed_layout c batch (Publishing j written) has is = absurd has
   checkpointed_layout c batch (Failed d f) has is = absurd has
 
-  begun_layout : (full : Bool) (j : JournalView D) (batch : Batch) (new : Stage D) → HasBegun full j batch new → j.standing.layout ≡ layout → HasLayout layout new
+  begun_layout : (full : Bool) (j : JournalView D) (batch : Batch) (new : Stage D) → HasBegun full j batch new → j.standing.layout ≡ layout
+      → HasLayout layout new
   begun_layout true j batch new has is = checkpointed_layout (checkpoint_of j) batch new has.1 is
   begun_layout false j batch new has is = written_layout (writing_of j (values batch.commands.items)) new has.1 is
 
@@ -203,7 +212,8 @@ module _ {D : Type 0} (layout : Layout) where
   failed_layout (Publishing j written) why is = search rules
 
   module _ (disk : D → Disk) where
-    called_served : (old new : CoreOnDiskView D) (told : List Event) → HasCalled disk old new told → IsServed layout old.core old.flusher.stage None
+    called_served : (old new : CoreOnDiskView D) (told : List Event) → HasCalled disk old new told
+        → IsServed layout old.core old.flusher.stage None
         → IsServed layout new.core new.flusher.stage None
     called_served old new [] is was =
         subst (λ (c : CoreView). IsServed layout c new.flusher.stage None) (sym is.0) (record {
@@ -236,7 +246,8 @@ module _ {D : Type 0} (layout : Layout) where
     published_served core (Writing w) published new committed has was = absurd has
     published_served core (Failed d f) published new committed has was = absurd has
 
-    publishes_served : (old new : CoreOnDiskView D) (told : List Event) → old.committed ≡ None → Publishes old new told → Served layout old → Served layout new
+    publishes_served : (old new : CoreOnDiskView D) (told : List Event) → old.committed ≡ None → Publishes old new told → Served layout old
+        → Served layout new
     publishes_served old new told none is was =
         subst (λ (c : Option CommittedView). IsServed layout new.core new.flusher.stage c) (sym is.3)
         (subst (λ (c : CoreView). IsServed layout c new.flusher.stage (Some is.0)) (sym is.2)
@@ -252,15 +263,19 @@ module _ {D : Type 0} (layout : Layout) where
     serves_served need.Publish old new told turned none is was = publishes_served old new told none is.1 was
     serves_served need.Stopped old new told turned none is was = same_served old new is.1 was
 
-    turn_served : (committed : Option CommittedView) (old new : CoreOnDiskView D) (told : List Event) (turned : Turned) → old.committed ≡ committed
+    turn_served : (committed : Option CommittedView) (old new : CoreOnDiskView D) (told : List Event) (turned : Turned) → old.committed
+        ≡ committed
         → IsTurn disk committed old new told turned → Served layout old → Served layout new
     turn_served (Some committed) old new told turned there is was =
-        acknowledged_served old new committed told is.1 (subst (λ (c : Option CommittedView). IsServed layout old.core old.flusher.stage c) there was)
+        acknowledged_served old new committed told is.1
+        (subst (λ (c : Option CommittedView). IsServed layout old.core old.flusher.stage c) there was)
     turn_served None old new told turned there is was = serves_served (need_of old.flusher.stage) old new told turned there is was
 
     -- a step of a port
-    port_served : {L : Type 0} (number : L → ℕ) (steps : L → LinkCall → LinkAnswer → L → Type 0) (there : Bool) (port : ℕ) (old new : CoreOnDiskView D)
-        (ports last : PortsView L) (told : List Event) → StepsIf number steps there port old new ports last told → Served layout old → Served layout new
+    port_served : {L : Type 0} (number : L → ℕ) (steps : L → LinkCall → LinkAnswer → L → Type 0) (there : Bool) (port : ℕ)
+        (old new : CoreOnDiskView D)
+        (ports last : PortsView L) (told : List Event) → StepsIf number steps there port old new ports last told → Served layout old
+        → Served layout new
     port_served number steps true port old new ports last told is was =
         let becomes = step_becomes number steps is.before is.after is.link is.linked old.core new.core is.called is.status is.steps_as in
         subst (λ (c : Option CommittedView). IsServed layout new.core new.flusher.stage c) (sym is.committed)
@@ -270,7 +285,8 @@ module _ {D : Type 0} (layout : Layout) where
     port_served number steps false port old new ports last told is was = same_served old new is.0 was
 
     -- each step keeps it
-    pub step_served : {L : Type 0} (number : L → ℕ) (steps : L → LinkCall → LinkAnswer → L → Type 0) (step : Step) (old new : CoreOnDiskView D)
+    pub step_served : {L : Type 0} (number : L → ℕ) (steps : L → LinkCall → LinkAnswer → L → Type 0) (step : Step)
+        (old new : CoreOnDiskView D)
         (ports last : PortsView L) (told : List Event) (turned : Turned) → Does disk number steps step old new ports last told turned
         → Served layout old → Served layout new
     step_served number steps (Client change) old new ports last told turned is was =

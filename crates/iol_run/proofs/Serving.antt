@@ -28,7 +28,8 @@ knows false = refl
 
 module _ {D : Type 0} where
   -- what a flusher has in flight after a disk call is what it had before
-  written_flight : (core : CoreView) (w : WritingView D) (new : Stage D) → HasWritten w new → IsInFlight core w.commands → HasFlight core new
+  written_flight : (core : CoreView) (w : WritingView D) (new : Stage D) → HasWritten w new → IsInFlight core w.commands
+      → HasFlight core new
   written_flight core w (Writing v) has is = subst (λ (cs : List CommandValue). IsInFlight core cs) (sym has.3) is
   written_flight core w (Publishing j written) has is = subst (λ (cs : List CommandValue). IsInFlight core cs) (sym has.4) is
   written_flight core w (Resting j) has is = absurd has
@@ -38,7 +39,8 @@ module _ {D : Type 0} where
 
   checkpointed_flight : (core : CoreView) (c : CheckpointingView D) (batch : Batch) (new : Stage D) → HasCheckpointed c batch new
       → IsInFlight core (values batch.commands.items) → HasFlight core new
-  checkpointed_flight core c batch (Checkpointing d kept) has is = subst (λ (b : Batch). IsInFlight core (values b.commands.items)) (sym has.2) is
+  checkpointed_flight core c batch (Checkpointing d kept) has is =
+      subst (λ (b : Batch). IsInFlight core (values b.commands.items)) (sym has.2) is
   checkpointed_flight core c batch (Given j kept) has is = subst (λ (b : Batch). IsInFlight core (values b.commands.items)) (sym has.2) is
   checkpointed_flight core c batch (Resting j) has is = absurd has
   checkpointed_flight core c batch (Writing w) has is = absurd has
@@ -67,7 +69,8 @@ module _ {D : Type 0} where
   failed_flight core (Publishing j written) why is = search rules
 
 module _ {D : Type 0} (disk : D → Disk) (start : Start) where
-  pub called_in_step : (core : CoreView) (old new : FlusherView D) → new.published ≡ old.published → IsDiskStep disk old.stage new.stage (Ok tt)
+  pub called_in_step : (core : CoreView) (old new : FlusherView D) → new.published ≡ old.published
+      → IsDiskStep disk old.stage new.stage (Ok tt)
       → IsInStep start core old None → IsInStep start core new None
   called_in_step core old new same step is = (
     subst (λ (cs : List CommandValue). IsDurable start core cs) (sym same) is.0,
@@ -76,9 +79,11 @@ module _ {D : Type 0} (disk : D → Disk) (start : Start) where
   )
 
   pub failed_in_step : (core : CoreView) (old new : FlusherView D) (why : DiskFault) → new.published ≡ old.published
-      → IsDiskStep disk old.stage new.stage (Err (fault.Disk why)) → IsInStep start core old None → IsInStep start (failed_core core) new None
+      → IsDiskStep disk old.stage new.stage (Err (fault.Disk why)) → IsInStep start core old None
+      → IsInStep start (failed_core core) new None
   failed_in_step core old new why same step is = (
-    subst (λ (cs : List CommandValue). IsDurable start (failed_core core) cs) (sym same) (record { number = is.0.number; state = is.0.state }),
+    subst (λ (cs : List CommandValue). IsDurable start (failed_core core) cs) (sym same)
+        (record { number = is.0.number; state = is.0.state }),
     failed_flight core new.stage why step.0,
     goes_on disk old.stage new.stage (Err (fault.Disk why)) step is.2,
   )
@@ -86,7 +91,8 @@ module _ {D : Type 0} (disk : D → Disk) (start : Start) where
   -- the run goes on with a disk call
   pub called_running : (core after : CoreView) (old new : FlusherView D) → new.published ≡ old.published → after.queue ≡ core.queue
       → KeepsRun disk old.stage new.stage
-      → KeepsRunning disk start (record { core = core; flusher = old; committed = None }) (record { core = after; flusher = new; committed = None })
+      → KeepsRunning disk start (record { core = core; flusher = old; committed = None })
+      (record { core = after; flusher = new; committed = None })
   called_running core after old new same queue keeps = record {
     goes_on = λ marks was.
         subst (λ (cs : List CommandValue). IsFlushing disk start.number start.state cs after.queue marks new.stage) (sym same)

@@ -1,5 +1,6 @@
 -- The status of a machine is the one that was told last.
-use Rattle.std.proofs.Common.{◌≡◌, refl, inl, inr, ℕ, nat_eq, Bool, true, false, if◌then◌else◌, List, [], ◌∷◌, ◌++◌, Option, Some, None, Result, Ok, Err, ap, sym, ◌∙◌, subst}
+use Rattle.std.proofs.Common.{◌≡◌, refl, inl, inr, ℕ, nat_eq, Bool, true, false, if◌then◌else◌, List, [], ◌∷◌, ◌++◌, Option, Some, None}
+use Rattle.std.proofs.Common.{Result, Ok, Err, ap, sym, ◌∙◌, subst}
 use Rattle.std.proofs.lemmas.Bool.{eq-eqb}
 use Rattle.std.proofs.lemmas.List.Sums.{fold-append}
 use Rattle.iol_types.specs.Command.{CommandValue, Configure, Clear, Store}
@@ -21,10 +22,12 @@ use Rattle.iol_trace.specs.Events.{Event, Accepted, Changed, Stamp, stamped}
 use Rattle.iol_trace.specs.Own.{own, own_in, at_port, status_by, status_after}
 use Rattle.iol_trace.specs.Statuses.{Status}
 use Rattle.iol_run.proofs.Quiet.{stamped_both}
-use Rattle.iol_run.specs.PortSteps.{Hears, HearsCore, IsStatusTold, PortStep, reply_told, attended_told, filed_told, accepted_told, store_in}
+use Rattle.iol_run.specs.PortSteps.{Hears, HearsCore, IsStatusTold, PortStep, reply_told, attended_told, filed_told, accepted_told}
+use Rattle.iol_run.specs.PortSteps.{store_in}
 
 -- of more events the last status counts
-pub status-append : (was : Status) (events more : List Event) → status_after was (events ++ more) ≡ status_after (status_after was events) more
+pub status-append : (was : Status) (events more : List Event) → status_after was (events ++ more)
+    ≡ status_after (status_after was events) more
 status-append was events more = fold-append (λ (s : Status) (e : Event). status_by s e) was events more
 
 module _ (q t : ℕ) where
@@ -33,7 +36,8 @@ module _ (q t : ℕ) where
   kept true was e keeps = keeps
   kept false was e keeps = refl
 
-  own_kept : (was : Status) (e : Event) (told : List Event) → told ≡ e ∷ [] → status_after was (own_in q e) ≡ was → status_after was (own q (stamped t told)) ≡ was
+  own_kept : (was : Status) (e : Event) (told : List Event) → told ≡ e ∷ [] → status_after was (own_in q e) ≡ was
+      → status_after was (own q (stamped t told)) ≡ was
   own_kept was e told is keeps =
       ap (λ (es : List Event). status_after was (own q (stamped t es))) is
       ∙ (status-append was (own_in q e) [] ∙ keeps)
@@ -43,7 +47,8 @@ module _ (q t : ℕ) where
   accepted_kept was n (Clear p) = refl
   accepted_kept was n (Store p r s) = kept (nat_eq p q) was (Accepted n (Store p r s)) refl
 
-  filed_kept : (was : Status) (command : Option CommandValue) (answer : Result ℕ FinishFault) → status_after was (own q (stamped t (filed_told command answer))) ≡ was
+  filed_kept : (was : Status) (command : Option CommandValue) (answer : Result ℕ FinishFault)
+      → status_after was (own q (stamped t (filed_told command answer))) ≡ was
   filed_kept was None (Ok n) = refl
   filed_kept was (Some command) (Ok n) = own_kept was (Accepted n command) _ refl (accepted_kept was n command)
   filed_kept was command (Err f) = refl
@@ -52,7 +57,8 @@ module _ (q t : ℕ) where
   attended_kept was port None = refl
   attended_kept was port (Some work) = own_kept was _ (attended_told port (Some work)) refl (kept (nat_eq port q) was _ refl)
 
-  reply_kept : (was : Status) (port : ℕ) (command : Option CommandValue) (heard : Reply) → status_after was (own q (stamped t (reply_told port command heard))) ≡ was
+  reply_kept : (was : Status) (port : ℕ) (command : Option CommandValue) (heard : Reply)
+      → status_after was (own q (stamped t (reply_told port command heard))) ≡ was
   reply_kept was port command (reply.Attended work) = attended_kept was port work
   reply_kept was port command (reply.BegunUpload begun) = refl
   reply_kept was port command (reply.FinishedUpload finished) = filed_kept was command finished
@@ -61,7 +67,8 @@ module _ (q t : ℕ) where
   reply_kept was port command (reply.BegunDownload begun) = refl
   reply_kept was port command reply.EndedDownload = refl
 
-  core_kept : (was : Status) (port : ℕ) (call : Call) (heard : Input) (old new : CoreView) (told : List Event) → HearsCore port call heard old new told
+  core_kept : (was : Status) (port : ℕ) (call : Call) (heard : Input) (old new : CoreView) (told : List Event)
+      → HearsCore port call heard old new told
       → status_after was (own q (stamped t told)) ≡ was
   core_kept was port call (input.Reply heard) old new told is =
       ap (λ (es : List Event). status_after was (own q (stamped t es))) is.1 ∙ reply_kept was port (store_in call) heard
@@ -81,8 +88,10 @@ module _ (q t : ℕ) where
     hears_kept was port ThePage (input.Event c) link last old new told is = absurd is.0
     hears_kept was port ThePage (input.Octets os) link last old new told is = absurd is.0
     hears_kept was port ThePage (input.Reply r) link last old new told is = absurd is.0
-    hears_kept was port (AnswerTo request) (input.Octets os) link last old new told is = own_kept was _ told is.0.2.2 (kept (nat_eq port q) was _ refl)
-    hears_kept was port (AnswerTo request) input.Lost link last old new told is = own_kept was _ told is.0.2.2 (kept (nat_eq port q) was _ refl)
+    hears_kept was port (AnswerTo request) (input.Octets os) link last old new told is =
+        own_kept was _ told is.0.2.2 (kept (nat_eq port q) was _ refl)
+    hears_kept was port (AnswerTo request) input.Lost link last old new told is =
+        own_kept was _ told is.0.2.2 (kept (nat_eq port q) was _ refl)
     hears_kept was port (AnswerTo request) input.Wake link last old new told is = absurd is.0.2
     hears_kept was port (AnswerTo request) (input.Event c) link last old new told is = absurd is.0.2
     hears_kept was port (AnswerTo request) (input.Page c os) link last old new told is = absurd is.0.2
@@ -90,10 +99,12 @@ module _ (q t : ℕ) where
     hears_kept was port (ReplyTo call) heard link last old new told is = core_kept was port call heard old new told is.0
 
   -- a status that is told
-  told_status : (was : Status) (port : ℕ) (status : Status) → nat_eq port q ≡ true → status_after was (own q (stamped t (Changed port status ∷ []))) ≡ status
+  told_status : (was : Status) (port : ℕ) (status : Status) → nat_eq port q ≡ true
+      → status_after was (own q (stamped t (Changed port status ∷ []))) ≡ status
   told_status was port status at = ap (λ (same : Bool). status_after was ((if same then Changed port status ∷ [] else []) ++ [])) at
 
-  status_kept : (was : Status) (old new : PortValue) (told : List Event) → was ≡ status_told (status_of old.stage) → new.port ≡ q → IsStatusTold old new told
+  status_kept : (was : Status) (old new : PortValue) (told : List Event) → was ≡ status_told (status_of old.stage) → new.port ≡ q
+      → IsStatusTold old new told
       → status_after was (own q (stamped t told)) ≡ status_told (status_of new.stage)
   status_kept was old new told shown at (inl is) =
       ap (λ (es : List Event). status_after was (own q (stamped t es))) is.0 ∙ (shown ∙ ap status_told (sym is.1))
@@ -102,7 +113,8 @@ module _ (q t : ℕ) where
       ∙ told_status was new.port (status_told (status_of new.stage)) (eq-eqb new.port q at)
 
   -- what a step tells shows the status behind it
-  pub step_status : {L : Type 0} (number : L → ℕ) (steps : L → LinkCall → LinkAnswer → L → Type 0) (was : Status) (before after : PortValue) (link last : L)
+  pub step_status : {L : Type 0} (number : L → ℕ) (steps : L → LinkCall → LinkAnswer → L → Type 0) (was : Status) (before after : PortValue)
+      (link last : L)
       (old new : CoreView) (called status : List Event) → was ≡ status_told (status_of before.stage) → after.port ≡ q
       → PortStep number steps before after link last old new called status
       → status_after was (own q (stamped t (called ++ status))) ≡ status_told (status_of after.stage)

@@ -1,5 +1,6 @@
 -- A core that knows a failure of the disk accepts nothing more.
-use Rattle.std.proofs.Common.{◌≡◌, refl, inl, inr, ⊎_elim, ℕ, nat_le, Bool, true, false, if◌then◌else◌, List, [], ◌∷◌, ◌++◌, length, Option, Some, None, is_some, Result, Ok, Err, ap, sym, ◌∙◌, subst, rules, append-nil, append_assoc}
+use Rattle.std.proofs.Common.{◌≡◌, refl, inl, inr, ⊎_elim, ℕ, nat_le, Bool, true, false, if◌then◌else◌, List, [], ◌∷◌, ◌++◌, length, Option}
+use Rattle.std.proofs.Common.{Some, None, is_some, Result, Ok, Err, ap, sym, ◌∙◌, subst, rules, append-nil, append_assoc}
 use Rattle.iol_types.specs.Command.{CommandValue, command_of}
 use Rattle.iol_types.specs.State.{check}
 use Rattle.iol_types.specs.declared.command.CommandFault.{CommandFault}
@@ -66,7 +67,8 @@ taken_runs false queue checked none = refl
 
 module _ (t : ℕ) where
   -- one event that is no failure
-  one_heeds : (old new : CoreView) (e : Event) → new.stopped ≡ old.stopped → (IsFailure e → ⊥) → (has_failed old.stopped ≡ true → accepted (stamped t (e ∷ [])) ≡ [])
+  one_heeds : (old new : CoreView) (e : Event) → new.stopped ≡ old.stopped → (IsFailure e → ⊥)
+      → (has_failed old.stopped ≡ true → accepted (stamped t (e ∷ [])) ≡ [])
       → Heeds old new (stamped t (e ∷ []))
   one_heeds old new e same sound accepts = record {
     accepts = accepts;
@@ -92,7 +94,8 @@ module _ (t : ℕ) where
   submit_heeds old new command (Err f) is = one_heeds old new _ (ap (λ (c : CoreView). c.stopped) is.1) (λ never. never) (λ failed. refl)
 
   -- a call of a port
-  change_heeds : (old : CoreView) (change : Change) (told : List Event) → HasRoom old change → Tells old change told → Heeds old (changed old change) (stamped t told)
+  change_heeds : (old : CoreView) (change : Change) (told : List Event) → HasRoom old change → Tells old change told
+      → Heeds old (changed old change) (stamped t told)
   change_heeds old (Permits permits) told room tells = record {
     accepts = λ failed. quiet_accepted t told tells;
     stays = λ failed. failed;
@@ -101,7 +104,8 @@ module _ (t : ℕ) where
   }
   change_heeds old (Waits command permits) told room tells =
       subst (λ (es : List Event). Heeds old (changed old (Waits command permits)) (stamped t es)) (sym tells)
-      (one_heeds old (changed old (Waits command permits)) (Accepted _ command) refl (λ never. never) (λ failed. absurd (runs_still old room.0 failed)))
+      (one_heeds old (changed old (Waits command permits)) (Accepted _ command) refl (λ never. never) (λ failed.
+      absurd (runs_still old room.0 failed)))
 
   -- a status behind it
   quiet_heeds : (core : CoreView) (told : List Event) → AreQuiet told → Heeds core core (stamped t told)
@@ -110,7 +114,8 @@ module _ (t : ℕ) where
 -- more behind what was told
 more_heeds : (old mid new : CoreView) (told more : List Stamp) → Heeds old mid told → Heeds mid new more → Heeds old new (told ++ more)
 more_heeds old mid new told more one two = record {
-  accepts = λ failed. accepted-append told more ∙ both (accepted told) (accepted more) (one.accepts failed) (two.accepts (one.stays failed));
+  accepts = λ failed. accepted-append told more
+      ∙ both (accepted told) (accepted more) (one.accepts failed) (two.accepts (one.stays failed));
   stays = λ failed. two.stays (one.stays failed);
   known = λ failed. ⊎_elim (λ before. two.stays (one.known before)) (λ behind. two.known behind) (failure-append told more failed);
   none = behind told one.known one.none;
@@ -119,7 +124,8 @@ more_heeds old mid new told more one two = record {
     both : (cs ds : List CommandValue) → cs ≡ [] → ds ≡ [] → cs ++ ds ≡ []
     both cs ds first second = ap (λ (xs : List CommandValue). xs ++ ds) first ∙ second
 
-    behind : (front : List Stamp) → (HasFailure front → has_failed mid.stopped ≡ true) → NoneOnceFailed front → NoneOnceFailed (front ++ more)
+    behind : (front : List Stamp) → (HasFailure front → has_failed mid.stopped ≡ true) → NoneOnceFailed front
+        → NoneOnceFailed (front ++ more)
     behind [] known none = two.none
     behind (e ∷ front) known none = (
       (λ failed.
@@ -129,7 +135,8 @@ more_heeds old mid new told more one two = record {
     )
 
 module _ (t : ℕ) {D : Type 0} where
-  takes_heeds : (old new : CoreOnDiskView D) (told : List Event) (turned : Turned) → Takes old new told turned → Heeds old.core new.core (stamped t told)
+  takes_heeds : (old new : CoreOnDiskView D) (told : List Event) (turned : Turned) → Takes old new told turned
+      → Heeds old.core new.core (stamped t told)
   takes_heeds old new told Made is = silent_heeds t old.core new.core told is.5 (ap (λ (c : CoreView). c.stopped) is.1.others)
   takes_heeds old new told Idle is = silent_heeds t old.core new.core told is.2 (ap (λ (m : CoreOnDiskView D). m.core.stopped) is.1)
   takes_heeds old new told Waited is = silent_heeds t old.core new.core told is.2 (ap (λ (m : CoreOnDiskView D). m.core.stopped) is.1)
@@ -138,7 +145,8 @@ module _ (t : ℕ) {D : Type 0} where
     called_heeds : (old new : CoreOnDiskView D) (told : List Event) → HasCalled disk old new told → Heeds old.core new.core (stamped t told)
     called_heeds old new [] is = silent_heeds t old.core new.core [] refl (ap (λ (c : CoreView). c.stopped) is.0)
     called_heeds old new (e ∷ told) is =
-        let failed : has_failed new.core.stopped ≡ true = ap (λ (c : CoreView). has_failed c.stopped) is.2 ∙ knows (has_failed old.core.stopped) in
+        let failed : has_failed new.core.stopped ≡ true = ap (λ (c : CoreView). has_failed c.stopped) is.2
+        ∙ knows (has_failed old.core.stopped) in
         subst (λ (es : List Event). Heeds old.core new.core (stamped t es)) (sym is.1) (record {
           accepts = λ was. refl;
           stays = λ was. failed;
@@ -151,22 +159,27 @@ module _ (t : ℕ) {D : Type 0} where
     serves_heeds need.Batch old new told turned is = takes_heeds old new told turned is
     serves_heeds need.Disk old new told Made is = called_heeds old new told is.2
     serves_heeds need.Disk old new told Idle is = absurd is
-    serves_heeds need.Disk old new told Waited is = silent_heeds t old.core new.core told is.2 (ap (λ (m : CoreOnDiskView D). m.core.stopped) is.1)
-    serves_heeds need.Publish old new told turned is = silent_heeds t old.core new.core told is.1.4 (ap (λ (c : CoreView). c.stopped) is.1.2)
-    serves_heeds need.Stopped old new told turned is = silent_heeds t old.core new.core told is.2 (ap (λ (m : CoreOnDiskView D). m.core.stopped) is.1)
+    serves_heeds need.Disk old new told Waited is =
+        silent_heeds t old.core new.core told is.2 (ap (λ (m : CoreOnDiskView D). m.core.stopped) is.1)
+    serves_heeds need.Publish old new told turned is =
+        silent_heeds t old.core new.core told is.1.4 (ap (λ (c : CoreView). c.stopped) is.1.2)
+    serves_heeds need.Stopped old new told turned is =
+        silent_heeds t old.core new.core told is.2 (ap (λ (m : CoreOnDiskView D). m.core.stopped) is.1)
 
     turn_heeds : (committed : Option CommittedView) (old new : CoreOnDiskView D) (told : List Event) (turned : Turned)
         → IsTurn disk committed old new told turned → Heeds old.core new.core (stamped t told)
     turn_heeds (Some committed) old new told turned is =
         subst (λ (es : List Event). Heeds old.core new.core (stamped t es)) (sym is.1.3)
-        (one_heeds t old.core new.core (Acknowledged new.core.number) (ap (λ (c : CoreView). c.stopped) is.1.0) (λ never. never) (λ failed. refl))
+        (one_heeds t old.core new.core (Acknowledged new.core.number) (ap (λ (c : CoreView). c.stopped) is.1.0) (λ never. never) (λ failed.
+        refl))
     turn_heeds None old new told turned is = serves_heeds (need_of old.flusher.stage) old new told turned is
 
     module _ {L : Type 0} (connection : L → ℕ) (allows : L → LinkCall → LinkAnswer → L → Type 0) where
       port_heeds : (there : Bool) (port : ℕ) (old new : CoreOnDiskView D) (ports last : PortsView L) (told : List Event)
           → StepsIf connection allows there port old new ports last told → Heeds old.core new.core (stamped t told)
       port_heeds true port old new ports last told is =
-          let becomes = step_becomes connection allows is.before is.after is.link is.linked old.core new.core is.called is.status is.steps_as in
+          let becomes = step_becomes connection allows is.before is.after is.link is.linked old.core new.core is.called is.status
+          is.steps_as in
           subst (λ (es : List Event). Heeds old.core new.core (stamped t es)) (sym is.told_is)
           (subst (λ (ss : List Stamp). Heeds old.core new.core ss) (sym (stamped_both t is.called is.status))
           (more_heeds old.core new.core new.core (stamped t is.called) (stamped t is.status)
@@ -179,8 +192,10 @@ module _ (t : ℕ) {D : Type 0} where
       step_heeds : (step : Step) (old new : CoreOnDiskView D) (ports last : PortsView L) (told : List Event) (turned : Turned)
           → Does disk connection allows step old new ports last told turned → Heeds old.core new.core (stamped t told)
       step_heeds (Client change) old new ports last told turned is =
-          subst (λ (es : List Event). Heeds old.core new.core (stamped t es)) (sym is.2.4) (submit_heeds t old.core new.core (command_of change) is.2.0 is.2.1)
-      step_heeds (Port port) old new ports last told turned is = port_heeds (nat_le port (length ports.links)) port old new ports last told is.1
+          subst (λ (es : List Event). Heeds old.core new.core (stamped t es)) (sym is.2.4)
+          (submit_heeds t old.core new.core (command_of change) is.2.0 is.2.1)
+      step_heeds (Port port) old new ports last told turned is =
+          port_heeds (nat_le port (length ports.links)) port old new ports last told is.1
       step_heeds Flush old new ports last told turned is = turn_heeds old.committed old new told turned is.1
 
 module _ {D L : Type 0} (disk : D → Disk) (connection : L → ℕ) (allows : L → LinkCall → LinkAnswer → L → Type 0) where
@@ -190,7 +205,8 @@ module _ {D L : Type 0} (disk : D → Disk) (connection : L → ℕ) (allows : L
     events : new.events ≡ old.events ++ more
     heeds : Heeds old.master.core new.master.core more
 
-  steps_heed : (steps : List Step) (waits : ℕ) (old new : RunView D L) → HasMade disk connection allows steps waits old new → HasHeeded old new
+  steps_heed : (steps : List Step) (waits : ℕ) (old new : RunView D L) → HasMade disk connection allows steps waits old new
+      → HasHeeded old new
   steps_heed [] waits old new made = record {
     more = [];
     events = ap (λ (r : RunView D L). r.events) made.1 ∙ sym (append-nil old.events);
@@ -210,8 +226,10 @@ module _ {D L : Type 0} (disk : D → Disk) (connection : L → ℕ) (allows : L
       }
 
   -- of a schedule that was run from a fresh run on
-  pub none_once_failed : (steps : List Step) (waits : ℕ) (journal : JournalView D) (links : List L) (old new : RunView D L) → IsFresh disk journal links old
+  pub none_once_failed : (steps : List Step) (waits : ℕ) (journal : JournalView D) (links : List L) (old new : RunView D L)
+      → IsFresh disk journal links old
       → HasMade disk connection allows steps waits old new → NoneOnceFailed new.events
   none_once_failed steps waits journal links old new fresh made =
       let told = steps_heed steps waits old new made in
-      subst (λ (ss : List Stamp). NoneOnceFailed ss) (sym (told.events ∙ ap (λ (ss : List Stamp). ss ++ told.more) fresh.events)) told.heeds.none
+      subst (λ (ss : List Stamp). NoneOnceFailed ss) (sym (told.events ∙ ap (λ (ss : List Stamp). ss ++ told.more) fresh.events))
+      told.heeds.none

@@ -1,5 +1,6 @@
 -- What is told is what happened, and the moments of a run.
-use Rattle.std.proofs.Common.{◌≡◌, refl, ◌+◌, ℕ, nat_le, Bool, true, false, List, [], ◌∷◌, ◌++◌, length, drop, Option, Some, None, Result, Ok, Err, ap, sym, ◌∙◌, subst, arith, append-nil, append_assoc, length-append}
+use Rattle.std.proofs.Common.{◌≡◌, refl, ◌+◌, ℕ, nat_le, Bool, true, false, List, [], ◌∷◌, ◌++◌, length, drop, Option, Some, None, Result}
+use Rattle.std.proofs.Common.{Ok, Err, ap, sym, ◌∙◌, subst, arith, append-nil, append_assoc, length-append}
 use Rattle.iol_types.specs.Command.{CommandValue, command_of}
 use Rattle.iol_disk.specs.Disk.{Disk}
 use Rattle.iol_core.specs.Core.{CoreView, live_number}
@@ -32,7 +33,8 @@ use Rattle.iol_run.proofs.InStep.{waits_more, count_is, all_of}
 
 module _ {D : Type 0} (start : Start) (t : ℕ) where
   -- a command is accepted
-  accepted_told : (old new : CoreOnDiskView D) (command : CommandValue) (events : List Stamp) → IsInStep start old.core old.flusher old.committed
+  accepted_told : (old new : CoreOnDiskView D) (command : CommandValue) (events : List Stamp)
+      → IsInStep start old.core old.flusher old.committed
       → new.core.number ≡ old.core.number → waiting_of old.committed new.core ≡ waiting_of old.committed old.core ++ command ∷ []
       → new.flusher ≡ old.flusher → new.committed ≡ old.committed → IsTold start old events
       → IsTold start new (events ++ stamped t (Accepted (live_number old.core + 1) command ∷ []))
@@ -49,7 +51,12 @@ module _ {D : Type 0} (start : Start) (t : ℕ) where
         (rise-append start.number (numbers events) ((live_number old.core + 1) ∷ []) was.rise (omega (arith, counted), tt));
     count =
         ap length (numbers-append events more)
-        ∙ (omega (arith, was.count, length-append (numbers events) ((live_number old.core + 1) ∷ []), length-append (accepted events) (command ∷ []))
+        ∙ (omega (
+          arith,
+          was.count,
+          length-append (numbers events) ((live_number old.core + 1) ∷ []),
+          length-append (accepted events) (command ∷ []),
+        )
         ∙ ap length (sym (accepted-append events more)));
     acked_is = acked-append start.number events more ∙ (was.acked_is ∙ sym number);
   }
@@ -64,7 +71,8 @@ module _ {D : Type 0} (start : Start) (t : ℕ) where
 
   -- an event that accepts and acknowledges nothing, where the master has the same commands and number
   quiet_told : (old new : CoreOnDiskView D) (events : List Stamp) (more : List Stamp) → accepted more ≡ [] → numbers more ≡ []
-      → acked (acked start.number events) more ≡ new.core.number → accepted_in new ≡ accepted_in old → IsTold start old events → IsTold start new (events ++ more)
+      → acked (acked start.number events) more ≡ new.core.number → accepted_in new ≡ accepted_in old → IsTold start old events
+      → IsTold start new (events ++ more)
   quiet_told old new events more none no_number ack same was = record {
     accepted_is = accepted_same ∙ (was.accepted_is ∙ sym same);
     rise = subst (λ (ns : List ℕ). RiseByOne start.number ns) (sym numbers_same) was.rise;
@@ -73,7 +81,8 @@ module _ {D : Type 0} (start : Start) (t : ℕ) where
   }
     where
       accepted_same : accepted (events ++ more) ≡ accepted events
-      accepted_same = accepted-append events more ∙ (ap (λ (cs : List CommandValue). accepted events ++ cs) none ∙ append-nil (accepted events))
+      accepted_same = accepted-append events more
+          ∙ (ap (λ (cs : List CommandValue). accepted events ++ cs) none ∙ append-nil (accepted events))
 
       numbers_same : numbers (events ++ more) ≡ numbers events
       numbers_same = numbers-append events more ∙ (ap (λ (ns : List ℕ). numbers events ++ ns) no_number ∙ append-nil (numbers events))
@@ -108,12 +117,14 @@ module _ {D : Type 0} (start : Start) (t : ℕ) where
       ∙ ap (λ (cs : List CommandValue). old.flusher.published ++ cs) waits)
 
   -- what a call of a port makes of the core
-  becomes_told : (P : Type 0) (old new : CoreOnDiskView D) (events : List Stamp) (told : List Event) → IsInStep start old.core old.flusher old.committed
+  becomes_told : (P : Type 0) (old new : CoreOnDiskView D) (events : List Stamp) (told : List Event)
+      → IsInStep start old.core old.flusher old.committed
       → Becomes P old.core new.core told → new.flusher ≡ old.flusher → new.committed ≡ old.committed → IsTold start old events
       → IsTold start new (events ++ stamped t told)
   becomes_told P old new events told step becomes flusher committed was = by_change becomes.change becomes.new_is becomes.tells
     where
-      by_change : (change : Change) → new.core ≡ changed old.core change → Tells old.core change told → IsTold start new (events ++ stamped t told)
+      by_change : (change : Change) → new.core ≡ changed old.core change → Tells old.core change told
+          → IsTold start new (events ++ stamped t told)
       by_change (Permits permits) is tells =
           quiet_told old new events (stamped t told) (quiet_accepted t told tells) (quiet_numbers t told tells)
           (quiet_acked t (acked start.number events) told tells ∙ (was.acked_is ∙ sym (ap (λ (c : CoreView). c.number) is)))
@@ -126,7 +137,8 @@ module _ {D : Type 0} (start : Start) (t : ℕ) where
           ∙ waits_more start old.core old.flusher old.committed command step)) flusher committed was)
 
   -- a step of a port: its call, and then its status
-  port_told : {L : Type 0} (number : L → ℕ) (steps : L → LinkCall → LinkAnswer → L → Type 0) (there : Bool) (port : ℕ) (old new : CoreOnDiskView D)
+  port_told : {L : Type 0} (number : L → ℕ) (steps : L → LinkCall → LinkAnswer → L → Type 0) (there : Bool) (port : ℕ)
+      (old new : CoreOnDiskView D)
       (ports last : PortsView L) (events : List Stamp) (told : List Event) → IsInStep start old.core old.flusher old.committed
       → StepsIf number steps there port old new ports last told → IsTold start old events → IsTold start new (events ++ stamped t told)
   port_told number steps true port old new ports last events told step is was =
@@ -142,8 +154,10 @@ module _ {D : Type 0} (start : Start) (t : ℕ) where
       (silent_told old new events (ap (λ (m : CoreOnDiskView D). m.core.number) is.0) (ap accepted_in is.0) was)
 
   -- a batch that is acknowledged
-  acknowledged_told : (old new : CoreOnDiskView D) (committed : CommittedView) (events : List Stamp) (told : List Event) → old.committed ≡ Some committed
-      → IsInFlight old.core committed.commands → Acknowledges old new told → IsTold start old events → IsTold start new (events ++ stamped t told)
+  acknowledged_told : (old new : CoreOnDiskView D) (committed : CommittedView) (events : List Stamp) (told : List Event) → old.committed
+      ≡ Some committed
+      → IsInFlight old.core committed.commands → Acknowledges old new told → IsTold start old events
+      → IsTold start new (events ++ stamped t told)
   acknowledged_told old new committed events told there flight is was =
       subst (λ (es : List Event). IsTold start new (events ++ stamped t es)) (sym is.3)
       (quiet_told old new events (stamped t (Acknowledged new.core.number ∷ [])) refl refl refl
@@ -169,7 +183,8 @@ module _ {D : Type 0} (start : Start) (t : ℕ) where
       subst (λ (es : List Event). IsTold start new (events ++ stamped t es)) (sym none)
       (silent_told old new events (ap (λ (m : CoreOnDiskView D). m.core.number) same) (ap accepted_in same) was)
 
-  takes_told : (old new : CoreOnDiskView D) (events : List Stamp) (told : List Event) (turned : Turned) → old.committed ≡ None → Takes old new told turned
+  takes_told : (old new : CoreOnDiskView D) (events : List Stamp) (told : List Event) (turned : Turned) → old.committed ≡ None
+      → Takes old new told turned
       → IsTold start old events → IsTold start new (events ++ stamped t told)
   takes_told old new events told Made none is was =
       subst (λ (es : List Event). IsTold start new (events ++ stamped t es)) (sym is.5)
@@ -178,8 +193,10 @@ module _ {D : Type 0} (start : Start) (t : ℕ) where
   takes_told old new events told Idle none is was = same_told old new events told is.1 is.2 was
   takes_told old new events told Waited none is was = same_told old new events told is.1 is.2 was
 
-  called_told : (disk : D → Disk) (old new : CoreOnDiskView D) (events : List Stamp) (told : List Event) → old.committed ≡ None → new.committed ≡ None
-      → new.flusher.published ≡ old.flusher.published → HasCalled disk old new told → IsTold start old events → IsTold start new (events ++ stamped t told)
+  called_told : (disk : D → Disk) (old new : CoreOnDiskView D) (events : List Stamp) (told : List Event) → old.committed ≡ None
+      → new.committed ≡ None
+      → new.flusher.published ≡ old.flusher.published → HasCalled disk old new told → IsTold start old events
+      → IsTold start new (events ++ stamped t told)
   called_told disk old new events [] none after published is was =
       silent_told old new events (ap (λ (c : CoreView). c.number) is.0)
       (stays_told old new none after published (ap (λ (c : CoreView). c.queue) is.0)) was
@@ -189,7 +206,8 @@ module _ {D : Type 0} (start : Start) (t : ℕ) where
       (stays_told old new none after published (ap (λ (c : CoreView). c.queue) is.2)) was)
 
   publishes_told : (old new : CoreOnDiskView D) (events : List Stamp) (told : List Event) → old.committed ≡ None
-      → IsInStep start old.core old.flusher None → Publishes old new told → IsTold start old events → IsTold start new (events ++ stamped t told)
+      → IsInStep start old.core old.flusher None → Publishes old new told → IsTold start old events
+      → IsTold start new (events ++ stamped t told)
   publishes_told old new events told none step is was =
       let committed = is.0 in
       let then_ = published_in_step start old.core old.flusher new.flusher committed is.1 step in
@@ -198,12 +216,15 @@ module _ {D : Type 0} (start : Start) (t : ℕ) where
       (ap (λ (c : Option CommittedView). new.flusher.published ++ waiting_of c new.core) is.3
       ∙ (ap (λ (c : CoreView). new.flusher.published ++ drop (length committed.commands) c.queue) is.2
       ∙ (all_of old.core new.flusher.published committed.before committed.commands then_.1 then_.2
-      ∙ (ap (λ (cs : List CommandValue). cs ++ old.core.queue) (before_is old.flusher.stage old.flusher.published new.flusher committed is.1)
+      ∙ (ap (λ (cs : List CommandValue). cs ++ old.core.queue)
+      (before_is old.flusher.stage old.flusher.published new.flusher committed is.1)
       ∙ ap (λ (c : Option CommittedView). old.flusher.published ++ waiting_of c old.core) (sym none)))))
       was)
 
-  serves_told : (disk : D → Disk) (need : Need) (old new : CoreOnDiskView D) (events : List Stamp) (told : List Event) (turned : Turned) → old.committed ≡ None
-      → IsInStep start old.core old.flusher None → Serves disk need old new told turned → IsTold start old events → IsTold start new (events ++ stamped t told)
+  serves_told : (disk : D → Disk) (need : Need) (old new : CoreOnDiskView D) (events : List Stamp) (told : List Event) (turned : Turned)
+      → old.committed ≡ None
+      → IsInStep start old.core old.flusher None → Serves disk need old new told turned → IsTold start old events
+      → IsTold start new (events ++ stamped t told)
   serves_told disk need.Batch old new events told turned none step is was = takes_told old new events told turned none is was
   serves_told disk need.Disk old new events told Made none step is was = called_told disk old new events told none is.1 is.0 is.2 was
   serves_told disk need.Disk old new events told Idle none step is was = absurd is
@@ -211,16 +232,20 @@ module _ {D : Type 0} (start : Start) (t : ℕ) where
   serves_told disk need.Publish old new events told turned none step is was = publishes_told old new events told none step is.1 was
   serves_told disk need.Stopped old new events told turned none step is was = same_told old new events told is.1 is.2 was
 
-  turn_told : (disk : D → Disk) (committed : Option CommittedView) (old new : CoreOnDiskView D) (events : List Stamp) (told : List Event) (turned : Turned)
+  turn_told : (disk : D → Disk) (committed : Option CommittedView) (old new : CoreOnDiskView D) (events : List Stamp) (told : List Event)
+      (turned : Turned)
       → old.committed ≡ committed → IsInStep start old.core old.flusher committed → IsTurn disk committed old new told turned
       → IsTold start old events → IsTold start new (events ++ stamped t told)
-  turn_told disk (Some committed) old new events told turned there step is was = acknowledged_told old new committed events told there step.2 is.1 was
-  turn_told disk None old new events told turned there step is was = serves_told disk (need_of old.flusher.stage) old new events told turned there step is was
+  turn_told disk (Some committed) old new events told turned there step is was =
+      acknowledged_told old new committed events told there step.2 is.1 was
+  turn_told disk None old new events told turned there step is was =
+      serves_told disk (need_of old.flusher.stage) old new events told turned there step is was
 
   -- what a step tells is what happened
   pub step_told : {L : Type 0} (disk : D → Disk) (number : L → ℕ) (steps : L → LinkCall → LinkAnswer → L → Type 0) (step : Step)
       (old new : CoreOnDiskView D) (ports last : PortsView L) (events : List Stamp) (told : List Event) (turned : Turned)
-      → IsInStep start old.core old.flusher old.committed → Does disk number steps step old new ports last told turned → IsTold start old events
+      → IsInStep start old.core old.flusher old.committed → Does disk number steps step old new ports last told turned
+      → IsTold start old events
       → IsTold start new (events ++ stamped t told)
   step_told disk number steps (Client change) old new ports last events told turned step is was =
       subst (λ (es : List Event). IsTold start new (events ++ stamped t es)) (sym is.2.4)

@@ -1,5 +1,6 @@
 -- How many turns of the flusher are left until all that waits is acknowledged.
-use Rattle.std.proofs.Common.{◌≡◌, ◌≤◌, ℕ, ◌+◌, ◌-◌, ◌*◌, Bool, true, false, if◌then◌else◌, List, length, length-append, Option, Some, None, ap, sym, ◌∙◌, subst, arith}
+use Rattle.std.proofs.Common.{◌≡◌, ◌≤◌, ℕ, ◌+◌, ◌-◌, ◌*◌, Bool, true, false, if◌then◌else◌, List, length, length-append, Option, Some, None}
+use Rattle.std.proofs.Common.{ap, sym, ◌∙◌, subst, arith}
 use Rattle.std.proofs.Math.Nat.{mul-le-mul_left, mul-add, mul-one}
 use Rattle.iol_types.specs.Command.{CommandValue}
 use Rattle.iol_core.specs.Core.{CoreView}
@@ -87,14 +88,16 @@ given_turns most true = omega arith
 given_turns most false = omega arith
 
 -- what is in flight is one command or more of those that wait
-pub flies_within : (core : CoreView) (commands : List CommandValue) → IsInFlight core commands → (1 ≤ core.flight) × (core.flight ≤ length core.queue)
+pub flies_within : (core : CoreView) (commands : List CommandValue) → IsInFlight core commands → (1 ≤ core.flight)
+    × (core.flight ≤ length core.queue)
 flies_within core commands is =
     (omega (arith, is.flight, is.some), omega (arith, is.flight, ap length is.queue, length-append commands is.behind))
 
 module _ (layout : Layout) where
   none_with : (core : CoreView) → 0 + turns_behind layout core ≤ batch_turns layout * length core.queue
   none_with core =
-      none_more (turns_behind layout core) (batch_turns layout * length core.queue) (mul-le-mul_left (batch_turns layout) (less (length core.queue) core.flight))
+      none_more (turns_behind layout core) (batch_turns layout * length core.queue)
+      (mul-le-mul_left (batch_turns layout) (less (length core.queue) core.flight))
     where
       less : (n m : ℕ) → n - m ≤ n
       less n m = omega arith
@@ -108,9 +111,11 @@ module _ (layout : Layout) where
 
 module _ {D : Type 0} (layout : Layout) where
   -- as many turns are left at most as each command that waits needs in a batch of its own
-  pub most_left : (core : CoreView) (stage : Stage D) (committed : Option CommittedView) → HasBatch core stage committed → HasLayout layout stage → HasFewCalls stage
+  pub most_left : (core : CoreView) (stage : Stage D) (committed : Option CommittedView) → HasBatch core stage committed
+      → HasLayout layout stage → HasFewCalls stage
       → turns_left layout core stage committed ≤ batch_turns layout * length core.queue
-  most_left core stage (Some committed) batch same few = one_with layout core committed.commands 1 batch.0 (few_within 1 (most_checkpoint_calls layout) (omega arith))
+  most_left core stage (Some committed) batch same few =
+      one_with layout core committed.commands 1 batch.0 (few_within 1 (most_checkpoint_calls layout) (omega arith))
   most_left core (Resting j) None batch same few = none_with layout core
   most_left core (Given j b) None batch same few = one_with layout core (values b.commands.items) _ batch (given_most (is_full j))
     where
@@ -123,7 +128,10 @@ module _ {D : Type 0} (layout : Layout) where
     where
       few_most : length (stages_left c) ≤ most_checkpoint_calls c.standing.layout → 21 + length (stages_left c) + 1 ≤ batch_turns layout
       few_most le =
-          calls_within (length (stages_left c)) (most_checkpoint_calls layout) (subst (λ (l : Layout). length (stages_left c) ≤ most_checkpoint_calls l) same le)
-  most_left core (Writing w) None batch same few = one_with layout core w.commands _ batch (written_within _ (most_checkpoint_calls layout) few)
-  most_left core (Publishing j written) None batch same few = one_with layout core written.commands 2 batch (few_within 2 (most_checkpoint_calls layout) (omega arith))
+          calls_within (length (stages_left c)) (most_checkpoint_calls layout)
+          (subst (λ (l : Layout). length (stages_left c) ≤ most_checkpoint_calls l) same le)
+  most_left core (Writing w) None batch same few =
+      one_with layout core w.commands _ batch (written_within _ (most_checkpoint_calls layout) few)
+  most_left core (Publishing j written) None batch same few =
+      one_with layout core written.commands 2 batch (few_within 2 (most_checkpoint_calls layout) (omega arith))
   most_left core (Failed d f) None batch same few = none_with layout core

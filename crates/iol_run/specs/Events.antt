@@ -6,7 +6,8 @@ use Rattle.std.specs.Option.{option_map}
 use Rattle.iol_trace.specs.Events as trace
 use Rattle.iol_run.specs.declared.event.Event.{Event}
 use Rattle.iol_run.specs.declared.run.Stamped.{Stamped}
-use Rattle.iol_run.specs.declared.event.Event.TheVariants.{Accepted, Refused, Page, Exchange, Lost, Attended, Status, Acknowledged, DiskFailed}
+use Rattle.iol_run.specs.declared.event.Event.TheVariants.{Accepted, Refused, Page, Exchange, Lost, Attended, Status, Acknowledged}
+use Rattle.iol_run.specs.declared.event.Event.TheVariants.{DiskFailed}
 
 -- an event as data (own)
 abbrev pub event_of : Event → trace.Event

@@ -23,7 +23,8 @@ pub record IsCoreAfter (first : ℕ) (start : State) (events : List Stamp) (core
 module _ {L : Type 0} (number : L → ℕ) (steps : L → LinkCall → LinkAnswer → L → Type 0) (first : ℕ) (start : State) where
   -- the last step of a port's machine: it stood so before, was led there by what was told earlier, and made its step with its
   -- link and with the core as it stood then. What it tells of that follows at once, and later nothing of the port's own (own)
-  pub record HasLastStep (Led : PortValue → L → List Stamp → Type 0) (port : ℕ) (machine : PortValue) (link : L) (events : List Stamp) : Type 0 where
+  pub record HasLastStep (Led : PortValue → L → List Stamp → Type 0) (port : ℕ) (machine : PortValue) (link : L) (events : List Stamp) :
+      Type 0 where
     pub before : PortValue
     pub linked : L
     pub old : CoreView
@@ -57,5 +58,6 @@ module _ {L : Type 0} (number : L → ℕ) (steps : L → LinkCall → LinkAnswe
   -- what is told of each port that has a link is a run of its machine, from the link that was handed in to the one that is handed
   -- out; of other ports nothing is told (own)
   pub record ArePortRuns (links : List L) (events : List Stamp) (last : List L) : Type 0 where
-    pub runs : (place : ℕ) (begun link : L) → slice_get links place ≡ Some begun → slice_get last place ≡ Some link → HasPortRun (place + 1) begun link events
+    pub runs : (place : ℕ) (begun link : L) → slice_get links place ≡ Some begun → slice_get last place ≡ Some link
+        → HasPortRun (place + 1) begun link events
     pub others : (port : ℕ) → length links < port → own port events ≡ []

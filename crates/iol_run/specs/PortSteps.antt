@@ -64,7 +64,8 @@ module _ {L : Type 0} (number : L → ℕ) (steps : L → LinkCall → LinkAnswe
   -- the link reads the device's page, or the device is lost (own)
   abbrev pub HearsPage : ℕ → Input → L → L → List Event → Type 0
   HearsPage port (input.Page connection octets) old new told =
-      (connection ≡ number old) × steps old ReadPage (Octets octets) new × (number new ≡ number old) × (told ≡ trace.Page port (number old) octets ∷ [])
+      (connection ≡ number old) × steps old ReadPage (Octets octets) new × (number new ≡ number old)
+      × (told ≡ trace.Page port (number old) octets ∷ [])
   HearsPage port input.Lost old new told =
       steps old ReadPage Gone new × (number new ≡ connection_after (number old) Gone) × (told ≡ trace.Lost port (number old) None ∷ [])
   HearsPage port _ old new told = ⊥

@@ -1,5 +1,6 @@
 -- The ports of a master.
-use Rattle.std.specs.Prelude.{◌≡◌, ℕ, zero, suc, ◌+◌, ◌-◌, nat_le, Bool, true, false, List, [], ◌∷◌, ◌++◌, length, Some, slice_get, slice_set}
+use Rattle.std.specs.Prelude.{◌≡◌, ℕ, zero, suc, ◌+◌, ◌-◌, nat_le, Bool, true, false, List, [], ◌∷◌, ◌++◌, length, Some, slice_get}
+use Rattle.std.specs.Prelude.{slice_set}
 use Rattle.iol_link.specs.Link.{LinkCall, LinkAnswer}
 use Rattle.iol_port.specs.Stage.{PortValue, new_machine}
 use Rattle.iol_trace.specs.Events.{Event}

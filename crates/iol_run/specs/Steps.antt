@@ -23,7 +23,8 @@ submit_told command (Err fault) = Refused (refusal_of fault) ∷ []
 -- a client's command is accepted, or refused, as the core says (own)
 abbrev pub Submits : {D : Type 0} → CommandValue → CoreOnDiskView D → CoreOnDiskView D → List Event → Type 0
 Submits command old new told =
-    (answer : Result ℕ SubmitFault) × IsSubmit old.core command new.core answer × (new.flusher ≡ old.flusher) × (new.committed ≡ old.committed)
+    (answer : Result ℕ SubmitFault) × IsSubmit old.core command new.core answer × (new.flusher ≡ old.flusher)
+    × (new.committed ≡ old.committed)
     × (told ≡ submit_told command answer)
 
 module _ {D L : Type 0} (disk : D → Disk) (number : L → ℕ) (steps : L → LinkCall → LinkAnswer → L → Type 0) where

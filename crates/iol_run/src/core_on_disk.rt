@@ -102,7 +102,8 @@ impl<D: SectorDisk, F: Name> CoreOnDisk<D, F> {
         ensures committed { IfOk result (λ master. master.committed ≡ None) }
         ensures queue { IfOk result (λ master. master.core.queue ≡ []) }
         ensures idle { IfOk result (λ master. (master.core.flight ≡ 0) × (master.core.stopped ≡ None)) }
-        ensures core { IfOk result (λ master. (master.core.number ≡ journal.standing.number) × (master.core.durable ≡ journal.standing.state)) }
+        ensures core { IfOk result (λ master. (master.core.number ≡ journal.standing.number)
+            × (master.core.durable ≡ journal.standing.state)) }
         ensures disk { IfErr result (λ disk. disk ≡ journal.disk) }
     {
         let mut publisher = front.publisher::<F>();

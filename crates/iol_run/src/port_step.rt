@@ -10,7 +10,8 @@ ghost use Rattle.iol_port.specs.declared.action.Input.TheVariants as input;
 ghost use Rattle.iol_port.specs.declared.call.Reply.{Reply};
 ghost use Rattle.iol_run.specs.CoreOnDisk.{IsInStep, KeepsRunning};
 ghost use Rattle.iol_run.specs.Events.{event_of, told_of};
-ghost use Rattle.iol_run.specs.PortSteps.{Acts, IsReady, IsStatusTold, HasEvent, PortStep, awake, HasPage, HasAnswer, HasReply, reply_told, store_in, command_said};
+ghost use Rattle.iol_run.specs.PortSteps.{Acts, IsReady, IsStatusTold, HasEvent, PortStep, awake, HasPage, HasAnswer, HasReply, reply_told};
+ghost use Rattle.iol_run.specs.PortSteps.{store_in, command_said};
 
 use crate::core_on_disk::CoreOnDisk;
 use crate::event::{Event, Exchanged};
@@ -44,7 +45,8 @@ pub fn step_port<D: SectorDisk, L: DeviceLink, F: Name>(
     room: Box<Exchanged>,
 ) -> PortTold
     requires ready { IsReady machine.old.stage }
-    ensures step { PortStep L.number L.steps machine.old machine.new link.old link.new master.old.core master.new.core (told_of result.called) (told_of result.status) }
+    ensures step { PortStep L.number L.steps machine.old machine.new link.old link.new master.old.core master.new.core
+        (told_of result.called) (told_of result.status) }
     ensures ready { IsReady machine.new.stage }
     ensures others { (master.new.flusher ≡ master.old.flusher) × (master.new.committed ≡ master.old.committed) }
     ensures run { KeepsRunning D.disk F.front.start master.old master.new }

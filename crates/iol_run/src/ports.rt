@@ -59,7 +59,8 @@ impl<L: DeviceLink> Ports<L> {
         port: PortId,
         room: Box<Exchanged>,
     ) -> PortTold
-        ensures steps { StepsPort L.number L.steps port master.old master.new self.old self.new (told_of result.called ++ told_of result.status) }
+        ensures steps { StepsPort L.number L.steps port master.old master.new self.old self.new (told_of result.called
+            ++ told_of result.status) }
         ensures run { KeepsRunning D.disk F.front.start master.old master.new }
     {
         if port.place() < self.links.len() {
@@ -81,7 +82,8 @@ impl<L: DeviceLink> Ports<L> {
         room: Box<Exchanged>,
     ) -> PortTold
         requires there { port ≤ length self.old.links }
-        ensures steps { StepsThere L.number L.steps port master.old master.new self.old self.new (told_of result.called ++ told_of result.status) }
+        ensures steps { StepsThere L.number L.steps port master.old master.new self.old self.new (told_of result.called
+            ++ told_of result.status) }
         ensures run { KeepsRunning D.disk F.front.start master.old master.new }
     {
         let place = port.place();

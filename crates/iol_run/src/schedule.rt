@@ -83,16 +83,19 @@ pub fn run_schedule<D: SectorDisk, L: DeviceLink + Drop>(
 ) -> Result<Trace<D, L>, RunFault<D>>
     // On a disk that is kept: a stop after any count of events leaves the state after a prefix of the accepted commands, with
     // all that were acknowledged.
-    ensures crash_prefix { IfOk result (λ trace. Shows (D.disk disk) (λ image. IsKept (D.disk disk).sectors image → (first : ℕ) (start : State)
-        → meaning (D.disk disk).sectors image ≡ Ok (record { number = first; state = start })
+    ensures crash_prefix { IfOk result (λ trace. Shows (D.disk disk) (λ image. IsKept (D.disk disk).sectors image
+        → (first : ℕ) (start : State) → meaning (D.disk disk).sectors image ≡ Ok (record { number = first; state = start })
         → CrashPrefix (D.disk trace.disk) trace.begun first start (map stamp_of trace.events.items))) }
     // Each step did what its own clause says, and they are the given ones up to the end.
-    ensures steps { IfOk result (λ trace. IsTraceOf D.disk L.number L.steps steps.now links.items trace.ended trace.waits (map stamp_of trace.events.items) trace.begun trace.state trace.links.items trace.disk) }
+    ensures steps { IfOk result (λ trace.
+        IsTraceOf D.disk L.number L.steps steps.now links.items trace.ended trace.waits (map stamp_of trace.events.items) trace.begun
+        trace.state trace.links.items trace.disk) }
     // What is told of each port's link is a run of it, from the link that was handed in to the one in the trace.
     ensures links { IfOk result (λ trace. AreLinkRuns L.number L.steps links.items (map stamp_of trace.events.items) trace.links.items) }
     // What is told of each port is a run of its machine, from a new one on: step by step, each with the port's link and with the
     // core as it stood after the events before it. The run begins with the state that the disk showed.
-    ensures ports { IfOk result (λ trace. Shows (D.disk disk) (λ image. (journal : Standing) → standing_in (D.disk disk).sectors image ≡ Ok journal
+    ensures ports { IfOk result (λ trace.
+        Shows (D.disk disk) (λ image. (journal : Standing) → standing_in (D.disk disk).sectors image ≡ Ok journal
         → ArePortRuns L.number L.steps journal.number journal.state links.items (map stamp_of trace.events.items) trace.links.items)) }
     // On an honest disk each event is stamped with the clock between what it showed before and what it shows then.
     ensures clocks { IfOk result (λ trace. IsTrue (D.disk trace.disk).honest
@@ -103,7 +106,8 @@ pub fn run_schedule<D: SectorDisk, L: DeviceLink + Drop>(
     ensures stopped { IfOk result (λ trace. NoneOnceFailed (map stamp_of trace.events.items)) }
     // Turns enough of the flusher at the end, 128 for each sector of the journal that the disk shows, leave all that was
     // accepted acknowledged.
-    ensures flushed { IfOk result (λ trace. Shows (D.disk disk) (λ image. (journal : Standing) → standing_in (D.disk disk).sectors image ≡ Ok journal
+    ensures flushed { IfOk result (λ trace.
+        Shows (D.disk disk) (λ image. (journal : Standing) → standing_in (D.disk disk).sectors image ≡ Ok journal
         → AllFlushed (128 * total journal.layout) steps.now journal.number trace.ended trace.waits (map stamp_of trace.events.items))) }
     // Where no run began, the first thing that was wrong is said.
     ensures cause { IfErr result (λ fault. FailsFor D.disk disk (vec_len links) fault) }
@@ -138,7 +142,9 @@ fn carry_out<D: SectorDisk, L: DeviceLink + Drop, F: Name>(
     requires start { (front.start.state ≡ journal.history.start) × (state ≡ journal.history.start) }
     requires list { journal.history.commands ≡ [] }
     requires ports { vec_len links ≡ length state }
-    ensures trace { IfOk result (λ trace. IsTraceOf D.disk L.number L.steps steps.now links.items trace.ended trace.waits (map stamp_of trace.events.items) trace.begun trace.state trace.links.items trace.disk) }
+    ensures trace { IfOk result (λ trace.
+        IsTraceOf D.disk L.number L.steps steps.now links.items trace.ended trace.waits (map stamp_of trace.events.items) trace.begun
+        trace.state trace.links.items trace.disk) }
     ensures links { IfOk result (λ trace. AreLinkRuns L.number L.steps links.items (map stamp_of trace.events.items) trace.links.items) }
     ensures ports { IfOk result (λ trace. ArePortRuns L.number L.steps journal.standing.number journal.standing.state links.items
         (map stamp_of trace.events.items) trace.links.items) }
@@ -146,10 +152,12 @@ fn carry_out<D: SectorDisk, L: DeviceLink + Drop, F: Name>(
         → ClocksRise trace.begun (clock (D.disk trace.disk).content) (map stamp_of trace.events.items)) }
     ensures failures { IfOk result (λ trace. TellsFailures (D.disk journal.disk) (D.disk trace.disk) (map stamp_of trace.events.items)) }
     ensures stopped { IfOk result (λ trace. NoneOnceFailed (map stamp_of trace.events.items)) }
-    ensures flushed { IfOk result (λ trace. AllFlushed (queue_turns journal.standing.layout) steps.now journal.standing.number trace.ended trace.waits
+    ensures flushed { IfOk result (λ trace.
+        AllFlushed (queue_turns journal.standing.layout) steps.now journal.standing.number trace.ended trace.waits
         (map stamp_of trace.events.items)) }
     ensures crash_prefix { IsRunAtRest D.disk (begun (clock (D.disk journal.disk).content) front.start.number front.start.state) journal
-        → IfOk result (λ trace. CrashPrefix (D.disk trace.disk) trace.begun front.start.number front.start.state (map stamp_of trace.events.items)) }
+        → IfOk result (λ trace.
+        CrashPrefix (D.disk trace.disk) trace.begun front.start.number front.start.state (map stamp_of trace.events.items)) }
     ensures fault { IfErr result (λ fault. fault ≡ RunFault.Memory journal.disk) }
 {
     match Run::<D, L, F>::begin(alloc, front, journal, state, links) {

@@ -44,7 +44,8 @@ pub(crate) fn make<D: SectorDisk, L: DeviceLink, F: Name>(
     step: &Step,
     room: Box<Exchanged>,
 ) -> Told
-    ensures does { Does D.disk L.number L.steps step.now master.old master.new ports.old ports.new (told_of result.first ++ told_of result.second) result.turned }
+    ensures does { Does D.disk L.number L.steps step.now master.old master.new ports.old ports.new (told_of result.first
+        ++ told_of result.second) result.turned }
     ensures run { KeepsRunning D.disk F.front.start master.old master.new }
 {
     match step {

@@ -1,5 +1,6 @@
 -- The numbers that a script says.
-use Rattle.std.specs.Prelude.{ℕ, ℤ, pos, negsuc, ◌+◌, ◌^◌, ◌&&◌, nat_le, nat_lt, if◌then◌else◌, List, codes, Option, Some, None, option_and_then, option_map}
+use Rattle.std.specs.Prelude.{ℕ, ℤ, pos, negsuc, ◌+◌, ◌^◌, ◌&&◌, nat_le, nat_lt, if◌then◌else◌, List, codes, Option, Some, None}
+use Rattle.std.specs.Prelude.{option_and_then, option_map}
 use Rattle.toml.specs.Data.{Data, Members, as_integer, get_member}
 use Rattle.iol_types.specs.declared.port_id.TheConstants.{PORTS}
 use Rattle.iol_types.specs.declared.device_id.TheConstants.{DEVICE_NUMBERS}

@@ -1,5 +1,6 @@
 -- What a script says in TOML.
-use Rattle.std.specs.Prelude.{ℕ, ℤ, pos, negsuc, Bool, true, false, ◌&&◌, ◌≤◌, nat_le, if◌then◌else◌, List, [], ◌∷◌, length, codes, IsUtf8, Option, None, option_and_then, option_map}
+use Rattle.std.specs.Prelude.{ℕ, ℤ, pos, negsuc, Bool, true, false, ◌&&◌, ◌≤◌, nat_le, if◌then◌else◌, List, [], ◌∷◌, length, codes, IsUtf8}
+use Rattle.std.specs.Prelude.{Option, None, option_and_then, option_map}
 use Rattle.std.specs.List.{list_all}
 use Rattle.toml.specs.Data.{Items, Members}
 use Rattle.toml.specs.Parse.{parse_document}

@@ -11,7 +11,8 @@ ghost use Rattle.iol_script.specs.Parameters.{of_device};
 ghost use Rattle.iol_script.specs.Fail.{kind_of, call_in};
 ghost use Rattle.iol_script.specs.Stop.{keep_of};
 ghost use Rattle.iol_script.specs.Script.{IsText, said_in, is_port_of, fits_ports};
-ghost use Rattle.iol_script.specs.Examples.{numbers, empty_at, empty_from, said_at, blanks, example_script, example_text, full_script, full_text};
+ghost use Rattle.iol_script.specs.Examples.{numbers, empty_at, empty_from, said_at, blanks, example_script, example_text, full_script};
+ghost use Rattle.iol_script.specs.Examples.{full_text};
 
 use crate::device::USUAL_REVISION;
 

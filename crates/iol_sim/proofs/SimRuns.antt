@@ -1,8 +1,10 @@
 -- What a step of a simulated link leaves, and a run.
-use Rattle.std.proofs.Common.{◌≡◌, ℕ, ◌≤◌, zero, suc, true, false, cond, List, [], ◌∷◌, Option, Some, None, refl, ap, sym, ◌∙◌, subst, arith}
+use Rattle.std.proofs.Common.{◌≡◌, ℕ, ◌≤◌, zero, suc, true, false, cond, List, [], ◌∷◌, Option, Some, None, refl, ap, sym, ◌∙◌, subst}
+use Rattle.std.proofs.Common.{arith}
 use Rattle.std.specs.Prelude.{◌==◌, slice_get, slice_set}
 use Rattle.iol_link.specs.Link.{LinkCall, LinkAnswer, TakeEvent, ReadPage, Exchange, Answered, Run, last_connection}
-use Rattle.iol_sim.specs.SimLink.{VisitValue, Sim, SimStep, EventStep, PageStep, ExchangeStep, present, answering, with_present, left_by, after_loss}
+use Rattle.iol_sim.specs.SimLink.{VisitValue, Sim, SimStep, EventStep, PageStep, ExchangeStep, present, answering, with_present, left_by}
+use Rattle.iol_sim.specs.SimLink.{after_loss}
 
 -- a write elsewhere leaves what is at a place
 set-others : (visits : List VisitValue) (place k : ℕ) (visit : VisitValue) → (k ≡ place → ⊥)

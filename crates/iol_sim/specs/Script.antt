@@ -1,5 +1,6 @@
 -- What a link of a script is, and what it does.
-use Rattle.std.specs.Prelude.{◌≡◌, ◌+◌, ◌==◌, ◌||◌, nat_lt, ℕ, Bool, List, [], ◌∷◌, ◌++◌, length, min, map, take, ◌-◌, replicate, if◌then◌else◌, Option, Some, None}
+use Rattle.std.specs.Prelude.{◌≡◌, ◌+◌, ◌==◌, ◌||◌, nat_lt, ℕ, Bool, List, [], ◌∷◌, ◌++◌, length, min, map, take, ◌-◌, replicate}
+use Rattle.std.specs.Prelude.{if◌then◌else◌, Option, Some, None}
 use Rattle.iol_isdu.specs.declared.parts.TheConstants.{ISDU_OCTETS}
 use Rattle.iol_link.specs.Link.{LinkCall, TakeEvent, ReadPage, Exchange, LinkAnswer, NoEvent, Event, Octets, Gone, last_connection}
 

@@ -1,5 +1,6 @@
 -- A simulated link: devices one after another at one port.
-use Rattle.std.specs.Prelude.{◌≡◌, ℕ, ◌+◌, ◌-◌, ◌==◌, not, Bool, false, if◌then◌else◌, List, Option, Some, None, slice_get, slice_set, option_and_then}
+use Rattle.std.specs.Prelude.{◌≡◌, ℕ, ◌+◌, ◌-◌, ◌==◌, not, Bool, false, if◌then◌else◌, List, Option, Some, None, slice_get, slice_set}
+use Rattle.std.specs.Prelude.{option_and_then}
 use Rattle.std.specs.Option.{option_map, option_map_or}
 use Rattle.iol_link.specs.Link.{LinkCall, TakeEvent, ReadPage, Exchange, LinkAnswer, Octets, Gone, event_answer, last_connection}
 use Rattle.iol_sim.specs.Device.{Device, Answers, page_of, raised, told, after_told, lost_device}

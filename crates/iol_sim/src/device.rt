@@ -54,7 +54,8 @@ impl Model for SimDevice {
 }
 
 impl SimDevice {
-    ghost use Rattle.iol_sim.specs.Device.{Answers, respond, page_of, property_octet, object_read, read_of, after_command, commanded, object_written, value_written, write_of, change_of, raised, told, after_told, lost_device};
+    ghost use Rattle.iol_sim.specs.Device.{Answers, respond, page_of, property_octet, object_read, read_of, after_command, commanded};
+    ghost use Rattle.iol_sim.specs.Device.{object_written, value_written, write_of, change_of, raised, told, after_told, lost_device};
 
     /// A device with these numbers and no parameters: inactive, with no flag and no event.
     pub fn new(alloc: Global, vendor: u16, device: DeviceId, revision: u8, isdu: bool) -> SimDevice

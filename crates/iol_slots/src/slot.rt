@@ -29,7 +29,8 @@ impl Slot {
     /// Reads the gate: whether it is open.
     pub fn is_open<D: SectorDisk>(&self, disk: &mut D) -> Result<bool, DiskFault>
         requires { self.now.gate < (D.disk disk.old).sectors }
-        ensures open { IfOk result (λ answer. IsTrue (D.disk disk.old).honest → answer ≡ is_open (reads (D.disk disk.old).content self.now.gate)) }
+        ensures open { IfOk result (λ answer. IsTrue (D.disk disk.old).honest → answer
+            ≡ is_open (reads (D.disk disk.old).content self.now.gate)) }
         ensures same { Same (D.disk disk.old) (D.disk disk.new) }
         ensures fault { FailsOnlyAs DiskFault.Read (D.disk disk.old) (D.disk disk.new) result }
     {

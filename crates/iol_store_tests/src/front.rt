@@ -31,7 +31,8 @@ fn written(
     alloc: Global,
     journal: Journal<MemoryDisk>,
 ) -> Result<(Journal<MemoryDisk>, Written), Fail>
-    ensures { IfOk result (λ r. (r.1.first ≡ journal.standing.number + 1) × (length r.1.commands ≡ 1) × (r.0.standing.number ≡ journal.standing.number + 1)) }
+    ensures { IfOk result (λ r. (r.1.first ≡ journal.standing.number + 1) × (length r.1.commands ≡ 1)
+        × (r.0.standing.number ≡ journal.standing.number + 1)) }
 {
     let port = PortId::new(1).ok_or("no port number")?;
     let commands = Vec::from_array(alloc, [Command::Clear { port }])?;

@@ -12,10 +12,12 @@ lost_call (Some request) = link.Exchange request
 
 -- the call of a port's link that an event tells, and its answer (own)
 abbrev pub call_told : ℕ → Event → List Answered
-call_told port (Page told connection octets) = at_port port told (record { connection = connection; call = ReadPage; answer = Octets octets })
+call_told port (Page told connection octets) =
+    at_port port told (record { connection = connection; call = ReadPage; answer = Octets octets })
 call_told port (Exchange told connection request answer) =
     at_port port told (record { connection = connection; call = link.Exchange request; answer = Octets answer })
-call_told port (Lost told connection request) = at_port port told (record { connection = connection; call = lost_call request; answer = Gone })
+call_told port (Lost told connection request) =
+    at_port port told (record { connection = connection; call = lost_call request; answer = Gone })
 call_told port event = []
 
 -- the calls of a port's link that events tell, in their order (own)
@@ -34,7 +36,8 @@ without_events [] = []
 without_events (made ∷ more) = if_told made.call made ++ without_events more
 
 -- what events tell of a port's link is a run of it, with calls between that asked for an event (own)
-pub record IsLinkRun {L : Type 0} (number : L → ℕ) (steps : L → LinkCall → LinkAnswer → L → Type 0) (port : ℕ) (events : List Stamp) (first last : L) : Type 0 where
+pub record IsLinkRun {L : Type 0} (number : L → ℕ) (steps : L → LinkCall → LinkAnswer → L → Type 0) (port : ℕ) (events : List Stamp)
+    (first last : L) : Type 0 where
   pub made : List Answered
   pub run : Run number steps first made last
   pub told : without_events made ≡ calls_told port events

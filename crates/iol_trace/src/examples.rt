@@ -49,6 +49,7 @@ pub fn the_own_events_of_a_port()
         ≡ trace.Page 1 0 (5 ∷ []) ∷ trace.Changed 1 Uploading ∷ Accepted 6 (Store 1 3 set) ∷ [] }
     ensures second { (set : SetValue) → own 2 (stamped 7 (trace.Lost 2 0 None ∷ Accepted 6 (Store 1 3 set) ∷ DiskFailed ∷ []))
         ≡ trace.Lost 2 0 None ∷ [] }
-    ensures status { status_shown 1 (stamped 7 (trace.Page 1 0 (5 ∷ []) ∷ trace.Changed 1 Uploading ∷ trace.Changed 2 Off ∷ [])) ≡ Uploading }
+    ensures status { status_shown 1 (stamped 7 (trace.Page 1 0 (5 ∷ []) ∷ trace.Changed 1 Uploading ∷ trace.Changed 2 Off ∷ []))
+        ≡ Uploading }
     ensures none { status_shown 2 (stamped 7 (trace.Page 2 0 (5 ∷ []) ∷ [])) ≡ Off }
 {}

@@ -1,5 +1,6 @@
 -- Entries of a set: in memory and apart from it, and behind others.
-use Rattle.std.proofs.Common.{◌≡◌, ℕ, ◌+◌, ◌*◌, ◌≤◌, ◌<◌, Bool, true, false, cond, List, [], ◌∷◌, ◌++◌, length, Option, Some, None, refl, ap, sym, ◌∙◌, subst, arith, is_some, get_or, length-append}
+use Rattle.std.proofs.Common.{◌≡◌, ℕ, ◌+◌, ◌*◌, ◌≤◌, ◌<◌, Bool, true, false, cond, List, [], ◌∷◌, ◌++◌, length, Option, Some, None, refl}
+use Rattle.std.proofs.Common.{ap, sym, ◌∙◌, subst, arith, is_some, get_or, length-append}
 use Rattle.std.specs.Option.{option_map}
 use Rattle.std.specs.Map.{lookup, keys_of}
 use Rattle.std.specs.List.{IsDistinct, AllByRecursion}
@@ -18,20 +19,25 @@ use Rattle.iol_types.specs.declared.data_set.TheConstants.{MOST_ENTRY_OCTETS, EN
 use Rattle.iol_types.specs.declared.set_builder.AddFault.TheVariants.{ReservedKey, EntryTooLong, Duplicate, SetTooLarge}
 
 -- a look-up among entries in memory is one among the entries
-pub lookup-entries_of : (test : Key → Bool) (kept : List (Key × ArrayVec ℕ)) → lookup test (entries_of kept) ≡ option_map (λ kept. kept.items) (lookup test kept)
+pub lookup-entries_of : (test : Key → Bool) (kept : List (Key × ArrayVec ℕ)) → lookup test (entries_of kept)
+    ≡ option_map (λ kept. kept.items) (lookup test kept)
 lookup-entries_of test [] = refl
 lookup-entries_of test (entry ∷ kept) =
-    elim (test entry.0) as (λ here. cond here (Some entry.1.items) (lookup test (entries_of kept)) ≡ option_map (λ kept. kept.items) (cond here (Some entry.1) (lookup test kept))) [
+    elim (test entry.0) as (λ here. cond here (Some entry.1.items) (lookup test (entries_of kept))
+    ≡ option_map (λ kept. kept.items) (cond here (Some entry.1) (lookup test kept))) [
       | true ↦ refl
       | false ↦ lookup-entries_of test kept
     ]
 
-pub is_some-entries_of : (test : Key → Bool) (kept : List (Key × ArrayVec ℕ)) → is_some (lookup test (entries_of kept)) ≡ is_some (lookup test kept)
+pub is_some-entries_of : (test : Key → Bool) (kept : List (Key × ArrayVec ℕ)) → is_some (lookup test (entries_of kept))
+    ≡ is_some (lookup test kept)
 is_some-entries_of test kept =
     ap is_some (lookup-entries_of test kept)
-    ∙ elim (lookup test kept) as (λ found. is_some (option_map (λ kept. kept.items) found) ≡ is_some found) [ None ↦ refl | Some kept ↦ refl ]
+    ∙ elim (lookup test kept) as (λ found. is_some (option_map (λ kept. kept.items) found) ≡ is_some found)
+    [ None ↦ refl | Some kept ↦ refl ]
 
-pub none-entries_of : (test : Key → Bool) (kept : List (Key × ArrayVec ℕ)) → is_some (lookup test (entries_of kept)) ≡ false → lookup test kept ≡ None
+pub none-entries_of : (test : Key → Bool) (kept : List (Key × ArrayVec ℕ)) → is_some (lookup test (entries_of kept)) ≡ false
+    → lookup test kept ≡ None
 none-entries_of test kept absent = by (lookup test kept) refl
   where
     by : (found : Option (ArrayVec ℕ)) → lookup test kept ≡ found → lookup test kept ≡ None
@@ -44,7 +50,8 @@ length-entries_of kept = length-map kept _
 -- one more entry counts four octets and its own
 pub octets_of-push : (entries : List Entry) (key : Key) (octets : List ℕ)
     → octets_of (entries ++ (key, octets) ∷ []) ≡ octets_of entries + ENTRY_HEAD_OCTETS + length octets
-octets_of-push entries key octets = omega (arith, sum_by-append (λ (entry : Entry). ENTRY_HEAD_OCTETS + length entry.1) entries ((key, octets) ∷ []))
+octets_of-push entries key octets =
+    omega (arith, sum_by-append (λ (entry : Entry). ENTRY_HEAD_OCTETS + length entry.1) entries ((key, octets) ∷ []))
 
 -- what holds where nothing refuses an entry
 pub record MayBeAdded (entries : List Entry) (key : Key) (octets : List ℕ) : Type 0 where
@@ -53,14 +60,16 @@ pub record MayBeAdded (entries : List Entry) (key : Key) (octets : List ℕ) : T
   pub absent : is_some (data_at entries key) ≡ false
   pub fits : octets_of entries + ENTRY_HEAD_OCTETS + length octets ≤ MOST_SET_OCTETS
 
-pub may_be_added : (entries : List Entry) (key : Key) (octets : List ℕ) → add_fault entries key octets ≡ None → MayBeAdded entries key octets
+pub may_be_added : (entries : List Entry) (key : Key) (octets : List ℕ) → add_fault entries key octets ≡ None
+    → MayBeAdded entries key octets
 may_be_added entries key octets none =
     by (is_reserved key) (nat_lt MOST_ENTRY_OCTETS (length octets)) (is_some (data_at entries key))
     (nat_lt MOST_SET_OCTETS (octets_of entries + ENTRY_HEAD_OCTETS + length octets)) refl refl refl refl none
   where
     by : (reserved long there large : Bool) → is_reserved key ≡ reserved → nat_lt MOST_ENTRY_OCTETS (length octets) ≡ long
         → is_some (data_at entries key) ≡ there → nat_lt MOST_SET_OCTETS (octets_of entries + ENTRY_HEAD_OCTETS + length octets) ≡ large
-        → cond reserved (Some ReservedKey) (cond long (Some EntryTooLong) (cond there (Some Duplicate) (cond large (Some SetTooLarge) None))) ≡ None
+        → cond reserved (Some ReservedKey)
+        (cond long (Some EntryTooLong) (cond there (Some Duplicate) (cond large (Some SetTooLarge) None))) ≡ None
         → MayBeAdded entries key octets
     by true long there large r l t s none = cc
     by false true there large r l t s none = cc
@@ -72,7 +81,8 @@ may_be_added entries key octets none =
 pub none-added : (entries : List Entry) (key : Key) (octets : List ℕ) → MayBeAdded entries key octets → add_fault entries key octets ≡ None
 none-added entries key octets may =
     let short : nat_lt MOST_ENTRY_OCTETS (length octets) ≡ false = grind (arith, nat_tests, may.short) in
-    let fits : nat_lt MOST_SET_OCTETS (octets_of entries + ENTRY_HEAD_OCTETS + length octets) ≡ false = grind (arith, nat_tests, may.fits) in
+    let fits : nat_lt MOST_SET_OCTETS (octets_of entries + ENTRY_HEAD_OCTETS + length octets) ≡ false =
+    grind (arith, nat_tests, may.fits) in
     rw (may.free, short, may.absent, fits) refl
 
 pub no-entries : AreEntries []
@@ -125,7 +135,8 @@ one-more entries key octets are in_range may =
     let entry : IsEntry (key, octets) = record { key = in_range; free = may.free; short = may.short } in
     record {
       each = λ i d below. grind (arith, common_steps, are.each i d, entry);
-      distinct = subst (IsDistinct same_key) (sym (map-append (λ (e : Entry). e.0) entries ((key, octets) ∷ []))) (distinct-push entries key may.absent are.distinct);
+      distinct = subst (IsDistinct same_key) (sym (map-append (λ (e : Entry). e.0) entries ((key, octets) ∷ [])))
+          (distinct-push entries key may.absent are.distinct);
       fits = omega (arith, octets_of-push entries key octets, may.fits);
     }
 
@@ -133,7 +144,8 @@ among : (entries : List Entry) (entry : Entry) (more : List Entry) → get_or (e
 among [] entry more = refl
 among (other ∷ entries) entry more = among entries entry more
 
-apart-among : (P : Key → Type 0) (entries : List Entry) (key : Key) (behind : List Key) → AllByRecursion P (keys_of entries ++ key ∷ behind) → P key
+apart-among : (P : Key → Type 0) (entries : List Entry) (key : Key) (behind : List Key) → AllByRecursion P (keys_of entries ++ key ∷ behind)
+    → P key
 apart-among P [] key behind all = all.0
 apart-among P (other ∷ entries) key behind all = apart-among P entries key behind all.1
 
@@ -147,7 +159,8 @@ absent-before (other ∷ entries) key behind distinct =
     ap (λ same. is_some (cond same (Some other.1) (data_at entries key))) apart ∙ absent-before entries key behind distinct.1
 
 -- and nothing refuses an entry that stands behind others
-pub may-stand : (entries : List Entry) (entry : Entry) (more : List Entry) → AreEntries (entries ++ entry ∷ more) → IsKey entry.0 × MayBeAdded entries entry.0 entry.1
+pub may-stand : (entries : List Entry) (entry : Entry) (more : List Entry) → AreEntries (entries ++ entry ∷ more) → IsKey entry.0
+    × MayBeAdded entries entry.0 entry.1
 may-stand entries entry more are =
     let there : length entries < length (entries ++ entry ∷ more) = omega (arith, length-append entries (entry ∷ more)) in
     let is : IsEntry entry = subst IsEntry (among entries entry more) (are.each (length entries) entry there) in
@@ -156,7 +169,8 @@ may-stand entries entry more are =
       record {
         free = is.free;
         short = is.short;
-        absent = absent-before entries entry.0 (keys_of more) (subst (IsDistinct same_key) (map-append (λ (e : Entry). e.0) entries (entry ∷ more)) are.distinct);
+        absent = absent-before entries entry.0 (keys_of more)
+            (subst (IsDistinct same_key) (map-append (λ (e : Entry). e.0) entries (entry ∷ more)) are.distinct);
         fits = omega (arith, are.fits, counted entries (entry ∷ more), counted (entry ∷ []) more);
       },
     )
@@ -175,7 +189,8 @@ grown kept later count key value octets is in_range none made are counted =
     ap entries_of made ∙ map-append _ kept ((key, value) ∷ []) ∙ ap (λ (o : List ℕ). entries_of kept ++ (key, o) ∷ []) is in
     record {
       entries = whole;
-      are = subst AreEntries (sym whole) (one-more (entries_of kept) key octets are in_range (may_be_added (entries_of kept) key octets none));
+      are = subst AreEntries (sym whole)
+          (one-more (entries_of kept) key octets are in_range (may_be_added (entries_of kept) key octets none));
       counted = omega (arith, octets_of-push (entries_of kept) key octets, ap octets_of whole, counted);
     }
 

@@ -15,5 +15,6 @@ example_is_set =
     let in_second : IsKey second = record { index = omega arith; subindex = omega arith } in
     let one : AreEntries ((first, octets) ∷ []) = one-more [] first octets no-entries in_first (may_be_added [] first octets refl) in
     let there : List Entry = (first, octets) ∷ [] in
-    let both : AreEntries example_set.entries = one-more there second (127 ∷ []) one in_second (may_be_added there second (127 ∷ []) refl) in
+    let both : AreEntries example_set.entries =
+    one-more there second (127 ∷ []) one in_second (may_be_added there second (127 ∷ []) refl) in
     record { entries = both; vendor = omega arith; device = omega arith; checksum = omega arith }

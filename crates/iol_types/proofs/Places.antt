@@ -1,12 +1,15 @@
 -- What stands at a place of a list, and what was found of it.
-use Rattle.std.proofs.Common.{◌≡◌, ℕ, zero, suc, ◌+◌, Bool, true, true≢false, List, [], ◌∷◌, Option, Some, None, take, slice_get, refl, sym, ap, add-one}
+use Rattle.std.proofs.Common.{◌≡◌, ℕ, zero, suc, ◌+◌, Bool, true, true≢false, List, [], ◌∷◌, Option, Some, None, take, slice_get, refl, sym}
+use Rattle.std.proofs.Common.{ap, add-one}
 use Rattle.std.specs.Option.{option_map, option_eq}
 
 -- two lists that are equal up to a place, and at it, are equal behind it
-pub take_next : {A : Type 0} (xs ys : List A) (i : ℕ) → slice_get xs i ≡ slice_get ys i → take i xs ≡ take i ys → take (i + 1) xs ≡ take (i + 1) ys
+pub take_next : {A : Type 0} (xs ys : List A) (i : ℕ) → slice_get xs i ≡ slice_get ys i → take i xs ≡ take i ys → take (i + 1) xs
+    ≡ take (i + 1) ys
 take_next xs ys i here before = rw add-one (behind xs ys i here before)
   where
-    behind : {A : Type 0} (xs ys : List A) (i : ℕ) → slice_get xs i ≡ slice_get ys i → take i xs ≡ take i ys → take (suc i) xs ≡ take (suc i) ys
+    behind : {A : Type 0} (xs ys : List A) (i : ℕ) → slice_get xs i ≡ slice_get ys i → take i xs ≡ take i ys → take (suc i) xs
+        ≡ take (suc i) ys
     behind [] [] i here before = refl
     behind [] (y ∷ ys) zero here before = absurd cc
     behind [] (y ∷ ys) (suc i) here before = absurd cc

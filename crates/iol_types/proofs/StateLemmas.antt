@@ -6,14 +6,16 @@ use Rattle.iol_types.specs.Command.{CommandValue, Configure, Clear, Store}
 use Rattle.iol_types.specs.State.{Port, State, port_numbered, changed_at, configured, cleared, with_set, check, apply, after, legal}
 
 -- commands are legal in a row where the rest is legal in the state after the first
-pub legal-append : (state : State) (first rest : List CommandValue) → legal state (first ++ rest) ≡ (legal state first && legal (after state first) rest)
+pub legal-append : (state : State) (first rest : List CommandValue) → legal state (first ++ rest)
+    ≡ (legal state first && legal (after state first) rest)
 legal-append state [] rest = refl
 legal-append state (command ∷ first) rest =
     let passes = is_none (check state command) in
     let next = apply state command in
     ap (λ b. passes && b) (legal-append next first rest) ∙ sym (and_assoc passes (legal next first) (legal (after next first) rest))
 
-length-changed_at : (state : State) (number : ℕ) (change : Port → Port) (port : Option Port) → length (changed_at state number change port) ≡ length state
+length-changed_at : (state : State) (number : ℕ) (change : Port → Port) (port : Option Port) → length (changed_at state number change port)
+    ≡ length state
 length-changed_at state number change None = refl
 length-changed_at state number change (Some port) = length-set state _ (change port)
 

@@ -31,7 +31,8 @@ validation_octet Restore = 4
 -- the validation, if any, that has this octet (standard, port configuration)
 abbrev pub validation_of : ℕ → Option Validation
 validation_of octet =
-    find (λ validation. validation_octet validation == octet) (NoCheck ∷ TypeCompatibleV10 ∷ TypeCompatibleV11 ∷ BackupAndRestore ∷ Restore ∷ [])
+    find (λ validation. validation_octet validation == octet) (NoCheck ∷ TypeCompatibleV10 ∷ TypeCompatibleV11 ∷ BackupAndRestore ∷ Restore
+    ∷ [])
 
 -- the numbers of a configuration are in their ranges (standard, port configuration)
 pub record IsConfig (config : PortConfig) : Type 0 where

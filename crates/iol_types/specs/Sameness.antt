@@ -43,7 +43,8 @@ same_entry-Decides one two = (
       let key : one.0 ≡ two.0 = (same_key-Decides one.0 two.0).0 parts.0 in
       let octets : one.1 ≡ two.1 = (bytes_eq-Decides one.1 two.1).0 parts.1 in
       λ i. (key i, octets i),
-  λ is. and_from _ _ ((same_key-Decides one.0 two.0).1 (ap (λ (entry : Entry). entry.0) is)) ((bytes_eq-Decides one.1 two.1).1 (ap (λ (entry : Entry). entry.1) is)),
+  λ is. and_from _ _ ((same_key-Decides one.0 two.0).1 (ap (λ (entry : Entry). entry.0) is))
+      ((bytes_eq-Decides one.1 two.1).1 (ap (λ (entry : Entry). entry.1) is)),
 )
 
 pub same_entries-Decides : (one two : List Entry) → Decides (pointwise same_entry one two) (one ≡ two)
@@ -52,7 +53,8 @@ same_entries-Decides = pointwise_decides same_entry-Decides
 -- two sets say the same: equal numbers, and the same entries in the same order (own)
 abbrev pub same_set : SetValue → SetValue → Bool
 same_set one two =
-    (one.vendor == two.vendor) && ((one.device == two.device) && ((one.checksum == two.checksum) && pointwise same_entry one.entries two.entries))
+    (one.vendor == two.vendor) &&
+    ((one.device == two.device) && ((one.checksum == two.checksum) && pointwise same_entry one.entries two.entries))
 
 pub same_set-Decides : (one two : SetValue) → Decides (same_set one two) (one ≡ two)
 same_set-Decides one two = (
@@ -153,7 +155,8 @@ equal_if_same (Store port revision set) (Store other_port other_revision other_s
 same_itself : (command : CommandValue) → same_command command command ≡ true
 same_itself (Configure port config) = and_from _ _ (eq-eqb port port refl) ((same_config-Decides config config).1 refl)
 same_itself (Clear port) = eq-eqb port port refl
-same_itself (Store port revision set) = and_from _ _ (eq-eqb port port refl) (and_from _ _ (eq-eqb revision revision refl) ((same_set-Decides set set).1 refl))
+same_itself (Store port revision set) =
+    and_from _ _ (eq-eqb port port refl) (and_from _ _ (eq-eqb revision revision refl) ((same_set-Decides set set).1 refl))
 
 pub same_command-Decides : (one two : CommandValue) → Decides (same_command one two) (one ≡ two)
 same_command-Decides one two = (equal_if_same one two, λ is. subst (λ other. same_command one other ≡ true) is (same_itself one))

@@ -1,5 +1,6 @@
 -- The state of a master's ports, and what commands do to it.
-use Rattle.std.specs.Prelude.{◌≡◌, ℕ, ◌+◌, ◌-◌, ◌≤◌, ◌==◌, nat_lt, nat_le, ◌&&◌, not, if◌then◌else◌, Bool, true, List, [], ◌∷◌, Option, Some, None, IfSome, is_none, fold, replicate, slice_get, slice_set}
+use Rattle.std.specs.Prelude.{◌≡◌, ℕ, ◌+◌, ◌-◌, ◌≤◌, ◌==◌, nat_lt, nat_le, ◌&&◌, not, if◌then◌else◌, Bool, true, List, [], ◌∷◌, Option}
+use Rattle.std.specs.Prelude.{Some, None, IfSome, is_none, fold, replicate, slice_get, slice_set}
 use Rattle.iol_types.specs.Config.{IsConfig, keeps_set, may_store_set}
 use Rattle.iol_types.specs.DataSet.{SetValue, IsSet}
 use Rattle.iol_types.specs.Command.{CommandValue, Configure, Clear, Store}

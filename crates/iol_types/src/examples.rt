@@ -178,7 +178,8 @@ pub fn sets_stored()
     ensures ahead { check (one_port example_config 1) (Store 1 2 example_set) ≡ Some CommandFault.StaleRevision }
     ensures wrong_vendor { check (one_port (record example_config { vendor = 501 }) 1) (Store 1 1 example_set)
         ≡ Some CommandFault.WrongDevice }
-    ensures wrong_device { check (one_port (record example_config { device = 1 }) 1) (Store 1 1 example_set) ≡ Some CommandFault.WrongDevice }
+    ensures wrong_device { check (one_port (record example_config { device = 1 }) 1) (Store 1 1 example_set)
+        ≡ Some CommandFault.WrongDevice }
 {}
 
 /// A set that is stored stands in place of any before, under the port's present configuration, and

@@ -83,7 +83,8 @@ impl PortState {
     /// A port with this configuration at this revision, and what is stored for it; `None` where a
     /// port with this configuration may not have that set.
     pub fn new(config: PortConfig, revision: u64, stored: Option<StoredSet>) -> Option<PortState>
-        ensures port { IfSome result (λ port. port ≡ record { config = config; revision = revision; stored = option_map stored_of stored }) }
+        ensures port { IfSome result (λ port. port
+            ≡ record { config = config; revision = revision; stored = option_map stored_of stored }) }
         ensures exactly { IsSome result ↔ IfSome (option_map stored_of stored) (λ stored. may_have config stored ≡ true) }
     {
         if let Some(stored) = &stored

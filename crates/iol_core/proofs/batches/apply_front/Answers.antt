@@ -19,7 +19,9 @@ loop-done-preserved c =
     let next = first_left all i command others (sym was.queue ∙ cut) in
     let passes = and_parts (is_none (check state command)) (legal (apply state command) others) (ap (legal state) (sym cut) ∙ was.legal) in
     record {
-      durable = c.apply.ensures ∙ (ap (λ (s : State). apply s command) was.durable ∙ (sym (after_push first (take i all) command) ∙ ap (after first) (sym next.0)));
+      durable = c.apply.ensures
+          ∙ (ap (λ (s : State). apply s command) was.durable
+          ∙ (sym (after_push first (take i all) command) ∙ ap (after first) (sym next.0)));
       queue = sym next.1;
       legal = ap (λ (s : State). legal s others) c.apply.ensures ∙ passes.1;
       room = search rules;

@@ -10,7 +10,8 @@ loop-place-preserved c =
     let queue = c.args.queue.now.items in
     let i = c.loop-place.place in
     let copied = c.in_ok-copy.field-0 in
-    let more : take (i + 1) (values queue) ≡ take i (values queue) ++ value_of c.index.result.now ∷ [] = values_more queue i c.index.result.now (omega arith) (sym c.index.ensures) in
+    let more : take (i + 1) (values queue) ≡ take i (values queue) ++ value_of c.index.result.now ∷ [] =
+    values_more queue i c.index.result.now (omega arith) (sym c.index.ensures) in
     ap values c.in_ok-push.ensures.items
     ∙ (map-append value_of c.loop-place.commands.items (copied ∷ [])
     ∙ (ap (λ (front : List CommandValue). front ++ value_of copied ∷ []) c.loop-place.invariant

@@ -10,7 +10,8 @@ loop-place-preserved g c =
     let i = c.loop-place.place in
     let command = value_of c.in-Some.command.now in
     let same : command ≡ value_of c.index.result.now = c.is_same.ensures.0 (search rules) in
-    let more : take (i + 1) (values queue) ≡ take i (values queue) ++ value_of c.index.result.now ∷ [] = values_more queue i c.index.result.now (omega arith) (sym c.index.ensures) in
+    let more : take (i + 1) (values queue) ≡ take i (values queue) ++ value_of c.index.result.now ∷ [] =
+    values_more queue i c.index.result.now (omega arith) (sym c.index.ensures) in
     take_found c.args.committed.now.commands i command c.in-Some.ensures
     ∙ (ap (λ (front : List CommandValue). front ++ command ∷ []) c.loop-place.invariant
     ∙ (ap (λ (last : CommandValue). take i (values queue) ++ last ∷ []) same ∙ sym more))

@@ -19,4 +19,5 @@ returns-then-room-octets-clause-longest c =
     let next = c.command_record_octets-next.ensures.count in
     let long : length (values queue) ≡ length queue = length-values queue in
     let fits : c.loop-count.octets ≤ c.args.room = c.loop-count.invariant.fits in
-    stops_here c.args.room (values queue) c.loop-count.count (omega (arith, long)) (omega (arith, octets, fits)) (λ _. omega (arith, sum, octets, next))
+    stops_here c.args.room (values queue) c.loop-count.count (omega (arith, long)) (omega (arith, octets, fits)) (λ _.
+    omega (arith, sum, octets, next))

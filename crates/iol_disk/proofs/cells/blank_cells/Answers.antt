@@ -6,4 +6,5 @@ use Rattle.iol_disk.proofs.cells.blank_cells.Goals as goal
 
 pub loop-preserved : goal.loop-preserved
 loop-preserved c =
-    c.in_ok-push.ensures.items ∙ ap (λ (cells : List Cell). cells ++ blank_cell ∷ []) c.loop.invariant ∙ replicate_more c.loop.counter blank_cell
+    c.in_ok-push.ensures.items ∙ ap (λ (cells : List Cell). cells ++ blank_cell ∷ []) c.loop.invariant
+    ∙ replicate_more c.loop.counter blank_cell

@@ -10,7 +10,12 @@ use Rattle.iol_disk.proofs.cells.settle_listed.Goals as goal
 
 pub index_mut-requires : goal.index_mut-requires
 index_mut-requires c =
-    omega (arith, c.requires _ (listed_at c.args.listed.now c.loop-sector.sector-index c.loop-sector-test.true), c.loop-sector.invariant.same_length, c.loop-sector.cells.ok)
+    omega (
+      arith,
+      c.requires _ (listed_at c.args.listed.now c.loop-sector.sector-index c.loop-sector-test.true),
+      c.loop-sector.invariant.same_length,
+      c.loop-sector.cells.ok,
+    )
 
 pub loop-sector-preserved : goal.loop-sector-preserved
 loop-sector-preserved c =
@@ -19,12 +24,17 @@ loop-sector-preserved c =
     let cells = c.loop-sector.cells.items in
     let cell = c.index_mut.result.now in
     let within : n < length cells =
-    omega (arith, c.requires n (listed_at c.args.listed.now c.loop-sector.sector-index c.loop-sector-test.true), c.loop-sector.invariant.same_length) in
+    omega (
+      arith,
+      c.requires n (listed_at c.args.listed.now c.loop-sector.sector-index c.loop-sector-test.true),
+      c.loop-sector.invariant.same_length,
+    ) in
     record {
       same_length = length-set _ _ _ ∙ c.loop-sector.invariant.same_length;
       so_far = λ i.
           ap (λ (new : Cell). slice_get (slice_set cells n new) i) c.settle.ensures
-          ∙ settled_more old cells n cell i _ within (slice_get_read cells _ n cell refl within c.index_mut.ensures.value) (c.loop-sector.invariant.so_far i)
+          ∙ settled_more old cells n cell i _ within (slice_get_read cells _ n cell refl within c.index_mut.ensures.value)
+          (c.loop-sector.invariant.so_far i)
           ∙ ap (λ (listed : Bool). if listed then option_map settled (slice_get old i) else slice_get old i)
           (sym (is_listed-take_more c.args.listed.now c.loop-sector.sector-index i c.loop-sector-test.true));
     }

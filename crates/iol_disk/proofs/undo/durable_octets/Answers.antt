@@ -19,7 +19,10 @@ pub loop-sector-preserved : goal.loop-sector-preserved
 loop-sector-preserved c = λ i.
     let sector = get_or c.args.listed.now c.loop-sector.sector-index 0 in
     let cells = c.args.cells.now in
-    let within : sector < length cells = c.requires sector (listed_at c.args.listed.now c.loop-sector.sector-index c.loop-sector-test.true) in
+    let within : sector < length cells =
+    c.requires sector (listed_at c.args.listed.now c.loop-sector.sector-index c.loop-sector-test.true) in
     ap (λ (sync : List Replaced). replaced_at sync i) c.in_ok-push.ensures.items
-    ∙ replaced_more cells c.loop-sector.sync.items _ i _ (ap durable_in (slice_get-get_or cells sector _ within)) (c.loop-sector.invariant i)
-    ∙ ap (λ (listed : Bool). if listed then Some (durable_of cells i) else None) (sym (is_listed-take_more c.args.listed.now c.loop-sector.sector-index i c.loop-sector-test.true))
+    ∙ replaced_more cells c.loop-sector.sync.items _ i _ (ap durable_in (slice_get-get_or cells sector _ within))
+    (c.loop-sector.invariant i)
+    ∙ ap (λ (listed : Bool). if listed then Some (durable_of cells i) else None)
+    (sym (is_listed-take_more c.args.listed.now c.loop-sector.sector-index i c.loop-sector-test.true))

@@ -10,8 +10,14 @@ use Rattle.iol_example.proofs.store.finish.Goals as goal
 pub loop-next-init : goal.loop-next-init
 loop-next-init g c =
     let d = g.D.SectorDisk.disk in
-    let w = c.args.writing in
-    (refl, refl, λ under. under, λ under. started (d w.disk) _ (underway_means_either d w under), λ r run. run, none_yet (calls_left w) (calls_left w) (d w.disk) (d w.disk) refl refl)
+    let w = c.args.writing in (
+      refl,
+      refl,
+      λ under. under,
+      λ under. started (d w.disk) _ (underway_means_either d w under),
+      λ r run. run,
+      none_yet (calls_left w) (calls_left w) (d w.disk) (d w.disk) refl refl,
+    )
 
 pub loop-next-smaller : goal.loop-next-smaller
 loop-next-smaller g c = omega (arith, ap (λ (calls : List Call). length calls) c.in-More.ensures.call.order)

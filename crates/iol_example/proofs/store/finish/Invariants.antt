@@ -15,7 +15,8 @@ invariant-loop-next g l =
     let w = l.fn.writing in
     (l.writing.standing ≡ w.standing) × (l.writing.commands ≡ w.commands)
     × (IsUnderway d w → IsUnderway d l.writing)
-    × (IsUnderway d w → LeavesOnly (d w.disk) (d l.writing.disk) (KeptEither (d w.disk).sectors w.standing.number w.standing.state w.commands))
+    × (IsUnderway d w → LeavesOnly (d w.disk) (d l.writing.disk)
+    (KeptEither (d w.disk).sectors w.standing.number w.standing.state w.commands))
     × ((r : Run) → IsRunWriting d r w → IsRunWriting d r l.writing)
     × IsAhead (calls_left w) (calls_left l.writing) (d w.disk) (d l.writing.disk)
 

@@ -16,12 +16,14 @@ use Rattle.iol_example.proofs.store.write.Goals as goal
 pub returns-in_err-journal-clause-any_moment : goal.returns-in_err-journal-clause-any_moment
 returns-in_err-journal-clause-any_moment g c = λ rests.
     let p = err_from_is_err_and c.from_residual.result c.from_residual.ensures.1 in
-    rw (p.1, p.2) (or_after _ (g.D.SectorDisk.disk (left_disk (Err c.in_err-journal.field-0.0))) _ _ (value_of c.args.command ∷ []) (c.in_err-journal.ensures.any_moment rests))
+    rw (p.1, p.2) (or_after _ (g.D.SectorDisk.disk (left_disk (Err c.in_err-journal.field-0.0))) _ _ (value_of c.args.command ∷ [])
+    (c.in_err-journal.ensures.any_moment rests))
 
 pub returns-in_err-journal-clause-refused : goal.returns-in_err-journal-clause-refused
 returns-in_err-journal-clause-refused g c = λ rests.
     let p = err_from_is_err_and c.from_residual.result c.from_residual.ensures.1 in
-    rw (p.1, p.2) (refused_as_it_was g.D.SectorDisk.disk c.args.journal (Err c.in_err-journal.field-0.0) c.in_err-journal.ensures.refused rests)
+    rw (p.1, p.2) (refused_as_it_was g.D.SectorDisk.disk c.args.journal (Err c.in_err-journal.field-0.0) c.in_err-journal.ensures.refused
+    rests)
 
 pub returns-in_err-journal-clause-calls : goal.returns-in_err-journal-clause-calls
 returns-in_err-journal-clause-calls g c =
@@ -29,12 +31,14 @@ returns-in_err-journal-clause-calls g c =
     let j = c.args.journal in
     let p = err_from_is_err_and c.from_residual.result c.from_residual.ensures.1 in
     rw (p.1, p.2)
-    (ended_early d (freeing_calls j.standing j.idle) (batch_calls (with_slot j.standing) (value_of c.args.command ∷ [])) (d j.disk) c.in_err-journal.field-0.0
+    (ended_early d (freeing_calls j.standing j.idle) (batch_calls (with_slot j.standing) (value_of c.args.command ∷ [])) (d j.disk)
+    c.in_err-journal.field-0.0
     c.in_err-journal.ensures.calls)
 
 -- memory ran out
 pub returns-in_default-clause-any_moment : goal.returns-in_default-clause-any_moment
-returns-in_default-clause-any_moment g c = λ rests. or_after _ _ _ _ (value_of c.args.command ∷ []) (c.in_ok-journal.ensures.any_moment rests)
+returns-in_default-clause-any_moment g c = λ rests.
+    or_after _ _ _ _ (value_of c.args.command ∷ []) (c.in_ok-journal.ensures.any_moment rests)
 
 pub returns-in_default-clause-refused : goal.returns-in_default-clause-refused
 returns-in_default-clause-refused g c = λ rests.
@@ -71,10 +75,12 @@ returns-in-Ok-begin-clause-durable g c = λ rests.
 pub returns-in-Ok-begin-clause-run : goal.returns-in-Ok-begin-clause-run
 returns-in-Ok-begin-clause-run g c = λ r behind queued run.
     let d = g.D.SectorDisk.disk in
-    let writes = subst (λ (cs : List CommandValue). r.queued ≡ cs ++ behind → IsRunWriting d (with_batch_begun r cs behind) c.in-Ok-begin.writing)
+    let writes = subst (λ (cs : List CommandValue). r.queued ≡ cs ++ behind
+    → IsRunWriting d (with_batch_begun r cs behind) c.in-Ok-begin.writing)
     (ap values c.in-Ok.ensures.items)
     (λ first. c.in-Ok-begin.ensures.run r behind first (c.in_ok-journal.ensures.run r run)) queued in
-    run_of_queued d r (value_of c.args.command ∷ []) behind _ c.finish.result run.2 queued c.finish.ensures.taken (c.finish.ensures.run _ writes)
+    run_of_queued d r (value_of c.args.command ∷ []) behind _ c.finish.result run.2 queued c.finish.ensures.taken
+    (c.finish.ensures.run _ writes)
 
 pub returns-in-Ok-begin-clause-calls : goal.returns-in-Ok-begin-clause-calls
 returns-in-Ok-begin-clause-calls g c =
@@ -85,19 +91,23 @@ returns-in-Ok-begin-clause-calls g c =
     let order = begun.ensures.calls
     ∙ (ap (λ (s : Standing). batch_calls s (values c.in-Ok.commands.items)) freed.ensures.slot
     ∙ ap (λ (cs : List CommandValue). batch_calls (with_slot j.standing) cs) (ap values c.in-Ok.ensures.items)) in
-    then_makes d (freeing_calls j.standing j.idle) (batch_calls (with_slot j.standing) (value_of c.args.command ∷ [])) (d j.disk) (d freed.journal.disk) c.finish.result
+    then_makes d (freeing_calls j.standing j.idle) (batch_calls (with_slot j.standing) (value_of c.args.command ∷ [])) (d j.disk)
+    (d freed.journal.disk) c.finish.result
     freed.ensures.calls
     (subst (λ (calls : List Call). MakesCalls d calls (d freed.journal.disk) c.finish.result) order
-    (subst (λ (disk : g.row.D.Denot). MakesCalls d (calls_left begun.writing) (d disk) c.finish.result) begun.ensures.begun.0 c.finish.ensures.calls))
+    (subst (λ (disk : g.row.D.Denot). MakesCalls d (calls_left begun.writing) (d disk) c.finish.result) begun.ensures.begun.0
+    c.finish.ensures.calls))
 
 -- the batch was refused
 pub returns-in-Err-clause-any_moment : goal.returns-in-Err-clause-any_moment
-returns-in-Err-clause-any_moment g c = λ rests. rw c.in-Err.ensures.back.0 (or_after _ _ _ _ (value_of c.args.command ∷ []) (c.in_ok-journal.ensures.any_moment rests))
+returns-in-Err-clause-any_moment g c = λ rests.
+    rw c.in-Err.ensures.back.0 (or_after _ _ _ _ (value_of c.args.command ∷ []) (c.in_ok-journal.ensures.any_moment rests))
 
 pub returns-in-Err-clause-refused : goal.returns-in-Err-clause-refused
 returns-in-Err-clause-refused g c = λ rests.
     let same = c.in_ok-journal.ensures.same in
-    rw c.in-Err.ensures.back.0 (rests_at g.D.SectorDisk.disk _ _ c.in_ok-journal.journal (c.in_ok-journal.ensures.rests rests) same.0 same.1)
+    rw c.in-Err.ensures.back.0
+    (rests_at g.D.SectorDisk.disk _ _ c.in_ok-journal.journal (c.in_ok-journal.ensures.rests rests) same.0 same.1)
 
 pub returns-in-Err-clause-run : goal.returns-in-Err-clause-run
 returns-in-Err-clause-run g c = λ r behind queued run. rw c.in-Err.ensures.back.0 (c.in_ok-journal.ensures.run r run)

@@ -6,21 +6,29 @@ use Rattle.iol_flush.proofs.disk_call.begin.Goals as goal
 pub returns-in-Ok-clause-step : goal.returns-in-Ok-clause-step
 returns-in-Ok-clause-step g c =
     begun g.D.SectorDisk.disk c.args.journal c.args.batch c.in-Ok.writing c.write.result.0 c.write.result.1
-    (record { same = as_begun c.in-Ok.writing c.args.journal (values c.args.batch.commands.items) c.in-Ok.ensures.begun; refusal = c.in-Ok.ensures.follows; calls = c.in-Ok.ensures.calls })
+    (record {
+      same = as_begun c.in-Ok.writing c.args.journal (values c.args.batch.commands.items) c.in-Ok.ensures.begun;
+      refusal = c.in-Ok.ensures.follows;
+      calls = c.in-Ok.ensures.calls;
+    })
     c.write.ensures.step
 
 pub returns-in-Ok-clause-run : goal.returns-in-Ok-clause-run
 returns-in-Ok-clause-run g c =
-    begins_batch g.D.SectorDisk.disk c.args.journal c.in-Ok.writing c.args.batch c.write.result.0 c.in-Ok.ensures.begun.4 c.in-Ok.ensures.run c.write.ensures.run
+    begins_batch g.D.SectorDisk.disk c.args.journal c.in-Ok.writing c.args.batch c.write.result.0 c.in-Ok.ensures.begun.4
+    c.in-Ok.ensures.run c.write.ensures.run
 
 pub returns-in-Memory-clause-run : goal.returns-in-Memory-clause-run
 returns-in-Memory-clause-run g c =
-    keeps_given g.D.SectorDisk.disk c.args.journal c.in-Err.fault.journal c.args.batch c.in-Err.fault.batch c.in-Err.ensures.back.0 c.in-Err.ensures.back.1
+    keeps_given g.D.SectorDisk.disk c.args.journal c.in-Err.fault.journal c.args.batch c.in-Err.fault.batch c.in-Err.ensures.back.0
+    c.in-Err.ensures.back.1
 
 pub returns-in-TooLarge-clause-run : goal.returns-in-TooLarge-clause-run
 returns-in-TooLarge-clause-run g c =
-    keeps_given g.D.SectorDisk.disk c.args.journal c.in-Err.fault.journal c.args.batch c.in-Err.fault.batch c.in-Err.ensures.back.0 c.in-Err.ensures.back.1
+    keeps_given g.D.SectorDisk.disk c.args.journal c.in-Err.fault.journal c.args.batch c.in-Err.fault.batch c.in-Err.ensures.back.0
+    c.in-Err.ensures.back.1
 
 pub returns-in-Misfit-clause-run : goal.returns-in-Misfit-clause-run
 returns-in-Misfit-clause-run g c =
-    keeps_given g.D.SectorDisk.disk c.args.journal c.in-Err.fault.journal c.args.batch c.in-Err.fault.batch c.in-Err.ensures.back.0 c.in-Err.ensures.back.1
+    keeps_given g.D.SectorDisk.disk c.args.journal c.in-Err.fault.journal c.args.batch c.in-Err.fault.batch c.in-Err.ensures.back.0
+    c.in-Err.ensures.back.1

@@ -8,8 +8,10 @@ use Rattle.iol_journal.proofs.batch.record_octets.Goals as goal
 
 pub loop-command-preserved : goal.loop-command-preserved
 loop-command-preserved c =
-    let more = values-more c.args.commands.now c.loop-command.command-index c.command-item.result c.loop-command-test.true c.command-item.is in
-    let counted = ap (λ (commands : List CommandValue). length (records_of commands)) more ∙ length-records-more (values (take c.loop-command.command-index c.args.commands.now)) _ in
+    let more = values-more c.args.commands.now c.loop-command.command-index c.command-item.result c.loop-command-test.true
+    c.command-item.is in
+    let counted = ap (λ (commands : List CommandValue). length (records_of commands)) more
+    ∙ length-records-more (values (take c.loop-command.command-index c.args.commands.now)) _ in
     record {
       counted = omega (arith, counted, c.loop-command.invariant.counted, c.command_record_octets-octets.ensures.count);
       bound = omega (arith, c.loop-command.invariant.bound, c.command_record_octets-octets.ensures.most);
@@ -19,4 +21,5 @@ pub returns : goal.returns
 returns c =
     let index : c.loop-command.command-index ≡ length c.args.commands.now = omega arith in
     c.loop-command.invariant.counted
-    ∙ ap (λ (commands : List CommandValue). length (records_of commands)) (ap (λ (n : ℕ). values (take n c.args.commands.now)) index ∙ ap values (take-length c.args.commands.now))
+    ∙ ap (λ (commands : List CommandValue). length (records_of commands)) (ap (λ (n : ℕ). values (take n c.args.commands.now)) index
+    ∙ ap values (take-length c.args.commands.now))

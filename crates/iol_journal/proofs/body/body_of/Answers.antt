@@ -20,7 +20,8 @@ sized c = omega (arith, c.len-2.ensures, c.in_ok-records.records.ok, ap (λ (os 
 -- what was pushed is the head and the records
 pushed : (c : goal.After-drop-records-2)
     → c.extend_from_slice-2.new.self.items
-    ≡ head_octets c.args.epoch c.args.first (length (values c.args.commands.now)) (length (records_of (values c.args.commands.now))) ++ records_of (values c.args.commands.now)
+    ≡ head_octets c.args.epoch c.args.first (length (values c.args.commands.now)) (length (records_of (values c.args.commands.now)))
+    ++ records_of (values c.args.commands.now)
 pushed c =
     let head = c.head_octets-head.result in
     let records = c.in_ok-records.records.items in
@@ -28,26 +29,31 @@ pushed c =
     let front : c.extend_from_slice.new.self.items ≡ head =
     c.in_ok-extend_from_slice.ensures.items ∙ ap (λ (body : List ℕ). body ++ head) c.in_ok-body.ensures.items in
     let both : c.extend_from_slice-2.new.self.items ≡ head ++ records =
-    c.in_ok-extend_from_slice-2.ensures.items ∙ ap (λ (body : List ℕ). body ++ c.as_slice.result.now) front ∙ ap (λ (more : List ℕ). head ++ more) c.as_slice.ensures.value in
+    c.in_ok-extend_from_slice-2.ensures.items ∙ ap (λ (body : List ℕ). body ++ c.as_slice.result.now) front
+    ∙ ap (λ (more : List ℕ). head ++ more) c.as_slice.ensures.value in
     let counts : length c.args.commands.now ≡ count = sym (counted c) in
     let sizes : c.len.result ≡ length (records_of (values c.args.commands.now)) = omega (arith, sized c, c.len.ensures, c.len-2.ensures) in
     let told : head ≡ head_octets c.args.epoch c.args.first count (length (records_of (values c.args.commands.now))) =
     c.head_octets-head.ensures ∙ ap (λ (n : ℕ). head_octets c.args.epoch c.args.first n c.len.result) counts
     ∙ ap (λ (n : ℕ). head_octets c.args.epoch c.args.first count n) sizes in
     both ∙ ap (λ (h : List ℕ). h ++ records) told
-    ∙ ap (λ (os : List ℕ). head_octets c.args.epoch c.args.first count (length (records_of (values c.args.commands.now))) ++ os) c.in_ok-records.ensures.records
+    ∙ ap (λ (os : List ℕ). head_octets c.args.epoch c.args.first count (length (records_of (values c.args.commands.now))) ++ os)
+    c.in_ok-records.ensures.records
 
 -- the octets that were pushed, and zeros behind them
 spelled : (c : goal.After-drop-records-2) → c.resize.new.self.items ≡ body_octets c.args.epoch c.args.first (values c.args.commands.now)
 unfolding body_octets
 spelled c =
-    let front = head_octets c.args.epoch c.args.first (length (values c.args.commands.now)) (length (records_of (values c.args.commands.now))) ++ records_of (values c.args.commands.now) in
+    let front = head_octets c.args.epoch c.args.first (length (values c.args.commands.now))
+    (length (records_of (values c.args.commands.now))) ++ records_of (values c.args.commands.now) in
     let octets = SECTOR_OCTETS * c.div_ceil-sectors.result in
     let size : length front ≡ BODY_HEAD_OCTETS + c.len-2.result =
-    length-append (head_octets c.args.epoch c.args.first (length (values c.args.commands.now)) (length (records_of (values c.args.commands.now)))) (records_of (values c.args.commands.now))
+    length-append (head_octets c.args.epoch c.args.first (length (values c.args.commands.now))
+    (length (records_of (values c.args.commands.now)))) (records_of (values c.args.commands.now))
     ∙ ap (λ (n : ℕ). BODY_HEAD_OCTETS + n) (sized c) in
     let reach : octets ≡ SECTOR_OCTETS * sectors_reached (length front) = omega (arith, c.div_ceil-sectors.ensures, size) in
-    let long : c.extend_from_slice-2.new.self.len ≡ length front = omega (arith, ap (λ (os : List ℕ). length os) (pushed c), c.extend_from_slice-2.new.self.ok) in
+    let long : c.extend_from_slice-2.new.self.len ≡ length front =
+    omega (arith, ap (λ (os : List ℕ). length os) (pushed c), c.extend_from_slice-2.new.self.ok) in
     c.in_ok-resize.ensures.items
     ∙ ap (λ (body : List ℕ). take octets body ++ replicate {A = ℕ} (octets - c.extend_from_slice-2.new.self.len) 0) (pushed c)
     ∙ padded-front front octets c.extend_from_slice-2.new.self.len reach long
@@ -69,6 +75,7 @@ pub returns-clause-sound : goal.returns-clause-sound
 returns-clause-sound c some last rest =
     let commands = values c.args.commands.now in
     ap (λ (os : List ℕ). batch_of c.args.epoch c.args.first (os ++ rest)) (spelled c)
-    ∙ batch_of-body_octets c.args.epoch c.args.first commands rest c.ranges.epoch.fits (omega (arith, some, counted c)) (omega (arith, c.requires.most, counted c))
+    ∙ batch_of-body_octets c.args.epoch c.args.first commands rest c.ranges.epoch.fits (omega (arith, some, counted c))
+    (omega (arith, c.requires.most, counted c))
     (omega (arith, sized c, c.len-2.ensures, c.in_ok-records.records.ok, c.requires.small)) (omega (arith, last, counted c))
     (rw (counted c, ← c.in_ok-records.ensures.records) c.in_ok-records.ensures.read)

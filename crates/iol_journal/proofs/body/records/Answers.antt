@@ -15,11 +15,18 @@ loop-command-preserved c =
     let octets = c.loop-command.octets.items in
     let front = c.in_ok-record.record.items in
     let is = c.in_ok-record.ensures in
-    let items : c.extend_from_slice.new.self.items ≡ octets ++ front = c.in_ok-extend_from_slice.ensures.items ∙ ap (λ (more : List ℕ). octets ++ more) c.as_slice.ensures.value in
-    rw (items, values-more c.args.commands.now c.loop-command.command-index c.command-item.result c.loop-command-test.true c.command-item.is)
+    let items : c.extend_from_slice.new.self.items ≡ octets ++ front = c.in_ok-extend_from_slice.ensures.items
+    ∙ ap (λ (more : List ℕ). octets ++ more) c.as_slice.ensures.value in
+    rw (
+      items,
+      values-more c.args.commands.now c.loop-command.command-index c.command-item.result c.loop-command-test.true
+          c.command-item.is,
+    )
     (record {
-      spelled = records-more octets front (values (take c.loop-command.command-index c.args.commands.now)) _ c.loop-command.invariant.spelled is;
-      encodes = encodes-more octets front (values (take c.loop-command.command-index c.args.commands.now)) _ c.loop-command.invariant.encodes is;
+      spelled = records-more octets front (values (take c.loop-command.command-index c.args.commands.now)) _
+          c.loop-command.invariant.spelled is;
+      encodes = encodes-more octets front (values (take c.loop-command.command-index c.args.commands.now)) _
+          c.loop-command.invariant.encodes is;
     })
 
 pub returns-clause-read : goal.returns-clause-read

@@ -16,7 +16,8 @@ returns-in-Body g c = record {
       let e = c.write_sector.ensures in
       rw c.in-Body.is
       (makes_write c.write_sector.result (body_at place.layout place.area place.used j) (sector_of body j) _ _
-      (omega (arith, c.slot-slot.ensures.body)) (rw (← c.deref.ensures.value) c.copy_from_slice.ensures.after) e.wrote e.wrote_some e.fault);
+      (omega (arith, c.slot-slot.ensures.body)) (rw (← c.deref.ensures.value) c.copy_from_slice.ensures.after) e.wrote e.wrote_some
+      e.fault);
 }
 
 pub returns-in-SyncBody : goal.returns-in-SyncBody
@@ -32,7 +33,8 @@ returns-in-Gate g c = record {
       let place = c.args.place.now in
       let e = c.open_gate.ensures in
       rw c.in-Gate.is
-      (makes_write c.open_gate.result (slot_at place.layout place.area place.used) open_gate _ _ c.slot-slot.ensures.gate refl e.wrote e.wrote_some e.fault);
+      (makes_write c.open_gate.result (slot_at place.layout place.area place.used) open_gate _ _ c.slot-slot.ensures.gate refl e.wrote
+      e.wrote_some e.fault);
 }
 
 pub returns-in-SyncGate : goal.returns-in-SyncGate
@@ -46,7 +48,15 @@ pub copy_from_slice-requires : goal.copy_from_slice-requires
 copy_from_slice-requires g c = omega arith
 
 pub write_sector-requires-clause-fits : goal.write_sector-requires-clause-fits
-write_sector-requires-clause-fits g c = let place = c.args.place.now in omega (arith, c.requires.fits, slot-inside place.layout place.area place.used c.requires.room, c.slot-slot.ensures.body, c.slot-slot.ensures.sectors)
+write_sector-requires-clause-fits g c = let place = c.args.place.now in
+    omega (
+      arith,
+      c.requires.fits,
+      slot-inside place.layout place.area place.used c.requires.room,
+      c.slot-slot.ensures.body,
+      c.slot-slot.ensures.sectors,
+    )
 
 pub open_gate-requires : goal.open_gate-requires
-open_gate-requires g c = let place = c.args.place.now in omega (arith, c.requires.fits, slot-inside place.layout place.area place.used c.requires.room, c.slot-slot.ensures.gate)
+open_gate-requires g c = let place = c.args.place.now in
+    omega (arith, c.requires.fits, slot-inside place.layout place.area place.used c.requires.room, c.slot-slot.ensures.gate)

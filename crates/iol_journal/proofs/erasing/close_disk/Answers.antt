@@ -22,7 +22,8 @@ pub returns-then-branch : goal.returns-then-branch
 returns-then-branch g c =
     let synced = c.in_ok-sync.ensures in
     let e = c.in_ok-is_formatted.ensures in
-    was_open c.in_ok-is_formatted.field-0 _ _ _ synced.synced synced.fault e.same e.fault e.read e.there c.if-branch.true c.write_closed_gate.result _ c.write_closed_gate.ensures
+    was_open c.in_ok-is_formatted.field-0 _ _ _ synced.synced synced.fault e.same e.fault e.read e.there c.if-branch.true
+    c.write_closed_gate.result _ c.write_closed_gate.ensures
 
 pub returns-else-branch : goal.returns-else-branch
 returns-else-branch g c =

@@ -16,5 +16,6 @@ pub returns : goal.returns
 returns g c =
     let e = c.close_gate.ensures in
     let s = c.sync.ensures in
-    let closed = made_of _ c.in_ok-close_gate.was (makes_write c.close_gate.result DISK_GATE closed_gate _ _ c.gate.ensures refl e.wrote e.wrote_some e.fault) in
+    let closed = made_of _ c.in_ok-close_gate.was
+    (makes_write c.close_gate.result DISK_GATE closed_gate _ _ c.gate.ensures refl e.wrote e.wrote_some e.fault) in
     makes_then (write DISK_GATE closed_gate ∷ []) (sync ∷ []) _ _ closed (makes_sync c.sync.result _ _ s.synced s.same s.fault)

@@ -22,7 +22,8 @@ pub returns-in_err-write_gates : goal.returns-in_err-write_gates
 returns-in_err-write_gates g c =
     let geometry = c.args.geometry in
     hands_on _ c.from_residual.result c.from_residual.ensures.1
-    (fails_early (gate_writes geometry) (slots geometry ∷ header_writes geometry ∷ ports geometry ∷ opening_calls ∷ []) c.in_err-write_gates.ensures)
+    (fails_early (gate_writes geometry) (slots geometry ∷ header_writes geometry ∷ ports geometry ∷ opening_calls ∷ [])
+    c.in_err-write_gates.ensures)
 
 pub returns-in_err-close_slots : goal.returns-in_err-close_slots
 returns-in_err-close_slots g c =
@@ -49,7 +50,8 @@ write_records-requires g c =
     let closed = rw (is.layout_is, is.area_is) at c.in_ok-close_slots.ensures in
     let headed = rw (is.layout_is, is.area_is, is.header_is) at c.in_ok-write_headers.ensures in
     plan-row _ (layout_of geometry) A _ _ c.args.plan.now
-    (omega (arith, c.requires.fits, c.in_ok-write_gates.ensures.after.sectors, closed.after.sectors, headed.after.sectors)) (blank-records geometry) is
+    (omega (arith, c.requires.fits, c.in_ok-write_gates.ensures.after.sectors, closed.after.sectors, headed.after.sectors))
+    (blank-records geometry) is
 
 pub returns-in_err-write_records : goal.returns-in_err-write_records
 returns-in_err-write_records g c =
@@ -73,4 +75,5 @@ returns g c =
     let written = made_append (gate_writes geometry) (slots geometry) _ _ _ c.in_ok-write_gates.ensures closed in
     let behind = made_append (gate_writes geometry ++ slots geometry) (header_writes geometry) _ _ _ written headed in
     makes_then (gate_writes geometry ++ slots geometry ++ header_writes geometry ++ ports geometry) opening_calls _ _
-    (made_append (gate_writes geometry ++ slots geometry ++ header_writes geometry) (ports geometry) _ _ _ behind recorded) c.open_disk.ensures
+    (made_append (gate_writes geometry ++ slots geometry ++ header_writes geometry) (ports geometry) _ _ _ behind recorded)
+    c.open_disk.ensures

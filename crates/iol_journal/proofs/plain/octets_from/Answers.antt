@@ -8,7 +8,8 @@ use Rattle.iol_journal.specs.Plain.{image_of}
 use Rattle.iol_journal.proofs.plain.octets_from.Goals as goal
 
 -- sectors one behind the other, as the image has them
-joined : (sectors : List (List ℕ)) (first n : ℕ) → first + n ≤ length sectors → flat_map (λ x. x) (take n (drop first sectors)) ≡ octets_at (image_of sectors) first n
+joined : (sectors : List (List ℕ)) (first n : ℕ) → first + n ≤ length sectors → flat_map (λ x. x) (take n (drop first sectors))
+    ≡ octets_at (image_of sectors) first n
 unfolding octets_at
 joined sectors first zero within = refl
 joined sectors first (suc n) within =

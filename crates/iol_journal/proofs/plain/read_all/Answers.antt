@@ -17,7 +17,8 @@ returns-in_err-used-clause-says c =
     let sectors = length c.args.image.now in
     let image = image_of c.args.image.now in
     let p = err_from_is_err_and c.from_residual-in_err-used.result c.from_residual-in_err-used.ensures.1 in
-    rw (p.1, p.2) (no_meaning sectors image _ (no_area sectors image c.in_ok-layout.layout _ c.in_ok-layout.ensures.says c.in_err-used.ensures.says))
+    rw (p.1, p.2) (no_meaning sectors image _
+    (no_area sectors image c.in_ok-layout.layout _ c.in_ok-layout.ensures.says c.in_err-used.ensures.says))
 
 pub returns-in_err-state-clause-says : goal.returns-in_err-state-clause-says
 returns-in_err-state-clause-says c =
@@ -25,7 +26,8 @@ returns-in_err-state-clause-says c =
     let image = image_of c.args.image.now in
     let p = err_from_is_err_and c.from_residual-in_err-state.result c.from_residual-in_err-state.ensures.1 in
     rw (p.1, p.2) (no_meaning sectors image _
-    (no_ports sectors image c.in_ok-layout.layout c.in_ok-used.used _ c.in_ok-layout.ensures.says c.in_ok-used.ensures.says c.in_err-state.ensures.says))
+    (no_ports sectors image c.in_ok-layout.layout c.in_ok-used.used _ c.in_ok-layout.ensures.says c.in_ok-used.ensures.says
+    c.in_err-state.ensures.says))
 
 pub returns-in_err-end-clause-says : goal.returns-in_err-end-clause-says
 returns-in_err-end-clause-says c =
@@ -33,7 +35,8 @@ returns-in_err-end-clause-says c =
     let image = image_of c.args.image.now in
     let p = err_from_is_err_and c.from_residual-in_err-end.result c.from_residual-in_err-end.ensures.1 in
     rw (p.1, p.2) (no_meaning sectors image _
-    (no_log sectors image c.in_ok-layout.layout c.in_ok-used.used c.in_ok-state.state _ c.in_ok-layout.ensures.says c.in_ok-used.ensures.says c.in_ok-state.ensures.says
+    (no_log sectors image c.in_ok-layout.layout c.in_ok-used.used c.in_ok-state.state _ c.in_ok-layout.ensures.says
+    c.in_ok-used.ensures.says c.in_ok-state.ensures.says
     c.in_err-end.ensures.says))
 
 pub returns-clause-says : goal.returns-clause-says

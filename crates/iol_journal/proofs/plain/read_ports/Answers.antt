@@ -17,14 +17,16 @@ loop-place-preserved c =
     let p = c.loop-place.place in
     let image = image_of c.args.image.now in
     let number : c.unwrap.result ≡ p + 1 = rw c.unwrap.ensures at c.new-in-loop-place.ensures.number in
-    let grown = front_grows c.loop-place.state c.set_port.new.self p c.unwrap.result c.in_ok-port.port c.set_port.ensures number (omega (arith, c.loop-place.invariant.size)) in
+    let grown = front_grows c.loop-place.state c.set_port.new.self p c.unwrap.result c.in_ok-port.port c.set_port.ensures number
+    (omega (arith, c.loop-place.invariant.size)) in
     let here = port_placed image (port_at g c.args.area p) c.port-sector.result c.port_sectors.result g.port_sectors (Ok c.in_ok-port.port)
     (c.port-sector.ensures.at ∙ ap (port_at g c.args.area) c.from.ensures) c.port_sectors.ensures.value c.in_ok-port.ensures.says in
     record {
       size = grind (arith, common_steps);
       read = λ left is.
           rw grown
-          (sym (ports-more g c.args.area image p left (take p c.loop-place.state) c.in_ok-port.port here) ∙ c.loop-place.invariant.read (left + 1) (omega arith));
+          (sym (ports-more g c.args.area image p left (take p c.loop-place.state) c.in_ok-port.port here)
+          ∙ c.loop-place.invariant.read (left + 1) (omega arith));
     }
 
 pub returns-in_err-port-clause-says : goal.returns-in_err-port-clause-says
@@ -44,6 +46,7 @@ returns-in_err-port-clause-says c =
 pub returns-clause-says : goal.returns-clause-says
 returns-clause-says c =
     let state = c.loop-place.state in
-    let all : take c.loop-place.place state ≡ state = take_all c.loop-place.place state (omega (arith, c.ports.ensures.value, c.loop-place.invariant.size)) in
+    let all : take c.loop-place.place state ≡ state =
+    take_all c.loop-place.place state (omega (arith, c.ports.ensures.value, c.loop-place.invariant.size)) in
     sym (c.loop-place.invariant.read 0 (omega arith))
     ∙ ports-ended c.args.layout c.args.area (image_of c.args.image.now) c.loop-place.place _ ∙ ap (λ (ports : State). Ok ports) all

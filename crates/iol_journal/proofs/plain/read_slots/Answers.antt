@@ -11,7 +11,8 @@ loop-place-init c = record {
   bound = c.requires.base;
   read = λ left is.
       let all : left ≡ c.args.layout.slots = omega arith in
-      ap (λ (n : ℕ). log_from c.args.layout c.args.used.area c.args.used.header.epoch (image_of c.args.image.now) 0 n c.args.used.header.base c.args.state.now) all;
+      ap (λ (n : ℕ). log_from c.args.layout c.args.used.area c.args.used.header.epoch (image_of c.args.image.now) 0 n
+      c.args.used.header.base c.args.state.now) all;
 }
 
 pub loop-place-preserved : goal.loop-place-preserved
@@ -22,8 +23,10 @@ loop-place-preserved c =
     let image = image_of c.args.image.now in
     let opened = gate_at_place image (slot_at g a c.loop-place.place) c.slot-slot.result.gate c.gate_is_open.result true
     c.slot-slot.ensures.gate c.gate_is_open.ensures c.if-not-gate_is_open.false in
-    let leads = slot_reached image g a epoch c.loop-place.place c.loop-place.number c.slot-slot.result.body c.loop-place.state c.octets_from-body.result.now _
-    c.slot-slot.ensures.body c.octets_from-body.ensures.octets c.octets_from-body.ensures.size (rw c.in-Some.is at c.in_ok-number.ensures.reached) in
+    let leads = slot_reached image g a epoch c.loop-place.place c.loop-place.number c.slot-slot.result.body c.loop-place.state
+    c.octets_from-body.result.now _
+    c.slot-slot.ensures.body c.octets_from-body.ensures.octets c.octets_from-body.ensures.size
+    (rw c.in-Some.is at c.in_ok-number.ensures.reached) in
     let after = rw c.in-Some.is at c.in_ok-number.ensures.later in
     record {
       bound = omega (arith, after);
@@ -52,8 +55,10 @@ returns-in-None-clause-says c =
     let left = g.slots - (c.loop-place.place + 1) in
     let opened = gate_at_place image (slot_at g a c.loop-place.place) c.slot-slot.result.gate c.gate_is_open.result true
     c.slot-slot.ensures.gate c.gate_is_open.ensures c.if-not-gate_is_open.false in
-    let leads = slot_reached image g a epoch c.loop-place.place c.loop-place.number c.slot-slot.result.body c.loop-place.state c.octets_from-body.result.now _
-    c.slot-slot.ensures.body c.octets_from-body.ensures.octets c.octets_from-body.ensures.size (rw c.in-None.is at c.in_ok-number.ensures.reached) in
+    let leads = slot_reached image g a epoch c.loop-place.place c.loop-place.number c.slot-slot.result.body c.loop-place.state
+    c.octets_from-body.result.now _
+    c.slot-slot.ensures.body c.octets_from-body.ensures.octets c.octets_from-body.ensures.size
+    (rw c.in-None.is at c.in_ok-number.ensures.reached) in
     rw c.slot-slot.ensures.body
     (sym (c.loop-place.invariant.read (left + 1) (omega arith))
     ∙ log-damaged g a epoch image c.loop-place.place left c.loop-place.number c.loop-place.state opened leads)

@@ -9,5 +9,6 @@ invariant-loop-place l = record {
   bound : l.number ≤ LAST_NUMBER;
   read : (left : ℕ) → left + l.place ≡ l.fn.layout.slots
       → log_from l.fn.layout l.fn.used.area l.fn.used.header.epoch (image_of l.fn.image) l.place left l.number l.state
-      ≡ log_from l.fn.layout l.fn.used.area l.fn.used.header.epoch (image_of l.fn.image) 0 l.fn.layout.slots l.fn.used.header.base l.fn.state;
+      ≡ log_from l.fn.layout l.fn.used.area l.fn.used.header.epoch (image_of l.fn.image) 0 l.fn.layout.slots l.fn.used.header.base
+      l.fn.state;
 }

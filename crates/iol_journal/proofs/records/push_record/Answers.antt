@@ -16,11 +16,13 @@ pub loop-j-preserved : goal.loop-j-preserved
 loop-j-preserved c =
     let pushed : RecordSector = record { sector = c.args.first + c.loop-j.j; octets = c.copy_from_slice.new.self } in
     ap (λ (items : List RecordSector). map write_of items) c.in_ok-push.ensures.items
-    ∙ sector-pushed (λ j. write (c.args.first + j) (sector_of c.args.octets.now j)) c.args.records.now.items c.loop-j.records.items pushed c.loop-j.j c.loop-j.invariant
+    ∙ sector-pushed (λ j. write (c.args.first + j) (sector_of c.args.octets.now j)) c.args.records.now.items c.loop-j.records.items pushed
+    c.loop-j.j c.loop-j.invariant
     (ap (write (c.args.first + c.loop-j.j)) c.copy_from_slice.ensures.after)
 
 pub returns : goal.returns
 returns c =
     let all : c.loop-j.j ≡ length c.args.octets.now / SECTOR_OCTETS = omega (arith, c.loop-j-test.false, c.loop-j.auto.j-end) in
     c.loop-j.invariant
-    ∙ ap (λ (n : ℕ). map write_of c.args.records.now.items ++ map (λ j. write (c.args.first + j) (sector_of c.args.octets.now j)) (range_with_len 0 n)) all
+    ∙ ap (λ (n : ℕ). map write_of c.args.records.now.items
+    ++ map (λ j. write (c.args.first + j) (sector_of c.args.octets.now j)) (range_with_len 0 n)) all

@@ -6,7 +6,8 @@ use Rattle.iol_disk.proofs.DiskLaws.{quiet_sync}
 use Rattle.iol_journal.specs.Meaning.{layout_in, in_use_in, ports_from, log_from, standing_in, Log}
 use Rattle.iol_journal.specs.Reading.{SaysWhy}
 use Rattle.iol_journal.proofs.Chains.{no_layout, no_area, no_ports, no_log, stands}
-use Rattle.iol_journal.proofs.Recovered.{synced-then, synced-only, recovery_failed, areas_found, chosen_after, found_after, layout_after, cause_after}
+use Rattle.iol_journal.proofs.Recovered.{synced-then, synced-only, recovery_failed, areas_found, chosen_after, found_after, layout_after}
+use Rattle.iol_journal.proofs.Recovered.{cause_after}
 use Rattle.iol_journal.proofs.Making.{makes_sync, failed_of}
 use Rattle.iol_journal.proofs.recovery.find.Goals as goal
 
@@ -46,7 +47,8 @@ returns-in_err-layout-clause-finds g c =
     let p = err_from_is_err_and c.from_residual-in_err-layout.result c.from_residual-in_err-layout.ensures.1 in
     rw (p.1, p.2)
     (cause_after old (d c.sync.new.self) (layout_in (d c.sync.new.self).sectors) (standing_in old.sectors) told synced
-    (λ h is. no_layout old.sectors (reads old.content) told (subst (λ (n : ℕ). SaysWhy (layout_in n (reads old.content)) told) synced.sectors is))
+    (λ h is. no_layout old.sectors (reads old.content) told
+    (subst (λ (n : ℕ). SaysWhy (layout_in n (reads old.content)) told) synced.sectors is))
     c.in_err-layout.ensures.finds)
 
 pub returns-in_err-areas-clause-finds : goal.returns-in_err-areas-clause-finds
@@ -57,8 +59,10 @@ returns-in_err-areas-clause-finds g c =
     let layout = c.in_ok-layout.layout in
     let p = err_from_is_err_and c.from_residual-in_err-areas.result c.from_residual-in_err-areas.ensures.1 in
     rw (p.1, p.2)
-    (cause_after old (d c.find_layout.new.disk) (in_use_in layout) (standing_in old.sectors) _ (synced-then _ _ _ synced c.find_layout.ensures.same)
-    (λ h is. no_area old.sectors (reads old.content) layout _ (layout_after old (d c.sync.new.self) layout synced c.in_ok-layout.ensures.finds h) is)
+    (cause_after old (d c.find_layout.new.disk) (in_use_in layout) (standing_in old.sectors) _
+    (synced-then _ _ _ synced c.find_layout.ensures.same)
+    (λ h is. no_area old.sectors (reads old.content) layout _
+    (layout_after old (d c.sync.new.self) layout synced c.in_ok-layout.ensures.finds h) is)
     c.in_err-areas.ensures.finds)
 
 pub returns-in_err-state-clause-finds : goal.returns-in_err-state-clause-finds
@@ -68,11 +72,13 @@ returns-in_err-state-clause-finds g c =
     let synced = c.in_ok-sync.ensures.synced in
     let layout = c.in_ok-layout.layout in
     let used = c.in_ok-areas.areas.in_use in
-    let areas = areas_found old (d c.sync.new.self) (d c.find_layout.new.disk) layout used synced c.find_layout.ensures.same c.in_ok-layout.ensures.finds c.in_ok-areas.ensures.finds in
+    let areas = areas_found old (d c.sync.new.self) (d c.find_layout.new.disk) layout used synced c.find_layout.ensures.same
+    c.in_ok-layout.ensures.finds c.in_ok-areas.ensures.finds in
     let chosen = synced-then _ _ _ (synced-then _ _ _ synced c.find_layout.ensures.same) c.find_areas.ensures.same in
     let p = err_from_is_err_and c.from_residual-in_err-state.result c.from_residual-in_err-state.ensures.1 in
     rw (p.1, p.2)
-    (cause_after old (d c.find_areas.new.disk) (λ image. ports_from layout used.area image 0 layout.ports) (standing_in old.sectors) _ chosen
+    (cause_after old (d c.find_areas.new.disk) (λ image. ports_from layout used.area image 0 layout.ports) (standing_in old.sectors) _
+    chosen
     (λ h is. no_ports old.sectors (reads old.content) layout used _ (areas h).0 (areas h).1 is) c.in_err-state.ensures.finds)
 
 pub returns-in_err-end-clause-finds : goal.returns-in_err-end-clause-finds
@@ -83,12 +89,15 @@ returns-in_err-end-clause-finds g c =
     let layout = c.in_ok-layout.layout in
     let used = c.in_ok-areas.areas.in_use in
     let state = c.in_ok-state.state in
-    let areas = areas_found old (d c.sync.new.self) (d c.find_layout.new.disk) layout used synced c.find_layout.ensures.same c.in_ok-layout.ensures.finds c.in_ok-areas.ensures.finds in
+    let areas = areas_found old (d c.sync.new.self) (d c.find_layout.new.disk) layout used synced c.find_layout.ensures.same
+    c.in_ok-layout.ensures.finds c.in_ok-areas.ensures.finds in
     let chosen = synced-then _ _ _ (synced-then _ _ _ synced c.find_layout.ensures.same) c.find_areas.ensures.same in
-    let ports = found_after old (d c.find_areas.new.disk) (λ image. ports_from layout used.area image 0 layout.ports) state chosen c.in_ok-state.ensures.finds in
+    let ports = found_after old (d c.find_areas.new.disk) (λ image. ports_from layout used.area image 0 layout.ports) state chosen
+    c.in_ok-state.ensures.finds in
     let p = err_from_is_err_and c.from_residual-in_err-end.result c.from_residual-in_err-end.ensures.1 in
     rw (p.1, p.2)
-    (cause_after old (d c.read_ports.new.disk) (λ image. log_from layout used.area used.header.epoch image 0 layout.slots used.header.base state) (standing_in old.sectors) _
+    (cause_after old (d c.read_ports.new.disk) (λ image.
+    log_from layout used.area used.header.epoch image 0 layout.slots used.header.base state) (standing_in old.sectors) _
     (synced-then _ _ _ chosen c.read_ports.ensures.same)
     (λ h is. no_log old.sectors (reads old.content) layout used state _ (areas h).0 (areas h).1 (ports h) is) c.in_err-end.ensures.finds)
 
@@ -101,11 +110,14 @@ returns-clause-finds g c = λ h.
     let used = c.in_ok-areas.areas.in_use in
     let state = c.in_ok-state.state in
     let log : Log = record { used = c.in_ok-end.end.used; number = c.in_ok-end.end.number; state = c.replay_slots.new.state } in
-    let areas = areas_found old (d c.sync.new.self) (d c.find_layout.new.disk) layout used synced c.find_layout.ensures.same c.in_ok-layout.ensures.finds c.in_ok-areas.ensures.finds h in
+    let areas = areas_found old (d c.sync.new.self) (d c.find_layout.new.disk) layout used synced c.find_layout.ensures.same
+    c.in_ok-layout.ensures.finds c.in_ok-areas.ensures.finds h in
     let chosen = synced-then _ _ _ (synced-then _ _ _ synced c.find_layout.ensures.same) c.find_areas.ensures.same in
     stands old.sectors (reads old.content) layout used state log areas.0 areas.1
-    (found_after old (d c.find_areas.new.disk) (λ image. ports_from layout used.area image 0 layout.ports) state chosen c.in_ok-state.ensures.finds h)
-    (found_after old (d c.read_ports.new.disk) (λ image. log_from layout used.area used.header.epoch image 0 layout.slots used.header.base state) log
+    (found_after old (d c.find_areas.new.disk) (λ image. ports_from layout used.area image 0 layout.ports) state chosen
+    c.in_ok-state.ensures.finds h)
+    (found_after old (d c.read_ports.new.disk) (λ image.
+    log_from layout used.area used.header.epoch image 0 layout.slots used.header.base state) log
     (synced-then _ _ _ chosen c.read_ports.ensures.same) c.in_ok-end.ensures.finds h)
 
 pub returns-clause-settled : goal.returns-clause-settled
@@ -121,15 +133,18 @@ returns-in_err-sync-clause-makes g c =
 
 pub returns-in_err-state-clause-memory : goal.returns-in_err-state-clause-memory
 returns-in_err-state-clause-memory g c = λ told h.
-    chosen_after _ _ _ c.in_ok-layout.layout c.in_ok-areas.areas.in_use c.in_ok-sync.ensures.synced c.find_layout.ensures.same c.in_ok-layout.ensures.finds
+    chosen_after _ _ _ c.in_ok-layout.layout c.in_ok-areas.areas.in_use c.in_ok-sync.ensures.synced c.find_layout.ensures.same
+    c.in_ok-layout.ensures.finds
     c.in_ok-areas.ensures.finds h
 
 pub returns-in_err-end-clause-memory : goal.returns-in_err-end-clause-memory
 returns-in_err-end-clause-memory g c = λ told h.
-    chosen_after _ _ _ c.in_ok-layout.layout c.in_ok-areas.areas.in_use c.in_ok-sync.ensures.synced c.find_layout.ensures.same c.in_ok-layout.ensures.finds
+    chosen_after _ _ _ c.in_ok-layout.layout c.in_ok-areas.areas.in_use c.in_ok-sync.ensures.synced c.find_layout.ensures.same
+    c.in_ok-layout.ensures.finds
     c.in_ok-areas.ensures.finds h
 
 pub returns-in_err-copy-clause-memory : goal.returns-in_err-copy-clause-memory
 returns-in_err-copy-clause-memory g c = λ told h.
-    chosen_after _ _ _ c.in_ok-layout.layout c.in_ok-areas.areas.in_use c.in_ok-sync.ensures.synced c.find_layout.ensures.same c.in_ok-layout.ensures.finds
+    chosen_after _ _ _ c.in_ok-layout.layout c.in_ok-areas.areas.in_use c.in_ok-sync.ensures.synced c.find_layout.ensures.same
+    c.in_ok-layout.ensures.finds
     c.in_ok-areas.ensures.finds h

@@ -32,14 +32,17 @@ loop-init c = record {
 
 pub loop-preserved : goal.loop-preserved
 loop-preserved c = record {
-  ports = ap (λ (state : State). length state) c.apply.ensures ∙ length-apply c.loop.state (value_of c.in-Some.command) ∙ c.loop.invariant.ports;
+  ports = ap (λ (state : State). length state) c.apply.ensures ∙ length-apply c.loop.state (value_of c.in-Some.command)
+      ∙ c.loop.invariant.ports;
   reached = λ number left is.
       let found = rw c.in-Some.is at c.in_ok-command.ensures.found in
       let passed : check c.loop.state (value_of c.in-Some.command) ≡ None = search rules in
-      rw (take_rest, c.apply.ensures) (replay-passed number c.loop.counter left _ _ _ _ _ found.1 passed (c.loop.invariant.reached number (left + 1) (omega arith)));
+      rw (take_rest, c.apply.ensures)
+      (replay-passed number c.loop.counter left _ _ _ _ _ found.1 passed (c.loop.invariant.reached number (left + 1) (omega arith)));
 }
 
 pub returns-clause-reached : goal.returns-clause-reached
 returns-clause-reached c = λ number.
     let done : c.loop.counter ≡ c.args.count = omega arith in
-    sym (c.loop.invariant.reached number 0 (omega arith)) ∙ rw (← done) (replay-ended (number + c.loop.counter) 0 _ _ c.is_empty.result refl c.is_empty.ensures)
+    sym (c.loop.invariant.reached number 0 (omega arith))
+    ∙ rw (← done) (replay-ended (number + c.loop.counter) 0 _ _ c.is_empty.result refl c.is_empty.ensures)

@@ -2,13 +2,15 @@ use Rattle.std.proofs.Common.{◌≡◌, ◌+◌, ◌-◌, true, ap, ◌∙◌, 
 use Rattle.iol_journal.specs.Replay.{reached}
 use Rattle.iol_journal.specs.declared.batch.TheConstants.{BODY_HEAD_OCTETS}
 use Rattle.iol_journal.proofs.ReachedBodies.{batch_of-misfit, batch_of-fits, fits-octets}
-use Rattle.iol_journal.proofs.replay.replay_body.Goals.{else-end-body-via-then-end-body+in_ok-replay+else-branch, else-end-body-via-else-end-body}
+use Rattle.iol_journal.proofs.replay.replay_body.Goals.{else-end-body-via-then-end-body+in_ok-replay+else-branch}
+use Rattle.iol_journal.proofs.replay.replay_body.Goals.{else-end-body-via-else-end-body}
 use Rattle.iol_journal.proofs.replay.replay_body.Goals as goal
 
 pub returns-then-not-fits-clause-reached : goal.returns-then-not-fits-clause-reached
 returns-then-not-fits-clause-reached c = λ holds.
     ap (reached c.args.number c.args.state.now)
-    (batch_of-misfit c.args.epoch (c.args.number + 1) c.args.body.now c.read-head.result c.read-head.ensures (sym c.fits.ensures ∙ c.if-not-fits.true))
+    (batch_of-misfit c.args.epoch (c.args.number + 1) c.args.body.now c.read-head.result c.read-head.ensures (sym c.fits.ensures
+    ∙ c.if-not-fits.true))
 
 pub returns-then-branch-clause-reached : goal.returns-then-branch-clause-reached
 returns-then-branch-clause-reached c = λ holds.
@@ -16,7 +18,8 @@ returns-then-branch-clause-reached c = λ holds.
     let applied = rw c.if-branch.true at c.in_ok-replay.ensures.reached c.args.number in
     rw c.from.ensures
     (ap (reached c.args.number c.args.state.now)
-    (batch_of-fits c.args.epoch (c.args.number + 1) c.args.body.now c.read-head.result c.read-head.ensures (sym c.fits.ensures ∙ c.if-not-fits.false))
+    (batch_of-fits c.args.epoch (c.args.number + 1) c.args.body.now c.read-head.result c.read-head.ensures (sym c.fits.ensures
+    ∙ c.if-not-fits.false))
     ∙ rw records at applied)
 
 pub returns-else-end-body-clause-reached : goal.returns-else-end-body-clause-reached

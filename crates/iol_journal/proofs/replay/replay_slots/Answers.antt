@@ -19,17 +19,21 @@ loop-used-init g c = record {
   ports = refl;
   read = λ h left is.
       let all : left ≡ c.args.layout.slots = omega arith in
-      ap (λ (n : ℕ). log_from c.args.layout c.args.area c.args.header.epoch (reads (g.D.SectorDisk.disk c.args.disk.now).content) 0 n c.args.header.base c.args.state.now) all;
+      ap (λ (n : ℕ). log_from c.args.layout c.args.area c.args.header.epoch (reads (g.D.SectorDisk.disk c.args.disk.now).content) 0 n
+      c.args.header.base c.args.state.now) all;
 }
 
 pub loop-used-preserved : goal.loop-used-preserved
 loop-used-preserved g c =
     let old = g.D.SectorDisk.disk c.args.disk.now in
     let kept = c.loop-used.invariant in
-    let opened = gate_read old (g.D.SectorDisk.disk c.loop-used.disk) (slot_at c.args.layout c.args.area c.loop-used.used) c.slot-slot.result.gate _ true
+    let opened = gate_read old (g.D.SectorDisk.disk c.loop-used.disk) (slot_at c.args.layout c.args.area c.loop-used.used)
+    c.slot-slot.result.gate _ true
     kept.same c.slot-slot.ensures.gate c.in_ok-is_open.ensures.open c.if-not-branch.false in
-    let same = same-then old (g.D.SectorDisk.disk c.loop-used.disk) (g.D.SectorDisk.disk c.is_open.new.disk) kept.same c.is_open.ensures.same in
-    let batch = batch_read old (g.D.SectorDisk.disk c.is_open.new.disk) (body_at c.args.layout c.args.area c.loop-used.used 0) c.slot-slot.result.body c.read_body.new.body.items
+    let same = same-then old (g.D.SectorDisk.disk c.loop-used.disk) (g.D.SectorDisk.disk c.is_open.new.disk) kept.same
+    c.is_open.ensures.same in
+    let batch = batch_read old (g.D.SectorDisk.disk c.is_open.new.disk) (body_at c.args.layout c.args.area c.loop-used.used 0)
+    c.slot-slot.result.body c.read_body.new.body.items
     same c.slot-slot.ensures.body c.in_ok-read_body.ensures.reads in
     let after = rw c.in-Some.is at c.in_ok-number.ensures.later in
     let replayed = rw (c.in-Some.is, c.deref.ensures.value) at c.in_ok-number.ensures.reached in
@@ -42,7 +46,8 @@ loop-used-preserved g c =
       read = λ h left is.
           let holds = c.in_ok-read_body.ensures.holds (same-honest _ _ same h) in
           let leads = replayed holds in
-          sym (log-open c.args.layout c.args.area c.args.header.epoch (reads old.content) c.loop-used.used left c.loop-used.number c.loop-used.state _
+          sym (log-open c.args.layout c.args.area c.args.header.epoch (reads old.content) c.loop-used.used left c.loop-used.number
+          c.loop-used.state _
           (opened h) (ap (reached c.loop-used.number c.loop-used.state) (batch h c.args.header.epoch (c.loop-used.number + 1)) ∙ leads))
           ∙ kept.read h (left + 1) (omega arith);
     }
@@ -51,26 +56,32 @@ pub returns-then-not-branch-clause-finds : goal.returns-then-not-branch-clause-f
 returns-then-not-branch-clause-finds g c = λ h.
     let old = g.D.SectorDisk.disk c.args.disk.now in
     let left = c.args.layout.slots - (c.loop-used.used + 1) in
-    let closed = gate_read old (g.D.SectorDisk.disk c.loop-used.disk) (slot_at c.args.layout c.args.area c.loop-used.used) c.slot-slot.result.gate _ false
+    let closed = gate_read old (g.D.SectorDisk.disk c.loop-used.disk) (slot_at c.args.layout c.args.area c.loop-used.used)
+    c.slot-slot.result.gate _ false
     c.loop-used.invariant.same c.slot-slot.ensures.gate c.in_ok-is_open.ensures.open c.if-not-branch.true in
     sym (c.loop-used.invariant.read h (left + 1) (omega arith))
-    ∙ log-closed c.args.layout c.args.area c.args.header.epoch (reads old.content) c.loop-used.used left c.loop-used.number c.loop-used.state (closed h)
+    ∙ log-closed c.args.layout c.args.area c.args.header.epoch (reads old.content) c.loop-used.used left c.loop-used.number
+    c.loop-used.state (closed h)
 
 pub returns-in-None-clause-finds : goal.returns-in-None-clause-finds
 returns-in-None-clause-finds g c = λ h.
     let old = g.D.SectorDisk.disk c.args.disk.now in
     let kept = c.loop-used.invariant in
     let left = c.args.layout.slots - (c.loop-used.used + 1) in
-    let opened = gate_read old (g.D.SectorDisk.disk c.loop-used.disk) (slot_at c.args.layout c.args.area c.loop-used.used) c.slot-slot.result.gate _ true
+    let opened = gate_read old (g.D.SectorDisk.disk c.loop-used.disk) (slot_at c.args.layout c.args.area c.loop-used.used)
+    c.slot-slot.result.gate _ true
     kept.same c.slot-slot.ensures.gate c.in_ok-is_open.ensures.open c.if-not-branch.false in
-    let same = same-then old (g.D.SectorDisk.disk c.loop-used.disk) (g.D.SectorDisk.disk c.is_open.new.disk) kept.same c.is_open.ensures.same in
-    let batch = batch_read old (g.D.SectorDisk.disk c.is_open.new.disk) (body_at c.args.layout c.args.area c.loop-used.used 0) c.slot-slot.result.body c.read_body.new.body.items
+    let same = same-then old (g.D.SectorDisk.disk c.loop-used.disk) (g.D.SectorDisk.disk c.is_open.new.disk) kept.same
+    c.is_open.ensures.same in
+    let batch = batch_read old (g.D.SectorDisk.disk c.is_open.new.disk) (body_at c.args.layout c.args.area c.loop-used.used 0)
+    c.slot-slot.result.body c.read_body.new.body.items
     same c.slot-slot.ensures.body c.in_ok-read_body.ensures.reads in
     let holds = c.in_ok-read_body.ensures.holds (same-honest _ _ same h) in
     let leads = (rw (c.in-None.is, c.deref.ensures.value) at c.in_ok-number.ensures.reached) holds in
     rw c.slot-slot.ensures.body
     (sym (kept.read h (left + 1) (omega arith))
-    ∙ log-damaged c.args.layout c.args.area c.args.header.epoch (reads old.content) c.loop-used.used left c.loop-used.number c.loop-used.state
+    ∙ log-damaged c.args.layout c.args.area c.args.header.epoch (reads old.content) c.loop-used.used left c.loop-used.number
+    c.loop-used.state
     (opened h) (ap (reached c.loop-used.number c.loop-used.state) (batch h c.args.header.epoch (c.loop-used.number + 1)) ∙ leads))
 
 pub returns-clause-finds : goal.returns-clause-finds
@@ -82,7 +93,8 @@ returns-clause-finds g c = λ h.
 -- ---- the exits at a fault
 
 pub returns-in_err-body-clause-finds : goal.returns-in_err-body-clause-finds
-returns-in_err-body-clause-finds g c = let p = err_from_is_err_and c.from_residual.result c.from_residual.ensures.1 in rw (p.1, p.2) (λ h. tt)
+returns-in_err-body-clause-finds g c = let p = err_from_is_err_and c.from_residual.result c.from_residual.ensures.1 in
+    rw (p.1, p.2) (λ h. tt)
 
 pub returns-in_err-body-clause-counted : goal.returns-in_err-body-clause-counted
 returns-in_err-body-clause-counted g c = let p = err_from_is_err_and c.from_residual.result c.from_residual.ensures.1 in rw (p.1, p.2) refl
@@ -108,19 +120,33 @@ returns-in_err-read_body-clause-counted g c =
     let d = g.D.SectorDisk.disk in
     let quiet = c.in_ok-is_open.ensures.fault ∙ c.loop-used.invariant.quiet in
     let p = err_from_is_err_and c.from_residual-in_err-read_body.result c.from_residual-in_err-read_body.ensures.1 in
-    rw (p.1, p.2) (counted_behind End _ (d c.args.disk.now) (d c.is_open.new.disk) (d c.read_body.new.disk) quiet c.in_err-read_body.ensures.counted)
+    rw (p.1, p.2) (counted_behind End _ (d c.args.disk.now) (d c.is_open.new.disk) (d c.read_body.new.disk) quiet
+    c.in_err-read_body.ensures.counted)
 
 -- ---- each slot lies on the disk
 
 pub is_open-requires : goal.is_open-requires
 is_open-requires g c =
     let below : c.loop-used.used < c.args.layout.slots = omega (arith, c.slots-used-end.ensures) in
-    omega (arith, c.requires.fits, slot-inside c.args.layout c.args.area c.loop-used.used below, c.slot-slot.ensures.gate, c.loop-used.invariant.same.sectors)
+    omega (
+      arith,
+      c.requires.fits,
+      slot-inside c.args.layout c.args.area c.loop-used.used below,
+      c.slot-slot.ensures.gate,
+      c.loop-used.invariant.same.sectors,
+    )
 
 pub read_body-requires-clause-fits : goal.read_body-requires-clause-fits
 read_body-requires-clause-fits g c =
     let below : c.loop-used.used < c.args.layout.slots = omega (arith, c.slots-used-end.ensures) in
-    omega (arith, c.requires.fits, slot-inside c.args.layout c.args.area c.loop-used.used below, c.slot-slot.ensures.body, c.loop-used.invariant.same.sectors, c.is_open.ensures.same.sectors)
+    omega (
+      arith,
+      c.requires.fits,
+      slot-inside c.args.layout c.args.area c.loop-used.used below,
+      c.slot-slot.ensures.body,
+      c.loop-used.invariant.same.sectors,
+      c.is_open.ensures.same.sectors,
+    )
 
 pub returns-then-not-branch-clause-ports : goal.returns-then-not-branch-clause-ports
 returns-then-not-branch-clause-ports g c = c.loop-used.invariant.ports

@@ -14,5 +14,6 @@ invariant-loop-used g l = record {
   ports : length l.state ≡ length l.fn.state;
   read : IsTrue (g.D.SectorDisk.disk l.fn.disk).honest → (left : ℕ) → left + l.used ≡ l.fn.layout.slots
       → log_from l.fn.layout l.fn.area l.fn.header.epoch (reads (g.D.SectorDisk.disk l.fn.disk).content) l.used left l.number l.state
-      ≡ log_from l.fn.layout l.fn.area l.fn.header.epoch (reads (g.D.SectorDisk.disk l.fn.disk).content) 0 l.fn.layout.slots l.fn.header.base l.fn.state;
+      ≡ log_from l.fn.layout l.fn.area l.fn.header.epoch (reads (g.D.SectorDisk.disk l.fn.disk).content) 0 l.fn.layout.slots
+      l.fn.header.base l.fn.state;
 }

@@ -19,7 +19,8 @@ loop-place-init g c = record {
   ports = grind (arith, common_steps);
   read = λ h left is.
       let all : left ≡ c.args.layout.ports = omega arith in
-      with_front-none _ ∙ ap (λ (n : ℕ). ports_from c.args.layout c.args.area (reads (g.D.SectorDisk.disk c.args.disk.now).content) 0 n) all;
+      with_front-none _ ∙ ap (λ (n : ℕ). ports_from c.args.layout c.args.area (reads (g.D.SectorDisk.disk c.args.disk.now).content) 0 n)
+      all;
 }
 
 -- the port that was read is that of its record
@@ -37,12 +38,16 @@ loop-place-preserved g c =
       quiet = c.in_ok-port.ensures.counted ∙ kept.quiet;
       ports = ap (λ (state : State). length state) stored ∙ length-set c.loop-place.state c.loop-place.place c.in_ok-port.port ∙ kept.ports;
       read = λ h left is.
-          let here = port_shown old (g.D.SectorDisk.disk c.loop-place.disk) (port_at c.args.layout c.args.area c.loop-place.place) c.port-sector.result
+          let here = port_shown old (g.D.SectorDisk.disk c.loop-place.disk) (port_at c.args.layout c.args.area c.loop-place.place)
+          c.port-sector.result
           c.port_sectors.result c.args.layout.port_sectors (Ok c.in_ok-port.port) kept.same
-          (c.port-sector.ensures.at ∙ ap (port_at c.args.layout c.args.area) c.from.ensures) c.port_sectors.ensures.value c.in_ok-port.ensures.finds h in
+          (c.port-sector.ensures.at ∙ ap (port_at c.args.layout c.args.area) c.from.ensures) c.port_sectors.ensures.value
+          c.in_ok-port.ensures.finds h in
           ap (λ (state : State). with_front state (ports_from c.args.layout c.args.area (reads old.content) (c.loop-place.place + 1) left))
-          (ap (λ (state : State). take (c.loop-place.place + 1) state) stored ∙ take_more_set c.loop-place.state c.loop-place.place c.in_ok-port.port inside)
-          ∙ sym (ports-more c.args.layout c.args.area (reads old.content) c.loop-place.place left (take c.loop-place.place c.loop-place.state) c.in_ok-port.port here)
+          (ap (λ (state : State). take (c.loop-place.place + 1) state) stored
+          ∙ take_more_set c.loop-place.state c.loop-place.place c.in_ok-port.port inside)
+          ∙ sym (ports-more c.args.layout c.args.area (reads old.content) c.loop-place.place left
+          (take c.loop-place.place c.loop-place.state) c.in_ok-port.port here)
           ∙ kept.read h (left + 1) (omega arith);
     }
 
@@ -52,12 +57,16 @@ returns-in_err-port-clause-finds g c = λ h.
     let kept = c.loop-place.invariant in
     let left = c.args.layout.ports - (c.loop-place.place + 1) in
     let p = err_from_is_err_and c.from_residual-in_err-port.result c.from_residual-in_err-port.ensures.1 in
-    let here = port_shown old (g.D.SectorDisk.disk c.loop-place.disk) (port_at c.args.layout c.args.area c.loop-place.place) c.port-sector.result
+    let here = port_shown old (g.D.SectorDisk.disk c.loop-place.disk) (port_at c.args.layout c.args.area c.loop-place.place)
+    c.port-sector.result
     c.port_sectors.result c.args.layout.port_sectors (Err c.in_err-port.field-0.0) kept.same
-    (c.port-sector.ensures.at ∙ ap (port_at c.args.layout c.args.area) c.from.ensures) c.port_sectors.ensures.value c.in_err-port.ensures.finds h in
+    (c.port-sector.ensures.at ∙ ap (port_at c.args.layout c.args.area) c.from.ensures) c.port_sectors.ensures.value
+    c.in_err-port.ensures.finds h in
     rw (p.1, p.2)
-    (subst (λ (ports : Result State Cause). SaysWhy ports c.in_err-port.field-0.0) (kept.read h (left + 1) (omega (arith, c.ports-place-end.ensures.value)))
-    (ports-stopped c.args.layout c.args.area (reads old.content) c.loop-place.place left (take c.loop-place.place c.loop-place.state) c.in_err-port.field-0.0 here))
+    (subst (λ (ports : Result State Cause). SaysWhy ports c.in_err-port.field-0.0)
+    (kept.read h (left + 1) (omega (arith, c.ports-place-end.ensures.value)))
+    (ports-stopped c.args.layout c.args.area (reads old.content) c.loop-place.place left (take c.loop-place.place c.loop-place.state)
+    c.in_err-port.field-0.0 here))
 
 pub returns-clause-finds : goal.returns-clause-finds
 returns-clause-finds g c = λ h.
@@ -65,4 +74,6 @@ returns-clause-finds g c = λ h.
     let place : c.loop-place.place ≡ length c.loop-place.state = omega (arith, done, c.loop-place.invariant.ports) in
     let all : take c.loop-place.place c.loop-place.state ≡ c.loop-place.state =
     ap (λ (n : ℕ). take n c.loop-place.state) place ∙ take-length c.loop-place.state in
-    sym (c.loop-place.invariant.read h 0 (omega arith)) ∙ ports-ended c.args.layout c.args.area (reads (g.D.SectorDisk.disk c.args.disk.now).content) c.loop-place.place _ ∙ ap (λ (state : State). Ok state) all
+    sym (c.loop-place.invariant.read h 0 (omega arith))
+    ∙ ports-ended c.args.layout c.args.area (reads (g.D.SectorDisk.disk c.args.disk.now).content) c.loop-place.place _
+    ∙ ap (λ (state : State). Ok state) all

@@ -14,7 +14,8 @@ returns-in_err-port-clause-only c = λ front rest port is_record parts.
     rw (p.1, p.2) (elim (memory_or_read (port_begun_at c.new-reader.result) _ (port_record_at c.new-reader.result) c.in_err-port.ensures) [
       | inl memory ↦ inl (ap (λ fault. Err fault) memory)
       | inr fails ↦
-          absurd (no_fault_at port_record_at octets port rest _ (only_front port_record_reads octets front port rest is_record.spelling is_record.in_range parts)
+          absurd (no_fault_at port_record_at octets port rest _
+          (only_front port_record_reads octets front port rest is_record.spelling is_record.in_range parts)
           (ap port_record_at (sym c.new-reader.ensures) ∙ fails))
     ])
 
@@ -28,7 +29,8 @@ pub returns : goal.returns
 returns c =
     let reads = ap port_record_at (sym c.new-reader.ensures) ∙ c.in_ok-port.ensures in
     let count = ap (λ n. length c.args.octets.now - n) (sym c.len.ensures) in
-    let d = decodes port_record_reads c.args.octets.now c.in_ok-port.port c.port_state.new.self _ (λ i. omega (arith, c.type_inv.octets i)) reads count in
+    let d = decodes port_record_reads c.args.octets.now c.in_ok-port.port c.port_state.new.self _ (λ i. omega (arith, c.type_inv.octets i))
+    reads count in
     record {
       found = (d.within, record { spelling = d.front; in_range = d.in_range });
       only = λ front rest port is_record parts. inr (d.only front rest port is_record.spelling is_record.in_range parts);

@@ -10,5 +10,6 @@ returns-clause-octets c =
     let set = c.args.set.now in
     three_behind c.args.octets.now.items (to_be_bytes w16 set.vendor ++ to_be_bytes w32 set.device)
     (to_be_bytes w32 set.checksum ++ to_be_bytes w16 (length set.entries)) (flat_map entry_octets set.entries)
-    (c.in_ok-push_device.ensures ∙ ap (λ (front : List ℕ). front ++ (to_be_bytes w16 set.vendor ++ to_be_bytes w32 set.device)) c.in_ok-reserve.ensures.items)
+    (c.in_ok-push_device.ensures
+    ∙ ap (λ (front : List ℕ). front ++ (to_be_bytes w16 set.vendor ++ to_be_bytes w32 set.device)) c.in_ok-reserve.ensures.items)
     c.in_ok-push_counts.ensures c.in_ok-push_entries.ensures

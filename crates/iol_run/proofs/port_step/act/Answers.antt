@@ -17,19 +17,26 @@ returns-in-ReadPage-clause-ready g c =
     let l = g.L.DeviceLink in
     let core = c.args.master.now.core in
     let told = event_of c.read_page.result in
-    ready_again l.number l.steps c.args.machine.now c.read_page.new.machine c.args.link.now c.read_page.new.link core core (told ∷ []) c.requires.ready
-    (page_acts l.number l.steps c.args.machine.now c.read_page.new.machine c.args.link.now c.read_page.new.link core told c.in-ReadPage.ensures.wanted
-    (subst (λ (v : PortValue). HasPage l.number l.steps v c.read_page.new.machine c.args.link.now c.read_page.new.link told) c.action.ensures.after c.read_page.ensures))
+    ready_again l.number l.steps c.args.machine.now c.read_page.new.machine c.args.link.now c.read_page.new.link core core (told ∷ [])
+    c.requires.ready
+    (page_acts l.number l.steps c.args.machine.now c.read_page.new.machine c.args.link.now c.read_page.new.link core told
+    c.in-ReadPage.ensures.wanted
+    (subst (λ (v : PortValue). HasPage l.number l.steps v c.read_page.new.machine c.args.link.now c.read_page.new.link told)
+    c.action.ensures.after c.read_page.ensures))
 
 pub returns-in-Ask-clause-acts : goal.returns-in-Ask-clause-acts
 returns-in-Ask-clause-acts g c =
     let l = g.L.DeviceLink in
-    reply_acts l.number l.steps c.args.machine.now c.ask.new.machine (call_of c.in-Ask.call) c.args.link.now c.args.master.now.core c.ask.new.master.core (told_of c.ask.result)
+    reply_acts l.number l.steps c.args.machine.now c.ask.new.machine (call_of c.in-Ask.call) c.args.link.now c.args.master.now.core
+    c.ask.new.master.core (told_of c.ask.result)
     c.in-Ask.ensures.wanted
-    (subst (λ (v : PortValue). HasReply (call_of c.in-Ask.call) v c.ask.new.machine c.args.master.now.core c.ask.new.master.core (told_of c.ask.result)) c.action.ensures.after c.ask.ensures.reply)
+    (subst (λ (v : PortValue).
+    HasReply (call_of c.in-Ask.call) v c.ask.new.machine c.args.master.now.core c.ask.new.master.core (told_of c.ask.result))
+    c.action.ensures.after c.ask.ensures.reply)
 
 pub returns-in-Ask-clause-ready : goal.returns-in-Ask-clause-ready
 returns-in-Ask-clause-ready g c =
     let l = g.L.DeviceLink in
-    ready_again l.number l.steps c.args.machine.now c.ask.new.machine c.args.link.now c.args.link.now c.args.master.now.core c.ask.new.master.core (told_of c.ask.result)
+    ready_again l.number l.steps c.args.machine.now c.ask.new.machine c.args.link.now c.args.link.now c.args.master.now.core
+    c.ask.new.master.core (told_of c.ask.result)
     c.requires.ready (returns-in-Ask-clause-acts g c)

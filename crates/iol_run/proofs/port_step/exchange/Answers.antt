@@ -19,9 +19,11 @@ returns-in-Ok g c =
       holds = c.feed.ensures.holds;
       comes = tt;
       hears = (
-        subst (λ (os : List ℕ). l.steps c.args.link.now (Exchange os) (Octets c.in-Ok.answer.items) c.exchange.new.self) c.as_slice.ensures.value c.in-Ok.ensures.step,
+        subst (λ (os : List ℕ). l.steps c.args.link.now (Exchange os) (Octets c.in-Ok.answer.items) c.exchange.new.self)
+            c.as_slice.ensures.value c.in-Ok.ensures.step,
         c.in-Ok.ensures.connection,
-        ap (λ (e : Exchanged). trace.Exchange c.port-port.result c.connection-connection.result e.request.items e.answer.items ∷ []) c.put.ensures
+        ap (λ (e : Exchanged). trace.Exchange c.port-port.result c.connection-connection.result e.request.items e.answer.items ∷ [])
+            c.put.ensures
             ∙ ap (λ (p : ℕ). trace.Exchange p c.connection-connection.result sent c.in-Ok.answer.items ∷ []) c.port-port.ensures
             ∙ ap (λ (n : ℕ). trace.Exchange c.args.machine.now.port n sent c.in-Ok.answer.items ∷ []) c.connection-connection.ensures,
       );

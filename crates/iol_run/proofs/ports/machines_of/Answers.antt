@@ -7,7 +7,14 @@ use Rattle.iol_run.proofs.ports.machines_of.Goals as goal
 pub add_machine-requires-clause-room : goal.add_machine-requires-clause-room
 add_machine-requires-clause-room c =
     let l = c.loop-place in
-    omega (arith, l.machines.ok, ap (λ (ms : List PortValue). length ms) l.invariant.made, machines_length 0 l.place, l.invariant.room, c.loop-place-test.true)
+    omega (
+      arith,
+      l.machines.ok,
+      ap (λ (ms : List PortValue). length ms) l.invariant.made,
+      machines_length 0 l.place,
+      l.invariant.room,
+      c.loop-place-test.true,
+    )
 
 one_more : (place : ℕ) → new_machines place ++ new_machine (place + 1) ∷ [] ≡ new_machines (place + 1)
 one_more place =

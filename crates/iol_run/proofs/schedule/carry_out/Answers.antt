@@ -30,7 +30,8 @@ returns-in-Ok-clause-trace g c =
       new,
       c.in-Ok.ensures.fresh,
       subst (λ (e : Ended). HasRun d l.number l.steps c.args.steps.now e c.end.result.waits old new) (sym c.end.ensures.counted.0)
-          (subst (λ (n : ℕ). HasRun d l.number l.steps c.args.steps.now c.make_steps-ended.result.0 n old new) (sym c.end.ensures.counted.1) c.make_steps-ended.ensures.made),
+          (subst (λ (n : ℕ). HasRun d l.number l.steps c.args.steps.now c.make_steps-ended.result.0 n old new) (sym c.end.ensures.counted.1)
+          c.make_steps-ended.ensures.made),
       c.end.ensures.told.0,
       c.end.ensures.told.1,
       c.end.ensures.state,
@@ -43,9 +44,15 @@ returns-in-Ok-clause-crash_prefix g c = λ resting.
     let d = g.D.SectorDisk.disk in
     let start = g.F.Name.front.start in
     let new = c.make_steps-ended.new.run in
-    let named = subst (λ (f : FrontId). IsRunAtRest d (begun (clock (d c.args.journal.disk).content) f.start.number f.start.state) c.args.journal) c.requires.name resting in
-    let left = leaves d start new c.end.ensures.happened (c.make_steps-ended.ensures.kept.goes_on (begins d start c.args.journal c.args.links.items c.in-Ok.run' c.in-Ok.ensures.fresh named)) in
-    subst (λ (f : FrontId). CrashPrefix (d c.end.result.disk) c.end.result.begun f.start.number f.start.state (map stamp_of c.end.result.events.items)) (sym c.requires.name)
+    let named = subst (λ (f : FrontId).
+    IsRunAtRest d (begun (clock (d c.args.journal.disk).content) f.start.number f.start.state) c.args.journal) c.requires.name
+    resting in
+    let left = leaves d start new c.end.ensures.happened
+    (c.make_steps-ended.ensures.kept.goes_on
+    (begins d start c.args.journal c.args.links.items c.in-Ok.run' c.in-Ok.ensures.fresh named)) in
+    subst (λ (f : FrontId).
+    CrashPrefix (d c.end.result.disk) c.end.result.begun f.start.number f.start.state (map stamp_of c.end.result.events.items))
+    (sym c.requires.name)
     (rw (c.end.ensures.disk, c.end.ensures.told.0, c.end.ensures.told.1) left)
 
 pub returns-in-Ok-clause-flushed : goal.returns-in-Ok-clause-flushed
@@ -55,10 +62,14 @@ returns-in-Ok-clause-flushed g c =
     let new = c.make_steps-ended.new.run in
     let turns = queue_turns journal.standing.layout in
     let first = journal.standing.number in
-    subst (λ (e : Ended). AllFlushed turns c.args.steps.now first e c.end.result.waits (map stamp_of c.end.result.events.items)) (sym c.end.ensures.counted.0)
-    (subst (λ (n : ℕ). AllFlushed turns c.args.steps.now first c.make_steps-ended.result.0 n (map stamp_of c.end.result.events.items)) (sym c.end.ensures.counted.1)
-    (subst (λ (es : List Stamp). AllFlushed turns c.args.steps.now first c.make_steps-ended.result.0 c.make_steps-ended.result.1 es) (sym c.end.ensures.told.0)
-    (all_flushed g.D.SectorDisk.disk g.L.DeviceLink.number g.L.DeviceLink.steps journal.standing.layout first c.args.steps.now c.make_steps-ended.result.0 c.make_steps-ended.result.1 journal c.args.links.items old new
+    subst (λ (e : Ended). AllFlushed turns c.args.steps.now first e c.end.result.waits (map stamp_of c.end.result.events.items))
+    (sym c.end.ensures.counted.0)
+    (subst (λ (n : ℕ). AllFlushed turns c.args.steps.now first c.make_steps-ended.result.0 n (map stamp_of c.end.result.events.items))
+    (sym c.end.ensures.counted.1)
+    (subst (λ (es : List Stamp). AllFlushed turns c.args.steps.now first c.make_steps-ended.result.0 c.make_steps-ended.result.1 es)
+    (sym c.end.ensures.told.0)
+    (all_flushed g.D.SectorDisk.disk g.L.DeviceLink.number g.L.DeviceLink.steps journal.standing.layout first c.args.steps.now
+    c.make_steps-ended.result.0 c.make_steps-ended.result.1 journal c.args.links.items old new
     c.in-Ok.ensures.fresh refl refl c.make_steps-ended.ensures.made)))
 
 pub returns-in-Ok-clause-links : goal.returns-in-Ok-clause-links
@@ -68,7 +79,8 @@ returns-in-Ok-clause-links g c =
     let links = c.args.links.items in
     let new = c.make_steps-ended.new.run in
     rw (c.end.ensures.told.0, c.end.ensures.links)
-    (all_link_runs l.number l.steps d (take c.make_steps-ended.ensures.made.0 c.args.steps.now) c.make_steps-ended.result.1 c.args.journal links c.in-Ok.run' new
+    (all_link_runs l.number l.steps d (take c.make_steps-ended.ensures.made.0 c.args.steps.now) c.make_steps-ended.result.1 c.args.journal
+    links c.in-Ok.run' new
     c.in-Ok.ensures.fresh c.make_steps-ended.ensures.made.2)
 
 pub returns-in-Ok-clause-ports : goal.returns-in-Ok-clause-ports
@@ -76,14 +88,17 @@ returns-in-Ok-clause-ports g c =
     let l = g.L.DeviceLink in
     let journal = c.args.journal in
     rw (c.end.ensures.told.0, c.end.ensures.links)
-    (all_port_runs l.number l.steps journal.standing.number journal.standing.state g.D.SectorDisk.disk (take c.make_steps-ended.ensures.made.0 c.args.steps.now)
-    c.make_steps-ended.result.1 journal c.args.links.items c.in-Ok.run' c.make_steps-ended.new.run refl refl c.in-Ok.ensures.fresh c.make_steps-ended.ensures.made.2)
+    (all_port_runs l.number l.steps journal.standing.number journal.standing.state g.D.SectorDisk.disk
+    (take c.make_steps-ended.ensures.made.0 c.args.steps.now)
+    c.make_steps-ended.result.1 journal c.args.links.items c.in-Ok.run' c.make_steps-ended.new.run refl refl c.in-Ok.ensures.fresh
+    c.make_steps-ended.ensures.made.2)
 
 pub returns-in-Ok-clause-stopped : goal.returns-in-Ok-clause-stopped
 returns-in-Ok-clause-stopped g c =
     let l = g.L.DeviceLink in
     subst (λ (es : List Stamp). NoneOnceFailed es) (sym c.end.ensures.told.0)
-    (none_once_failed g.D.SectorDisk.disk l.number l.steps (take c.make_steps-ended.ensures.made.0 c.args.steps.now) c.make_steps-ended.result.1 c.args.journal
+    (none_once_failed g.D.SectorDisk.disk l.number l.steps (take c.make_steps-ended.ensures.made.0 c.args.steps.now)
+    c.make_steps-ended.result.1 c.args.journal
     c.args.links.items c.in-Ok.run' c.make_steps-ended.new.run c.in-Ok.ensures.fresh c.make_steps-ended.ensures.made.2)
 
 pub returns-in-Ok-clause-clocks : goal.returns-in-Ok-clause-clocks
@@ -93,7 +108,8 @@ returns-in-Ok-clause-clocks g c = λ honest.
     let old = c.in-Ok.run' in
     let new = c.make_steps-ended.new.run in
     rw (c.end.ensures.disk, c.end.ensures.told.0, c.end.ensures.told.1)
-    (clocks_rise d l.number l.steps (take c.make_steps-ended.ensures.made.0 c.args.steps.now) c.make_steps-ended.result.1 c.args.journal c.args.links.items old new
+    (clocks_rise d l.number l.steps (take c.make_steps-ended.ensures.made.0 c.args.steps.now) c.make_steps-ended.result.1 c.args.journal
+    c.args.links.items old new
     c.in-Ok.ensures.fresh c.make_steps-ended.ensures.made.2 (subst (λ (x : g.row.D.Denot). IsTrue (d x).honest) c.end.ensures.disk honest))
 
 pub returns-in-Ok-clause-failures : goal.returns-in-Ok-clause-failures
@@ -101,5 +117,6 @@ returns-in-Ok-clause-failures g c =
     let d = g.D.SectorDisk.disk in
     let l = g.L.DeviceLink in
     rw (c.end.ensures.disk, c.end.ensures.told.0)
-    (tells_failures d l.number l.steps (take c.make_steps-ended.ensures.made.0 c.args.steps.now) c.make_steps-ended.result.1 c.args.journal c.args.links.items
+    (tells_failures d l.number l.steps (take c.make_steps-ended.ensures.made.0 c.args.steps.now) c.make_steps-ended.result.1 c.args.journal
+    c.args.links.items
     c.in-Ok.run' c.make_steps-ended.new.run c.in-Ok.ensures.fresh c.make_steps-ended.ensures.made.2)

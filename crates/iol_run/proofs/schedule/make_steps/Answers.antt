@@ -12,13 +12,17 @@ loop-step-preserved g c =
     let i = c.loop-step.step-index in
     let steps = c.args.steps.now in
     let item = c.step-item.result in
-    let more : take (i + 1) steps ≡ take i steps ++ item ∷ [] = take_more steps i item (omega arith) ∙ ap (λ (s : Step). take i steps ++ s ∷ []) (sym c.step-item.is) in
-    let counted : c.loop-step.waits + c.waits_of-waits.result ≡ c.loop-step.waits + waits_of c.in-Ok.turned = ap (λ (n : ℕ). c.loop-step.waits + n) c.waits_of-waits.ensures in
+    let more : take (i + 1) steps ≡ take i steps ++ item ∷ [] = take_more steps i item (omega arith)
+    ∙ ap (λ (s : Step). take i steps ++ s ∷ []) (sym c.step-item.is) in
+    let counted : c.loop-step.waits + c.waits_of-waits.result ≡ c.loop-step.waits + waits_of c.in-Ok.turned =
+    ap (λ (n : ℕ). c.loop-step.waits + n) c.waits_of-waits.ensures in
     record {
       made =
-          subst (λ (ss : List Step). HasMade d l.number l.steps ss (c.loop-step.waits + c.waits_of-waits.result) c.args.run.now c.step.new.self) (sym more)
+          subst (λ (ss : List Step).
+          HasMade d l.number l.steps ss (c.loop-step.waits + c.waits_of-waits.result) c.args.run.now c.step.new.self) (sym more)
           (subst (λ (n : ℕ). HasMade d l.number l.steps (take i steps ++ item ∷ []) n c.args.run.now c.step.new.self) (sym counted)
-          (made_more d l.number l.steps (take i steps) item c.in-Ok.turned c.loop-step.waits c.args.run.now c.loop-step.run c.step.new.self c.loop-step.invariant.made c.in-Ok.ensures.did));
+          (made_more d l.number l.steps (take i steps) item c.in-Ok.turned c.loop-step.waits c.args.run.now c.loop-step.run c.step.new.self
+          c.loop-step.invariant.made c.in-Ok.ensures.did));
       few = omega (arith, c.loop-step.invariant.few, c.waits_of-waits.ensures, one_wait c.in-Ok.turned);
       kept = record { goes_on = λ was. c.step.ensures.kept.goes_on (c.loop-step.invariant.kept.goes_on was) };
     }

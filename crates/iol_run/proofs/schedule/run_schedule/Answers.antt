@@ -22,7 +22,8 @@ returns-in-Ok-new-clause-cause g c =
     let journal = c.in-Ok.journal in
     let count : links ≡ length journal.standing.state = search rules in
     IfErr-weaker c.carry_out.result _ (λ fault. FailsFor disk c.args.disk links fault)
-    (λ fault is. subst (λ f. FailsFor disk c.args.disk links f) (sym is) (λ honest. (journal.standing, c.in-Ok.ensures.found honest, count)))
+    (λ fault is. subst (λ f. FailsFor disk c.args.disk links f) (sym is) (λ honest.
+    (journal.standing, c.in-Ok.ensures.found honest, count)))
     c.carry_out.ensures.fault
 
 pub returns-in-Ok-new-clause-crash_prefix : goal.returns-in-Ok-new-clause-crash_prefix
@@ -31,27 +32,35 @@ returns-in-Ok-new-clause-crash_prefix g c =
     let d = disk c.args.disk in
     let journal = c.in-Ok.journal in
     let front = c.in-Ok-new.front in
-    of_trace c.carry_out.result d (λ first start trace. CrashPrefix (disk trace.disk) trace.begun first start (map stamp_of trace.events.items))
+    of_trace c.carry_out.result d (λ first start trace.
+    CrashPrefix (disk trace.disk) trace.begun first start (map stamp_of trace.events.items))
     (λ h kept first start means.
     let is = means_is d.sectors (reads d.content) journal.standing first start (c.in-Ok.ensures.found h) means in
-    let number : front.start.number ≡ journal.standing.number = ap (λ (s : Start). s.number) c.in-Ok-new.ensures ∙ c.number.ensures.number in
+    let number : front.start.number ≡ journal.standing.number = ap (λ (s : Start). s.number) c.in-Ok-new.ensures
+    ∙ c.number.ensures.number in
     let state : front.start.state ≡ journal.standing.state = ap (λ (s : Start). s.state) c.in-Ok-new.ensures ∙ c.in-Ok.ensures.state in
     let resting : IsRunAtRest disk (begun (clock (disk journal.disk).content) front.start.number front.start.state) journal =
     subst (λ (n : ℕ). IsRunAtRest disk (begun (clock (disk journal.disk).content) n front.start.state) journal) (sym number)
-    (subst (λ (s : State). IsRunAtRest disk (begun (clock (disk journal.disk).content) journal.standing.number s) journal) (sym state) (c.in-Ok.ensures.begins (λ h. kept))) in
-    subst (λ (n : ℕ). IfOk c.carry_out.result (λ trace. CrashPrefix (disk trace.disk) trace.begun n start (map stamp_of trace.events.items))) (number ∙ is.0)
-    (subst (λ (s : State). IfOk c.carry_out.result (λ trace. CrashPrefix (disk trace.disk) trace.begun front.start.number s (map stamp_of trace.events.items))) (state ∙ is.1)
+    (subst (λ (s : State). IsRunAtRest disk (begun (clock (disk journal.disk).content) journal.standing.number s) journal) (sym state)
+    (c.in-Ok.ensures.begins (λ h. kept))) in
+    subst (λ (n : ℕ). IfOk c.carry_out.result (λ trace.
+    CrashPrefix (disk trace.disk) trace.begun n start (map stamp_of trace.events.items))) (number ∙ is.0)
+    (subst (λ (s : State).
+    IfOk c.carry_out.result (λ trace. CrashPrefix (disk trace.disk) trace.begun front.start.number s (map stamp_of trace.events.items)))
+    (state ∙ is.1)
     (c.carry_out.ensures.crash_prefix resting)))
 
 pub returns-in-Ok-new-clause-flushed : goal.returns-in-Ok-new-clause-flushed
 returns-in-Ok-new-clause-flushed g c =
-    shown_flushed c.carry_out.result (g.D.SectorDisk.disk c.args.disk) c.in-Ok.journal.standing c.args.steps.now c.in-Ok.ensures.found c.carry_out.ensures.flushed
+    shown_flushed c.carry_out.result (g.D.SectorDisk.disk c.args.disk) c.in-Ok.journal.standing c.args.steps.now c.in-Ok.ensures.found
+    c.carry_out.ensures.flushed
 
 pub returns-in-Ok-new-clause-ports : goal.returns-in-Ok-new-clause-ports
 returns-in-Ok-new-clause-ports g c =
     let l = g.L.DeviceLink in
     shown_trace c.carry_out.result (g.D.SectorDisk.disk c.args.disk) c.in-Ok.journal.standing
-    (λ journal trace. ArePortRuns l.number l.steps journal.number journal.state c.args.links.items (map stamp_of trace.events.items) trace.links.items)
+    (λ journal trace. ArePortRuns l.number l.steps journal.number journal.state c.args.links.items (map stamp_of trace.events.items)
+    trace.links.items)
     c.in-Ok.ensures.found c.carry_out.ensures.ports
 
 pub returns-in-Ok-new-clause-failures : goal.returns-in-Ok-new-clause-failures

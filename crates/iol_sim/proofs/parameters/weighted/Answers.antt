@@ -11,7 +11,8 @@ loop-octet-preserved c =
     let term : loop.place * c.from.result ≡ (c.args.first + loop.octet-index) * octet
     = ap (λ n. n * c.from.result) loop.invariant.at ∙ ap (λ n. (c.args.first + loop.octet-index) * n) is in
     let one = weighted-one_more c.args.first c.args.octets.now loop.octet-index c.loop-octet-test.true in
-    let product = small-product loop.place c.from.result (omega (arith, loop.invariant.at, c.loop-octet-test.true, c.requires.first, c.requires.short))
+    let product = small-product loop.place c.from.result
+    (omega (arith, loop.invariant.at, c.loop-octet-test.true, c.requires.first, c.requires.short))
     (omega (arith, is, c.type_inv.octets loop.octet-index)) in
     record {
       summed = omega (arith, one, loop.invariant.summed, term);

@@ -15,5 +15,6 @@ returns c place octet within other = false_from_not_true _ (λ starts.
     let gate = slice_set open_gate place octet in
     let inside : place < length open_gate = omega (arith, within) in
     let marked : GATE_MARK ≡ take 8 gate = (bytes_eq-Decides GATE_MARK (take 8 gate)).0 starts in
-    other (sym (get_or-set_same open_gate place octet 0 inside) ∙ sym (get_or-take 8 gate place 0 within) ∙ sym (ap (λ (octets : List ℕ). get_or octets place 0) marked)
+    other (sym (get_or-set_same open_gate place octet 0 inside) ∙ sym (get_or-take 8 gate place 0 within)
+    ∙ sym (ap (λ (octets : List ℕ). get_or octets place 0) marked)
     ∙ sym (get_or_append_left GATE_MARK (replicate 504 0) 0 place within)))

@@ -10,6 +10,7 @@ loop-place-preserved c =
     let set = c.args.set.now.entries in
     let other = c.args.other.now.entries in
     let same = not-false _ (sym c.ne.ensures ∙ c.if-ne.false) in
-    let found = same_found _ (λ entry. (entry.0, entry.1.now)) (λ one two is. (same_entry-Decides (one.0, one.1.now) (two.0, two.1.now)).0 is) c.entry.result c.entry-in-loop-place.result same in
+    let found = same_found _ (λ entry. (entry.0, entry.1.now)) (λ one two is.
+    (same_entry-Decides (one.0, one.1.now) (two.0, two.1.now)).0 is) c.entry.result c.entry-in-loop-place.result same in
     let here : slice_get set place ≡ slice_get other place = sym c.entry.ensures.entry ∙ found ∙ c.entry-in-loop-place.ensures.entry in
     take_next set other place here c.loop-place.invariant

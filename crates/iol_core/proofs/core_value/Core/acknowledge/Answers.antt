@@ -14,16 +14,45 @@ invariant_of-self g c =
     let was = c.self.invariant in
     let queue = values i.queue.items in
     let start = g.F.Name.front.start in
-    let old : CoreView = record { durable = i.durable; number = i.number; queue = queue; flight = i.flight; permits = i.permits.items; stopped = i.stopped; seen = i.pass } in
-    let flies : IsInFlight start old c.args.committed = subst (λ (v : CoreView). IsInFlight start v c.args.committed) (sym c.self.view_is) (c.awaits.ensures.0 (search rules)) in
+    let old : CoreView =
+    record {
+      durable = i.durable;
+      number = i.number;
+      queue = queue;
+      flight = i.flight;
+      permits = i.permits.items;
+      stopped = i.stopped;
+      seen = i.pass;
+    } in
+    let flies : IsInFlight start old c.args.committed =
+    subst (λ (v : CoreView). IsInFlight start v c.args.committed) (sym c.self.view_is) (c.awaits.ensures.0 (search rules)) in
     let holds = acknowledged_core start old c.args.committed c.show.new.pass was.0 flies c.show.ensures.kept c.show.ensures.shown in
     let durable : c.apply_front.new.durable ≡ after i.durable (take i.flight queue) = c.apply_front.ensures.durable in
     let rest : values c.apply_front.new.queue.items ≡ drop i.flight queue = c.apply_front.ensures.queue in (
-      subst (λ (d : State). IsCore start (record { durable = d; number = i.number + i.flight; queue = values c.apply_front.new.queue.items; flight = 0; permits = i.permits.items; stopped = i.stopped; seen = c.show.new.pass }))
+      subst (λ (d : State).
+          IsCore start (record {
+            durable = d;
+            number = i.number + i.flight;
+            queue = values c.apply_front.new.queue.items;
+            flight = 0;
+            permits = i.permits.items;
+            stopped = i.stopped;
+            seen = c.show.new.pass;
+          }))
           (sym durable)
-          (subst (λ (q : List CommandValue). IsCore start (record { durable = after i.durable (take i.flight queue); number = i.number + i.flight; queue = q; flight = 0; permits = i.permits.items; stopped = i.stopped; seen = c.show.new.pass }))
+          (subst (λ (q : List CommandValue).
+          IsCore start (record {
+            durable = after i.durable (take i.flight queue);
+            number = i.number + i.flight;
+            queue = q;
+            flight = 0;
+            permits = i.permits.items;
+            stopped = i.stopped;
+            seen = c.show.new.pass;
+          }))
           (sym rest) holds),
-      was.1 ∙ (sym (after_parts i.durable queue i.flight) ∙ (ap (λ (s : State). after s (drop i.flight queue)) (sym durable) ∙ ap (after c.apply_front.new.durable) (sym rest))),
+      was.1 ∙ (sym (after_parts i.durable queue i.flight)
+          ∙ (ap (λ (s : State). after s (drop i.flight queue)) (sym durable) ∙ ap (after c.apply_front.new.durable) (sym rest))),
       omega (arith, c.apply_front.ensures.room, was.2),
     )
 

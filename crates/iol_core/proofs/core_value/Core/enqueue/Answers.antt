@@ -15,13 +15,35 @@ invariant_of-self g c =
     let was = c.self.invariant in
     let command = value_of c.args.command in
     let queue = values i.queue.items in
-    let old : CoreView = record { durable = i.durable; number = i.number; queue = queue; flight = i.flight; permits = i.permits.items; stopped = i.stopped; seen = i.pass } in
-    let passes : check (live old) command ≡ None = subst (λ (v : CoreView). check (live v) command ≡ None) (sym c.self.view_is) c.requires.passes in
+    let old : CoreView =
+    record {
+      durable = i.durable;
+      number = i.number;
+      queue = queue;
+      flight = i.flight;
+      permits = i.permits.items;
+      stopped = i.stopped;
+      seen = i.pass;
+    } in
+    let passes : check (live old) command ≡ None =
+    subst (λ (v : CoreView). check (live v) command ≡ None) (sym c.self.view_is) c.requires.passes in
     let room : queue_fault old ≡ None = subst (λ (v : CoreView). queue_fault v ≡ None) (sym c.self.view_is) c.requires.room in
     let more : values c.push_back.new.self.items ≡ queue ++ command ∷ [] =
-    ap values c.in-Ok.ensures.items ∙ (map-append value_of i.queue.items (c.args.same ∷ []) ∙ ap (λ (last : CommandValue). queue ++ last ∷ []) c.requires.same) in (
-      subst (λ (q : List CommandValue). IsCore g.F.Name.front.start (record { durable = i.durable; number = i.number; queue = q; flight = i.flight; permits = i.permits.items; stopped = i.stopped; seen = i.pass }))
+    ap values c.in-Ok.ensures.items
+    ∙ (map-append value_of i.queue.items (c.args.same ∷ []) ∙ ap (λ (last : CommandValue). queue ++ last ∷ []) c.requires.same) in (
+      subst (λ (q : List CommandValue).
+          IsCore g.F.Name.front.start
+          (record {
+            durable = i.durable;
+            number = i.number;
+            queue = q;
+            flight = i.flight;
+            permits = i.permits.items;
+            stopped = i.stopped;
+            seen = i.pass;
+          }))
           (sym more) (queued_core g.F.Name.front.start old command was.0 passes room),
-      c.apply.ensures ∙ (ap (λ (s : State). apply s command) was.1 ∙ (sym (after_push i.durable queue command) ∙ ap (after i.durable) (sym more))),
+      c.apply.ensures ∙ (ap (λ (s : State). apply s command) was.1
+          ∙ (sym (after_push i.durable queue command) ∙ ap (after i.durable) (sym more))),
       omega (arith, c.in-Ok.ensures.capacity, was.2),
     )

@@ -14,9 +14,27 @@ invariant_of-result g c =
     let count : c.count-number.result ≡ start.number + length c.args.pass = c.count-number.ensures.count in
     let bound : start.number + length c.args.pass ≤ LAST_NUMBER = subst (λ (n : ℕ). n ≤ LAST_NUMBER) count c.count-number.ensures.bound in
     let empty : values c.in_ok-queue.queue.items ≡ [] = ap values c.in_ok-queue.ensures.items in (
-      subst (λ (n : ℕ). IsCore start (record { durable = c.args.state; number = n; queue = values c.in_ok-queue.queue.items; flight = 0; permits = permits; stopped = None; seen = c.args.pass }))
+      subst (λ (n : ℕ). IsCore start
+          (record {
+            durable = c.args.state;
+            number = n;
+            queue = values c.in_ok-queue.queue.items;
+            flight = 0;
+            permits = permits;
+            stopped = None;
+            seen = c.args.pass;
+          }))
           (sym count)
-          (subst (λ (queue : List CommandValue). IsCore start (record { durable = c.args.state; number = start.number + length c.args.pass; queue = queue; flight = 0; permits = permits; stopped = None; seen = c.args.pass }))
+          (subst (λ (queue : List CommandValue).
+          IsCore start (record {
+            durable = c.args.state;
+            number = start.number + length c.args.pass;
+            queue = queue;
+            flight = 0;
+            permits = permits;
+            stopped = None;
+            seen = c.args.pass;
+          }))
           (sym empty) (new_core start c.args.pass c.args.state permits c.requires bound none)),
       search rules,
       search rules,

@@ -10,5 +10,6 @@ returns-clause-legal g c =
     let inside = c.self.inside in
     let legal_all = c.self.invariant.0.legal in
     let here = (legal_parts inside.durable (values inside.queue.items) c.longest-count.result legal_all).0 in
-    let front : legal inside.durable (values c.in_ok-commands.commands.items) ≡ true = ap (legal inside.durable) c.in_ok-commands.ensures ∙ here in
+    let front : legal inside.durable (values c.in_ok-commands.commands.items) ≡ true = ap (legal inside.durable) c.in_ok-commands.ensures
+    ∙ here in
     subst (λ (v : CoreView). legal v.durable (values c.in_ok-commands.commands.items) ≡ true) c.self.view_is front

@@ -12,7 +12,8 @@ returns-in-Ok-clause-synced c =
       sectors = c.settle.ensures.length;
       honest = refl;
       failures = omega arith;
-      content = λ h. content-sync c.args.self.now.cells c.settle.new.self (undos c.args.self.now.past.items) (undos c.keep.new.past.items) kept.0
+      content = λ h. content-sync c.args.self.now.cells c.settle.new.self (undos c.args.self.now.past.items) (undos c.keep.new.past.items)
+          kept.0
           c.settle.ensures.settled
           kept.1
           kept.2;

@@ -8,4 +8,5 @@ pub returns : goal.returns
 returns g c =
     let plan = c.args.self.now in
     let e = c.close_gate.ensures in
-    makes_write c.close_gate.result (slot_at plan.layout plan.area c.args.slot) closed_gate _ _ c.slot.ensures.gate refl e.wrote e.wrote_some e.fault
+    makes_write c.close_gate.result (slot_at plan.layout plan.area c.args.slot) closed_gate _ _ c.slot.ensures.gate refl e.wrote
+    e.wrote_some e.fault

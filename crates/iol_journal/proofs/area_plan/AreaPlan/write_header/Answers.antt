@@ -7,4 +7,5 @@ pub returns : goal.returns
 returns g c =
     let plan = c.args.self.now in
     let e = c.write.ensures in
-    makes_write c.write.result (header_at plan.layout plan.area) (header_octets plan.header.epoch plan.header.base) _ _ c.header.ensures.at c.octets.ensures e.wrote e.wrote_some e.fault
+    makes_write c.write.result (header_at plan.layout plan.area) (header_octets plan.header.epoch plan.header.base) _ _ c.header.ensures.at
+    c.octets.ensures e.wrote e.wrote_some e.fault

@@ -15,19 +15,23 @@ loop-record-init g c = made_none _ _ (search rules) refl
 
 pub write-requires : goal.write-requires
 write-requires g c =
-    let there = shown-there _ _ c.loop-record.record-index (record { sector = 0; octets = [] }) c.deref-record-items.ensures.value c.loop-record-test.true in
-    let row = subst (λ (n : ℕ). IsRow 0 n (map write_of c.args.self.now.records.items)) (sym c.loop-record.invariant.after.sectors) c.requires in
+    let there = shown-there _ _ c.loop-record.record-index (record { sector = 0; octets = [] }) c.deref-record-items.ensures.value
+    c.loop-record-test.true in
+    let row = subst (λ (n : ℕ). IsRow 0 n (map write_of c.args.self.now.records.items)) (sym c.loop-record.invariant.after.sectors)
+    c.requires in
     sector-inside _ _ c.loop-record.record-index _ row there
 
 pub returns-in_err-write : goal.returns-in_err-write
 returns-in_err-write g c =
-    let there = shown-there _ _ c.loop-record.record-index (record { sector = 0; octets = [] }) c.deref-record-items.ensures.value c.loop-record-test.true in
+    let there = shown-there _ _ c.loop-record.record-index (record { sector = 0; octets = [] }) c.deref-record-items.ensures.value
+    c.loop-record-test.true in
     hands_on _ c.from_residual.result c.from_residual.ensures.1
     (failed_next _ c.loop-record.record-index _ there c.loop-record.invariant c.in_err-write.was c.write.ensures)
 
 pub loop-record-preserved : goal.loop-record-preserved
 loop-record-preserved g c =
-    let there = shown-there _ _ c.loop-record.record-index (record { sector = 0; octets = [] }) c.deref-record-items.ensures.value c.loop-record-test.true in
+    let there = shown-there _ _ c.loop-record.record-index (record { sector = 0; octets = [] }) c.deref-record-items.ensures.value
+    c.loop-record-test.true in
     made_next _ c.loop-record.record-index _ there c.loop-record.invariant c.in_ok-write.was c.write.ensures
 
 pub returns : goal.returns
@@ -36,5 +40,12 @@ returns g c =
     let calls = map write_of c.args.self.now.records.items in
     let shown = ap (λ (items : List RecordSector). length items) c.deref-record-items.ensures.value in
     let all : c.loop-record.record-index ≡ length calls =
-    omega (arith, shown, length-map c.args.self.now.records.items write_of, c.loop-record-test.false, c.loop-record.auto.record-index-end) in
-    subst (λ (made : List Call). Made made (d c.args.disk.now) (d c.loop-record.disk)) (ap (λ (n : ℕ). take n calls) all ∙ take-length calls) c.loop-record.invariant
+    omega (
+      arith,
+      shown,
+      length-map c.args.self.now.records.items write_of,
+      c.loop-record-test.false,
+      c.loop-record.auto.record-index-end,
+    ) in
+    subst (λ (made : List Call). Made made (d c.args.disk.now) (d c.loop-record.disk)) (ap (λ (n : ℕ). take n calls) all
+    ∙ take-length calls) c.loop-record.invariant

@@ -11,7 +11,8 @@ use contract.Monad.{Fun}
 use contract.Running.{tables, tables_of}
 use sound.WpLaws.{WpFn-mono}
 use types.Logic.{Logic}
-use types.Kit.{Goal, Step, step, Item, ‵, raw, ◌⊛◌, prop, ◌$◌, ◌∵◌, !, qed, move, keep, drop, split, fsplit, fjoin, fpack, feq_i, feq_l, regoal, suffices, done}
+use types.Kit.{Goal, Step, step, Item, ‵, raw, ◌⊛◌, prop, ◌$◌, ◌∵◌, !, qed, move, keep, drop, split, fsplit, fjoin, fpack, feq_i, feq_l}
+use types.Kit.{regoal, suffices, done}
 use types.Part.{agg}
 use types.Run.{enter, returns, no_more}
 use types.ByLocal.{alloc_all, pass_all, free_all, look_at, sets}
@@ -84,7 +85,9 @@ module _ {M : Type 1} {𝓤 : Ura M} (𝓛 : Logic 𝓤) (at_mem : Memory → SP
 
   meets : (𝓣 : Tables 𝓤 H) → Meets 𝓛 ended.signature (WpFn 𝓤 H 𝓣.C 𝓣.Λ function) (closing 𝓛 ended held)
   meets 𝓣 =
-      walk_Meets 𝓛 ended stayed (Goes-dropped 𝓛 2 (RefOf (0 ∷ []) tt (plain (λ κs. Source.the_row (named_lft 2 1 tt κs))) (λ _. tt)) yes (λ κs x f. refl), tt) held
+      walk_Meets 𝓛 ended stayed
+      (Goes-dropped 𝓛 2 (RefOf (0 ∷ []) tt (plain (λ κs. Source.the_row (named_lft 2 1 tt κs))) (λ _. tt)) yes (λ κs x f. refl), tt)
+      held
       (WpFn 𝓤 H 𝓣.C 𝓣.Λ function) (WpFn-mono 𝓤 H 𝓛.laws 𝓣 function) (walks 𝓣.C 𝓣.Λ)
 
 pub read_off_spec : {M : Type 1} → stated.statement M

@@ -16,8 +16,10 @@ pub returns-in-Ok-clause-at_most : goal.returns-in-Ok-clause-at_most
 returns-in-Ok-clause-at_most g c =
     let d = g.D.SectorDisk.disk in
     let commands = values c.args.batch.commands.items in
-    let planned = subst (λ (v : JournalView g.row.D.Denot). IsPlanned (d v.disk) v.standing commands (Body 0)) (sym c.self.view_is) c.in-Ok.ensures.planned.0 in
-    subst (λ (w : WritingView g.row.D.Denot). length (calls_left w) ≤ 19) (sym c.begun.ensures) (at_most (standing_at c.self.inside.place c.self.inside.number c.self.inside.state) commands planned.short)
+    let planned = subst (λ (v : JournalView g.row.D.Denot). IsPlanned (d v.disk) v.standing commands (Body 0)) (sym c.self.view_is)
+    c.in-Ok.ensures.planned.0 in
+    subst (λ (w : WritingView g.row.D.Denot). length (calls_left w) ≤ 19) (sym c.begun.ensures)
+    (at_most (standing_at c.self.inside.place c.self.inside.number c.self.inside.state) commands planned.short)
 
 pub returns-in-Ok-clause-run : goal.returns-in-Ok-clause-run
 returns-in-Ok-clause-run g c r behind queued resting =

@@ -25,7 +25,9 @@ returns-then-branch-clause-follows g c =
     let count = length-map c.args.batch.now.commands.items value_of in
     let commands = values c.args.batch.now.commands.items in
     subst (λ (v : JournalView g.row.D.Denot). batch_refusal v.standing c.args.batch.now.first commands ≡ None) c.self.view_is
-    (taken (standing_at j.place j.number j.state) c.args.batch.now.first commands (ap (λ (commands : List Command). is_too_large (values commands)) (sym c.deref.ensures.value) ∙ sym c.is_too_large.ensures ∙ c.if-is_too_large.false) (omega arith) (omega (arith, count)) (omega arith) (omega (arith, count)) (passes g c))
+    (taken (standing_at j.place j.number j.state) c.args.batch.now.first commands
+    (ap (λ (commands : List Command). is_too_large (values commands)) (sym c.deref.ensures.value) ∙ sym c.is_too_large.ensures
+    ∙ c.if-is_too_large.false) (omega arith) (omega (arith, count)) (omega arith) (omega (arith, count)) (passes g c))
 
 pub returns-else-branch-clause-cause : goal.returns-else-branch-clause-cause
 returns-else-branch-clause-cause g c =
@@ -33,13 +35,16 @@ returns-else-branch-clause-cause g c =
     let count = length-map c.args.batch.now.commands.items value_of in
     let commands = values c.args.batch.now.commands.items in
     subst (λ (v : JournalView g.row.D.Denot). batch_refusal v.standing c.args.batch.now.first commands ≡ Some Misfit) c.self.view_is
-    (refused (standing_at j.place j.number j.state) c.args.batch.now.first commands (ap (λ (commands : List Command). is_too_large (values commands)) (sym c.deref.ensures.value) ∙ sym c.is_too_large.ensures ∙ c.if-is_too_large.false) (omega arith)
+    (refused (standing_at j.place j.number j.state) c.args.batch.now.first commands
+    (ap (λ (commands : List Command). is_too_large (values commands)) (sym c.deref.ensures.value) ∙ sym c.is_too_large.ensures
+    ∙ c.if-is_too_large.false) (omega arith)
     (rw (← c.in_ok-next.ensures.copy, ← c.deref-3.ensures.value, ← c.in_ok-apply_all.ensures.legal) c.if-branch.false))
 
 -- the body that was made is that of the batch
 spelled : (g : Given.Over) (c : goal.After-len-sectors g)
     → c.in_ok-body.body.items ≡ body_octets c.self.inside.place.epoch (c.self.inside.number + 1) (values c.args.batch.now.commands.items)
-spelled g c = let next : c.args.batch.now.first ≡ c.self.inside.number + 1 = omega arith in rw (c.deref-2.ensures.value, next) at c.in_ok-body.ensures.octets
+spelled g c = let next : c.args.batch.now.first ≡ c.self.inside.number + 1 = omega arith in
+    rw (c.deref-2.ensures.value, next) at c.in_ok-body.ensures.octets
 
 pub returns-then-branch-clause-planned : goal.returns-then-branch-clause-planned
 returns-then-branch-clause-planned g c =
@@ -57,7 +62,8 @@ returns-then-branch-clause-planned g c =
       short = subst (λ (b : List ℕ). sectors_reached (length b) ≤ 16) (spelled g c) body.short.1;
       in_phase = subst (λ (b : List ℕ). 1 ≤ sectors_reached (length b)) (spelled g c) body.short.0;
       read_back = λ rest.
-          subst (λ (b : List ℕ). batch_of j.place.epoch (j.number + 1) (b ++ rest) ≡ Some commands) (spelled g c) ((rw (c.deref-2.ensures.value, next) at body.sound) (omega arith) (omega arith) rest);
+          subst (λ (b : List ℕ). batch_of j.place.epoch (j.number + 1) (b ++ rest) ≡ Some commands) (spelled g c)
+          ((rw (c.deref-2.ensures.value, next) at body.sound) (omega arith) (omega arith) rest);
       passes = passes g c;
       some = omega (arith, count);
       bound = omega (arith, count);
@@ -70,7 +76,8 @@ returns-then-branch-clause-planned g c =
       sectors = omega (arith, c.len-sectors.ensures, c.in_ok-body.body.ok, whole, ap (λ (b : List ℕ). length b) (spelled g c));
       next = rw (← c.in_ok-next.ensures.copy, ← c.deref-3.ensures.value) (c.in_ok-apply_all.ensures.after c.if-branch.true);
     } in
-    subst (λ (v : JournalView g.row.D.Denot). IsPlanned (g.D.SectorDisk.disk v.disk) v.standing commands (Body 0) × IsPlan v.standing commands made × (c.args.batch.now.first ≡ v.standing.number + 1)) c.self.view_is
+    subst (λ (v : JournalView g.row.D.Denot). IsPlanned (g.D.SectorDisk.disk v.disk) v.standing commands (Body 0)
+    × IsPlan v.standing commands made × (c.args.batch.now.first ≡ v.standing.number + 1)) c.self.view_is
     (planned, plan, next)
 
 -- ---- the exits that are out of memory
@@ -78,14 +85,20 @@ returns-then-branch-clause-planned g c =
 pub returns-in_err-body-clause-cause : goal.returns-in_err-body-clause-cause
 returns-in_err-body-clause-cause g c =
     let p = err_from_is_err_and c.from_residual.result c.from_residual.ensures.1 in
-    rw (p.1, p.2) (out_of_memory c.args.batch.now.first c.args.batch.now.commands.items c.self.view_is (ap (λ (commands : List Command). is_too_large (values commands)) (sym c.deref.ensures.value) ∙ sym c.is_too_large.ensures ∙ c.if-is_too_large.false) (omega arith))
+    rw (p.1, p.2) (out_of_memory c.args.batch.now.first c.args.batch.now.commands.items c.self.view_is
+    (ap (λ (commands : List Command). is_too_large (values commands)) (sym c.deref.ensures.value) ∙ sym c.is_too_large.ensures
+    ∙ c.if-is_too_large.false) (omega arith))
 
 pub returns-in_err-next-clause-cause : goal.returns-in_err-next-clause-cause
 returns-in_err-next-clause-cause g c =
     let p = err_from_is_err_and c.from_residual-in_err-next.result c.from_residual-in_err-next.ensures.1 in
-    rw (p.1, p.2) (out_of_memory c.args.batch.now.first c.args.batch.now.commands.items c.self.view_is (ap (λ (commands : List Command). is_too_large (values commands)) (sym c.deref.ensures.value) ∙ sym c.is_too_large.ensures ∙ c.if-is_too_large.false) (omega arith))
+    rw (p.1, p.2) (out_of_memory c.args.batch.now.first c.args.batch.now.commands.items c.self.view_is
+    (ap (λ (commands : List Command). is_too_large (values commands)) (sym c.deref.ensures.value) ∙ sym c.is_too_large.ensures
+    ∙ c.if-is_too_large.false) (omega arith))
 
 pub returns-in_err-apply_all-clause-cause : goal.returns-in_err-apply_all-clause-cause
 returns-in_err-apply_all-clause-cause g c =
     let p = err_from_is_err_and c.from_residual-in_err-apply_all.result c.from_residual-in_err-apply_all.ensures.1 in
-    rw (p.1, p.2) (out_of_memory c.args.batch.now.first c.args.batch.now.commands.items c.self.view_is (ap (λ (commands : List Command). is_too_large (values commands)) (sym c.deref.ensures.value) ∙ sym c.is_too_large.ensures ∙ c.if-is_too_large.false) (omega arith))
+    rw (p.1, p.2) (out_of_memory c.args.batch.now.first c.args.batch.now.commands.items c.self.view_is
+    (ap (λ (commands : List Command). is_too_large (values commands)) (sym c.deref.ensures.value) ∙ sym c.is_too_large.ensures
+    ∙ c.if-is_too_large.false) (omega arith))

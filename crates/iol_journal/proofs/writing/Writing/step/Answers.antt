@@ -17,12 +17,14 @@ returns-in-Err-clause-call g c =
     let w = c.self.inside in
     let plan = c.self.invariant.1 in
     subst (λ (v : WritingView g.row.D.Denot). FailsFirst (calls_left v) c.in-Err.fault (d v.disk) (d c.make.new.disk)) c.self.view_is
-    (fails_first _ w.place.idle _ _ _ _ _ _ c.self.invariant.0 plan.body plan.sectors c.in-Err.fault (c.in-Err.ensures.makes w.number w.state))
+    (fails_first _ w.place.idle _ _ _ _ _ _ c.self.invariant.0 plan.body plan.sectors c.in-Err.fault
+    (c.in-Err.ensures.makes w.number w.state))
 
 pub returns-in-Err-clause-any_moment : goal.returns-in-Err-clause-any_moment
 returns-in-Err-clause-any_moment g c =
     let w = c.self.inside in
-    moment_of g.D.SectorDisk.disk c.make.new.disk c.make.result c.self.view_is c.self.invariant.0 c.self.invariant.1 (c.make.ensures.makes w.number w.state)
+    moment_of g.D.SectorDisk.disk c.make.new.disk c.make.result c.self.view_is c.self.invariant.0 c.self.invariant.1
+    (c.make.ensures.makes w.number w.state)
 
 pub returns-in-Some-clause-call : goal.returns-in-Some-clause-call
 returns-in-Some-clause-call g c =
@@ -33,12 +35,14 @@ returns-in-Some-clause-call g c =
     let commands = values w.batch.commands.items in
     let behind = calls_from s (body_for s commands) (sectors_for s commands) c.in-Some.phase in
     subst (λ (v : WritingView g.row.D.Denot). MakesFirst (calls_left v) behind (d v.disk) (d c.make.new.disk)) c.self.view_is
-    (makes_first _ w.place.idle _ _ _ _ _ _ c.self.invariant.0 plan.body plan.sectors c.in-Some.phase (sym c.in-Some.is ∙ c.next.ensures) (c.in_default.ensures.makes w.number w.state))
+    (makes_first _ w.place.idle _ _ _ _ _ _ c.self.invariant.0 plan.body plan.sectors c.in-Some.phase (sym c.in-Some.is ∙ c.next.ensures)
+    (c.in_default.ensures.makes w.number w.state))
 
 pub returns-in-Some-clause-any_moment : goal.returns-in-Some-clause-any_moment
 returns-in-Some-clause-any_moment g c =
     let w = c.self.inside in
-    moment_of g.D.SectorDisk.disk c.make.new.disk c.make.result c.self.view_is c.self.invariant.0 c.self.invariant.1 (c.make.ensures.makes w.number w.state)
+    moment_of g.D.SectorDisk.disk c.make.new.disk c.make.result c.self.view_is c.self.invariant.0 c.self.invariant.1
+    (c.make.ensures.makes w.number w.state)
 
 pub returns-in-Some-clause-underway : goal.returns-in-Some-clause-underway
 returns-in-Some-clause-underway g c u =
@@ -46,13 +50,15 @@ returns-in-Some-clause-underway g c u =
     let w = c.self.inside in
     let plan = c.self.invariant.1 in
     let under = subst (λ (v : WritingView g.row.D.Denot). IsUnderway d v) (sym c.self.view_is) u in
-    underway _ w.place.idle _ _ _ _ _ _ c.self.invariant.0 plan.body plan.sectors c.in-Some.phase (sym c.in-Some.is ∙ c.next.ensures) (c.in_default.ensures.makes w.number w.state) under
+    underway _ w.place.idle _ _ _ _ _ _ c.self.invariant.0 plan.body plan.sectors c.in-Some.phase (sym c.in-Some.is ∙ c.next.ensures)
+    (c.in_default.ensures.makes w.number w.state) under
 
 pub invariant_of-result : goal.invariant_of-result
 invariant_of-result g c =
     let w = c.self.inside in
     let plan = c.self.invariant.1 in (
-      planned_next _ w.place.idle _ _ _ _ _ _ c.self.invariant.0 plan.body plan.sectors c.in-Some.phase (sym c.in-Some.is ∙ c.next.ensures) (c.in_default.ensures.makes w.number w.state),
+      planned_next _ w.place.idle _ _ _ _ _ _ c.self.invariant.0 plan.body plan.sectors c.in-Some.phase (sym c.in-Some.is ∙ c.next.ensures)
+          (c.in_default.ensures.makes w.number w.state),
       plan,
       c.self.invariant.2,
       c.self.invariant.3,
@@ -63,7 +69,8 @@ at_rest-journal-requires-clause-resting g c =
     let w = c.self.inside in
     let s = standing_at w.place w.number w.state in
     let commands = values w.batch.commands.items in
-    let behind = standing_behind w.place w.number (w.number + c.len.result) w.state w.plan.next commands (omega (arith, c.len.ensures, length-map w.batch.commands.items value_of)) c.self.invariant.1.next in
+    let behind = standing_behind w.place w.number (w.number + c.len.result) w.state w.plan.next commands
+    (omega (arith, c.len.ensures, length-map w.batch.commands.items value_of)) c.self.invariant.1.next in
     subst (IsResting (g.D.SectorDisk.disk c.make.new.disk)) (sym behind)
     (resting_behind _ _ s commands w.phase c.self.invariant.0 (c.in_default.ensures.makes w.number w.state).after.sectors)
 
@@ -74,21 +81,25 @@ returns-in-None-clause-call g c =
     let plan = c.self.invariant.1 in
     rw c.at_rest-journal.ensures.disk
     (subst (λ (v : WritingView g.row.D.Denot). MakesFirst (calls_left v) [] (d v.disk) (d c.make.new.disk)) c.self.view_is
-    (makes_last _ w.place.idle _ _ _ _ _ _ c.self.invariant.0 plan.body plan.sectors (sym c.in-None.is ∙ c.next.ensures) (c.in_default.ensures.makes w.number w.state)))
+    (makes_last _ w.place.idle _ _ _ _ _ _ c.self.invariant.0 plan.body plan.sectors (sym c.in-None.is ∙ c.next.ensures)
+    (c.in_default.ensures.makes w.number w.state)))
 
 pub returns-in-None-clause-any_moment : goal.returns-in-None-clause-any_moment
 returns-in-None-clause-any_moment g c =
     let w = c.self.inside in
     rw c.at_rest-journal.ensures.disk
-    (moment_of g.D.SectorDisk.disk c.make.new.disk c.make.result c.self.view_is c.self.invariant.0 c.self.invariant.1 (c.make.ensures.makes w.number w.state))
+    (moment_of g.D.SectorDisk.disk c.make.new.disk c.make.result c.self.view_is c.self.invariant.0 c.self.invariant.1
+    (c.make.ensures.makes w.number w.state))
 
 -- the journal behind the last call stands behind the batch
 standing_after : (g : Given.Over) (c : goal.After-drop-state-inside-in-None-1 g)
-    → c.at_rest-journal.result.standing ≡ with_batch (standing_at c.self.inside.place c.self.inside.number c.self.inside.state) (values c.self.inside.batch.commands.items)
+    → c.at_rest-journal.result.standing
+    ≡ with_batch (standing_at c.self.inside.place c.self.inside.number c.self.inside.state) (values c.self.inside.batch.commands.items)
 standing_after g c =
     let w = c.self.inside in
     c.at_rest-journal.ensures.standing
-    ∙ standing_behind w.place w.number _ w.state w.plan.next (values w.batch.commands.items) (omega (arith, c.len.ensures, length-map w.batch.commands.items value_of)) c.self.invariant.1.next
+    ∙ standing_behind w.place w.number _ w.state w.plan.next (values w.batch.commands.items)
+    (omega (arith, c.len.ensures, length-map w.batch.commands.items value_of)) c.self.invariant.1.next
 
 pub returns-in-None-clause-durable : goal.returns-in-None-clause-durable
 returns-in-None-clause-durable g c u =
@@ -96,12 +107,15 @@ returns-in-None-clause-durable g c u =
     let w = c.self.inside in
     let plan = c.self.invariant.1 in
     let under = subst (λ (v : WritingView g.row.D.Denot). IsUnderway d v) (sym c.self.view_is) u in
-    let rests : IsAtRest (d c.make.new.disk) (with_batch (standing_at w.place w.number w.state) (values w.batch.commands.items)) w.place.idle =
-    durable _ w.place.idle _ _ _ _ _ _ c.self.invariant.0 plan.body plan.sectors (sym c.in-None.is ∙ c.next.ensures) (c.in_default.ensures.makes w.number w.state) under in
+    let rests : IsAtRest (d c.make.new.disk) (with_batch (standing_at w.place w.number w.state) (values w.batch.commands.items))
+    w.place.idle =
+    durable _ w.place.idle _ _ _ _ _ _ c.self.invariant.0 plan.body plan.sectors (sym c.in-None.is ∙ c.next.ensures)
+    (c.in_default.ensures.makes w.number w.state) under in
     rest_means _ _ _ _ _ _ (ap d c.at_rest-journal.ensures.disk) (standing_after g c) c.at_rest-journal.ensures.idle rests
 
 pub returns-in-Err-clause-run : goal.returns-in-Err-clause-run
-returns-in-Err-clause-run g c r writing = run_of_call g.D.SectorDisk.disk c.args.self c.make.new.disk (returns-in-Err-clause-any_moment g c writing.0) writing
+returns-in-Err-clause-run g c r writing =
+    run_of_call g.D.SectorDisk.disk c.args.self c.make.new.disk (returns-in-Err-clause-any_moment g c writing.0) writing
 
 pub returns-in-Some-clause-run : goal.returns-in-Some-clause-run
 returns-in-Some-clause-run g c r writing = (

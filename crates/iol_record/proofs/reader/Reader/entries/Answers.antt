@@ -22,7 +22,8 @@ returns-in_err-entry-clause-read c =
     let left = c.args.count - c.loop.counter - 1 in
     let below : c.loop.counter < c.args.count = omega (arith, c.loop-test.true) in
     rw (p.1, p.2)
-    (at-fault c.loop.entries left c.args.count c.loop.self c.args.self.now _ c.in_err-entry.ensures.fault (i.read (left + 1) (omega (arith, below)))
+    (at-fault c.loop.entries left c.args.count c.loop.self c.args.self.now _ c.in_err-entry.ensures.fault
+    (i.read (left + 1) (omega (arith, below)))
     (has-begun c.loop.entries c.loop.counter c.args.count c.loop.self c.args.self.now below i.start i.begun))
 
 pub loop-preserved : goal.loop-preserved
@@ -31,10 +32,12 @@ loop-preserved c =
     record {
       read = λ left is.
           ap (λ (entries : List Entry). all_with entries left c.entry.new.self) entry.2
-          ∙ sym (with-one_more c.loop.entries entry.0 left c.loop.self c.entry.new.self entry.1) ∙ c.loop.invariant.read (left + 1) (omega (arith, is));
+          ∙ sym (with-one_more c.loop.entries entry.0 left c.loop.self c.entry.new.self entry.1)
+          ∙ c.loop.invariant.read (left + 1) (omega (arith, is));
       start = λ none. absurd (omega (arith, none));
       begun = λ some.
-          has-begun c.loop.entries c.loop.counter c.args.count c.loop.self c.args.self.now (omega (arith, c.loop-test.true)) c.loop.invariant.start c.loop.invariant.begun
+          has-begun c.loop.entries c.loop.counter c.args.count c.loop.self c.args.self.now (omega (arith, c.loop-test.true))
+          c.loop.invariant.start c.loop.invariant.begun
           (rw entry.1 refl);
     }
 

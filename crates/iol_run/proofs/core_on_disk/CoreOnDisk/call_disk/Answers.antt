@@ -11,7 +11,8 @@ returns-in-Ok-clause-run g c =
     let none : i.committed ≡ None = ap (λ (m : CoreOnDiskView g.row.D.Denot). m.committed) c.self.view_is ∙ c.requires.0 in
     to_none g.D.SectorDisk.disk g.F.Name.front.start c.args.self.now i.core c.disk_step.new.self i.committed none
     (from_none g.D.SectorDisk.disk g.F.Name.front.start c.args.self.now _ i.core i.flusher i.committed c.self.view_is none
-    (called_running g.D.SectorDisk.disk g.F.Name.front.start i.core i.core i.flusher c.disk_step.new.self c.disk_step.ensures.published refl c.disk_step.ensures.run))
+    (called_running g.D.SectorDisk.disk g.F.Name.front.start i.core i.core i.flusher c.disk_step.new.self c.disk_step.ensures.published refl
+    c.disk_step.ensures.run))
 
 pub returns-in-Err-Disk-clause-run : goal.returns-in-Err-Disk-clause-run
 returns-in-Err-Disk-clause-run g c =
@@ -19,5 +20,6 @@ returns-in-Err-Disk-clause-run g c =
     let none : i.committed ≡ None = ap (λ (m : CoreOnDiskView g.row.D.Denot). m.committed) c.self.view_is ∙ c.requires.0 in
     to_none g.D.SectorDisk.disk g.F.Name.front.start c.args.self.now c.stop.new.self c.disk_step.new.self i.committed none
     (from_none g.D.SectorDisk.disk g.F.Name.front.start c.args.self.now _ i.core i.flusher i.committed c.self.view_is none
-    (called_running g.D.SectorDisk.disk g.F.Name.front.start i.core c.stop.new.self i.flusher c.disk_step.new.self c.disk_step.ensures.published
+    (called_running g.D.SectorDisk.disk g.F.Name.front.start i.core c.stop.new.self i.flusher c.disk_step.new.self
+    c.disk_step.ensures.published
     (ap (λ (core : CoreView). core.queue) c.stop.ensures) c.disk_step.ensures.run))

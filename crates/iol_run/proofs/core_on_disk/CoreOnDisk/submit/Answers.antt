@@ -6,13 +6,15 @@ use Rattle.iol_run.proofs.core_on_disk.CoreOnDisk.submit.Goals as goal
 
 pub invariant_of-self : goal.invariant_of-self
 invariant_of-self g c =
-    submit_in_step g.F.Name.front.start c.self.inside.core c.submit.new.self (command_of c.args.change) c.self.inside.flusher c.self.inside.committed c.submit.result
+    submit_in_step g.F.Name.front.start c.self.inside.core c.submit.new.self (command_of c.args.change) c.self.inside.flusher
+    c.self.inside.committed c.submit.result
     c.submit.ensures c.self.invariant
 
 pub returns-clause-run : goal.returns-clause-run
 returns-clause-run g c = record {
   goes_on = λ marks was.
-      submit_running g.D.SectorDisk.disk g.F.Name.front.start marks c.self.inside.core c.submit.new.self (command_of c.args.change) c.self.inside.flusher
+      submit_running g.D.SectorDisk.disk g.F.Name.front.start marks c.self.inside.core c.submit.new.self (command_of c.args.change)
+      c.self.inside.flusher
       c.self.inside.committed c.submit.result c.submit.ensures c.self.invariant
       (subst (λ (m : CoreOnDiskView g.row.D.Denot). IsRunning g.D.SectorDisk.disk g.F.Name.front.start marks m) (sym c.self.view_is) was);
 }

@@ -23,14 +23,21 @@ invariant_of-self g c =
     let none : i.committed ≡ None = ap (λ (m : CoreOnDiskView g.row.D.Denot). m.committed) c.self.view_is ∙ c.requires.needs.0 in
     let batch = c.in-Ok-Some.batch in
     let start = g.F.Name.front.start in
-    let stands = subst (λ (m : CoreOnDiskView g.row.D.Denot). flush.IsInStep start m.flusher.stage m.flusher.published) (sym c.self.view_is) c.requires.stands in
-    let took = subst (λ (o : Option Batch). IsTake i.core c.room.result c.take_batch.new.self o) c.in-Ok-Some.field-0-is c.in-Ok-Some.ensures.take in
-    let is : IsTaken i.core MOST_RECORD_OCTETS c.take_batch.new.self batch = subst (λ (room : ℕ). IsTaken i.core room c.take_batch.new.self batch) c.room.ensures took in
-    let passes = subst (λ (o : Option Batch). IfSome o (λ b. legal i.core.durable (values b.commands.items) ≡ true)) c.in-Ok-Some.field-0-is c.in-Ok-Some.ensures.legal in
-    let most = subst (λ (o : Option Batch). IfSome o (λ b. (length b.commands.items ≤ 64) × (b.first + length b.commands.items ≤ LAST_NUMBER + 1))) c.in-Ok-Some.field-0-is c.in-Ok-Some.ensures.bound in
+    let stands = subst (λ (m : CoreOnDiskView g.row.D.Denot). flush.IsInStep start m.flusher.stage m.flusher.published) (sym c.self.view_is)
+    c.requires.stands in
+    let took = subst (λ (o : Option Batch). IsTake i.core c.room.result c.take_batch.new.self o) c.in-Ok-Some.field-0-is
+    c.in-Ok-Some.ensures.take in
+    let is : IsTaken i.core MOST_RECORD_OCTETS c.take_batch.new.self batch =
+    subst (λ (room : ℕ). IsTaken i.core room c.take_batch.new.self batch) c.room.ensures took in
+    let passes = subst (λ (o : Option Batch). IfSome o (λ b. legal i.core.durable (values b.commands.items) ≡ true)) c.in-Ok-Some.field-0-is
+    c.in-Ok-Some.ensures.legal in
+    let most = subst (λ (o : Option Batch).
+    IfSome o (λ b. (length b.commands.items ≤ 64) × (b.first + length b.commands.items ≤ LAST_NUMBER + 1))) c.in-Ok-Some.field-0-is
+    c.in-Ok-Some.ensures.bound in
     let bound = subst (λ (n : ℕ). (n ≤ 64) × (batch.first + n ≤ LAST_NUMBER + 1)) (sym (length-map batch.commands.items value_of)) most in
     subst (λ o. IsInStep start c.take_batch.new.self c.give.new.self o) (sym none)
-    (given_in_step start i.core c.take_batch.new.self i.flusher c.give.new.self batch c.in-Ok.ensures.gift c.give.ensures.published stands is
+    (given_in_step start i.core c.take_batch.new.self i.flusher c.give.new.self batch c.in-Ok.ensures.gift c.give.ensures.published stands
+    is
     passes bound (subst (λ o. IsInStep start i.core i.flusher o) none c.self.invariant))
 
 pub returns-in-Ok-clause-turn : goal.returns-in-Ok-clause-turn
@@ -39,9 +46,13 @@ returns-in-Ok-clause-turn g c =
     let V = CoreOnDiskView g.row.D.Denot in
     let none : i.committed ≡ None = ap (λ (m : V). m.committed) c.self.view_is ∙ c.requires.needs.0 in
     let batch = c.in-Ok-Some.batch in
-    let took = subst (λ (o : Option Batch). IsTake i.core c.room.result c.take_batch.new.self o) c.in-Ok-Some.field-0-is c.in-Ok-Some.ensures.take in
-    let is : IsTaken i.core MOST_RECORD_OCTETS c.take_batch.new.self batch = subst (λ (room : ℕ). IsTaken i.core room c.take_batch.new.self batch) c.room.ensures took in
-    subst (λ (t : Turned). Takes c.args.self.now (record { core = c.take_batch.new.self; flusher = c.give.new.self; committed = i.committed }) (told_of c.silent.result.event) t) (sym c.silent.ensures.0) (
+    let took = subst (λ (o : Option Batch). IsTake i.core c.room.result c.take_batch.new.self o) c.in-Ok-Some.field-0-is
+    c.in-Ok-Some.ensures.take in
+    let is : IsTaken i.core MOST_RECORD_OCTETS c.take_batch.new.self batch =
+    subst (λ (room : ℕ). IsTaken i.core room c.take_batch.new.self batch) c.room.ensures took in
+    subst (λ (t : Turned).
+    Takes c.args.self.now (record { core = c.take_batch.new.self; flusher = c.give.new.self; committed = i.committed })
+    (told_of c.silent.result.event) t) (sym c.silent.ensures.0) (
       batch,
       subst (λ (m : V). IsTaken m.core MOST_RECORD_OCTETS c.take_batch.new.self batch) c.self.view_is is,
       subst (λ (m : V). HasTaken m.flusher.stage batch c.give.new.self.stage) c.self.view_is c.in-Ok.ensures.gift,
@@ -55,8 +66,11 @@ returns-in-Ok-clause-run g c =
     let i = c.self.inside in
     let none : i.committed ≡ None = ap (λ (m : CoreOnDiskView g.row.D.Denot). m.committed) c.self.view_is ∙ c.requires.needs.0 in
     let batch = c.in-Ok-Some.batch in
-    let took = subst (λ (o : Option Batch). IsTake i.core c.room.result c.take_batch.new.self o) c.in-Ok-Some.field-0-is c.in-Ok-Some.ensures.take in
-    let is : IsTaken i.core MOST_RECORD_OCTETS c.take_batch.new.self batch = subst (λ (room : ℕ). IsTaken i.core room c.take_batch.new.self batch) c.room.ensures took in
+    let took = subst (λ (o : Option Batch). IsTake i.core c.room.result c.take_batch.new.self o) c.in-Ok-Some.field-0-is
+    c.in-Ok-Some.ensures.take in
+    let is : IsTaken i.core MOST_RECORD_OCTETS c.take_batch.new.self batch =
+    subst (λ (room : ℕ). IsTaken i.core room c.take_batch.new.self batch) c.room.ensures took in
     to_none g.D.SectorDisk.disk g.F.Name.front.start c.args.self.now c.take_batch.new.self c.give.new.self i.committed none
     (from_none g.D.SectorDisk.disk g.F.Name.front.start c.args.self.now _ i.core i.flusher i.committed c.self.view_is none
-    (given_running g.D.SectorDisk.disk g.F.Name.front.start i.core c.take_batch.new.self i.flusher c.give.new.self batch c.in-Ok.ensures.gift c.give.ensures.published is))
+    (given_running g.D.SectorDisk.disk g.F.Name.front.start i.core c.take_batch.new.self i.flusher c.give.new.self batch
+    c.in-Ok.ensures.gift c.give.ensures.published is))

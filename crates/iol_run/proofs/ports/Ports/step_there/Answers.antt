@@ -24,9 +24,11 @@ invariant_of-self g c =
     omega (arith, c.place-place.ensures.place, c.requires.there, ap (λ (p : PortsView g.row.L.Denot). length p.links) c.self.view_is) in
     let machine = slice_get_read i.machines.items (length i.machines.items) place c.index_mut.result.now refl
     (omega (arith, c.self.invariant.count, within)) c.index_mut.ensures.value in
-    one_stepped (record { machines = i.machines.items; links = i.links.items }) place c.index_mut.result.now c.step_port.new.machine c.step_port.new.link
+    one_stepped (record { machines = i.machines.items; links = i.links.items }) place c.index_mut.result.now c.step_port.new.machine
+    c.step_port.new.link
     c.self.invariant machine
-    (port_stays l.number l.steps c.index_mut.result.now c.step_port.new.machine c.index_mut-2.result.now c.step_port.new.link c.args.master.now.core
+    (port_stays l.number l.steps c.index_mut.result.now c.step_port.new.machine c.index_mut-2.result.now c.step_port.new.link
+    c.args.master.now.core
     c.step_port.new.master.core (told_of c.step_port.result.called) (told_of c.step_port.result.status) c.step_port.ensures.step)
     c.step_port.ensures.ready
 

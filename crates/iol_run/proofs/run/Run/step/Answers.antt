@@ -16,7 +16,8 @@ use Rattle.iol_run.proofs.run.Run.step.Goals as goal
 noted : (g : given.Over) (c : goal.After-note-2 g)
     → map stamp_of c.note-2.new.events.items
     ≡ map stamp_of c.self.inside.events.items
-    ++ stamped (clock_of g.D.SectorDisk.disk c.make-turned.new.master) (told_of c.make-turned.result.first ++ told_of c.make-turned.result.second)
+    ++ stamped (clock_of g.D.SectorDisk.disk c.make-turned.new.master) (told_of c.make-turned.result.first
+    ++ told_of c.make-turned.result.second)
 noted g c =
     let t = clock_of g.D.SectorDisk.disk c.make-turned.new.master in
     let first = told_of c.make-turned.result.first in
@@ -32,18 +33,24 @@ invariant_of-self-2 g c =
     let l = g.L.DeviceLink in
     let i = c.self.inside in
     subst (λ (es : List Stamp). IsTold g.F.Name.front.start c.make-turned.new.master es) (sym (noted g c))
-    (step_told g.F.Name.front.start (clock_of d c.make-turned.new.master) d l.number l.steps c.args.step.now i.master c.make-turned.new.master i.ports c.make-turned.new.ports
-    (map stamp_of i.events.items) (told_of c.make-turned.result.first ++ told_of c.make-turned.result.second) c.make-turned.result.turned c.is_in_step.ensures
+    (step_told g.F.Name.front.start (clock_of d c.make-turned.new.master) d l.number l.steps c.args.step.now i.master
+    c.make-turned.new.master i.ports c.make-turned.new.ports
+    (map stamp_of i.events.items) (told_of c.make-turned.result.first ++ told_of c.make-turned.result.second) c.make-turned.result.turned
+    c.is_in_step.ensures
     c.make-turned.ensures.does c.self.invariant)
 
 pub returns-clause-did : goal.returns-clause-did
 returns-clause-did g c = (
   told_of c.make-turned.result.first ++ told_of c.make-turned.result.second,
-  subst (λ (v : RunView g.row.D.Denot g.row.L.Denot). Does g.D.SectorDisk.disk g.L.DeviceLink.number g.L.DeviceLink.steps c.args.step.now v.master c.make-turned.new.master
-      v.ports c.make-turned.new.ports (told_of c.make-turned.result.first ++ told_of c.make-turned.result.second) c.make-turned.result.turned)
+  subst (λ (v : RunView g.row.D.Denot g.row.L.Denot).
+      Does g.D.SectorDisk.disk g.L.DeviceLink.number g.L.DeviceLink.steps c.args.step.now v.master c.make-turned.new.master
+      v.ports c.make-turned.new.ports (told_of c.make-turned.result.first ++ told_of c.make-turned.result.second)
+      c.make-turned.result.turned)
       c.self.view_is c.make-turned.ensures.does,
   noted g c
-      ∙ ap (λ (v : RunView g.row.D.Denot g.row.L.Denot). v.events ++ stamped (clock_of g.D.SectorDisk.disk c.make-turned.new.master) (told_of c.make-turned.result.first ++ told_of c.make-turned.result.second))
+      ∙ ap (λ (v : RunView g.row.D.Denot g.row.L.Denot). v.events
+      ++ stamped (clock_of g.D.SectorDisk.disk c.make-turned.new.master) (told_of c.make-turned.result.first
+      ++ told_of c.make-turned.result.second))
       c.self.view_is,
   ap (λ (v : RunView g.row.D.Denot g.row.L.Denot). v.begun) c.self.view_is,
 )
@@ -57,7 +64,9 @@ returns-clause-kept g c = record {
       let i = c.self.inside in
       let before = subst (λ (v : RunView g.row.D.Denot g.row.L.Denot). IsMarked disk start v) (sym c.self.view_is) was in
       subst (λ (es : List Stamp). Marked disk start i.begun c.make-turned.new.master es) (sym (noted g c))
-      (step_mark disk start i.begun l.number l.steps c.args.step.now i.master c.make-turned.new.master i.ports c.make-turned.new.ports (map stamp_of i.events.items)
-      (told_of c.make-turned.result.first ++ told_of c.make-turned.result.second) c.make-turned.result.turned c.is_in_step.ensures c.make-turned.ensures.does
+      (step_mark disk start i.begun l.number l.steps c.args.step.now i.master c.make-turned.new.master i.ports c.make-turned.new.ports
+      (map stamp_of i.events.items)
+      (told_of c.make-turned.result.first ++ told_of c.make-turned.result.second) c.make-turned.result.turned c.is_in_step.ensures
+      c.make-turned.ensures.does
       (c.make-turned.ensures.run.goes_on (marks_of i.begun start.number (map stamp_of i.events.items)) before));
 }

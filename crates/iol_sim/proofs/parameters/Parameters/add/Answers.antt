@@ -37,7 +37,8 @@ returns-clause-added c =
     elim c.match-insert.branch [
       | in-Ok w ↦ rw w.result-is (
         sym c.fault.ensures.fault ∙ c.in_default.is,
-        (inserted c w.in-Ok.ensures.entries).entries ∙ ap (λ (entries : List Entry). entries ++ (c.args.key, c.args.octets.now) ∷ []) c.self.view_is,
+        (inserted c w.in-Ok.ensures.entries).entries
+            ∙ ap (λ (entries : List Entry). entries ++ (c.args.key, c.args.octets.now) ∷ []) c.self.view_is,
       )
       | in-Err w ↦ rw w.result-is tt
     ]
