@@ -12,8 +12,8 @@
 //! `recovery`), and writing it (`formatting`, `erasing`, `history`, `journal`, `phase`, `calls`, `writing`, `stage`,
 //! `stage_calls`, `checkpointing`); then `laws` and `runs`, for proofs of other crates, `examples`, facts with values
 //! of the layout, and `plain`, a slow reading of an image to compare a recovery with. What an image of a disk means is said
-//! in `specs/Meaning.antt`, what a run of batches and checkpoints keeps in `specs/Runs.antt`. [`Area`], [`Head`], [`Header`], [`History`], [`Idle`], [`InUse`], [`Phase`] and [`Stage`]
-//! are what contracts show of a journal.
+//! in `specs/Meaning.antt`, what a run of batches and checkpoints keeps in `specs/Runs.antt`. [`Area`], [`Head`], [`Header`],
+//! [`History`], [`Idle`], [`InUse`], [`Phase`] and [`Stage`] are what contracts show of a journal.
 #![tactic(auto)]
 
 mod area;

@@ -11,8 +11,9 @@ use Rattle.iol_run.specs.declared.schedule.RunFault.{RunFault}
 use Rattle.iol_run.specs.declared.schedule.RunFault.TheVariants as fault
 
 module _ {D : Type 0} (disk : D → Disk) (old : D) where
-  -- a fault is one of the recovery of this disk: it is the first thing that is wrong with what an honest disk shows, or that of
-  -- the sync or the read that failed, or want of memory, which is asked for only behind a sound geometry and an area in use (own)
+  -- a fault is one of the recovery of this disk. It is the first thing that is wrong with what an honest disk shows, or that of
+  -- the sync or the read that failed, or want of memory. Memory is asked for only behind a sound geometry and an area in use
+  -- (own)
   pub record IsRecoveryFault (why : RecoverFault D) : Type 0 where
     pub says : Shows (disk old) (λ image. SaysWhy (standing_in (disk old).sectors image) why.cause)
     pub makes : MakesRecovery {T = State} (disk old) (disk why.disk) (Err why.cause)
