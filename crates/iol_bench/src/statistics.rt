@@ -30,7 +30,7 @@ pub fn print_medians(
 ) -> anyhow::Result<()> {
     let journal = sorted(rounds.iter().map(|pair| pair.journal).collect(rt.alloc())?)?;
     let plain = sorted(rounds.iter().map(|pair| pair.plain).collect(rt.alloc())?)?;
-    let ratios = sorted(rounds.iter().map(thousandths).collect(rt.alloc())?)?;
+    let ratios = sorted(rounds.iter().map(ratio_of).collect(rt.alloc())?)?;
     let count = count.max(1);
     println!(rt;
         "{name}: journal {} us, plain {} us, ratio {} ({} to {})",
@@ -44,7 +44,7 @@ pub fn print_medians(
 }
 
 // The journal's time over the plain file's, in thousandths.
-fn thousandths(pair: &Pair) -> u64 {
+fn ratio_of(pair: &Pair) -> u64 {
     pair.journal.saturating_mul(1000) / pair.plain.max(1)
 }
 
@@ -59,6 +59,7 @@ fn middle(values: &[u64]) -> u64 {
 }
 
 // Thousandths, as a number with three places.
+#[derive(Clone, Copy)]
 struct Thousandths(u64);
 
 impl fmt::Display for Thousandths {

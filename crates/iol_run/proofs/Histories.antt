@@ -1,19 +1,16 @@
 -- The steps of a port lead its machine: what has happened to it.
-use Rattle.std.proofs.Common.{◌≡◌, refl, ℕ, Bool, List, [], ◌∷◌, Option, Some, None, Result, Ok, Err, ap, sym, ◌∙◌, subst}
+use Rattle.std.proofs.Common.{◌≡◌, refl, ℕ, Bool, List, [], ◌∷◌, Option, Some, None, Ok, Err, ap, sym, ◌∙◌, subst}
 use Rattle.iol_core.specs.Core.{CoreView}
 use Rattle.iol_core.specs.declared.permit.UploadGrant.{UploadGrant}
 use Rattle.iol_core.specs.declared.upload.FinishFault.TheVariants as finish
 use Rattle.iol_link.specs.Link.{LinkCall, LinkAnswer}
 use Rattle.iol_port.proofs.PortLaws.{a_set_is_filed_whole}
 use Rattle.iol_port.specs.Calls.{BeginUpload, FinishUpload, IsReplyTo}
-use Rattle.iol_port.specs.Heard.{at_stage, woken}
 use Rattle.iol_port.specs.History.{Happening, Raised, Did, HasLed, ComesOf}
 use Rattle.iol_port.specs.Laws.{HasUploaded}
 use Rattle.iol_port.specs.Stage.{Stage, Settled, PortValue}
-use Rattle.iol_port.specs.Wanted.{Wanted, Nothing, ThePage, AnswerTo, ReplyTo, wanted}
-use Rattle.iol_port.specs.declared.action.Input.{Input}
+use Rattle.iol_port.specs.Wanted.{Wanted, Nothing, AnswerTo, ReplyTo, wanted}
 use Rattle.iol_port.specs.declared.action.Input.TheVariants as input
-use Rattle.iol_port.specs.declared.call.Reply.{Reply}
 use Rattle.iol_port.specs.declared.call.Reply.TheVariants as reply
 use Rattle.iol_trace.specs.Events.{Event}
 use Rattle.iol_transfer.specs.Exchanges.{Exchange}

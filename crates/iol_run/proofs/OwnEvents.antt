@@ -1,7 +1,7 @@
 -- A step of a port tells of no other port, nor does any other step.
 use Rattle.std.proofs.Common.{◌≡◌, refl, inl, inr, ℕ, nat_eq, Bool, false, if◌then◌else◌, List, [], ◌∷◌, ◌++◌, Option, Some, None, Result}
 use Rattle.std.proofs.Common.{Ok, Err, ap, sym, ◌∙◌, subst}
-use Rattle.iol_types.specs.Command.{CommandValue, command_of}
+use Rattle.iol_types.specs.Command.{command_of}
 use Rattle.iol_types.specs.DataSet.{SetValue}
 use Rattle.iol_types.specs.declared.command.Change.{Change}
 use Rattle.iol_types.specs.declared.command.Change.TheVariants as change
@@ -14,13 +14,13 @@ use Rattle.iol_core.specs.declared.upload.FinishFault.{FinishFault}
 use Rattle.iol_link.specs.Link.{LinkCall, LinkAnswer}
 use Rattle.iol_port.specs.Calls.{Call, Attend, BeginUpload, FinishUpload, AbandonUpload, AskTicket, BeginDownload, EndDownload}
 use Rattle.iol_port.specs.Stage.{PortValue}
-use Rattle.iol_port.specs.Wanted.{Wanted, Nothing, ThePage, AnswerTo, ReplyTo, wanted}
+use Rattle.iol_port.specs.Wanted.{Wanted, Nothing, ThePage, AnswerTo, ReplyTo}
 use Rattle.iol_port.specs.declared.action.Input.{Input}
 use Rattle.iol_port.specs.declared.action.Input.TheVariants as input
 use Rattle.iol_port.specs.declared.call.Reply.{Reply}
 use Rattle.iol_port.specs.declared.call.Reply.TheVariants as reply
 use Rattle.iol_trace.proofs.Own.{own-append}
-use Rattle.iol_trace.specs.Events.{Event, Stamp, stamped}
+use Rattle.iol_trace.specs.Events.{Event, stamped}
 use Rattle.iol_trace.specs.Own.{at_port, own, own_in}
 use Rattle.iol_run.proofs.FlusherTells.{PassesOver}
 use Rattle.iol_run.proofs.Histories.{Led, acting_led, filed_port}

@@ -8,7 +8,6 @@ use Rattle.std.proofs.lemmas.Option.{slice_get_within, slice_get-get_or}
 use Rattle.iol_types.specs.State.{State}
 use Rattle.iol_disk.specs.Disk.{Disk}
 use Rattle.iol_core.proofs.Places.{get_written, get_other}
-use Rattle.iol_core.specs.Core.{CoreView}
 use Rattle.iol_journal.specs.Journals.{JournalView}
 use Rattle.iol_link.specs.Link.{LinkCall, LinkAnswer}
 use Rattle.iol_port.proofs.Leading.{led_is}

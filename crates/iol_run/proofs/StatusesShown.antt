@@ -1,6 +1,6 @@
 -- The status of a machine is the one that was told last.
 use Rattle.std.proofs.Common.{◌≡◌, refl, inl, inr, ℕ, nat_eq, Bool, true, false, if◌then◌else◌, List, [], ◌∷◌, ◌++◌, Option, Some, None}
-use Rattle.std.proofs.Common.{Result, Ok, Err, ap, sym, ◌∙◌, subst}
+use Rattle.std.proofs.Common.{Result, Ok, Err, ap, sym, ◌∙◌}
 use Rattle.std.proofs.lemmas.Bool.{eq-eqb}
 use Rattle.std.proofs.lemmas.List.Sums.{fold-append}
 use Rattle.iol_types.specs.Command.{CommandValue, Configure, Clear, Store}
@@ -9,7 +9,7 @@ use Rattle.iol_core.specs.declared.port.Work.{Work}
 use Rattle.iol_core.specs.declared.upload.FinishFault.{FinishFault}
 use Rattle.iol_link.specs.Link.{LinkCall, LinkAnswer}
 use Rattle.iol_port.specs.Calls.{Call}
-use Rattle.iol_port.specs.Stage.{Stage, Settled, PortValue}
+use Rattle.iol_port.specs.Stage.{PortValue}
 use Rattle.iol_port.specs.Status.{status_of}
 use Rattle.iol_port.specs.Telling.{status_told}
 use Rattle.iol_port.specs.Wanted.{Wanted, Nothing, ThePage, AnswerTo, ReplyTo}
@@ -19,11 +19,10 @@ use Rattle.iol_port.specs.declared.call.Reply.{Reply}
 use Rattle.iol_port.specs.declared.call.Reply.TheVariants as reply
 use Rattle.iol_trace.proofs.Own.{own-append}
 use Rattle.iol_trace.specs.Events.{Event, Accepted, Changed, Stamp, stamped}
-use Rattle.iol_trace.specs.Own.{own, own_in, at_port, status_by, status_after}
+use Rattle.iol_trace.specs.Own.{own, own_in, status_by, status_after}
 use Rattle.iol_trace.specs.Statuses.{Status}
 use Rattle.iol_run.proofs.Quiet.{stamped_both}
-use Rattle.iol_run.specs.PortSteps.{Hears, HearsCore, IsStatusTold, PortStep, reply_told, attended_told, filed_told, accepted_told}
-use Rattle.iol_run.specs.PortSteps.{store_in}
+use Rattle.iol_run.specs.PortSteps.{Hears, HearsCore, IsStatusTold, PortStep, reply_told, attended_told, filed_told, store_in}
 
 -- of more events the last status counts
 pub status-append : (was : Status) (events more : List Event) → status_after was (events ++ more)
