@@ -78,7 +78,6 @@ start_next() {
         if has_all_it_names "$crate"; then
             number=$((number + 1))
             say "crate $number of $count: $crate"
-            # The lock is not handed on, so that it ends with this start.
             build_crate "$crate" 9>&- &
             workers="$workers $!"
             running="$running $crate"
@@ -124,7 +123,8 @@ build_crates() {
             say "crates.txt names crates that wait for one another: $waiting"
             return 1
         fi
-        sleep 1
+        # No child has the lock, so that it ends with this start also where that is killed.
+        sleep 1 9>&-
         if ! collect; then
             stop_workers
             return 1
@@ -157,7 +157,8 @@ build() {
 # Proves and builds the program where that is not done. A second start waits for the first: the system lets go of the lock
 # however that one ends.
 prove() {
-    mkdir -p "$out" && exec 9>"$out/lock" || return 1
+    # (an `exec` that fails would end the shell)
+    mkdir -p "$out" && (: >>"$out/lock") && exec 9>"$out/lock" || return 1
     if ! flock -n 9; then
         say "another start is proving the program; waiting for it."
         flock 9 || return 1
