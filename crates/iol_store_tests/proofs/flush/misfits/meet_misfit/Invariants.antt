@@ -1,0 +1,5 @@
+use Rattle.iol_store_tests.proofs.flush.misfits.meet_misfit.Given as goal
+
+-- the front that was just made
+abbrev pub ghosts-expect_misfit : goal.ghosts-expect_misfit
+ghosts-expect_misfit g a = record { front = a.front }
