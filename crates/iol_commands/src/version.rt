@@ -6,7 +6,7 @@ use std::alloc::{AllocError, Global};
 const VERSION: &str = "0.1.0";
 
 // The toolchain that proves and builds the program, as `rt version` names it.
-const TOOLCHAIN: &str = "rattle-kit-13b logic dac8208d650f15bf";
+const TOOLCHAIN: &str = "rattle-kit-13f logic dac8208d650f15bf";
 
 // What is printed behind the program's name: its version, and the toolchain on a line of its own.
 pub(crate) fn version_text(alloc: Global) -> Result<String, AllocError>
