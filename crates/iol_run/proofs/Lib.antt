@@ -29,3 +29,4 @@ pub mod OwnEvents
 pub mod Histories
 pub mod StatusesShown
 pub mod PortRuns
+pub mod Acknowledging

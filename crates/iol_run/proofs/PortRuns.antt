@@ -1,5 +1,5 @@
 -- What the steps of a run tell of each port is a run of its machine.
-use Rattle.std.proofs.Common.{◌≡◌, ◌<◌, refl, ◌+◌, ◌-◌, ℕ, zero, suc, nat_eq, nat_le, Bool, true, false, List, [], ◌∷◌, ◌++◌, length, Some}
+use Rattle.std.proofs.Common.{◌≡◌, ◌<◌, ◌⊎◌, inl, inr, refl, ◌+◌, ◌-◌, ℕ, zero, suc, nat_eq, nat_le, Bool, true, false, List, [], ◌∷◌, ◌++◌, length, Some}
 use Rattle.std.proofs.Common.{slice_get, slice_set, get_or, ap, sym, ◌∙◌, subst, arith, append-nil, append_assoc}
 use Rattle.std.proofs.lemmas.Bool.{eqb-true}
 use Rattle.std.proofs.lemmas.Bool.Decides.{nat_tests}
@@ -40,6 +40,10 @@ apart_next m n is = grind (arith, nat_tests, is)
 
 apart_far : (m n : ℕ) → m < n → nat_eq m n ≡ false
 apart_far m n is = grind (arith, nat_tests, is)
+
+apart_from : (place count q : ℕ) → place < count → (q ≡ 0) ⊎ (count < q) → nat_eq (place + 1) q ≡ false
+apart_from place count q within (inl none) = grind (arith, nat_tests, none)
+apart_from place count q within (inr beyond) = apart_far (place + 1) q (omega (arith, within, beyond))
 
 module _ {L : Type 0} (number : L → ℕ) (steps : L → LinkCall → LinkAnswer → L → Type 0) (first : ℕ) (start : State) where
   abbrev IsRun : ℕ → L → ℕ → PortValue → L → List Stamp → Type 0
@@ -116,7 +120,7 @@ module _ {L : Type 0} (number : L → ℕ) (steps : L → LinkCall → LinkAnswe
     count : length ports.links ≡ length links
     machines : length ports.machines ≡ length ports.links
     runs : (place : ℕ) → RunAt links ports events place
-    others : (port : ℕ) → length links < port → own port events ≡ []
+    others : (port : ℕ) → (port ≡ 0) ⊎ (length links < port) → own port events ≡ []
 
   -- no port makes a step, and what is told is no port's own
   ports_stay : (links : List L) (ports last : PortsView L) (events more : List Stamp) → last ≡ ports → ((port : ℕ) → own port more ≡ [])
@@ -224,7 +228,7 @@ module _ {L : Type 0} (number : L → ℕ) (steps : L → LinkCall → LinkAnswe
       runs = λ other. run_at other (nat_eq other place) refl;
       others = λ q beyond. own-append q events (stamped t told)
           ∙ (ap (λ (es : List Event). es ++ own q (stamped t told)) (are.others q beyond)
-          ∙ others_own q (apart_far (place + 1) q (omega (arith, within, beyond))));
+          ∙ others_own q (apart_from place (length links) q within beyond));
     }
 
   module _ {D : Type 0} (disk : D → Disk) where
@@ -268,11 +272,13 @@ module _ {L : Type 0} (number : L → ℕ) (steps : L → LinkCall → LinkAnswe
     -- of a schedule that was run from a fresh run on
     pub all_port_runs : (schedule : List Step) (waits : ℕ) (journal : JournalView D) (links : List L) (old new : RunView D L) → first
         ≡ journal.standing.number
-        → start ≡ journal.standing.state → IsFresh disk journal links old → HasMade disk number steps schedule waits old new
+        → start ≡ journal.standing.state → length links ≡ length start → IsFresh disk journal links old
+        → HasMade disk number steps schedule waits old new
         → ArePortRuns number steps first start links new.events new.ports.links
-    all_port_runs schedule waits journal links old new number_is state_is fresh made =
+    all_port_runs schedule waits journal links old new number_is state_is count fresh made =
         let are = all_runs schedule waits links old new made begins new_runs in
         record {
+          count = count;
           runs = λ place begun link at linked.
               let inside = slice_get_within new.ports.links place link linked in
               let machine = slice_get-get_or new.ports.machines place (new_machine 0) (omega (arith, inside, are.machines)) in

@@ -13,3 +13,4 @@ pub mod Flushed
 pub mod Stopped
 pub mod Failures
 pub mod Clocks
+pub mod Acknowledged

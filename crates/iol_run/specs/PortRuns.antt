@@ -1,5 +1,5 @@
 -- What is told of a port is what its machine, its link and the core did, step by step.
-use Rattle.std.specs.Prelude.{◌≡◌, ◌<◌, ◌+◌, ℕ, zero, suc, List, [], ◌++◌, length, Some, slice_get}
+use Rattle.std.specs.Prelude.{◌≡◌, ◌<◌, ◌+◌, ◌⊎◌, ℕ, zero, suc, List, [], ◌++◌, length, Some, slice_get}
 use Rattle.iol_types.specs.State.{State, after}
 use Rattle.iol_core.specs.Core.{CoreView, live, live_number}
 use Rattle.iol_link.specs.Link.{LinkCall, LinkAnswer}
@@ -55,9 +55,10 @@ module _ {L : Type 0} (number : L → ℕ) (steps : L → LinkCall → LinkAnswe
     pub led : HasLed port history machine
     pub status : status_shown port events ≡ status_told (status_of machine.stage)
 
-  -- what is told of each port that has a link is a run of its machine, from the link that was handed in to the one that is handed
-  -- out; of other ports nothing is told (own)
+  -- there is a link for each port of the state at the start. What is told of each of them is a run of its machine, from the link
+  -- that was handed in to the one that is handed out; of other ports, and of a port 0, nothing is told (own)
   pub record ArePortRuns (links : List L) (events : List Stamp) (last : List L) : Type 0 where
+    pub count : length links ≡ length start
     pub runs : (place : ℕ) (begun link : L) → slice_get links place ≡ Some begun → slice_get last place ≡ Some link
         → HasPortRun (place + 1) begun link events
-    pub others : (port : ℕ) → length links < port → own port events ≡ []
+    pub others : (port : ℕ) → (port ≡ 0) ⊎ (length links < port) → own port events ≡ []

@@ -19,6 +19,7 @@ ghost use Rattle.iol_run.specs.Runs.{KeepsRun};
 ghost use Rattle.iol_run.specs.Causes.{FailsFor};
 ghost use Rattle.iol_run.specs.Clocks.{ClocksRise};
 ghost use Rattle.iol_run.specs.Failures.{TellsFailures};
+ghost use Rattle.iol_run.specs.Acknowledged.{AcksRise};
 ghost use Rattle.iol_run.specs.Stopped.{NoneOnceFailed};
 ghost use Rattle.iol_run.specs.Schedules.{AreLinkRuns, HasRun, IsTraceOf, fault_disk, waits_of};
 
@@ -104,6 +105,10 @@ pub fn run_schedule<D: SectorDisk, L: DeviceLink + Drop>(
     ensures failures { IfOk result (λ trace. TellsFailures (D.disk disk) (D.disk trace.disk) (map stamp_of trace.events.items)) }
     // Once a disk call has failed nothing more is accepted.
     ensures stopped { IfOk result (λ trace. NoneOnceFailed (map stamp_of trace.events.items)) }
+    // From the number that the disk shows on, no number that is acknowledged is below the one before it.
+    ensures acknowledged { IfOk result (λ trace.
+        Shows (D.disk disk) (λ image. (journal : Standing) → standing_in (D.disk disk).sectors image ≡ Ok journal
+        → AcksRise journal.number (map stamp_of trace.events.items))) }
     // Turns enough of the flusher at the end, 128 for each sector of the journal that the disk shows, leave all that was
     // accepted acknowledged.
     ensures flushed { IfOk result (λ trace.
@@ -140,6 +145,7 @@ fn carry_out<D: SectorDisk, L: DeviceLink + Drop, F: Name>(
     requires name { front ≡ F.front }
     requires number { front.start.number ≡ journal.history.first }
     requires start { (front.start.state ≡ journal.history.start) × (state ≡ journal.history.start) }
+    requires standing { state ≡ journal.standing.state }
     requires list { journal.history.commands ≡ [] }
     requires ports { vec_len links ≡ length state }
     ensures trace { IfOk result (λ trace.
@@ -152,6 +158,7 @@ fn carry_out<D: SectorDisk, L: DeviceLink + Drop, F: Name>(
         → ClocksRise trace.begun (clock (D.disk trace.disk).content) (map stamp_of trace.events.items)) }
     ensures failures { IfOk result (λ trace. TellsFailures (D.disk journal.disk) (D.disk trace.disk) (map stamp_of trace.events.items)) }
     ensures stopped { IfOk result (λ trace. NoneOnceFailed (map stamp_of trace.events.items)) }
+    ensures acknowledged { IfOk result (λ trace. AcksRise journal.standing.number (map stamp_of trace.events.items)) }
     ensures flushed { IfOk result (λ trace.
         AllFlushed (queue_turns journal.standing.layout) steps.now journal.standing.number trace.ended trace.waits
         (map stamp_of trace.events.items)) }

@@ -1,4 +1,4 @@
-use Rattle.std.proofs.Common.{refl, ℕ, IsTrue, List, map, take, sym, subst}
+use Rattle.std.proofs.Common.{refl, ℕ, IsTrue, List, length, map, take, sym, ap, ◌∙◌, subst}
 use Rattle.iol_disk.specs.Content.{clock}
 use Rattle.iol_front.specs.Fronts.{FrontId}
 use Rattle.iol_journal.specs.Runs.{begun}
@@ -13,6 +13,8 @@ use Rattle.iol_run.proofs.Crash.{begins, leaves}
 use Rattle.iol_run.proofs.Flushing.{all_flushed}
 use Rattle.iol_run.proofs.LinksMade.{all_link_runs}
 use Rattle.iol_run.proofs.PortRuns.{all_port_runs}
+use Rattle.iol_run.proofs.Acknowledging.{acks_rise}
+use Rattle.iol_run.specs.Acknowledged.{AcksRise}
 use Rattle.iol_run.proofs.Clocks.{clocks_rise}
 use Rattle.iol_run.proofs.Failures.{tells_failures}
 use Rattle.iol_run.proofs.Stopped.{none_once_failed}
@@ -90,7 +92,8 @@ returns-in-Ok-clause-ports g c =
     rw (c.end.ensures.told.0, c.end.ensures.links)
     (all_port_runs l.number l.steps journal.standing.number journal.standing.state g.D.SectorDisk.disk
     (take c.make_steps-ended.ensures.made.0 c.args.steps.now)
-    c.make_steps-ended.result.1 journal c.args.links.items c.in-Ok.run' c.make_steps-ended.new.run refl refl c.in-Ok.ensures.fresh
+    c.make_steps-ended.result.1 journal c.args.links.items c.in-Ok.run' c.make_steps-ended.new.run refl refl
+    (sym c.args.links.ok.0 ∙ (c.requires.ports ∙ ap length c.requires.standing)) c.in-Ok.ensures.fresh
     c.make_steps-ended.ensures.made.2)
 
 pub returns-in-Ok-clause-stopped : goal.returns-in-Ok-clause-stopped
@@ -120,3 +123,10 @@ returns-in-Ok-clause-failures g c =
     (tells_failures d l.number l.steps (take c.make_steps-ended.ensures.made.0 c.args.steps.now) c.make_steps-ended.result.1 c.args.journal
     c.args.links.items
     c.in-Ok.run' c.make_steps-ended.new.run c.in-Ok.ensures.fresh c.make_steps-ended.ensures.made.2)
+
+pub returns-in-Ok-clause-acknowledged : goal.returns-in-Ok-clause-acknowledged
+returns-in-Ok-clause-acknowledged g c =
+    let l = g.L.DeviceLink in
+    subst (λ (es : List Stamp). AcksRise c.args.journal.standing.number es) (sym c.end.ensures.told.0)
+    (acks_rise g.D.SectorDisk.disk l.number l.steps (take c.make_steps-ended.ensures.made.0 c.args.steps.now) c.make_steps-ended.result.1 c.args.journal
+    c.args.links.items c.in-Ok.run' c.make_steps-ended.new.run c.in-Ok.ensures.fresh c.make_steps-ended.ensures.made.2)

@@ -8,6 +8,7 @@ use Rattle.iol_journal.specs.Running.{IsRunAtRest}
 use Rattle.iol_trace.specs.CrashPrefix.{CrashPrefix}
 use Rattle.iol_run.specs.Causes.{FailsFor}
 use Rattle.iol_run.specs.Events.{stamp_of}
+use Rattle.iol_run.specs.Acknowledged.{AcksRise}
 use Rattle.iol_run.specs.PortRuns.{ArePortRuns}
 use Rattle.iol_run.proofs.Crash.{means_is, of_trace}
 use Rattle.iol_run.proofs.Failures.{trace_tells}
@@ -67,3 +68,9 @@ pub returns-in-Ok-new-clause-failures : goal.returns-in-Ok-new-clause-failures
 returns-in-Ok-new-clause-failures g c =
     let d = g.D.SectorDisk.disk in
     trace_tells c.carry_out.result d (d c.args.disk) (d c.in-Ok.journal.disk) c.in-Ok.ensures.makes c.carry_out.ensures.failures
+
+pub returns-in-Ok-new-clause-acknowledged : goal.returns-in-Ok-new-clause-acknowledged
+returns-in-Ok-new-clause-acknowledged g c =
+    shown_trace c.carry_out.result (g.D.SectorDisk.disk c.args.disk) c.in-Ok.journal.standing
+    (λ journal trace. AcksRise journal.number (map stamp_of trace.events.items))
+    c.in-Ok.ensures.found c.carry_out.ensures.acknowledged

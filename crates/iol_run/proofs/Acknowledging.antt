@@ -1,0 +1,171 @@
+-- The number of a core does not fall, and it is the one that is told as acknowledged.
+use Rattle.std.proofs.Common.{◌≡◌, ◌≤◌, refl, ℕ, nat_le, Bool, true, false, List, [], ◌∷◌, ◌++◌, length, Option, Some, None, Result, Ok}
+use Rattle.std.proofs.Common.{Err, ap, sym, ◌∙◌, subst, arith, append-nil, append_assoc}
+use Rattle.iol_types.specs.Command.{CommandValue, command_of}
+use Rattle.iol_disk.specs.Disk.{Disk}
+use Rattle.iol_core.specs.Core.{CoreView}
+use Rattle.iol_core.specs.Submit.{IsSubmit}
+use Rattle.iol_core.specs.declared.ticket.SubmitFault.{SubmitFault}
+use Rattle.iol_flush.specs.Stages.{need_of}
+use Rattle.iol_flush.specs.declared.need.Need.{Need}
+use Rattle.iol_flush.specs.declared.need.Need.TheVariants as need
+use Rattle.iol_front.specs.Fronts.{CommittedView}
+use Rattle.iol_journal.specs.Journals.{JournalView}
+use Rattle.iol_link.specs.Link.{LinkCall, LinkAnswer}
+use Rattle.iol_trace.specs.Events.{Event, Accepted, Acknowledged, Stamp, stamped}
+use Rattle.iol_trace.specs.Words.{acked, acked_by}
+use Rattle.iol_run.proofs.Changes.{Change, Permits, Waits, Tells, changed}
+use Rattle.iol_run.proofs.PortCalls.{step_becomes}
+use Rattle.iol_run.proofs.Quiet.{AreQuiet, AcksNone, quiet_acks, stamped_both}
+use Rattle.iol_run.specs.Acknowledged.{AcksRise}
+use Rattle.iol_run.specs.CoreOnDisk.{CoreOnDiskView, clock_of}
+use Rattle.iol_run.specs.Ports.{PortsView, StepsIf}
+use Rattle.iol_run.specs.Runs.{RunView}
+use Rattle.iol_run.specs.Schedules.{IsFresh, HasMade}
+use Rattle.iol_run.specs.Steps.{Does, submit_told}
+use Rattle.iol_run.specs.Turns.{Takes, HasCalled, Serves, IsTurn}
+use Rattle.iol_run.specs.declared.core_on_disk.Turned.{Turned}
+use Rattle.iol_run.specs.declared.core_on_disk.Turned.TheVariants.{Made, Idle, Waited}
+use Rattle.iol_run.specs.declared.step.Step.{Step}
+use Rattle.iol_run.specs.declared.step.Step.TheVariants.{Client, Port, Flush}
+
+rise-append : (last : ℕ) (told more : List Stamp) → AcksRise last told → AcksRise (acked last told) more → AcksRise last (told ++ more)
+rise-append last [] more these those = those
+rise-append last (e ∷ told) more these those = (these.0, rise-append (acked_by last e.event) told more these.1 those)
+
+ack-append : (last : ℕ) (told more : List Stamp) → acked last (told ++ more) ≡ acked (acked last told) more
+ack-append last [] more = refl
+ack-append last (e ∷ told) more = ack-append (acked_by last e.event) told more
+
+-- what is told from one core to the next
+record Rises (old new : CoreView) (told : List Stamp) : Type 0 where
+  pub rise : AcksRise old.number told
+  pub number : acked old.number told ≡ new.number
+
+more_rises : (old mid new : CoreView) (told more : List Stamp) → Rises old mid told → Rises mid new more → Rises old new (told ++ more)
+more_rises old mid new told more one two = record {
+  rise = rise-append old.number told more one.rise (subst (λ (n : ℕ). AcksRise n more) (sym one.number) two.rise);
+  number = ack-append old.number told more ∙ (ap (λ (n : ℕ). acked n more) one.number ∙ two.number);
+}
+
+module _ (t : ℕ) where
+  one_rises : (old new : CoreView) (e : Event) → acked_by old.number e ≡ new.number → old.number ≤ new.number → Rises old new (stamped t (e ∷ []))
+  one_rises old new e is le = record { rise = (subst (λ (n : ℕ). old.number ≤ n) (sym is) le, tt); number = is }
+
+  silent_rises : (old new : CoreView) (told : List Event) → told ≡ [] → new.number ≡ old.number → Rises old new (stamped t told)
+  silent_rises old new told none same = subst (λ (es : List Event). Rises old new (stamped t es)) (sym none) (record { rise = tt; number = sym same })
+
+  none_rises : (last : ℕ) (told : List Event) → AcksNone told → AcksRise last (stamped t told) × (acked last (stamped t told) ≡ last)
+  none_rises last [] none = (tt, refl)
+  none_rises last (e ∷ told) none =
+      let rest = none_rises last told none.1 in (
+        (subst (λ (n : ℕ). last ≤ n) (sym (none.0 last)) (omega arith), subst (λ (n : ℕ). AcksRise n (stamped t told)) (sym (none.0 last)) rest.0),
+        ap (λ (n : ℕ). acked n (stamped t told)) (none.0 last) ∙ rest.1,
+      )
+
+  quiet_rises : (old new : CoreView) (told : List Event) → AreQuiet told → new.number ≡ old.number → Rises old new (stamped t told)
+  quiet_rises old new told quiet same =
+      let none = none_rises old.number told (quiet_acks told quiet) in
+      record { rise = none.0; number = none.1 ∙ sym same }
+
+  submit_rises : (old new : CoreView) (command : CommandValue) (answer : Result ℕ SubmitFault) → IsSubmit old command new answer
+      → Rises old new (stamped t (submit_told command answer))
+  submit_rises old new command (Ok n) is =
+      let same = ap (λ (c : CoreView). c.number) is.2 in
+      one_rises old new (Accepted n command) (sym same) (omega (arith, same))
+  submit_rises old new command (Err f) is =
+      let same = ap (λ (c : CoreView). c.number) is.1 in
+      one_rises old new _ (sym same) (omega (arith, same))
+
+  -- a call of a port
+  change_rises : (old : CoreView) (change : Change) (told : List Event) → Tells old change told → Rises old (changed old change) (stamped t told)
+  change_rises old (Permits permits) told tells = quiet_rises old (changed old (Permits permits)) told tells refl
+  change_rises old (Waits command permits) told tells =
+      subst (λ (es : List Event). Rises old (changed old (Waits command permits)) (stamped t es)) (sym tells)
+      (one_rises old (changed old (Waits command permits)) (Accepted _ command) refl (omega arith))
+
+module _ (t : ℕ) {D : Type 0} where
+  takes_rises : (old new : CoreOnDiskView D) (told : List Event) (turned : Turned) → Takes old new told turned → Rises old.core new.core (stamped t told)
+  takes_rises old new told Made is = silent_rises t old.core new.core told is.5 (ap (λ (c : CoreView). c.number) is.1.others)
+  takes_rises old new told Idle is = silent_rises t old.core new.core told is.2 (ap (λ (m : CoreOnDiskView D). m.core.number) is.1)
+  takes_rises old new told Waited is = silent_rises t old.core new.core told is.2 (ap (λ (m : CoreOnDiskView D). m.core.number) is.1)
+
+  module _ (disk : D → Disk) where
+    called_rises : (old new : CoreOnDiskView D) (told : List Event) → HasCalled disk old new told → Rises old.core new.core (stamped t told)
+    called_rises old new [] is = silent_rises t old.core new.core [] refl (ap (λ (c : CoreView). c.number) is.0)
+    called_rises old new (e ∷ told) is =
+        let same = ap (λ (c : CoreView). c.number) is.2 in
+        subst (λ (es : List Event). Rises old.core new.core (stamped t es)) (sym is.1) (one_rises t old.core new.core _ (sym same) (omega (arith, same)))
+
+    serves_rises : (needs : Need) (old new : CoreOnDiskView D) (told : List Event) (turned : Turned) → Serves disk needs old new told turned
+        → Rises old.core new.core (stamped t told)
+    serves_rises need.Batch old new told turned is = takes_rises old new told turned is
+    serves_rises need.Disk old new told Made is = called_rises old new told is.2
+    serves_rises need.Disk old new told Idle is = absurd is
+    serves_rises need.Disk old new told Waited is = silent_rises t old.core new.core told is.2 (ap (λ (m : CoreOnDiskView D). m.core.number) is.1)
+    serves_rises need.Publish old new told turned is = silent_rises t old.core new.core told is.1.4 (ap (λ (c : CoreView). c.number) is.1.2)
+    serves_rises need.Stopped old new told turned is = silent_rises t old.core new.core told is.2 (ap (λ (m : CoreOnDiskView D). m.core.number) is.1)
+
+    turn_rises : (committed : Option CommittedView) (old new : CoreOnDiskView D) (told : List Event) (turned : Turned)
+        → IsTurn disk committed old new told turned → Rises old.core new.core (stamped t told)
+    turn_rises (Some committed) old new told turned is =
+        let number = ap (λ (c : CoreView). c.number) is.1.0 in
+        subst (λ (es : List Event). Rises old.core new.core (stamped t es)) (sym is.1.3)
+        (one_rises t old.core new.core (Acknowledged new.core.number) refl (omega (arith, number)))
+    turn_rises None old new told turned is = serves_rises (need_of old.flusher.stage) old new told turned is
+
+    module _ {L : Type 0} (connection : L → ℕ) (allows : L → LinkCall → LinkAnswer → L → Type 0) where
+      port_rises : (there : Bool) (port : ℕ) (old new : CoreOnDiskView D) (ports last : PortsView L) (told : List Event)
+          → StepsIf connection allows there port old new ports last told → Rises old.core new.core (stamped t told)
+      port_rises true port old new ports last told is =
+          let becomes = step_becomes connection allows is.before is.after is.link is.linked old.core new.core is.called is.status is.steps_as in
+          subst (λ (es : List Event). Rises old.core new.core (stamped t es)) (sym is.told_is)
+          (subst (λ (ss : List Stamp). Rises old.core new.core ss) (sym (stamped_both t is.called is.status))
+          (more_rises old.core new.core new.core (stamped t is.called) (stamped t is.status)
+          (subst (λ (c : CoreView). Rises old.core c (stamped t is.called)) (sym becomes.0.new_is) (change_rises t old.core becomes.0.change is.called becomes.0.tells))
+          (quiet_rises t new.core new.core is.status becomes.1 refl)))
+      port_rises false port old new ports last told is = silent_rises t old.core new.core told is.2 (ap (λ (m : CoreOnDiskView D). m.core.number) is.0)
+
+      step_rises : (step : Step) (old new : CoreOnDiskView D) (ports last : PortsView L) (told : List Event) (turned : Turned)
+          → Does disk connection allows step old new ports last told turned → Rises old.core new.core (stamped t told)
+      step_rises (Client change) old new ports last told turned is =
+          subst (λ (es : List Event). Rises old.core new.core (stamped t es)) (sym is.2.4)
+          (submit_rises t old.core new.core (command_of change) is.2.0 is.2.1)
+      step_rises (Port port) old new ports last told turned is =
+          port_rises (nat_le port (length ports.links)) port old new ports last told is.1
+      step_rises Flush old new ports last told turned is = turn_rises old.committed old new told turned is.1
+
+module _ {D L : Type 0} (disk : D → Disk) (connection : L → ℕ) (allows : L → LinkCall → LinkAnswer → L → Type 0) where
+  record HasRisen (old new : RunView D L) : Type 0 where
+    more : List Stamp
+    events : new.events ≡ old.events ++ more
+    rises : Rises old.master.core new.master.core more
+
+  steps_rise : (steps : List Step) (waits : ℕ) (old new : RunView D L) → HasMade disk connection allows steps waits old new
+      → HasRisen old new
+  steps_rise [] waits old new made = record {
+    more = [];
+    events = ap (λ (r : RunView D L). r.events) made.1 ∙ sym (append-nil old.events);
+    rises = silent_rises 0 old.master.core new.master.core [] refl (ap (λ (r : RunView D L). r.master.core.number) made.1);
+  }
+  steps_rise (step ∷ steps) waits old new made =
+      let mid = made.2 in
+      let t = clock_of disk mid.master in
+      let one = step_rises t disk connection allows step old.master mid.master old.ports mid.ports made.3.0 made.0 made.3.1 in
+      let rest = steps_rise steps made.1 mid new made.5 in
+      record {
+        more = stamped t made.3.0 ++ rest.more;
+        events =
+            rest.events
+            ∙ (ap (λ (ss : List Stamp). ss ++ rest.more) made.3.2 ∙ append_assoc old.events (stamped t made.3.0) rest.more);
+        rises = more_rises old.master.core mid.master.core new.master.core (stamped t made.3.0) rest.more one rest.rises;
+      }
+
+  -- of a schedule that was run from a fresh run on
+  pub acks_rise : (steps : List Step) (waits : ℕ) (journal : JournalView D) (links : List L) (old new : RunView D L)
+      → IsFresh disk journal links old → HasMade disk connection allows steps waits old new → AcksRise journal.standing.number new.events
+  acks_rise steps waits journal links old new fresh made =
+      let told = steps_rise steps waits old new made in
+      subst (λ (ss : List Stamp). AcksRise journal.standing.number ss)
+      (sym (told.events ∙ ap (λ (ss : List Stamp). ss ++ told.more) fresh.events))
+      (subst (λ (n : ℕ). AcksRise n told.more) fresh.number told.rises.rise)
