@@ -5,8 +5,9 @@ use anyhow::Context;
 use iol_commands::Recovered;
 use iol_disk::{MemoryDisk, Pick};
 use iol_journal::{Geometry, Journal, RecoverFault, format};
-use iol_run::{Event, RunFault, Stamped, run_schedule};
+use iol_run::{Event, RunFault, Stamped, Step, Task, run_schedule};
 use iol_types::MasterState;
+use std::alloc::Global;
 
 /// Plays a schedule, its first steps alone where they are fewer, and prints how it ended and what its disk then holds.
 pub(crate) fn play(rt: &HostRuntime, schedule: Schedule, most: usize) -> anyhow::Result<()> {
@@ -20,7 +21,8 @@ pub(crate) fn play(rt: &HostRuntime, schedule: Schedule, most: usize) -> anyhow:
         return show(rt, disk);
     }
     let made = steps.len().min(most);
-    match run_schedule(rt.alloc(), disk, links, &steps[..made]) {
+    let tasks = once_each(rt.alloc(), &steps[..made])?;
+    match run_schedule(rt.alloc(), disk, links, &tasks) {
         Ok(trace) => {
             tell(rt, trace.events.as_slice())?;
             println!(rt; "ended {:?}, {} waits", trace.ended, trace.waits)?;
@@ -28,6 +30,15 @@ pub(crate) fn play(rt: &HostRuntime, schedule: Schedule, most: usize) -> anyhow:
         }
         Err(fault) => show(rt, without_run(rt, fault)?),
     }
+}
+
+// A schedule of these steps, each of them once.
+fn once_each(alloc: Global, steps: &[Step]) -> anyhow::Result<Vec<Task>> {
+    let mut tasks = Vec::with_capacity(alloc, steps.len())?;
+    for step in steps {
+        tasks.push(Task::once(*step))?;
+    }
+    Ok(tasks)
 }
 
 // Prints why no run was made, and gives its disk.

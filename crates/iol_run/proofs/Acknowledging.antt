@@ -21,7 +21,8 @@ use Rattle.iol_run.specs.Acknowledged.{AcksRise}
 use Rattle.iol_run.specs.CoreOnDisk.{CoreOnDiskView, clock_of}
 use Rattle.iol_run.specs.Ports.{PortsView, StepsIf}
 use Rattle.iol_run.specs.Runs.{RunView}
-use Rattle.iol_run.specs.Schedules.{IsFresh, HasMade}
+use Rattle.iol_run.specs.Schedules.{IsFresh}
+use Rattle.iol_run.specs.Tasks.{HasMade}
 use Rattle.iol_run.specs.Steps.{Does, submit_told}
 use Rattle.iol_run.specs.Turns.{Takes, HasCalled, Serves, IsTurn}
 use Rattle.iol_run.specs.declared.core_on_disk.Turned.{Turned}

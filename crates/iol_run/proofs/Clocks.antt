@@ -14,7 +14,8 @@ use Rattle.iol_run.proofs.DiskSteps.{DiskStep, Stays, Makes, Fails, disk_step}
 use Rattle.iol_run.specs.Clocks.{ClocksRise}
 use Rattle.iol_run.specs.CoreOnDisk.{clock_of}
 use Rattle.iol_run.specs.Runs.{RunView}
-use Rattle.iol_run.specs.Schedules.{IsFresh, HasMade}
+use Rattle.iol_run.specs.Schedules.{IsFresh}
+use Rattle.iol_run.specs.Tasks.{HasMade}
 use Rattle.iol_run.specs.declared.step.Step.{Step}
 
 -- a disk became another, which is as honest, and whose clock is later or the same where it is honest

@@ -15,6 +15,7 @@ use Rattle.iol_flush.specs.Stages.{need_of}
 use Rattle.iol_flush.specs.declared.need.Need.{Need}
 use Rattle.iol_flush.specs.declared.need.Need.TheVariants as need
 use Rattle.iol_front.specs.Fronts.{CommittedView}
+use Rattle.iol_journal.specs.Journals.{JournalView}
 use Rattle.iol_link.specs.Link.{LinkCall, LinkAnswer}
 use Rattle.iol_trace.proofs.Words.{accepted-append, acked-append}
 use Rattle.iol_trace.specs.Events.{Event, Accepted, Acknowledged, Stamp, stamped}
@@ -25,6 +26,8 @@ use Rattle.iol_run.proofs.Quiet.{quiet_accepted, quiet_acked, stamped_both}
 use Rattle.iol_run.specs.CoreOnDisk.{CoreOnDiskView}
 use Rattle.iol_run.specs.PortRuns.{IsCoreAfter}
 use Rattle.iol_run.specs.Ports.{PortsView, StepsIf}
+use Rattle.iol_run.specs.Runs.{RunView}
+use Rattle.iol_run.specs.Schedules.{IsFresh}
 use Rattle.iol_run.specs.Steps.{Does, submit_told}
 use Rattle.iol_run.specs.Turns.{Takes, HasCalled, Serves, IsTurn}
 use Rattle.iol_run.specs.declared.core_on_disk.Turned.{Turned}
@@ -60,6 +63,19 @@ module _ (first : ℕ) (start : State) where
     where
       counted : acked first events - first ≡ length is.done
       counted = omega (arith, is.acked_is, is.number_is)
+
+  -- of a run before its first step
+  pub fresh_stands : {D L : Type 0} (disk : D → Disk) (journal : JournalView D) (links : List L) (run : RunView D L)
+      → first ≡ journal.standing.number → start ≡ journal.standing.state → IsFresh disk journal links run
+      → Stands run.events run.master.core
+  fresh_stands disk journal links run number_is state_is fresh = record {
+    done = [];
+    accepted_is = ap accepted fresh.events ∙ sym fresh.queue;
+    durable_is = fresh.state ∙ sym state_is;
+    number_is = omega (arith, fresh.number, number_is);
+    acked_is = ap (acked first) fresh.events ∙ (number_is ∙ sym fresh.number);
+    flight = omega (arith, fresh.flight);
+  }
 
   -- events that accept and acknowledge nothing, where the core has the same commands
   quiet : (events more : List Stamp) (old new : CoreView) → accepted more ≡ [] → ((n : ℕ) → acked n more ≡ n) → new.queue ≡ old.queue

@@ -16,7 +16,8 @@ use Rattle.iol_run.specs.CoreOnDisk.{clock_of}
 use Rattle.iol_run.specs.Events.{stamp_of}
 use Rattle.iol_run.specs.Failures.{TellsFailures}
 use Rattle.iol_run.specs.Runs.{RunView}
-use Rattle.iol_run.specs.Schedules.{IsFresh, HasMade}
+use Rattle.iol_run.specs.Schedules.{IsFresh}
+use Rattle.iol_run.specs.Tasks.{HasMade}
 use Rattle.iol_run.specs.declared.schedule.RunFault.{RunFault}
 use Rattle.iol_run.specs.declared.schedule.Trace.{Trace}
 use Rattle.iol_run.specs.declared.step.Step.{Step}

@@ -2,7 +2,6 @@
 use Rattle.std.proofs.Common.{◌≡◌, refl, ◌≤◌, ℕ, zero, suc, ◌+◌, ◌-◌, true, List, [], ◌∷◌, ◌++◌, length, replicate, Option, None, ap, sym}
 use Rattle.std.proofs.Common.{◌∙◌, subst, arith}
 use Rattle.std.proofs.Math.Nat.{mul-le-mul_left}
-use Rattle.std.proofs.lemmas.List.{take_all}
 use Rattle.iol_disk.specs.Disk.{Disk}
 use Rattle.iol_core.specs.Submit.{has_failed}
 use Rattle.iol_core.specs.declared.stop.StopCause.{StopCause}
@@ -20,10 +19,13 @@ use Rattle.iol_run.proofs.TurnsLeft.{most_left}
 use Rattle.iol_run.specs.CoreOnDisk.{clock_of}
 use Rattle.iol_run.specs.Flushed.{AllFlushed, batch_turns, queue_turns}
 use Rattle.iol_run.specs.Runs.{RunView}
-use Rattle.iol_run.specs.Schedules.{IsFresh, IsEnd, HasMade, HasRun, waits_of}
-use Rattle.iol_run.specs.declared.schedule.Ended.{Ended}
+use Rattle.iol_run.specs.Schedules.{IsFresh}
+use Rattle.iol_run.specs.Tasks.{HasMade, IsCountOf, waits_of}
 use Rattle.iol_run.specs.declared.step.Step.{Step}
 use Rattle.iol_run.specs.declared.step.Step.TheVariants.{Flush}
+
+none_waited : (count waits : ℕ) → IsCountOf count waits → count ≡ 0 → waits ≡ 0
+none_waited count waits counts none = grind (arith, counts, none)
 
 module _ {D L : Type 0} (disk : D → Disk) (connection : L → ℕ) (allows : L → LinkCall → LinkAnswer → L → Type 0) where
   -- steps that were made in two parts
@@ -138,16 +140,12 @@ module _ {D L : Type 0} (disk : D → Disk) (connection : L → ℕ) (allows : L
         (λ (failed : has_failed new.master.core.stopped ≡ true). sound (last.counted.failure failed)) left in
         omega (arith, last.counted.acked_is, last.counted.count, empty)
 
-    -- of a schedule that was run from a fresh run on
-    pub all_flushed : (steps : List Step) (ended : Ended) (waits : ℕ) (journal : JournalView D) (links : List L) (old new : RunView D L)
-        → IsFresh disk journal links old
-        → journal.standing.layout ≡ layout → journal.standing.number ≡ first → HasRun disk connection allows steps ended waits old new
-        → AllFlushed (queue_turns layout) steps first ended waits new.events
-    all_flushed steps ended waits journal links old new fresh same number run ends whole none sound =
+    -- of steps that were made from a fresh run on; a count of those that waited tells none only where there are none
+    pub all_flushed : (steps : List Step) (waits count : ℕ) (journal : JournalView D) (links : List L) (old new : RunView D L)
+        → IsFresh disk journal links old → journal.standing.layout ≡ layout → journal.standing.number ≡ first
+        → HasMade disk connection allows steps waits old new → IsCountOf count waits
+        → AllFlushed (queue_turns layout) steps first count new.events
+    all_flushed steps waits count journal links old new fresh same number made counts ends none sound =
         turns_end ends.before ends.turns waits old new
-        (subst (λ (ss : List Step). HasMade disk connection allows ss waits old new) (take_all run.0 steps (omega (arith, made))
-        ∙ ends.order) run.2)
-        (fresh_holds journal links old fresh same number) none sound ends.enough
-      where
-        made : run.0 ≡ length steps
-        made = subst (λ (e : Ended). IsEnd e run.0 (length steps)) whole run.1
+        (subst (λ (ss : List Step). HasMade disk connection allows ss waits old new) ends.order made)
+        (fresh_holds journal links old fresh same number) (none_waited count waits counts none) sound ends.enough

@@ -1,5 +1,5 @@
 -- The steps of a port lead its machine: what has happened to it.
-use Rattle.std.proofs.Common.{◌≡◌, refl, ℕ, Bool, List, [], ◌∷◌, Option, Some, None, Ok, Err, ap, sym, ◌∙◌, subst}
+use Rattle.std.proofs.Common.{◌≡◌, refl, ℕ, Bool, List, [], ◌∷◌, ◌++◌, Option, Some, None, Ok, Err, ap, sym, ◌∙◌, subst, append_assoc}
 use Rattle.iol_core.specs.Core.{CoreView}
 use Rattle.iol_core.specs.declared.permit.UploadGrant.{UploadGrant}
 use Rattle.iol_core.specs.declared.upload.FinishFault.TheVariants as finish
@@ -15,6 +15,7 @@ use Rattle.iol_port.specs.declared.call.Reply.TheVariants as reply
 use Rattle.iol_trace.specs.Events.{Event}
 use Rattle.iol_transfer.specs.Exchanges.{Exchange}
 use Rattle.iol_types.specs.DataSet.{SetValue}
+use Rattle.iol_run.specs.PortRuns.{raised_first, woken_first, happened}
 use Rattle.iol_run.specs.PortSteps.{PortStep, noted_by, awake}
 
 -- the permit to upload that was given last is of the port itself
@@ -50,30 +51,50 @@ filed_port port history value grant set led wants =
 abbrev pub Led : ℕ → PortValue → Type 0
 Led port value = (history : List Happening) × HasLed port history value
 
-noted_led : (port : ℕ) (value : PortValue) (event : Option ℕ) → Led port value → Led port (noted_by event value)
-noted_led port value None led = led
-noted_led port value (Some code) (history, led) = (Raised code ∷ history, (value, led, refl))
+-- an event is noted
+noted_led : (port : ℕ) (value : PortValue) (event : Option ℕ) (history : List Happening) → HasLed port history value
+    → HasLed port (raised_first event ++ history) (noted_by event value)
+noted_led port value None history led = led
+noted_led port value (Some code) history led = (value, led, refl)
 
-awake_led : (port own : ℕ) (under : Option ℕ) (kept : Bool) (stage : Stage)
-    → Led port (record { port = own; under = under; kept = kept; stage = stage })
-    → Led port (awake (record { port = own; under = under; kept = kept; stage = stage }))
-awake_led port own under kept (Settled rest) (history, led) = (
-  Did Nothing input.Wake ∷ history,
-  (record { port = own; under = under; kept = kept; stage = Settled rest }, led, (refl, tt, refl, tt)),
-)
-awake_led port own under kept stage led = led
+-- and a settled machine woken
+awake_led : (port own : ℕ) (under : Option ℕ) (kept : Bool) (stage : Stage) (history : List Happening)
+    → HasLed port history (record { port = own; under = under; kept = kept; stage = stage })
+    → HasLed port (woken_first stage ++ history) (awake (record { port = own; under = under; kept = kept; stage = stage }))
+awake_led port own under kept (Settled rest) history led =
+    (record { port = own; under = under; kept = kept; stage = Settled rest }, led, (refl, tt, refl, tt))
+awake_led port own under kept stage history led = led
 
 module _ {L : Type 0} (number : L → ℕ) (steps : L → LinkCall → LinkAnswer → L → Type 0) where
   -- what has led the machine that acts in a step
+  acting_history : (port : ℕ) (before after : PortValue) (link last : L) (old new : CoreView) (called status : List Event)
+      (history : List Happening) → HasLed port history before
+      → (is : PortStep number steps before after link last old new called status)
+      → HasLed port (woken_first (noted_by is.hears_event.event before).stage ++ (raised_first is.hears_event.event ++ history))
+      (awake is.noted_value)
+  acting_history port before after link last old new called status history led is =
+      let event = is.hears_event.event in
+      let value = noted_by event before in
+      subst (λ (v : PortValue). HasLed port (woken_first value.stage ++ (raised_first event ++ history)) (awake v))
+      (sym is.hears_event.new_is)
+      (awake_led port value.port value.under value.kept value.stage (raised_first event ++ history)
+      (noted_led port before event history led))
+
   pub acting_led : (port : ℕ) (before after : PortValue) (link last : L) (old new : CoreView) (called status : List Event) → Led port before
       → (is : PortStep number steps before after link last old new called status) → Led port (awake is.noted_value)
   acting_led port before after link last old new called status led is =
-      awake_led port is.noted_value.port is.noted_value.under is.noted_value.kept is.noted_value.stage
-      (subst (λ (v : PortValue). Led port v) (sym is.hears_event.new_is) (noted_led port before is.hears_event.event led))
+      (_, acting_history port before after link last old new called status led.0 led.1 is)
 
   -- and the one behind it
-  pub step_led : (port : ℕ) (before after : PortValue) (link last : L) (old new : CoreView) (called status : List Event) → Led port before
-      → PortStep number steps before after link last old new called status → Led port after
-  step_led port before after link last old new called status led is =
-      let acting = acting_led port before after link last old new called status led is in
-      (Did is.acts.wants is.acts.heard ∷ acting.0, (awake is.noted_value, acting.1, is.acts.did))
+  pub step_led : (port : ℕ) (before after : PortValue) (link last : L) (old new : CoreView) (called status : List Event)
+      (history : List Happening) → HasLed port history before
+      → (is : PortStep number steps before after link last old new called status)
+      → HasLed port (happened before is.hears_event.event is.acts.wants is.acts.heard ++ history) after
+  step_led port before after link last old new called status history led is =
+      let event = is.hears_event.event in
+      let woken = woken_first (noted_by event before).stage in
+      let acting = acting_history port before after link last old new called status history led is in (
+        awake is.noted_value,
+        subst (λ (es : List Happening). HasLed port es (awake is.noted_value)) (sym (append_assoc woken (raised_first event) history)) acting,
+        is.acts.did,
+      )

@@ -30,3 +30,5 @@ pub mod Histories
 pub mod StatusesShown
 pub mod PortRuns
 pub mod Acknowledging
+pub mod Answering
+pub mod Traces

@@ -19,7 +19,8 @@ use Rattle.iol_run.proofs.Machines.{HavePlaces, elsewhere, new_places, one_some,
 use Rattle.iol_run.specs.CoreOnDisk.{CoreOnDiskView, clock_of}
 use Rattle.iol_run.specs.Ports.{PortsView, StepsThere, StepsIf}
 use Rattle.iol_run.specs.Runs.{RunView}
-use Rattle.iol_run.specs.Schedules.{IsFresh, HasMade, AreLinkRuns}
+use Rattle.iol_run.specs.Schedules.{IsFresh, AreLinkRuns}
+use Rattle.iol_run.specs.Tasks.{HasMade}
 use Rattle.iol_run.specs.Steps.{Does, submit_told}
 use Rattle.iol_run.specs.declared.core_on_disk.Turned.{Turned}
 use Rattle.iol_run.specs.declared.step.Step.{Step}

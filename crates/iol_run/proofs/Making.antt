@@ -1,18 +1,28 @@
--- One more step behind those that were made.
-use Rattle.std.proofs.Common.{refl, ◌≤◌, ◌+◌, ℕ, List, [], ◌∷◌, ◌++◌, subst, arith}
+-- Steps and tasks that were made one behind the other.
+use Rattle.std.proofs.Common.{◌≡◌, refl, ◌≤◌, ◌+◌, ◌-◌, ◌^◌, min, ℕ, List, [], ◌∷◌, ◌++◌, replicate, take, ap, sym, ◌∙◌, subst, arith, append-nil, append_assoc}
 use Rattle.iol_disk.specs.Disk.{Disk}
 use Rattle.iol_link.specs.Link.{LinkCall, LinkAnswer}
 use Rattle.iol_run.specs.Runs.{RunView, Did}
-use Rattle.iol_run.specs.Schedules.{HasMade, waits_of}
+use Rattle.iol_run.specs.Tasks.{IsCountOf, HasMade, HasBegun, HasStopped, HasDone, HasDoneAll, EndsAfter, HasRun, waits_of}
 use Rattle.iol_run.specs.declared.core_on_disk.Turned.{Turned}
 use Rattle.iol_run.specs.declared.core_on_disk.Turned.TheVariants.{Made, Idle, Waited}
+use Rattle.iol_run.specs.declared.schedule.Ended.{Ended}
+use Rattle.iol_run.specs.declared.schedule.Ended.TheVariants.{Whole, Memory}
 use Rattle.iol_run.specs.declared.step.Step.{Step}
+use Rattle.iol_run.specs.declared.step.Step.TheVariants.{Flush}
+use Rattle.iol_run.specs.declared.task.Task.{Task}
+use Rattle.iol_run.specs.declared.task.Task.TheVariants.{Repeat, Drain}
 
 -- a step waits once at most
 pub one_wait : (turned : Turned) → waits_of turned ≤ 1
 one_wait Made = omega arith
 one_wait Idle = omega arith
 one_wait Waited = omega arith
+
+-- a count of those that waited, and more
+pub count_more : (count early late total : ℕ) → IsCountOf count early → total ≡ min (count + late) (2 ^ 64 - 1)
+    → IsCountOf total (early + late)
+count_more count early late total counts more = grind (arith, counts, more)
 
 module _ {D L : Type 0} (disk : D → Disk) (connection : L → ℕ) (allows : L → LinkCall → LinkAnswer → L → Type 0) where
   pub made_more : (steps : List Step) (step : Step) (turned : Turned) (waits : ℕ) (old mid new : RunView D L)
@@ -33,4 +43,98 @@ module _ {D L : Type 0} (disk : D → Disk) (connection : L → ℕ) (allows : L
     made.3,
     omega (arith, made.4),
     made_more steps step turned made.1 made.2 mid new made.5 did,
+  )
+
+  -- a run keeps the clock of its beginning
+  pub begun_stays : (made : List Step) (waits : ℕ) (old new : RunView D L) → HasMade disk connection allows made waits old new
+      → new.begun ≡ old.begun
+  begun_stays [] waits old new made = ap (λ (r : RunView D L). r.begun) made.1
+  begun_stays (s ∷ more) waits old new made = begun_stays more made.1 made.2 new made.5 ∙ made.3.3
+
+  -- steps behind others
+  pub made_join : (front rest : List Step) (early late : ℕ) (old mid new : RunView D L) → HasMade disk connection allows front early old mid
+      → HasMade disk connection allows rest late mid new → HasMade disk connection allows (front ++ rest) (early + late) old new
+  made_join [] rest early late old mid new first behind =
+      subst (λ (n : ℕ). HasMade disk connection allows rest n old new) (omega (arith, first.0))
+      (subst (λ (r : RunView D L). HasMade disk connection allows rest late r new) first.1 behind)
+  made_join (s ∷ front) rest early late old mid new first behind = (
+    first.0,
+    first.1 + late,
+    first.2,
+    first.3,
+    omega (arith, first.4),
+    made_join front rest first.1 late first.2 mid new first.5 behind,
+  )
+
+  abbrev StepsMade : List Step → ℕ → RunView D L → RunView D L → Type 0
+  StepsMade made waits old new = HasMade disk connection allows made waits old new
+
+  -- the steps of a task that is done were made
+  done_made : (task : Task) (made : List Step) (waits : ℕ) (old new : RunView D L) → HasDone disk connection allows task made waits old new
+      → StepsMade made waits old new
+  done_made (Repeat step times) made waits old new done = done.1
+  done_made Drain made waits old new done =
+      let drained = done.1 in
+      subst (λ (n : ℕ). StepsMade made n old new) (sym done.0)
+      (subst (λ (ss : List Step). StepsMade ss 0 old new) (sym drained.made_is)
+      (made_join (replicate drained.turns Flush) (Flush ∷ []) 0 0 old drained.last new drained.run
+      (_, 0, new, drained.idle, omega arith, (refl, refl))))
+
+  -- and those of tasks
+  all_made : (tasks : List Task) (made : List Step) (waits : ℕ) (old new : RunView D L)
+      → HasDoneAll disk connection allows tasks made waits old new → StepsMade made waits old new
+  all_made [] made waits old new done = subst (λ (ss : List Step). StepsMade ss waits old new) (sym done.0) (done.1, done.2)
+  all_made (task ∷ tasks) made waits old new done =
+      let mid = done.4 in
+      subst (λ (n : ℕ). StepsMade made n old new) (sym done.8)
+      (subst (λ (ss : List Step). StepsMade ss (done.2 + done.3) old new) (sym done.7)
+      (made_join done.0 done.1 done.2 done.3 old mid new (done_made task done.0 done.2 old mid done.5)
+      (all_made tasks done.1 done.3 mid new done.6)))
+
+  -- of a task in which memory ran out
+  stopped_made : (task : Task) (made : List Step) (waits : ℕ) (old new : RunView D L)
+      → HasStopped disk connection allows task made waits old new → StepsMade made waits old new
+  stopped_made (Repeat step times) made waits old new stopped = stopped.0.run
+  stopped_made Drain made waits old new stopped = stopped.run
+
+  end_made : (ended : Ended) (done : ℕ) (tasks : List Task) (made : List Step) (waits : ℕ) (old new : RunView D L)
+      → EndsAfter disk connection allows ended done tasks made waits old new → StepsMade made waits old new
+  end_made Whole done tasks made waits old new ends = subst (λ (ss : List Step). StepsMade ss waits old new) (sym ends.1) (ends.2, ends.3)
+  end_made Memory done tasks made waits old new ends = stopped_made ends.0 made waits old new ends.2
+
+  -- the steps of a schedule that was run
+  pub run_made : (tasks : List Task) (ended : Ended) (made : List Step) (waits : ℕ) (old new : RunView D L)
+      → HasRun disk connection allows tasks ended made waits old new → StepsMade made waits old new
+  run_made tasks ended made waits old new run =
+      subst (λ (n : ℕ). StepsMade made n old new) (sym run.waits_is)
+      (subst (λ (ss : List Step). StepsMade ss (run.early + run.late) old new) (sym run.made_is)
+      (made_join run.whole run.partly run.early run.late old run.mid new
+      (all_made (take run.done tasks) run.whole run.early old run.mid run.tasks_done)
+      (end_made ended run.done tasks run.partly run.late run.mid new run.ends)))
+
+  -- one more task behind those that are done
+  pub done_more : (tasks : List Task) (task : Task) (made more : List Step) (waits waited : ℕ) (old mid new : RunView D L)
+      → HasDoneAll disk connection allows tasks made waits old mid → HasDone disk connection allows task more waited mid new
+      → HasDoneAll disk connection allows (tasks ++ task ∷ []) (made ++ more) (waits + waited) old new
+  done_more [] task made more waits waited old mid new all done = (
+    more,
+    [],
+    waited,
+    0,
+    new,
+    subst (λ (r : RunView D L). HasDone disk connection allows task more waited r new) all.2 done,
+    (refl, refl, refl),
+    ap (λ (ss : List Step). ss ++ more) all.0 ∙ sym (append-nil more),
+    omega (arith, all.1),
+  )
+  done_more (first ∷ tasks) task made more waits waited old mid new all done = (
+    all.0,
+    all.1 ++ more,
+    all.2,
+    all.3 + waited,
+    all.4,
+    all.5,
+    done_more tasks task all.1 more all.3 waited all.4 mid new all.6 done,
+    ap (λ (ss : List Step). ss ++ more) all.7 ∙ append_assoc all.0 all.1 more,
+    omega (arith, all.8),
   )

@@ -26,7 +26,7 @@ use Rattle.iol_run.proofs.Serving.{knows}
 use Rattle.iol_run.proofs.TurnsLeft.{HasBatch, HasLayout, own_turns, turns_behind, turns_left, fewer_behind, given_turns, flies_within}
 use Rattle.iol_run.specs.CoreOnDisk.{CoreOnDiskView, HasFlight, IsAtRest}
 use Rattle.iol_run.specs.Flushed.{batch_turns}
-use Rattle.iol_run.specs.Schedules.{waits_of}
+use Rattle.iol_run.specs.Tasks.{waits_of}
 use Rattle.iol_run.specs.Turns.{Acknowledges, Takes, HasCalled, Publishes, Serves, IsTurn}
 use Rattle.iol_run.specs.declared.core_on_disk.Turned.{Turned}
 use Rattle.iol_run.specs.declared.core_on_disk.Turned.TheVariants.{Made, Idle, Waited}

@@ -26,7 +26,8 @@ use Rattle.iol_run.proofs.Serving.{knows}
 use Rattle.iol_run.specs.CoreOnDisk.{CoreOnDiskView, clock_of}
 use Rattle.iol_run.specs.Ports.{PortsView, StepsIf}
 use Rattle.iol_run.specs.Runs.{RunView}
-use Rattle.iol_run.specs.Schedules.{IsFresh, HasMade}
+use Rattle.iol_run.specs.Schedules.{IsFresh}
+use Rattle.iol_run.specs.Tasks.{HasMade}
 use Rattle.iol_run.specs.Steps.{Does, submit_told}
 use Rattle.iol_run.specs.Stopped.{NoneOnceFailed}
 use Rattle.iol_run.specs.Turns.{Takes, HasCalled, Serves, IsTurn}

@@ -5,24 +5,21 @@ use Rattle.iol_flush.specs.Stages.{most_checkpoint_calls}
 use Rattle.iol_journal.specs.Layout.{Layout}
 use Rattle.iol_trace.specs.Events.{Stamp}
 use Rattle.iol_trace.specs.Words.{accepted, acked, HasFailure}
-use Rattle.iol_run.specs.declared.schedule.Ended.{Ended}
-use Rattle.iol_run.specs.declared.schedule.Ended.TheVariants.{Whole}
 use Rattle.iol_run.specs.declared.step.Step.{Step}
 use Rattle.iol_run.specs.declared.step.Step.TheVariants.{Flush}
 
--- a schedule ends in this many turns of the flusher, or in more (own)
+-- steps end in this many turns of the flusher, or in more (own)
 pub record EndsInTurns (steps : List Step) (least : ℕ) : Type 0 where
   pub before : List Step
   pub turns : ℕ
   pub order : steps ≡ before ++ replicate turns Flush
   pub enough : least ≤ turns
 
--- where all steps of a schedule were made, none had to wait, no failure was told, and the schedule ends in turns enough of
--- the flusher, the number acknowledged last is that of the last command accepted: the starting number, and one more for
--- each (own)
-abbrev pub AllFlushed : ℕ → List Step → ℕ → Ended → ℕ → List Stamp → Type 0
-AllFlushed least steps first ended waits events =
-    EndsInTurns steps least → ended ≡ Whole → waits ≡ 0 → (HasFailure events → ⊥) → acked first events ≡ first + length (accepted events)
+-- where the steps that were made end in turns enough of the flusher, none had to wait and no failure was told, the number
+-- acknowledged last is that of the last command accepted: the starting number, and one more for each (own)
+abbrev pub AllFlushed : ℕ → List Step → ℕ → ℕ → List Stamp → Type 0
+AllFlushed least made first waits events =
+    EndsInTurns made least → waits ≡ 0 → (HasFailure events → ⊥) → acked first events ≡ first + length (accepted events)
 
 -- the most turns that a batch needs: it is taken, no slot is free, its checkpoint and its 19 disk calls are made, it is
 -- published and acknowledged (own)

@@ -5,8 +5,10 @@ pub mod Turns
 pub mod PortSteps
 pub mod Ports
 pub mod PortRuns
+pub mod Answers
 pub mod Steps
 pub mod Runs
+pub mod Tasks
 pub mod Schedules
 pub mod Causes
 pub mod Flushed

@@ -1,5 +1,5 @@
 -- The ports of a master.
-use Rattle.std.specs.Prelude.{◌≡◌, ℕ, zero, suc, ◌+◌, ◌-◌, nat_le, Bool, true, false, List, [], ◌∷◌, ◌++◌, length, Some, slice_get}
+use Rattle.std.specs.Prelude.{◌≡◌, ℕ, zero, suc, ◌+◌, ◌-◌, ◌≤◌, nat_le, Bool, true, false, List, [], ◌∷◌, ◌++◌, length, Some, slice_get}
 use Rattle.std.specs.Prelude.{slice_set}
 use Rattle.iol_link.specs.Link.{LinkCall, LinkAnswer}
 use Rattle.iol_port.specs.Stage.{PortValue, new_machine}
@@ -40,6 +40,7 @@ module _ {D L : Type 0} (number : L → ℕ) (steps : L → LinkCall → LinkAns
     pub linked : L
     pub called : List Event
     pub status : List Event
+    pub some : 1 ≤ port
     pub machine_is : slice_get ports.machines (port - 1) ≡ Some before
     pub link_is : slice_get ports.links (port - 1) ≡ Some link
     pub steps_as : PortStep number steps before after link linked old.core new.core called status

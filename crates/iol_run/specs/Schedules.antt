@@ -1,32 +1,46 @@
 -- What a schedule does.
-use Rattle.std.specs.Prelude.{◌≡◌, ◌<◌, ℕ, ◌+◌, List, [], ◌∷◌, length, take, Some, None, slice_get}
+use Rattle.std.specs.Prelude.{◌≡◌, ℕ, ◌+◌, ◌*◌, IsTrue, map, replicate, List, [], ◌∷◌, length, Some, None, slice_get, Ok}
 use Rattle.iol_types.specs.State.{State}
+use Rattle.iol_disk.specs.Calls.{sync, Made}
+use Rattle.iol_disk.specs.Content.{clock}
 use Rattle.iol_disk.specs.Disk.{Disk}
 use Rattle.iol_flush.specs.Stages.{disk_of}
 use Rattle.iol_flush.specs.declared.stage.Stage.TheVariants.{Resting}
 use Rattle.iol_journal.specs.Journals.{JournalView}
+use Rattle.iol_journal.specs.Layout.{total}
+use Rattle.iol_journal.specs.Meaning.{standing_in}
+use Rattle.iol_journal.specs.Reading.{Shows}
 use Rattle.iol_link.specs.Link.{LinkCall, LinkAnswer}
 use Rattle.iol_trace.specs.Events.{Stamp}
 use Rattle.iol_trace.specs.Links.{IsLinkRun}
+use Rattle.iol_trace.specs.Words.{durable}
+use Rattle.iol_run.specs.Acknowledged.{AcksRise}
+use Rattle.iol_run.specs.Answers.{AnswersClients, clients_of}
+use Rattle.iol_run.specs.Clocks.{ClocksRise}
 use Rattle.iol_run.specs.CoreOnDisk.{clock_of}
+use Rattle.iol_run.specs.Events.{stamp_of}
+use Rattle.iol_run.specs.Failures.{TellsFailures}
+use Rattle.iol_run.specs.Flushed.{AllFlushed, queue_turns}
+use Rattle.iol_run.specs.PortRuns.{ArePortRuns}
 use Rattle.iol_run.specs.Ports.{new_machines}
-use Rattle.iol_run.specs.Runs.{RunView, Did}
-use Rattle.iol_run.specs.declared.core_on_disk.Turned.{Turned}
-use Rattle.iol_run.specs.declared.core_on_disk.Turned.TheVariants.{Waited}
+use Rattle.iol_run.specs.Runs.{RunView}
+use Rattle.iol_run.specs.Stopped.{NoneOnceFailed}
+use Rattle.iol_run.specs.Tasks.{HasRun, IsCountOf}
 use Rattle.iol_run.specs.declared.schedule.RunFault.{RunFault}
 use Rattle.iol_run.specs.declared.schedule.RunFault.TheVariants as fault
-use Rattle.iol_run.specs.declared.schedule.Ended.{Ended}
-use Rattle.iol_run.specs.declared.schedule.Ended.TheVariants.{Whole, Memory}
+use Rattle.iol_run.specs.declared.schedule.Trace.{Trace}
 use Rattle.iol_run.specs.declared.step.Step.{Step}
+use Rattle.iol_run.specs.declared.task.Task.{Task}
 
--- a run before its first step: the journal rests as it was recovered, nothing waits, nothing is stopped, each link has a new
--- machine, and nothing is told (own)
+-- a run before its first step: the journal rests as it was recovered, nothing waits, no permit is out, nothing is stopped, each
+-- link has a new machine, and nothing is told (own)
 pub record IsFresh {D L : Type 0} (disk : D → Disk) (journal : JournalView D) (links : List L) (run : RunView D L) : Type 0 where
   pub stage : run.master.flusher.stage ≡ Resting journal
   pub published : run.master.flusher.published ≡ []
   pub committed : run.master.committed ≡ None
   pub queue : run.master.core.queue ≡ []
   pub flight : run.master.core.flight ≡ 0
+  pub permits : run.master.core.permits ≡ replicate (length links) None
   pub stopped : run.master.core.stopped ≡ None
   pub number : run.master.core.number ≡ journal.standing.number
   pub state : run.master.core.durable ≡ journal.standing.state
@@ -34,41 +48,70 @@ pub record IsFresh {D L : Type 0} (disk : D → Disk) (journal : JournalView D) 
   pub events : run.events ≡ []
   pub begun : run.begun ≡ clock_of disk run.master
 
--- a turn of the flusher that met want of memory counts as a wait (own)
-abbrev pub waits_of : Turned → ℕ
-waits_of Waited = 1
-waits_of turned = 0
-
--- how many steps of a schedule were made: all, or fewer where memory ran out (own)
-abbrev pub IsEnd : Ended → ℕ → ℕ → Type 0
-IsEnd Whole made all = made ≡ all
-IsEnd Memory made all = made < all
-
-module _ {D L : Type 0} (disk : D → Disk) (number : L → ℕ) (steps : L → LinkCall → LinkAnswer → L → Type 0) where
-  -- these steps were made one after another, and so many of them had to wait (own)
-  abbrev pub HasMade : List Step → ℕ → RunView D L → RunView D L → Type 0
-  HasMade [] waits old new = (waits ≡ 0) × (new ≡ old)
-  HasMade (step ∷ made) waits old new =
-      (turned : Turned) × (rest : ℕ) × (mid : RunView D L) × Did disk number steps step turned old mid × (waits ≡ waits_of turned + rest)
-      × HasMade made rest mid new
-
-  -- the first steps of a schedule were made (own)
-  abbrev pub HasRun : List Step → Ended → ℕ → RunView D L → RunView D L → Type 0
-  HasRun schedule ended waits old new = (made : ℕ) × IsEnd ended made (length schedule) × HasMade (take made schedule) waits old new
-
-  -- a trace is that of a schedule, from a fresh run over a journal and these links on (own)
-  abbrev pub IsTraceOf : List Step → List L → Ended → ℕ → List Stamp → ℕ → State → List L → D → Type 0
-  IsTraceOf schedule links ended waits events begun state last_links last =
-      (journal : JournalView D) × (old new : RunView D L) × IsFresh disk journal links old × HasRun schedule ended waits old new
-      × (events ≡ new.events) × (begun ≡ new.begun) × (state ≡ new.master.core.durable) × (last_links ≡ new.ports.links)
-      × (last ≡ disk_of new.master.flusher.stage)
-
 module _ {L : Type 0} (number : L → ℕ) (steps : L → LinkCall → LinkAnswer → L → Type 0) where
   -- what is told of each port's link is a run of it, from the link that was handed in to the one that is handed out (own)
   pub record AreLinkRuns (links : List L) (events : List Stamp) (last : List L) : Type 0 where
     pub count : length last ≡ length links
     pub runs : (place : ℕ) (before after : L) → slice_get links place ≡ Some before → slice_get last place ≡ Some after
         → IsLinkRun number steps (place + 1) events before after
+
+-- a journal was recovered from a disk: it stands as an honest disk shows, its list of commands is empty, and the disk was synced
+-- and read, and nothing else (own)
+pub record IsRecovered {D : Type 0} (disk : D → Disk) (given : D) (journal : JournalView D) : Type 0 where
+  pub found : Shows (disk given) (λ image. standing_in (disk given).sectors image ≡ Ok journal.standing)
+  pub history : journal.history ≡ record { first = journal.standing.number; start = journal.standing.state; commands = [] }
+  pub synced : Made (sync ∷ []) (disk given) (disk journal.disk)
+
+-- the events of a trace, as data (own)
+abbrev pub told_in : {D L : Type 0} → Trace D L → List Stamp
+told_in trace = map stamp_of trace.events.items
+
+module _ {D L : Type 0} (disk : D → Disk) (number : L → ℕ) (steps : L → LinkCall → LinkAnswer → L → Type 0) where
+  -- a trace is that of a schedule, run from a fresh run over a journal and these links on: its first tasks, all of them unless
+  -- memory ran out, made these steps. The trace tells what they told, and has the state, the links and the disk that they left (own)
+  pub record IsRunFrom (journal : JournalView D) (links : List L) (tasks : List Task) (made : List Step) (trace : Trace D L) : Type 0 where
+    pub old : RunView D L
+    pub new : RunView D L
+    pub waits : ℕ
+    pub fresh : IsFresh disk journal links old
+    pub run : HasRun disk number steps tasks trace.ended made waits old new
+    pub count : IsCountOf trace.waits waits
+    pub told : told_in trace ≡ new.events
+    pub begun : trace.begun ≡ old.begun
+    pub state : trace.state ≡ new.master.core.durable
+    pub links_are : trace.links.items ≡ new.ports.links
+    pub disk_is : trace.disk ≡ disk_of new.master.flusher.stage
+
+  -- what a run over a journal tells. What is told of links and ports is what these did, each client was answered as what was told
+  -- before says, and what was acknowledged does not fall; the state is that after what was acknowledged. Once a failure of the disk
+  -- is told nothing is accepted; the clocks of an honest disk do not fall (own)
+  pub record TellsRun (journal : JournalView D) (links : List L) (made : List Step) (trace : Trace D L) : Type 0 where
+    pub state : trace.state ≡ durable journal.standing.number journal.standing.state (told_in trace)
+    pub clients : AnswersClients journal.standing.number journal.standing.state [] (clients_of made) (told_in trace)
+    pub ports : ArePortRuns number steps journal.standing.number journal.standing.state made links (told_in trace) trace.links.items
+    pub links_made : AreLinkRuns number steps links (told_in trace) trace.links.items
+    pub acknowledged : AcksRise journal.standing.number (told_in trace)
+    pub stopped : NoneOnceFailed (told_in trace)
+    pub clocks : IsTrue (disk trace.disk).honest → ClocksRise trace.begun (clock (disk trace.disk).content) (told_in trace)
+    pub flushed : AllFlushed (queue_turns journal.standing.layout) made journal.standing.number trace.waits (told_in trace)
+
+  -- steps were made so, and the trace tells so (own)
+  abbrev pub RunsAndTells : JournalView D → List L → List Task → Trace D L → Type 0
+  RunsAndTells journal links tasks trace =
+      (made : List Step) × IsRunFrom journal links tasks made trace × TellsRun journal links made trace
+
+  -- a trace is that of a schedule over a disk, with these links: a journal was recovered from the disk, and the schedule run over it.
+  -- A failure of the disk is told exactly where the disk that was handed in has counted one since; and where the steps end in 128
+  -- turns of the flusher for each sector of the geometry that an honest disk shows, all that was accepted is acknowledged (own)
+  pub record IsTraceOf (given : D) (links : List L) (tasks : List Task) (trace : Trace D L) : Type 0 where
+    pub journal : JournalView D
+    pub made : List Step
+    pub recovered : IsRecovered disk given journal
+    pub run : IsRunFrom journal links tasks made trace
+    pub tells : TellsRun journal links made trace
+    pub failures : TellsFailures (disk given) (disk trace.disk) (told_in trace)
+    pub flushed : IsTrue (disk given).honest
+        → AllFlushed (128 * total journal.standing.layout) made journal.standing.number trace.waits (told_in trace)
 
 -- the disk that is handed back where no schedule is run (own)
 abbrev pub fault_disk : {D : Type 0} → RunFault D → D

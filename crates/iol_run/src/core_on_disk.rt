@@ -1,6 +1,6 @@
 //! A core, and the flusher that brings its batches to the disk, on one thread.
 
-ghost use Rattle.std.specs.Prelude.{◌≡◌, true, [], ◌∷◌, None, is_some, IfOk, IfErr};
+ghost use Rattle.std.specs.Prelude.{◌≡◌, true, [], ◌∷◌, None, is_some, length, replicate, IfOk, IfErr};
 ghost use Rattle.iol_types.specs.Command.{command_of};
 ghost use Rattle.iol_core.specs.Submit.{IsSubmit};
 ghost use Rattle.iol_flush.specs.declared.stage.Stage.TheVariants as stage;
@@ -102,6 +102,7 @@ impl<D: SectorDisk, F: Name> CoreOnDisk<D, F> {
         ensures committed { IfOk result (λ master. master.committed ≡ None) }
         ensures queue { IfOk result (λ master. master.core.queue ≡ []) }
         ensures idle { IfOk result (λ master. (master.core.flight ≡ 0) × (master.core.stopped ≡ None)) }
+        ensures permits { IfOk result (λ master. master.core.permits ≡ replicate (length state) None) }
         ensures core { IfOk result (λ master. (master.core.number ≡ journal.standing.number)
             × (master.core.durable ≡ journal.standing.state)) }
         ensures disk { IfErr result (λ disk. disk ≡ journal.disk) }

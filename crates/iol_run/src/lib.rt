@@ -5,8 +5,8 @@
 //! events in their order, the durable state at the end, and the disk. [`Run`] is the same step by step.
 //!
 //! Modules in reading order: `core_on_disk`, a core and the flusher that brings its batches to the disk; `said`, `event`
-//! and `moment`, what is told and when; `port_step` and `ports`, the machines of ports over their links; `step`, `run` and
-//! `schedule`. What a turn of the flusher does is said in `specs/Turns.antt`, what a step of a port does in
+//! and `moment`, what is told and when; `port_step` and `ports`, the machines of ports over their links; `step` and `task`, what
+//! a schedule consists of; `run` and `schedule`. What a turn of the flusher does is said in `specs/Turns.antt`, what a step of a port does in
 //! `specs/PortSteps.antt` and `specs/Ports.antt`, what a step tells in `specs/Steps.antt`, and what a schedule does in
 //! `specs/Schedules.antt`.
 #![tactic(auto)]
@@ -20,6 +20,7 @@ mod run;
 mod said;
 mod schedule;
 mod step;
+mod task;
 
 pub use core_on_disk::{CoreOnDisk, Turn, Turned};
 pub use event::{Event, Exchanged};
@@ -30,3 +31,4 @@ pub use run::{Run, Stamped};
 pub use said::Said;
 pub use schedule::{Ended, RunFault, Trace, run_schedule};
 pub use step::Step;
+pub use task::Task;

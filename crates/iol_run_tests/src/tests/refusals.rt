@@ -3,7 +3,7 @@
 use super::scene::{formatted, recovered, unplugged};
 use iol_disk::MemoryDisk;
 use iol_journal::{RecoverCause, RecoverFault};
-use iol_run::{RunFault, Step, run_schedule};
+use iol_run::{RunFault, Task, run_schedule};
 
 #[test]
 fn a_disk_that_is_not_formatted_runs_nothing(rt: HostRuntime) {
@@ -12,7 +12,7 @@ fn a_disk_that_is_not_formatted_runs_nothing(rt: HostRuntime) {
         rt.alloc(),
         disk,
         unplugged(&rt, rt.alloc(), 2),
-        &[Step::Flush],
+        &[Task::Drain],
     ) {
         Err(RunFault::Recover(RecoverFault { cause, .. })) => {
             assert!(rt; cause == RecoverCause::NotFormatted);
@@ -28,7 +28,7 @@ fn a_port_without_a_link_runs_nothing(rt: HostRuntime) {
         rt.alloc(),
         formatted(&rt, rt.alloc(), 2),
         links,
-        &[Step::Flush],
+        &[Task::Drain],
     ) {
         Err(RunFault::Ports(disk)) => assert!(rt; recovered(&rt, rt.alloc(), disk) == 0),
         _ => panic!(rt; "no run"),

@@ -3,7 +3,7 @@
 use iol_disk::{MemoryDisk, Pick, SectorDisk};
 use iol_journal::{Geometry, Journal, format};
 use iol_link::DeviceLink;
-use iol_run::{Ended, RunFault, Step, Trace, run_schedule};
+use iol_run::{Ended, RunFault, Step, Task, Trace, run_schedule};
 use iol_sim::SimLink;
 use iol_types::{Change, DeviceId, MasterState, PortConfig, PortId, PortMode, Validation};
 use std::alloc::Global;
@@ -44,6 +44,15 @@ pub fn unplugged<R: Abort>(rt: &R, alloc: Global, ports: u16) -> Vec<SimLink> {
     links
 }
 
+// A schedule of these steps, each of them once.
+fn once_each<R: Abort>(rt: &R, alloc: Global, steps: &[Step]) -> Vec<Task> {
+    let mut tasks = Vec::new(alloc);
+    for step in steps {
+        tasks.push(Task::once(*step)).expect(rt, "memory");
+    }
+    tasks
+}
+
 /// What a whole run of these steps did, over these links.
 pub fn run_at<D: SectorDisk + Drop, L: DeviceLink + Drop, R: Abort>(
     rt: &R,
@@ -52,7 +61,8 @@ pub fn run_at<D: SectorDisk + Drop, L: DeviceLink + Drop, R: Abort>(
     links: Vec<L>,
     steps: &[Step],
 ) -> Trace<D, L> {
-    match run_schedule(alloc, disk, links, steps) {
+    let tasks = once_each(rt, alloc, steps);
+    match run_schedule(alloc, disk, links, &tasks) {
         Ok(trace) => {
             assert!(rt; trace.ended == Ended::Whole && trace.waits == 0);
             trace

@@ -1,4 +1,4 @@
-use Rattle.std.proofs.Common.{◌≡◌, ℕ, map, length, vec_len, IfOk, sym, ap, ◌∙◌, subst, rules}
+use Rattle.std.proofs.Common.{◌≡◌, ℕ, [], map, length, vec_len, IfOk, sym, ap, ◌∙◌, subst, rules}
 use Rattle.std.proofs.lemmas.Result.{IfErr-weaker}
 use Rattle.iol_types.specs.State.{State}
 use Rattle.iol_disk.specs.Content.{clock, reads}
@@ -8,11 +8,10 @@ use Rattle.iol_journal.specs.Running.{IsRunAtRest}
 use Rattle.iol_trace.specs.CrashPrefix.{CrashPrefix}
 use Rattle.iol_run.specs.Causes.{FailsFor}
 use Rattle.iol_run.specs.Events.{stamp_of}
-use Rattle.iol_run.specs.Acknowledged.{AcksRise}
-use Rattle.iol_run.specs.PortRuns.{ArePortRuns}
+use Rattle.iol_run.specs.Schedules.{IsRecovered}
 use Rattle.iol_run.proofs.Crash.{means_is, of_trace}
 use Rattle.iol_run.proofs.Failures.{trace_tells}
-use Rattle.iol_run.proofs.Layouts.{shown_flushed, shown_trace}
+use Rattle.iol_run.proofs.Traces.{trace_of}
 use Rattle.iol_run.proofs.schedule.run_schedule.Goals as goal
 
 -- a fault of a run that was begun is want of memory
@@ -51,26 +50,17 @@ returns-in-Ok-new-clause-crash_prefix g c =
     (state ∙ is.1)
     (c.carry_out.ensures.crash_prefix resting)))
 
-pub returns-in-Ok-new-clause-flushed : goal.returns-in-Ok-new-clause-flushed
-returns-in-Ok-new-clause-flushed g c =
-    shown_flushed c.carry_out.result (g.D.SectorDisk.disk c.args.disk) c.in-Ok.journal.standing c.args.steps.now c.in-Ok.ensures.found
-    c.carry_out.ensures.flushed
-
-pub returns-in-Ok-new-clause-ports : goal.returns-in-Ok-new-clause-ports
-returns-in-Ok-new-clause-ports g c =
-    let l = g.L.DeviceLink in
-    shown_trace c.carry_out.result (g.D.SectorDisk.disk c.args.disk) c.in-Ok.journal.standing
-    (λ journal trace. ArePortRuns l.number l.steps journal.number journal.state c.args.links.items (map stamp_of trace.events.items)
-    trace.links.items)
-    c.in-Ok.ensures.found c.carry_out.ensures.ports
-
-pub returns-in-Ok-new-clause-failures : goal.returns-in-Ok-new-clause-failures
-returns-in-Ok-new-clause-failures g c =
+pub returns-in-Ok-new-clause-run : goal.returns-in-Ok-new-clause-run
+returns-in-Ok-new-clause-run g c =
     let d = g.D.SectorDisk.disk in
-    trace_tells c.carry_out.result d (d c.args.disk) (d c.in-Ok.journal.disk) c.in-Ok.ensures.makes c.carry_out.ensures.failures
-
-pub returns-in-Ok-new-clause-acknowledged : goal.returns-in-Ok-new-clause-acknowledged
-returns-in-Ok-new-clause-acknowledged g c =
-    shown_trace c.carry_out.result (g.D.SectorDisk.disk c.args.disk) c.in-Ok.journal.standing
-    (λ journal trace. AcksRise journal.number (map stamp_of trace.events.items))
-    c.in-Ok.ensures.found c.carry_out.ensures.acknowledged
+    let l = g.L.DeviceLink in
+    let journal = c.in-Ok.journal in
+    let recovered : IsRecovered d c.args.disk journal = record {
+      found = c.in-Ok.ensures.found;
+      history = c.in-Ok.ensures.history ∙ ap (λ (s : State). record { first = journal.standing.number; start = s; commands = [] })
+          c.in-Ok.ensures.state;
+      synced = c.in-Ok.ensures.makes;
+    } in
+    trace_of d l.number l.steps c.carry_out.result c.args.disk c.args.links.items c.args.schedule.now journal recovered
+    c.carry_out.ensures.run
+    (trace_tells c.carry_out.result d (d c.args.disk) (d journal.disk) c.in-Ok.ensures.makes c.carry_out.ensures.failures)

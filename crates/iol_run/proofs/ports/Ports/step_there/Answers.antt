@@ -50,6 +50,7 @@ returns-clause-steps g c =
       linked = c.step_port.new.link;
       called = told_of c.step_port.result.called;
       status = told_of c.step_port.result.status;
+      some = c.place-place.ensures.range.0;
       machine_is =
           ap (slice_get c.args.self.now.machines) (sym at)
           ∙ (ap (λ (p : P). slice_get p.machines place) (sym c.self.view_is) ∙ machine);
