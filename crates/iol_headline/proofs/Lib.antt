@@ -1,0 +1,17 @@
+pub mod Places
+pub mod Talks
+pub mod Revisions
+pub mod Lawful
+pub mod Stages
+pub mod Going
+pub mod Reading
+pub mod Uploading
+pub mod Downloading
+pub mod Sending
+pub mod Acting
+pub mod Fitting
+pub mod Settling
+pub mod Resting
+pub mod Telling
+pub mod Running
+pub mod Everywhere
