@@ -15,3 +15,6 @@ pub mod Resting
 pub mod Telling
 pub mod Running
 pub mod Everywhere
+pub mod OnePlace
+pub mod ExampleTalks
+pub mod ExampleLaws

@@ -7,3 +7,4 @@ pub mod Downloads
 pub mod Decisions
 pub mod Settled
 pub mod Laws
+pub mod Examples

@@ -6,9 +6,11 @@
 //! transfer (`specs/Decisions.antt`), what a port is told that it is to work with (`specs/Works.antt`), and what it settles by
 //! (`specs/Settled.antt`). `specs/Laws.antt` has them together.
 //!
-//! Modules in reading order: `laws`, what follows of what a run tells of its ports, and `schedule`, a run with these laws.
+//! Modules in reading order: `laws`, what follows of what a run tells of its ports, `schedule`, a run with these laws, and
+//! `examples`, a trace worked out.
 #![tactic(auto)]
 
+pub mod examples;
 pub mod laws;
 mod schedule;
 
