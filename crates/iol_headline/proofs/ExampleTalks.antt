@@ -14,6 +14,7 @@ use Rattle.iol_isdu.proofs.Lengths.{shortest_read, shortest_write}
 use Rattle.iol_isdu.proofs.Spelled.{short_isdu}
 use Rattle.iol_isdu.specs.Isdu.{IsShortestRequest, xor_of}
 use Rattle.iol_isdu.specs.Reading.{answer_of}
+use Rattle.iol_isdu.specs.declared.messages.Answer.{Answer}
 use Rattle.iol_isdu.specs.declared.messages.Answer.TheVariants.{ReadOk, WriteOk}
 use Rattle.iol_isdu.specs.declared.messages.Request.TheVariants as request
 use Rattle.iol_transfer.specs.Exchanges.{Exchange, carried, done, read_of}
@@ -32,6 +33,14 @@ use Rattle.iol_headline.specs.Examples.{example_config, example_work, example_se
 use Rattle.iol_headline.specs.Examples.{replaced, restoring, half_restored, restored}
 use Rattle.iol_headline.specs.Settled.{IsJudged}
 use Rattle.iol_headline.specs.WholeSets.{IsUploadedWhole}
+
+-- the octets that an exchange reads
+abbrev pub octets_of : Answer → List ℕ
+octets_of (ReadOk values) = values.items
+octets_of answer = []
+
+abbrev pub octets_in : Exchange → List ℕ
+octets_in exchange = octets_of exchange.answer
 
 -- an exchange is told so
 as_told : (port connection : ℕ) (octets back : List ℕ) (exchange : Exchange) → IsShortestRequest octets exchange.request

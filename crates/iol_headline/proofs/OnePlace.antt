@@ -18,7 +18,7 @@ use Rattle.iol_headline.specs.Conversations.{IsToldAs, Converses}
 
 -- ---- lists
 
-head_is : {A : Type 0} (x y : A) (xs ys : List A) → x ∷ xs ≡ y ∷ ys → x ≡ y
+pub head_is : {A : Type 0} (x y : A) (xs ys : List A) → x ∷ xs ≡ y ∷ ys → x ≡ y
 head_is x y xs ys same = cc
 
 tail_is : {A : Type 0} (x y : A) (xs ys : List A) → x ∷ xs ≡ y ∷ ys → xs ≡ ys
@@ -49,11 +49,15 @@ pub each_at : {A : Type 0} (Holds : A → Type 0) (front behind : List A) (x : A
 each_at Holds [] behind x each = each.0
 each_at Holds (y ∷ front) behind x each = each_at Holds front behind x each.1
 
-each_behind : {A : Type 0} (Holds : A → Type 0) (front behind : List A) → Each Holds (front ++ behind) → Each Holds behind
+pub each_behind : {A : Type 0} (Holds : A → Type 0) (front behind : List A) → Each Holds (front ++ behind) → Each Holds behind
 each_behind Holds [] behind each = each
 each_behind Holds (y ∷ front) behind each = each_behind Holds front behind each.1
 
 -- ---- one place
+
+pub each_front : {A : Type 0} (Holds : A → Type 0) (front behind : List A) → Each Holds (front ++ behind) → Each Holds front
+each_front Holds [] behind each = tt
+each_front Holds (y ∷ front) behind each = (each.0, each_front Holds front behind each.1)
 
 pub each_and : {A : Type 0} (Holds : A → Type 0) (xs : List A) (x : A) → Each Holds xs → Holds x → Each Holds (xs ++ x ∷ [])
 each_and Holds [] x each holds = (holds, tt)
@@ -75,7 +79,7 @@ pub one_place : {A : Type 0} (Marked : A → Type 0) (xs others : List A) (c d :
 one_place Marked [] [] c d ys rest here there behind after same = (refl, head_is c d ys rest same, tail_is c d ys rest same)
 one_place Marked [] (b ∷ others) c d ys rest here there behind after same =
     absurd (each_at (λ x. Marked x → ⊥) others rest d (subst (Each (λ x. Marked x → ⊥)) (tail_is c b ys (others ++ d ∷ rest) same) behind)
-        there)
+    there)
 one_place Marked (a ∷ xs) [] c d ys rest here there behind after same =
     absurd (each_at (λ x. Marked x → ⊥) xs ys c (subst (Each (λ x. Marked x → ⊥)) (sym (tail_is a d (xs ++ c ∷ ys) rest same)) after) here)
 one_place Marked (a ∷ xs) (b ∷ others) c d ys rest here there behind after same =
@@ -122,7 +126,7 @@ none_marked port [] each = tt
 none_marked port (e ∷ events) each = (
   (λ is.
       (subst (Each (λ d. TellsStatus port d → ⊥)) (ap (λ d. own_in port d ++ own port events) is.1
-          ∙ ap (λ ds. ds ++ own port events) (at_own port (Changed port is.0))) each).0 (is.0, refl)),
+      ∙ ap (λ ds. ds ++ own port events) (at_own port (Changed port is.0))) each).0 (is.0, refl)),
   none_marked port events (each_behind (λ d. TellsStatus port d → ⊥) (own_in port e.event) (own port events) each),
 )
 
@@ -139,10 +143,10 @@ one_exchange : (port on connection : ℕ) (e : Event) (x y : Exchange) → IsTol
 one_exchange port on connection e x y one other =
     let same = told_same port on connection one.request other.request one.answer other.answer (sym one.event ∙ other.event) in
     let asked = one_request one.request x.request y.request one.sent
-        (subst (λ (os : List ℕ). IsShortestRequest os y.request) (sym same.0) other.sent) in
+    (subst (λ (os : List ℕ). IsShortestRequest os y.request) (sym same.0) other.sent) in
     let heard = heard_same x.answer y.answer (sym one.heard ∙ (ap answer_of same.1 ∙ other.heard)) in
     ap (λ (r : Request). record { request = r; answer = x.answer }) asked
-        ∙ ap (λ (a : Answer). record { request = y.request; answer = a }) heard
+    ∙ ap (λ (a : Answer). record { request = y.request; answer = a }) heard
 
 pub one_talk : (port on connection : ℕ) (told : List Event) (conversation other : List Exchange) → Converses port on told conversation
     → Converses port connection told other → conversation ≡ other

@@ -57,3 +57,25 @@ pub fn a_replacement_is_restored()
         (Exchange 1 1 (0x25 ∷ 0x41 ∷ 0x01 ∷ 0x7F ∷ 0x1A ∷ []) (0x52 ∷ 0x52 ∷ [])) }
     ensures ready { SettledRight (stamped 7 restored) (Changed 1 Ready) }
 {}
+
+/// A set with another value than the sensor's answer was not uploaded.
+pub fn a_changed_value_is_refused()
+    ensures { WholeSets (stamped 7 uploaded) (Accepted 2 (Store 1 1 (example_set 0x7E))) → ⊥ }
+{}
+
+/// The sensor is told the end of the upload although the set is not acknowledged.
+pub fn an_early_end_is_refused()
+    ensures { DurableThenEnd 0 (stamped 7 filed)
+        (Exchange 1 0 (0x25 ∷ 0x03 ∷ 0x01 ∷ 0x02 ∷ 0x25 ∷ []) (0x52 ∷ 0x52 ∷ [])) → ⊥ }
+{}
+
+/// A value that the durable set does not have is written to the replacement.
+pub fn another_value_is_refused()
+    ensures { DownloadsOnly 0 (empty_state 2) (stamped 7 restoring)
+        (Exchange 1 1 (0x15 ∷ 0x40 ∷ 0x0A ∷ 0x65 ∷ 0x3A ∷ []) (0x52 ∷ 0x52 ∷ [])) → ⊥ }
+{}
+
+/// The values of a replacement, as they were in the factory, are uploaded in place of the durable set.
+pub fn a_blank_upload_is_refused()
+    ensures { DecidedFirst (stamped 7 replaced) (Changed 1 Uploading) → ⊥ }
+{}
