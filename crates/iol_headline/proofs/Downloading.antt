@@ -1,82 +1,48 @@
 -- A port downloads: what is told.
-use Rattle.std.proofs.Common.{◌≡◌, inl, inr, refl, ◌≤◌, ◌+◌, ◌-◌, nat_lt, nat_le, Bool, true, false, if◌then◌else◌, ℕ, List, [], ◌∷◌}
-use Rattle.std.proofs.Common.{◌++◌, sym, ap, ◌∙◌, subst, arith, lit<, append_assoc, append-nil}
+use Rattle.std.proofs.Common.{◌≡◌, inl, inr, refl, ℕ, List, [], ◌∷◌}
+use Rattle.std.proofs.Common.{◌++◌, sym, ap, ◌∙◌, subst, lit<, append_assoc, append-nil}
 use Rattle.std.specs.Prelude.{Option, Some, None, IsSomeAnd, IfOk, Result, Ok, Err}
-use Rattle.std.proofs.lemmas.Bool.Decides.{nat_tests}
-use Rattle.std.proofs.lemmas.List.{replicate_more}
-use Rattle.iol_types.specs.Command.{Store}
 use Rattle.iol_types.specs.DataSet.{SetValue, IsSet}
-use Rattle.iol_types.specs.State.{State, Port, Stored, after, port_numbered}
-use Rattle.iol_core.specs.Core.{CoreView, live}
+use Rattle.iol_types.specs.State.{State, Stored, port_numbered}
+use Rattle.iol_core.specs.Core.{CoreView}
 use Rattle.iol_core.specs.Downloads.{IsBeginDownload, durable_set, stored_at}
-use Rattle.iol_core.specs.Permits.{is_taken}
-use Rattle.iol_core.specs.Submit.{is_stopped, ticket_state, has_failed}
-use Rattle.iol_core.specs.Uploads.{IsBeginUpload, IsFinish, revision_of, upload_fault_at, store_of}
 use Rattle.iol_core.specs.declared.download.DownloadBegun.{DownloadBegun}
 use Rattle.iol_core.specs.declared.download.DownloadFault.{DownloadFault}
-use Rattle.iol_core.specs.declared.permit.UploadGrant.{UploadGrant}
-use Rattle.iol_core.specs.declared.ticket.TicketState.{TicketState}
-use Rattle.iol_core.specs.declared.ticket.TicketState.TheVariants as ticket
-use Rattle.iol_core.specs.declared.upload.FinishFault.{FinishFault}
-use Rattle.iol_core.specs.declared.upload.FinishFault.TheVariants as finish
-use Rattle.iol_core.specs.declared.upload.PermitFault.{PermitFault}
-use Rattle.iol_core.specs.declared.upload.PermitFault.TheVariants as permit
-use Rattle.iol_dsindex.specs.declared.command.DsCommand.TheVariants as command
 use Rattle.iol_ident.specs.Page.{PageValue}
 use Rattle.iol_isdu.specs.Isdu.{IsShortestRequest}
 use Rattle.iol_isdu.specs.Reading.{answer_of}
 use Rattle.iol_isdu.specs.declared.faults.IsduFault.{IsduFault}
 use Rattle.iol_isdu.specs.declared.messages.Answer.{Answer}
-use Rattle.iol_isdu.specs.declared.messages.Answer.TheVariants as answer
-use Rattle.iol_isdu.specs.declared.messages.Request.{Request}
-use Rattle.iol_transfer.proofs.Ending.{whole-finished}
-use Rattle.iol_transfer.proofs.Feeding.{fed-more}
 use Rattle.iol_transfer.proofs.Sending.{fed-on}
 use Rattle.iol_transfer.specs.Download.{Sender, sent_by, answered_to}
-use Rattle.iol_dsindex.specs.Command.{commanded}
-use Rattle.iol_transfer.specs.Exchanges.{Exchange, busy_times}
-use Rattle.iol_transfer.specs.Machine.{Machine, Outcome, More, Whole, Fault, step, asked, answered as next_exchange}
-use Rattle.iol_transfer.specs.Upload.{IsFinished}
 use Rattle.iol_transfer.specs.declared.download.DownloadStep.TheVariants as download_step
-use Rattle.iol_transfer.specs.declared.repeats.TheConstants.{MOST_REQUESTS}
-use Rattle.iol_transfer.specs.declared.upload.UploadStep.TheVariants as upload_step
 use Rattle.iol_port.proofs.Telling.{sent_step}
-use Rattle.iol_port.specs.Answers.{failed, upload_ended, uploaded, upload_answered, Sent, GoesOn, Done, Ends, sent, downloaded}
+use Rattle.iol_port.specs.Answers.{Sent, GoesOn, Done, Ends, sent, downloaded}
 use Rattle.iol_port.specs.Answers.{download_answered}
 use Rattle.iol_port.specs.Calls.{IsBegunFor}
-use Rattle.iol_port.specs.Faults.{of_isdu, of_transfer, of_permit, of_download, write_fault}
+use Rattle.iol_port.specs.Faults.{of_isdu, of_transfer, of_download}
 use Rattle.iol_port.specs.declared.stage.Held.TheVariants as held
 use Rattle.iol_port.specs.declared.stage.Rest.{Rest}
 use Rattle.iol_port.specs.declared.stage.Rest.TheVariants as rest
 use Rattle.iol_port.specs.Status.{status_of}
 use Rattle.iol_headline.specs.Decisions.{IsExamined}
-use Rattle.iol_port.specs.Heard.{upload_begun, download_begun, upload_finished, ticket_told}
-use Rattle.iol_port.specs.Stage.{Stage, Settled, Exchanging, Uploading, Filing, Storing, Downloading, Breaking, Returning, IsStage}
-use Rattle.iol_port.specs.declared.decision.Decision.{Decision}
+use Rattle.iol_port.specs.Heard.{download_begun}
+use Rattle.iol_port.specs.Stage.{Stage, Settled, Downloading, Breaking, Returning}
 use Rattle.iol_port.specs.declared.decision.Decision.TheVariants as decision
-use Rattle.iol_port.specs.declared.fault.PortFault.TheVariants as fault
-use Rattle.iol_port.specs.declared.stage.ExchangeFor.TheVariants as exchange
 use Rattle.iol_port.specs.declared.stage.Found.{Found}
 use Rattle.iol_port.specs.declared.status.PortStatus.{PortStatus}
 use Rattle.iol_port.specs.declared.status.PortStatus.TheVariants as status
 use Rattle.iol_run.specs.PortRuns.{IsCoreAfter}
-use Rattle.iol_run.specs.PortSteps.{filed_told}
 use Rattle.iol_trace.specs.Events as trace
 use Rattle.iol_trace.specs.Events.{Event, Page, Attended, Accepted, Changed, Stamp, stamped}
 use Rattle.iol_trace.specs.Own.{own}
 use Rattle.iol_trace.specs.Statuses as shows
-use Rattle.iol_trace.specs.Words.{accepted}
-use Rattle.iol_headline.proofs.Going.{Goes, settles, still, plain_began, holds_since, stays_since}
+use Rattle.iol_headline.proofs.Going.{Goes, settles, still}
 use Rattle.iol_headline.proofs.Reading.{exchanged_own}
-use Rattle.iol_headline.proofs.Revisions.{Holds}
 use Rattle.iol_headline.proofs.Uploading.{page_shown}
-use Rattle.iol_headline.proofs.Stages.{Begins, Uploads, AsksUpload, IsWhole, IsFiled, Downloads, Told, told_later, stored_later}
-use Rattle.iol_headline.proofs.Stages.{acknowledged_later}
-use Rattle.iol_headline.proofs.Talks.{talk_more, talk_connected, own_one, own_more, at_own}
-use Rattle.iol_headline.specs.Conversations.{Converses, HasPage}
-use Rattle.iol_headline.proofs.Lawful.{WasStored}
-use Rattle.iol_headline.specs.DurableEnds.{IsStored}
-use Rattle.iol_headline.specs.WholeSets.{IsUploadedWhole}
+use Rattle.iol_headline.proofs.Stages.{Begins, Downloads, Told}
+use Rattle.iol_headline.proofs.Talks.{talk_more, own_more}
+use Rattle.iol_headline.specs.Conversations.{Converses}
 
 downloading_starts : status.Downloading ≡ status.Starting → ⊥
 downloading_starts same = cc

@@ -1,24 +1,23 @@
 -- What the laws say of the trace of the worked examples.
-use Rattle.std.proofs.Common.{◌≡◌, refl, ◌+◌, ◌*◌, ◌≤◌, ℕ, List, [], ◌∷◌, ◌++◌, length, arith, lit≤, lit<}
-use Rattle.std.specs.Prelude.{Ok, Some, None}
+use Rattle.std.proofs.Common.{refl, [], ◌∷◌, ◌++◌, arith, lit<}
+use Rattle.std.specs.Prelude.{Some, None}
 use Rattle.iol_types.proofs.Entries.{no-entries, one-more, may_be_added}
 use Rattle.iol_types.specs.Command.{Store}
 use Rattle.iol_types.specs.DataSet.{Entry, AreEntries}
 use Rattle.iol_types.specs.State.{empty_state}
 use Rattle.iol_ident.specs.Page.{page_of}
 use Rattle.iol_dsindex.specs.Command.{commanded}
-use Rattle.iol_dsindex.specs.declared.command.DsCommand.TheVariants.{UploadStart, UploadEnd, DownloadStart, DownloadEnd}
+use Rattle.iol_dsindex.specs.declared.command.DsCommand.TheVariants.{DownloadStart, DownloadEnd}
 use Rattle.iol_dsindex.specs.declared.list.Next.TheVariants as next_is
 use Rattle.iol_isdu.specs.declared.messages.Request.TheVariants as request
-use Rattle.iol_transfer.specs.Exchanges.{Exchange, carried, done, read_of}
+use Rattle.iol_transfer.specs.Exchanges.{carried, done, read_of}
 use Rattle.iol_transfer.specs.Upload.{IsFinished}
 use Rattle.iol_trace.specs.Events as trace
 use Rattle.iol_trace.specs.Events.{Event, Accepted, Page, Lost, Attended, Changed, Acknowledged, stamped}
 use Rattle.iol_trace.specs.Own.{own}
-use Rattle.iol_trace.specs.Statuses as status
-use Rattle.iol_trace.specs.Statuses.{Starting, Uploading, Storing, Ready, Downloading}
+use Rattle.iol_trace.specs.Statuses.{Starting, Uploading, Storing, Downloading}
 use Rattle.iol_port.specs.declared.decision.Decision.TheVariants as decision
-use Rattle.iol_headline.specs.Conversations.{Converses, HasPage}
+use Rattle.iol_headline.specs.Conversations.{HasPage}
 use Rattle.iol_headline.specs.Decisions.{IsExamined}
 use Rattle.iol_headline.specs.Downloads.{IsDownloadOf}
 use Rattle.iol_headline.specs.DurableEnds.{IsStored}
@@ -27,7 +26,7 @@ use Rattle.iol_headline.specs.Examples.{replaced, restoring, half_restored, rest
 use Rattle.iol_headline.specs.Settled.{IsJudged}
 use Rattle.iol_headline.specs.WholeSets.{IsUploadedWhole}
 use Rattle.iol_headline.proofs.ExampleTalks.{both_read, flagged_reads, replaced_reads, before_replaced_page, start_told, first_told}
-use Rattle.iol_headline.proofs.ExampleTalks.{restoring_exchanges, flagged_talk, replaced_talk, start_talk, first_talk, start, size}
+use Rattle.iol_headline.proofs.ExampleTalks.{restoring_exchanges, flagged_talk, replaced_talk, start_talk, first_talk, size}
 use Rattle.iol_headline.proofs.ExampleTalks.{index_list, first_value, second_value, checksum, uploading, upload_talk}
 
 -- ---- the set of the upload

@@ -1,14 +1,8 @@
 -- The conversations of the worked examples.
-use Rattle.std.proofs.Common.{◌≡◌, refl, ◌+◌, ◌≤◌, ℕ, List, [], ◌∷◌, ◌++◌, length, arith, lit≤, lit<}
+use Rattle.std.proofs.Common.{◌≡◌, refl, ◌+◌, ◌≤◌, ℕ, List, [], ◌∷◌, ◌++◌, length, arith, lit≤}
 use Rattle.std.specs.Prelude.{Ok, Some, None}
-use Rattle.iol_types.proofs.Entries.{no-entries, one-more, may_be_added}
-use Rattle.iol_types.specs.Command.{Store}
-use Rattle.iol_types.specs.DataSet.{Entry, AreEntries}
-use Rattle.iol_types.specs.State.{empty_state}
-use Rattle.iol_ident.specs.Page.{page_of}
 use Rattle.iol_dsindex.specs.Command.{commanded}
-use Rattle.iol_dsindex.specs.declared.command.DsCommand.TheVariants.{UploadStart, UploadEnd, DownloadStart, DownloadEnd}
-use Rattle.iol_dsindex.specs.declared.list.Next.TheVariants as next_is
+use Rattle.iol_dsindex.specs.declared.command.DsCommand.TheVariants.{UploadStart, UploadEnd, DownloadStart}
 use Rattle.iol_isdu.proofs.AnswerTexts.{answer_reads}
 use Rattle.iol_isdu.proofs.Lengths.{shortest_read, shortest_write}
 use Rattle.iol_isdu.proofs.Spelled.{short_isdu}
@@ -18,21 +12,13 @@ use Rattle.iol_isdu.specs.declared.messages.Answer.{Answer}
 use Rattle.iol_isdu.specs.declared.messages.Answer.TheVariants.{ReadOk, WriteOk}
 use Rattle.iol_isdu.specs.declared.messages.Request.TheVariants as request
 use Rattle.iol_transfer.specs.Exchanges.{Exchange, carried, done, read_of}
-use Rattle.iol_transfer.specs.Upload.{IsFinished}
 use Rattle.iol_trace.specs.Events as trace
 use Rattle.iol_trace.specs.Events.{Event, Accepted, Page, Lost, Attended, Changed, Acknowledged, stamped}
 use Rattle.iol_trace.specs.Own.{own}
 use Rattle.iol_trace.specs.Statuses as status
 use Rattle.iol_trace.specs.Statuses.{Starting, Uploading, Storing, Ready, Downloading}
-use Rattle.iol_port.specs.declared.decision.Decision.TheVariants as decision
 use Rattle.iol_headline.specs.Conversations.{IsToldAs, Converses}
-use Rattle.iol_headline.specs.Decisions.{IsExamined}
-use Rattle.iol_headline.specs.Downloads.{IsDownloadOf}
-use Rattle.iol_headline.specs.DurableEnds.{IsStored}
-use Rattle.iol_headline.specs.Examples.{example_config, example_work, example_set, example_page, upload, flagged, uploaded, stored, ended}
-use Rattle.iol_headline.specs.Examples.{replaced, restoring, half_restored, restored}
-use Rattle.iol_headline.specs.Settled.{IsJudged}
-use Rattle.iol_headline.specs.WholeSets.{IsUploadedWhole}
+use Rattle.iol_headline.specs.Examples.{example_work, upload, ended}
 
 -- the octets that an exchange reads
 abbrev pub octets_of : Answer → List ℕ

@@ -1,59 +1,25 @@
 -- What was told since a port's last work, at each stage of its machine.
-use Rattle.std.proofs.Common.{◌≡◌, inl, inr, refl, ◌-◌, nat_lt, Bool, true, false, if◌then◌else◌, ℕ, List, [], ◌∷◌, ◌++◌, length, sym, ap}
-use Rattle.std.proofs.Common.{◌∙◌, subst, append_assoc, append-nil}
-use Rattle.std.specs.Prelude.{Option, Some, None, Result, Ok, Err, ◌&&◌, ◌==◌, not, slice_index}
-use Rattle.std.proofs.lemmas.Bool.Decides.{nat_tests}
-use Rattle.std.proofs.Common.{arith}
-use Rattle.iol_types.specs.Config.{is_manual, restores}
-use Rattle.iol_types.specs.DataSet.{SetValue}
-use Rattle.iol_types.specs.declared.config.PortConfig.{PortConfig}
+use Rattle.std.proofs.Common.{◌≡◌, true, ℕ, List, [], ◌∷◌, ◌++◌, ap}
+use Rattle.std.proofs.Common.{◌∙◌, append_assoc}
+use Rattle.std.specs.Prelude.{Option, None}
+use Rattle.iol_types.specs.Config.{is_manual}
 use Rattle.iol_core.specs.Telling.{work_told}
-use Rattle.iol_core.specs.declared.download.DownloadBegun.{DownloadBegun}
-use Rattle.iol_core.specs.declared.download.DownloadFault.{DownloadFault}
-use Rattle.iol_core.specs.declared.permit.UploadGrant.{UploadGrant}
-use Rattle.iol_core.specs.declared.port.Work.{Work}
-use Rattle.iol_core.specs.declared.ticket.TicketState.{TicketState}
-use Rattle.iol_core.specs.declared.ticket.TicketState.TheVariants as ticket
-use Rattle.iol_core.specs.declared.upload.PermitFault.{PermitFault}
-use Rattle.iol_dsindex.specs.Property.{PropertyValue, property_of}
-use Rattle.iol_ident.specs.Page.{PageValue, page_of}
+use Rattle.iol_ident.specs.Page.{PageValue}
 use Rattle.iol_ident.specs.Validation.{ident_fault}
 use Rattle.iol_ident.specs.declared.validation.IdentFault.{IdentFault}
-use Rattle.iol_isdu.specs.declared.faults.IsduFault.{IsduFault}
-use Rattle.iol_isdu.specs.declared.messages.Answer.{Answer}
-use Rattle.iol_isdu.specs.declared.messages.Answer.TheVariants as answer
-use Rattle.iol_transfer.specs.Download.{Sender, begun_download}
-use Rattle.iol_transfer.specs.Machine.{Machine, Outcome, More, Whole, Fault, step, begun}
-use Rattle.iol_transfer.specs.Upload.{number_of}
-use Rattle.iol_transfer.specs.declared.repeats.TheConstants.{MOST_REQUESTS}
-use Rattle.iol_port.specs.Answers.{failed, again, state_read, checksum_read, upload_ended, uploaded, upload_answered, Sent, GoesOn, Done}
-use Rattle.iol_port.specs.Answers.{Ends, sent, downloaded, download_answered}
-use Rattle.iol_port.specs.Decision.{decide}
-use Rattle.iol_port.specs.Faults.{of_isdu, of_transfer, of_permit, of_download, read_fault, write_fault}
-use Rattle.iol_port.specs.Heard.{moved, started, page_heard, settled_with, found_by, judged, resumed, is_under, decided, attended}
-use Rattle.iol_port.specs.Heard.{upload_begun, download_begun, ticket_told}
-use Rattle.iol_port.specs.Stage.{Stage, PortValue, Next, To, Start, Settled, Paging, Attending, BeginningUpload, BeginningDownload}
+use Rattle.iol_port.specs.Stage.{Stage, Settled, Paging, Attending, BeginningUpload, BeginningDownload}
 use Rattle.iol_port.specs.Stage.{Exchanging, Uploading, Filing, Filed, Storing, Downloading, Breaking, Returning, Returned}
-use Rattle.iol_port.specs.Status.{status_of, status_at_rest, status_paging, status_attending, status_exchanging}
+use Rattle.iol_port.specs.Status.{status_at_rest}
 use Rattle.iol_port.specs.Telling.{status_told}
-use Rattle.iol_port.specs.declared.decision.Decision.{Decision}
-use Rattle.iol_port.specs.declared.decision.Decision.TheVariants as decision
-use Rattle.iol_port.specs.declared.fault.PortFault.TheVariants as fault
 use Rattle.iol_port.specs.declared.stage.AttendFor.{AttendFor}
 use Rattle.iol_port.specs.declared.stage.AttendFor.TheVariants as attend
 use Rattle.iol_port.specs.declared.stage.ExchangeFor.{ExchangeFor}
 use Rattle.iol_port.specs.declared.stage.ExchangeFor.TheVariants as exchange
 use Rattle.iol_port.specs.declared.stage.Found.{Found}
-use Rattle.iol_port.specs.declared.stage.Held.TheVariants as held
 use Rattle.iol_port.specs.declared.stage.PageFor.{PageFor}
 use Rattle.iol_port.specs.declared.stage.PageFor.TheVariants as page_for
-use Rattle.iol_port.specs.declared.stage.Rest.{Rest}
-use Rattle.iol_port.specs.declared.stage.Rest.TheVariants as rest
-use Rattle.iol_port.specs.declared.status.PortStatus.{PortStatus}
-use Rattle.iol_port.specs.declared.status.PortStatus.TheVariants as status
-use Rattle.iol_trace.specs.Events.{Event, Page, Lost, Attended, Changed}
+use Rattle.iol_trace.specs.Events.{Event, Page, Lost, Attended}
 use Rattle.iol_trace.specs.Statuses as shows
-use Rattle.iol_headline.proofs.Going.{StatusTold, nil_one, status_is}
 use Rattle.iol_headline.specs.Conversations.{AreConnected, HasPage}
 use Rattle.iol_headline.specs.Settled.{AreUnsettled, WasToldLast, IsJudged, SettlesBy}
 

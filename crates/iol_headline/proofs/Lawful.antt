@@ -1,5 +1,5 @@
 -- One event of a trace is lawful.
-use Rattle.std.proofs.Common.{◌≡◌, ◌≤◌, ℕ, List, [], ◌∷◌, ◌++◌, sym, ap, ◌∙◌, subst, arith}
+use Rattle.std.proofs.Common.{◌≡◌, ◌≤◌, ℕ, List, [], ◌∷◌, ◌++◌, ap, ◌∙◌, subst, arith}
 use Rattle.iol_types.specs.State.{State}
 use Rattle.iol_dsindex.specs.declared.command.DsCommand.TheVariants.{UploadEnd}
 use Rattle.iol_isdu.specs.declared.messages.Request.{Request}

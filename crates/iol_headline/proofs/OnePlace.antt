@@ -1,5 +1,5 @@
 -- What a trace tells of a conversation leaves no choice: one place where it began, one conversation, one work.
-use Rattle.std.proofs.Common.{◌≡◌, refl, ℕ, zero, suc, List, [], ◌∷◌, ◌++◌, sym, ap, ◌∙◌, subst}
+use Rattle.std.proofs.Common.{◌≡◌, refl, ℕ, List, [], ◌∷◌, ◌++◌, sym, ap, ◌∙◌, subst}
 use Rattle.std.specs.Prelude.{Ok, Result}
 use Rattle.iol_isdu.specs.Isdu.{IsShortestRequest}
 use Rattle.iol_isdu.specs.Reading.{answer_of}
@@ -7,7 +7,6 @@ use Rattle.iol_isdu.specs.declared.faults.IsduFault.{IsduFault}
 use Rattle.iol_isdu.specs.declared.messages.Answer.{Answer}
 use Rattle.iol_isdu.specs.declared.messages.Request.{Request}
 use Rattle.iol_transfer.specs.Exchanges.{Exchange, busy_times, Follows}
-use Rattle.iol_trace.proofs.Own.{own-append}
 use Rattle.iol_trace.specs.Events as trace
 use Rattle.iol_trace.specs.Events.{Event, Page, Changed, Stamp}
 use Rattle.iol_trace.specs.Own.{own, own_in}

@@ -1,5 +1,5 @@
 -- A port acts: what was told since its last work.
-use Rattle.std.proofs.Common.{◌≡◌, inl, inr, refl, ℕ, Bool, true, false, List, [], ◌∷◌, ◌++◌, sym, ap, ◌∙◌, subst, option_map}
+use Rattle.std.proofs.Common.{◌≡◌, inl, inr, refl, ℕ, Bool, false, List, [], ◌∷◌, ◌++◌, sym, ap, ◌∙◌, subst, option_map}
 use Rattle.std.specs.Prelude.{Option, Some, None, Result, Ok, Err}
 use Rattle.iol_types.specs.DataSet.{SetValue}
 use Rattle.iol_types.specs.State.{State, Port, port_numbered}
@@ -7,7 +7,7 @@ use Rattle.iol_core.specs.Core.{CoreView, live}
 use Rattle.iol_core.specs.Downloads.{durable_set}
 use Rattle.iol_core.specs.Ports.{work_of}
 use Rattle.iol_core.specs.Telling.{work_told}
-use Rattle.iol_core.specs.Uploads.{store_of, IsFinish}
+use Rattle.iol_core.specs.Uploads.{store_of}
 use Rattle.iol_core.specs.declared.permit.UploadGrant.{UploadGrant}
 use Rattle.iol_core.specs.declared.port.Work.{Work}
 use Rattle.iol_core.specs.declared.upload.FinishFault.{FinishFault}

@@ -1,11 +1,10 @@
 -- Where a step of a port leads, and what the port settles by.
 use Rattle.std.proofs.Common.{◌≡◌, inl, inr, refl, ◌-◌, nat_lt, Bool, true, false, if◌then◌else◌, ℕ, List, [], ◌∷◌, ◌++◌, length, sym, ap}
-use Rattle.std.proofs.Common.{◌∙◌, subst, append_assoc, append-nil}
+use Rattle.std.proofs.Common.{◌∙◌, subst, append-nil}
 use Rattle.std.specs.Prelude.{Option, Some, None, Result, Ok, Err, ◌&&◌, ◌==◌, not, slice_index}
 use Rattle.std.proofs.lemmas.Bool.Decides.{nat_tests}
 use Rattle.std.proofs.Common.{arith}
 use Rattle.iol_types.specs.Config.{is_manual, restores}
-use Rattle.iol_types.specs.DataSet.{SetValue}
 use Rattle.iol_types.specs.declared.config.PortConfig.{PortConfig}
 use Rattle.iol_core.specs.Telling.{work_told}
 use Rattle.iol_core.specs.declared.download.DownloadBegun.{DownloadBegun}
@@ -22,8 +21,8 @@ use Rattle.iol_ident.specs.declared.validation.IdentFault.{IdentFault}
 use Rattle.iol_isdu.specs.declared.faults.IsduFault.{IsduFault}
 use Rattle.iol_isdu.specs.declared.messages.Answer.{Answer}
 use Rattle.iol_isdu.specs.declared.messages.Answer.TheVariants as answer
-use Rattle.iol_transfer.specs.Download.{Sender, begun_download}
-use Rattle.iol_transfer.specs.Machine.{Machine, Outcome, More, Whole, Fault, step, begun}
+use Rattle.iol_transfer.specs.Download.{Sender}
+use Rattle.iol_transfer.specs.Machine.{Machine, Outcome, More, Whole, Fault, step}
 use Rattle.iol_transfer.specs.Upload.{number_of}
 use Rattle.iol_transfer.specs.declared.repeats.TheConstants.{MOST_REQUESTS}
 use Rattle.iol_port.specs.Answers.{failed, again, state_read, checksum_read, upload_ended, uploaded, upload_answered, Sent, GoesOn, Done}
@@ -33,7 +32,7 @@ use Rattle.iol_port.specs.Faults.{of_isdu, of_transfer, of_permit, of_download, 
 use Rattle.iol_port.specs.Heard.{moved, started, page_heard, settled_with, found_by, judged, resumed, is_under, decided, attended}
 use Rattle.iol_port.specs.Heard.{upload_begun, download_begun, ticket_told}
 use Rattle.iol_port.specs.Stage.{Stage, PortValue, Next, To, Start, Settled, Paging, Attending, BeginningUpload, BeginningDownload}
-use Rattle.iol_port.specs.Stage.{Exchanging, Uploading, Filing, Filed, Storing, Downloading, Breaking, Returning, Returned}
+use Rattle.iol_port.specs.Stage.{Exchanging, Uploading, Filing, Storing, Downloading, Breaking, Returning}
 use Rattle.iol_port.specs.Status.{status_of, status_at_rest, status_paging, status_attending, status_exchanging}
 use Rattle.iol_port.specs.Telling.{status_told}
 use Rattle.iol_port.specs.declared.decision.Decision.{Decision}
@@ -51,13 +50,13 @@ use Rattle.iol_port.specs.declared.stage.Rest.{Rest}
 use Rattle.iol_port.specs.declared.stage.Rest.TheVariants as rest
 use Rattle.iol_port.specs.declared.status.PortStatus.{PortStatus}
 use Rattle.iol_port.specs.declared.status.PortStatus.TheVariants as status
-use Rattle.iol_trace.specs.Events.{Event, Page, Lost, Attended, Changed}
+use Rattle.iol_trace.specs.Events.{Event, Page, Attended, Changed}
 use Rattle.iol_trace.specs.Statuses as shows
 use Rattle.iol_headline.proofs.Going.{StatusTold, nil_one, status_is}
 use Rattle.iol_headline.proofs.Fitting.{AreQuiet, Fits, PagingStands, AttendingStands, ExchangingStands, Stands, last_more, page_more}
 use Rattle.iol_headline.proofs.Fitting.{judged_more}
-use Rattle.iol_headline.specs.Conversations.{AreConnected, HasPage}
-use Rattle.iol_headline.specs.Settled.{AreUnsettled, WasToldLast, IsJudged, SettlesBy}
+use Rattle.iol_headline.specs.Conversations.{HasPage}
+use Rattle.iol_headline.specs.Settled.{WasToldLast, IsJudged, SettlesBy}
 
 -- a status that is told holds of the events before it
 abbrev pub SettlesTold : ℕ → List Event → List Event → Type 0

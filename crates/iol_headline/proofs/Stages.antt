@@ -37,7 +37,6 @@ use Rattle.iol_headline.proofs.Lawful.{WasAcknowledged, WasStored}
 use Rattle.iol_headline.proofs.Talks.{own_same}
 use Rattle.iol_headline.specs.Conversations.{Converses, HasPage}
 use Rattle.iol_headline.specs.Decisions.{IsExamined}
-use Rattle.iol_headline.specs.DurableEnds.{IsStored}
 use Rattle.iol_headline.specs.WholeSets.{IsUploadedWhole}
 
 module _ (first : ℕ) (start : State) (port connection : ℕ) where

@@ -1,19 +1,16 @@
 -- A port uploads, files the set, and ends the upload: what is told.
 use Rattle.std.proofs.Common.{◌≡◌, inl, inr, refl, ◌≤◌, ◌+◌, ◌-◌, nat_lt, nat_le, Bool, true, false, if◌then◌else◌, ℕ, List, [], ◌∷◌}
-use Rattle.std.proofs.Common.{◌++◌, sym, ap, ◌∙◌, subst, arith, lit<, append_assoc, append-nil}
-use Rattle.std.specs.Prelude.{Option, Some, None, IsSomeAnd, IfOk, Result, Ok, Err}
+use Rattle.std.proofs.Common.{◌++◌, sym, ap, ◌∙◌, subst, arith, append_assoc, append-nil}
+use Rattle.std.specs.Prelude.{Option, Some, None, Result, Ok, Err}
 use Rattle.std.proofs.lemmas.Bool.Decides.{nat_tests}
 use Rattle.std.proofs.lemmas.List.{replicate_more}
 use Rattle.iol_types.specs.Command.{Store}
-use Rattle.iol_types.specs.DataSet.{SetValue, IsSet}
-use Rattle.iol_types.specs.State.{State, Port, Stored, after, port_numbered}
+use Rattle.iol_types.specs.DataSet.{SetValue}
+use Rattle.iol_types.specs.State.{State, Port, after, port_numbered}
 use Rattle.iol_core.specs.Core.{CoreView, live}
-use Rattle.iol_core.specs.Downloads.{IsBeginDownload, durable_set, stored_at}
 use Rattle.iol_core.specs.Permits.{is_taken}
 use Rattle.iol_core.specs.Submit.{is_stopped, ticket_state, has_failed}
 use Rattle.iol_core.specs.Uploads.{IsBeginUpload, IsFinish, revision_of, upload_fault_at, store_of}
-use Rattle.iol_core.specs.declared.download.DownloadBegun.{DownloadBegun}
-use Rattle.iol_core.specs.declared.download.DownloadFault.{DownloadFault}
 use Rattle.iol_core.specs.declared.permit.UploadGrant.{UploadGrant}
 use Rattle.iol_core.specs.declared.ticket.TicketState.{TicketState}
 use Rattle.iol_core.specs.declared.ticket.TicketState.TheVariants as ticket
@@ -31,27 +28,21 @@ use Rattle.iol_isdu.specs.declared.messages.Answer.TheVariants as answer
 use Rattle.iol_isdu.specs.declared.messages.Request.{Request}
 use Rattle.iol_transfer.proofs.Ending.{whole-finished}
 use Rattle.iol_transfer.proofs.Feeding.{fed-more}
-use Rattle.iol_transfer.proofs.Sending.{fed-on}
-use Rattle.iol_transfer.specs.Download.{Sender, sent_by, answered_to}
 use Rattle.iol_dsindex.specs.Command.{commanded}
 use Rattle.iol_transfer.specs.Exchanges.{Exchange, busy_times}
 use Rattle.iol_transfer.specs.Machine.{Machine, Outcome, More, Whole, Fault, step, asked, answered as next_exchange}
 use Rattle.iol_transfer.specs.Upload.{IsFinished}
-use Rattle.iol_transfer.specs.declared.download.DownloadStep.TheVariants as download_step
 use Rattle.iol_transfer.specs.declared.repeats.TheConstants.{MOST_REQUESTS}
 use Rattle.iol_transfer.specs.declared.upload.UploadStep.TheVariants as upload_step
-use Rattle.iol_port.proofs.Telling.{sent_step}
-use Rattle.iol_port.specs.Answers.{failed, upload_ended, uploaded, upload_answered, Sent, GoesOn, Done, Ends, sent, downloaded}
-use Rattle.iol_port.specs.Answers.{download_answered}
-use Rattle.iol_port.specs.Calls.{IsBegunFor}
-use Rattle.iol_port.specs.Faults.{of_isdu, of_transfer, of_permit, of_download, write_fault}
+use Rattle.iol_port.specs.Answers.{failed, upload_ended, uploaded, upload_answered, sent}
+use Rattle.iol_port.specs.Faults.{of_isdu, of_transfer, of_permit, write_fault}
 use Rattle.iol_port.specs.declared.stage.Held.TheVariants as held
 use Rattle.iol_port.specs.declared.stage.Rest.{Rest}
 use Rattle.iol_port.specs.declared.stage.Rest.TheVariants as rest
 use Rattle.iol_port.specs.Status.{status_of}
 use Rattle.iol_headline.specs.Decisions.{IsExamined}
-use Rattle.iol_port.specs.Heard.{upload_begun, download_begun, upload_finished, ticket_told}
-use Rattle.iol_port.specs.Stage.{Stage, Settled, Exchanging, Uploading, Filing, Storing, Downloading, Breaking, Returning, IsStage}
+use Rattle.iol_port.specs.Heard.{upload_begun, upload_finished, ticket_told}
+use Rattle.iol_port.specs.Stage.{Stage, Settled, Exchanging, Uploading, Filing, Storing, Breaking, IsStage}
 use Rattle.iol_port.specs.declared.decision.Decision.{Decision}
 use Rattle.iol_port.specs.declared.decision.Decision.TheVariants as decision
 use Rattle.iol_port.specs.declared.fault.PortFault.TheVariants as fault
@@ -69,12 +60,11 @@ use Rattle.iol_trace.specs.Words.{accepted}
 use Rattle.iol_headline.proofs.Going.{Goes, settles, still, plain_began, holds_since, stays_since}
 use Rattle.iol_headline.proofs.Reading.{exchanged_own}
 use Rattle.iol_headline.proofs.Revisions.{Holds}
-use Rattle.iol_headline.proofs.Stages.{Begins, Uploads, AsksUpload, IsWhole, IsFiled, Downloads, Told, told_later, stored_later}
+use Rattle.iol_headline.proofs.Stages.{Begins, Uploads, AsksUpload, IsWhole, IsFiled, Told, told_later, stored_later}
 use Rattle.iol_headline.proofs.Stages.{acknowledged_later}
 use Rattle.iol_headline.proofs.Talks.{talk_more, talk_connected, own_one, own_more, at_own}
 use Rattle.iol_headline.specs.Conversations.{Converses, HasPage}
 use Rattle.iol_headline.proofs.Lawful.{WasStored}
-use Rattle.iol_headline.specs.DurableEnds.{IsStored}
 use Rattle.iol_headline.specs.WholeSets.{IsUploadedWhole}
 
 uploading_starts : status.Uploading ≡ status.Starting → ⊥

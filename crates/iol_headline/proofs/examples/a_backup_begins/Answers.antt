@@ -1,4 +1,4 @@
-use Rattle.std.proofs.Common.{refl, [], ◌∷◌, lit<}
+use Rattle.std.proofs.Common.{refl}
 use Rattle.std.specs.Prelude.{None}
 use Rattle.iol_headline.proofs.ExampleLaws.{flagged_examined}
 use Rattle.iol_headline.proofs.examples.a_backup_begins.Goals as goal

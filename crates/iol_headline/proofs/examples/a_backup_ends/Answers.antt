@@ -1,8 +1,6 @@
-use Rattle.std.proofs.Common.{refl, ◌≡◌, ℕ, [], ◌∷◌, sym, subst, lit≤}
-use Rattle.std.specs.Prelude.{true}
+use Rattle.std.proofs.Common.{ℕ, subst, lit≤}
 use Rattle.iol_dsindex.specs.Command.{commanded}
 use Rattle.iol_dsindex.specs.declared.command.DsCommand.TheVariants.{UploadEnd}
-use Rattle.iol_transfer.specs.Exchanges.{busy_times}
 use Rattle.iol_trace.specs.Events.{stamped}
 use Rattle.iol_headline.proofs.ExampleTalks.{ends_upload}
 use Rattle.iol_headline.proofs.ExampleLaws.{stored_whole, judged_ready}

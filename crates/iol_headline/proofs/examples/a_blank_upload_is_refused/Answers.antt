@@ -4,17 +4,16 @@ use Rattle.std.specs.Prelude.{Some, slice_index, ◌==◌}
 use Rattle.iol_types.specs.declared.config.Validation.TheVariants.{BackupAndRestore}
 use Rattle.iol_dsindex.specs.Property.{property_of}
 use Rattle.iol_port.specs.Decision.{decide}
-use Rattle.iol_port.specs.declared.decision.Decision.{Decision}
 use Rattle.iol_port.specs.declared.decision.Decision.TheVariants as decision
 use Rattle.iol_isdu.specs.declared.messages.Answer.TheVariants.{ReadOk, Busy}
 use Rattle.iol_isdu.specs.declared.messages.Request.TheVariants.{Read}
-use Rattle.iol_transfer.specs.Exchanges.{Exchange, carried, read_of, busy_times, Follows}
+use Rattle.iol_transfer.specs.Exchanges.{Exchange, carried, read_of, busy_times}
 use Rattle.iol_transfer.specs.Upload.{number_of}
 use Rattle.iol_trace.specs.Events.{Event, Page, Attended, stamped}
 use Rattle.iol_trace.specs.Own.{own}
 use Rattle.iol_trace.specs.Statuses.{Work}
 use Rattle.iol_headline.proofs.ExampleTalks.{octets_in, both_read, replaced_reads, before_replaced_page, replaced_talk}
-use Rattle.iol_headline.proofs.OnePlace.{Each, head_is, TellsPage, one_place, talk_no_page, one_talk, last_is, each_and}
+use Rattle.iol_headline.proofs.OnePlace.{head_is, TellsPage, one_place, talk_no_page, one_talk, last_is, each_and}
 use Rattle.iol_headline.proofs.examples.a_blank_upload_is_refused.Goals as goal
 use Rattle.iol_headline.specs.Conversations.{Converses}
 use Rattle.iol_headline.specs.Decisions.{IsExamined}
@@ -70,7 +69,7 @@ refused is =
         (each_and (λ e. TellsPage e → ⊥) replaced_reads (Attended 1 (example_work (Some 0x024F)))
         (talk_no_page 1 1 replaced_reads (both_read (0x00 ∷ []) (0x00 ∷ 0x00 ∷ 0x00 ∷ 0x00 ∷ [])) replaced_talk)
         (work_no_page (example_work (Some 0x024F))))
-            (sym (is.split ∙ append_assoc is.before (Page 1 is.connection is.octets ∷ is.told) (Attended 1 is.work ∷ [])))).2
+        (sym (is.split ∙ append_assoc is.before (Page 1 is.connection is.octets ∷ is.told) (Attended 1 is.work ∷ [])))).2
 
     ends : (is.told ≡ replaced_reads) × (Attended 1 is.work ≡ Attended 1 (example_work (Some 0x024F)))
     ends = last_is is.told replaced_reads (Attended 1 is.work) (Attended 1 (example_work (Some 0x024F))) behind

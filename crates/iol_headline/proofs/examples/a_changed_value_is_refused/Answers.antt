@@ -32,8 +32,10 @@ all_other = (
     other size (λ same. omega (arith, same)),
     (
       other index_list (λ same. omega (arith, same)),
-      (other first_value (λ same. omega (arith, same)),
-          (other second_value (λ same. omega (arith, same)), (other checksum (λ same. omega (arith, same)), tt))),
+      (
+        other first_value (λ same. omega (arith, same)),
+        (other second_value (λ same. omega (arith, same)), (other checksum (λ same. omega (arith, same)), tt)),
+      ),
     ),
   ),
 )

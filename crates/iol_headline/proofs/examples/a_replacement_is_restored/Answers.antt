@@ -1,4 +1,4 @@
-use Rattle.std.proofs.Common.{refl, ◌≡◌, ℕ, [], ◌∷◌, sym, subst}
+use Rattle.std.proofs.Common.{refl, ℕ, subst}
 use Rattle.std.specs.Prelude.{Some}
 use Rattle.iol_types.specs.State.{empty_state}
 use Rattle.iol_isdu.specs.declared.messages.Request.{Request}

@@ -1,5 +1,5 @@
-use Rattle.std.proofs.Common.{◌≡◌, ◌≤◌, refl, ℕ, List, [], ◌∷◌, ◌++◌, ap, sym, ◌∙◌, subst, arith, append_assoc}
-use Rattle.iol_types.specs.Command.{Configure, Clear, Store}
+use Rattle.std.proofs.Common.{◌≡◌, ◌≤◌, refl, ℕ, List, [], ◌∷◌, ◌++◌, ap, sym, ◌∙◌, arith, append_assoc}
+use Rattle.iol_types.specs.Command.{Store}
 use Rattle.iol_trace.specs.Events.{Event, Accepted, Stamp, stamped}
 use Rattle.iol_headline.proofs.ExampleTalks.{ends_upload}
 use Rattle.iol_headline.proofs.OnePlace.{one_in}

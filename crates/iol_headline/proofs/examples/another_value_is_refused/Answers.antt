@@ -1,4 +1,4 @@
-use Rattle.std.proofs.Common.{◌≡◌, refl, ℕ, List, [], ◌∷◌, ◌++◌, Option, Some, ap, sym, ◌∙◌, subst, arith}
+use Rattle.std.proofs.Common.{◌≡◌, refl, ℕ, List, [], ◌∷◌, Some, ap, sym, subst, arith}
 use Rattle.std.specs.Prelude.{slice_index}
 use Rattle.iol_types.specs.DataSet.{SetValue}
 use Rattle.iol_types.specs.State.{Stored, empty_state, port_numbered}
@@ -40,8 +40,10 @@ all_other = (
   other (commanded DownloadStart) (λ same. omega (arith, same)),
   (
     other (Write 0x0040 0x00 (carried (0x0A ∷ 0x64 ∷ []))) (λ same. omega (arith, same)),
-    (other (Write 0x0041 0x01 (carried (0x7F ∷ []))) (λ same. omega (arith, same)),
-        (other (commanded DownloadEnd) (λ same. omega (arith, same)), tt)),
+    (
+      other (Write 0x0041 0x01 (carried (0x7F ∷ []))) (λ same. omega (arith, same)),
+      (other (commanded DownloadEnd) (λ same. omega (arith, same)), tt),
+    ),
   ),
 )
 
