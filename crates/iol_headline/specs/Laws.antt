@@ -1,0 +1,30 @@
+-- What holds of a whole trace.
+use Rattle.std.specs.Prelude.{ℕ, List}
+use Rattle.iol_types.specs.State.{State}
+use Rattle.iol_trace.specs.Events.{Stamp}
+use Rattle.iol_headline.specs.Decisions.{DecidedFirst}
+use Rattle.iol_headline.specs.Downloads.{DownloadsOnly, CommandsOnly}
+use Rattle.iol_headline.specs.DurableEnds.{DurableThenEnd}
+use Rattle.iol_headline.specs.Places.{Everywhere}
+use Rattle.iol_headline.specs.Settled.{SettledRight}
+use Rattle.iol_headline.specs.WholeSets.{WholeSets}
+use Rattle.iol_headline.specs.Works.{TellsWork}
+
+-- the laws of the trace of a run that began with a number and a state (own)
+pub record IsLawful (first : ℕ) (start : State) (events : List Stamp) : Type 0 where
+  -- each set that is accepted is that of one whole upload, on one connection, and the port was not configured meanwhile
+  pub whole_sets : Everywhere WholeSets events
+  -- DS_UploadEnd is sent only once the set that was uploaded on that connection is acknowledged
+  pub durable_then_end : Everywhere (DurableThenEnd first) events
+  -- a parameter is written only by a download of the set that is durable for the port, to a device of that set
+  pub downloads : Everywhere (DownloadsOnly first start) events
+  -- what is written to the Data Storage object is a command
+  pub commands : Everywhere CommandsOnly events
+  -- each port is told its configuration and revision after what was accepted, and the checksum of its durable set
+  pub works : Everywhere (TellsWork first start) events
+  -- a port is `uploading` or `downloading` only where that was decided, from its device's page, State_Property and
+  -- Parameter_Checksum on one connection, and from what it is to work with
+  pub decided : Everywhere DecidedFirst events
+  -- a port is `off`, `ready` of any kind or `mismatch` only by what it was told since it last settled: `off` where that is not
+  -- IOL_MANUAL, `ready` or `mismatch` as the last page of its device fits
+  pub settled : Everywhere SettledRight events

@@ -1,0 +1,10 @@
+pub mod Places
+pub mod Conversations
+pub mod Works
+pub mod WholeSets
+pub mod DurableEnds
+pub mod Downloads
+pub mod Decisions
+pub mod Settled
+pub mod Laws
+pub mod Examples

@@ -1,0 +1,7 @@
+-- What holds of each event of a trace.
+use Rattle.std.specs.Prelude.{◌≡◌, List, ◌∷◌, ◌++◌}
+use Rattle.iol_trace.specs.Events.{Event, Stamp}
+
+-- wherever an event stands in a trace, this holds of the events before it and of the event (own)
+abbrev pub Everywhere : (List Stamp → Event → Type 0) → List Stamp → Type 0
+Everywhere Holds events = (before behind : List Stamp) (e : Stamp) → events ≡ before ++ e ∷ behind → Holds before e.event
