@@ -9,7 +9,8 @@ use Rattle.iol_link.specs.Link.{LinkCall, LinkAnswer}
 use Rattle.iol_trace.specs.Events as trace
 use Rattle.iol_trace.specs.Events.{Event, Accepted, Refused, Page, Lost, Attended, Changed, Acknowledged, DiskFailed, Stamp}
 use Rattle.iol_run.specs.Acknowledged.{AcksRise}
-use Rattle.iol_run.specs.PortRuns.{HasPortRun, ArePortRuns}
+use Rattle.iol_run.specs.PortRuns.{HasPortRun, ArePortRuns, steps_of}
+use Rattle.iol_run.specs.declared.step.Step.{Step}
 use Rattle.iol_headline.proofs.Lawful.{IsLawfulAt, durable_ends, unsent_lawful}
 use Rattle.iol_headline.proofs.Places.{everywhere}
 use Rattle.iol_headline.proofs.Revisions.{at_place}
@@ -58,15 +59,15 @@ module _ (first : ℕ) (start : State) where
 
   module _ {L : Type 0} (number : L → ℕ) (steps : L → LinkCall → LinkAnswer → L → Type 0) where
     -- what is told of a port that has a link
-    ported : (place : ℕ) (begun link : L) (events : List Stamp) → place < length start
-        → HasPortRun number steps first start (place + 1) begun link events → Everywhere (OwnLaw first start (place + 1)) events
-    ported place begun link events within is =
+    ported : (place made : ℕ) (begun link : L) (events : List Stamp) → place < length start
+        → HasPortRun number steps first start (place + 1) made begun link events → Everywhere (OwnLaw first start (place + 1)) events
+    ported place made begun link events within is =
         everywhere (OwnLaw first start (place + 1)) events
-        (run_told first start (place + 1) number steps (port_there place within) begun is.made is.machine link events is.run).each
+        (run_told first start (place + 1) number steps (port_there place within) begun made is.machine link events is.run).each
 
-    all_lawful : (links : List L) (events : List Stamp) (last : List L) → length last ≡ length links
-        → ArePortRuns number steps first start links events last → Everywhere (IsLawfulAt first start) events
-    all_lawful links events last count are before behind e split =
+    all_lawful : (made : List Step) (links : List L) (events : List Stamp) (last : List L) → length last ≡ length links
+        → ArePortRuns number steps first start made links events last → Everywhere (IsLawfulAt first start) events
+    all_lawful made links events last count are before behind e split =
         owned before e.event (λ port. at port (placed (length links) port))
       where
         at : (port : ℕ) → ((place : ℕ) × (port ≡ place + 1) × (place < length links)) ⊎ ((port ≡ 0) ⊎ (length links < port))
@@ -77,12 +78,12 @@ module _ (first : ℕ) (start : State) where
             let begun = there_is links there.0 there.2 in
             let link = there_is last there.0 (omega (arith, there.2, count)) in
             subst (λ (p : ℕ). OwnLaw first start p before e.event) (sym there.1)
-            (ported there.0 begun.0 link.0 events (omega (arith, there.2, are.count)) (are.runs there.0 begun.0 link.0 begun.1 link.1)
+            (ported there.0 (steps_of (there.0 + 1) made) begun.0 link.0 events (omega (arith, there.2, are.count)) (are.runs there.0 begun.0 link.0 begun.1 link.1)
             before behind e split)
 
-    pub lawful : (links : List L) (events : List Stamp) (last : List L) → length last ≡ length links
-        → ArePortRuns number steps first start links events last → AcksRise first events → IsLawful first start events
-    lawful links events last count are rise = record {
+    pub lawful : (made : List Step) (links : List L) (events : List Stamp) (last : List L) → length last ≡ length links
+        → ArePortRuns number steps first start made links events last → AcksRise first events → IsLawful first start events
+    lawful made links events last count are rise = record {
       whole_sets = λ before behind e split. (each before behind e split).whole;
       durable_then_end = λ before behind e split.
           durable_ends first before (e ∷ behind) e.event (subst (λ (es : List Stamp). AcksRise first es) split rise)
@@ -95,10 +96,4 @@ module _ (first : ℕ) (start : State) where
     }
       where
         each : Everywhere (IsLawfulAt first start) events
-        each = all_lawful links events last count are
-
--- what follows of three clauses on one result
-pub ok_all : {A E : Type 0} (result : Result A E) (P Q R S : A → Type 0) → IfOk result P → IfOk result Q → IfOk result R
-    → ((a : A) → P a → Q a → R a → S a) → IfOk result S
-ok_all (Ok a) P Q R S p q r follows = follows a p q r
-ok_all (Err e) P Q R S p q r follows = tt
+        each = all_lawful made links events last count are

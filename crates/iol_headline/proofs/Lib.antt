@@ -18,3 +18,4 @@ pub mod Everywhere
 pub mod OnePlace
 pub mod ExampleTalks
 pub mod ExampleLaws
+pub mod Headlines

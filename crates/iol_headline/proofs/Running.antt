@@ -17,7 +17,7 @@ use Rattle.iol_port.specs.declared.stage.Held.TheVariants as held
 use Rattle.iol_port.specs.declared.status.PortStatus.{PortStatus}
 use Rattle.iol_run.proofs.Histories.{Led, acting_led, step_led}
 use Rattle.iol_run.proofs.Quiet.{stamped_both}
-use Rattle.iol_run.specs.PortRuns.{IsPortRun, IsCoreAfter}
+use Rattle.iol_run.specs.PortRuns.{IsPortRun, IsCoreAfter, happened}
 use Rattle.iol_run.specs.PortSteps.{PortStep, Hears, noted_by, awake}
 use Rattle.iol_trace.specs.Events.{Event, Changed, Stamp, stamped}
 use Rattle.iol_trace.specs.Own.{own, own_in}
@@ -125,7 +125,10 @@ module _ (first : ℕ) (start : State) (port : ℕ) where
       noted_is = ap (λ (v : PortValue). v.stage) is.hears_event.new_is ∙ noted_stage is.hears_event.event before
 
       pub after_led : Led port after
-      after_led = step_led number steps port before after link last old new called status led is
+      after_led = (
+        happened before is.hears_event.event is.acts.wants is.acts.heard ++ led.0,
+        step_led number steps port before after link last old new called status led.0 led.1 is,
+      )
 
       after_port : after.port ≡ port
       after_port = (led_is port after_led.0 after after_led.1).port_is

@@ -8,3 +8,4 @@ pub mod Decisions
 pub mod Settled
 pub mod Laws
 pub mod Examples
+pub mod Headline

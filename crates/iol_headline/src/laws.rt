@@ -5,12 +5,13 @@ ghost use Rattle.iol_types.specs.State.{State};
 ghost use Rattle.iol_trace.specs.Events.{Stamp};
 ghost use Rattle.iol_run.specs.Acknowledged.{AcksRise};
 ghost use Rattle.iol_run.specs.PortRuns.{ArePortRuns};
+ghost use Rattle.iol_run.specs.declared.step.Step.{Step};
 ghost use Rattle.iol_headline.specs.Laws.{IsLawful};
 
 use iol_link::DeviceLink;
 
 /// A trace is lawful where what is told of each port is a run of its machine, and where acknowledged numbers do not fall.
 pub fn ports_are_lawful<L: DeviceLink>()
-    ensures lawful { (first : ℕ) (start : State) (links : List L) (events : List Stamp) (last : List L) → length last ≡ length links
-        → ArePortRuns L.number L.steps first start links events last → AcksRise first events → IsLawful first start events }
+    ensures lawful { (first : ℕ) (start : State) (made : List Step) (links : List L) (events : List Stamp) (last : List L) → length last ≡ length links
+        → ArePortRuns L.number L.steps first start made links events last → AcksRise first events → IsLawful first start events }
 {}

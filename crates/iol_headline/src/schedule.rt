@@ -1,30 +1,33 @@
 //! A schedule, and what holds of its whole trace.
 
-ghost use Rattle.std.specs.Prelude.{◌≡◌, map, Ok, IfOk};
-ghost use Rattle.iol_journal.specs.Meaning.{Standing, standing_in};
-ghost use Rattle.iol_journal.specs.Reading.{Shows};
-ghost use Rattle.iol_run.specs.Events.{stamp_of};
-ghost use Rattle.iol_headline.specs.Laws.{IsLawful};
+ghost use Rattle.std.specs.Prelude.{vec_len, IfOk, IfErr};
+ghost use Rattle.iol_disk.specs.Content.{IsImage};
+ghost use Rattle.iol_disk.specs.Moments.{LeavesOnly};
+ghost use Rattle.iol_run.specs.Causes.{FailsFor};
+ghost use Rattle.iol_run.specs.Schedules.{fault_disk};
+ghost use Rattle.iol_headline.specs.Headline.{IsHeadline};
 
 use iol_disk::SectorDisk;
 use iol_link::DeviceLink;
-use iol_run::{RunFault, Step, Trace};
+use iol_run::{RunFault, Task, Trace};
 use std::alloc::Global;
 
 /// Recovers a disk, and runs a schedule over it, with a link for each port of its state, port 1 first.
 ///
 /// # Errors
-/// As `iol_run::run_schedule`.
+/// `Recover` where the disk is not recovered, `Ports` where there is not one link for each port, and `Memory`, in this
+/// order. The links are gone then.
 pub fn run_schedule<D: SectorDisk, L: DeviceLink + Drop>(
     alloc: Global,
     disk: D,
     links: Vec<L>,
-    steps: &[Step],
+    schedule: &[Task],
 ) -> Result<Trace<D, L>, RunFault<D>>
-    // On an honest disk the laws hold of the whole trace, from the number and the state on that the disk showed.
-    ensures lawful { IfOk result (λ trace.
-        Shows (D.disk disk) (λ image. (journal : Standing) → standing_in (D.disk disk).sectors image ≡ Ok journal
-        → IsLawful journal.number journal.state (map stamp_of trace.events.items))) }
+    ensures headline { IfOk result (IsHeadline D.disk L.number L.steps disk links.items schedule.now) }
+    // Where no run began, the first thing that was wrong is said.
+    ensures cause { IfErr result (λ fault. FailsFor D.disk disk (vec_len links) fault) }
+    // A stop then leaves what it might have left before.
+    ensures fault { IfErr result (λ fault. LeavesOnly (D.disk disk) (D.disk (fault_disk fault)) (IsImage (D.disk disk).content)) }
 {
-    iol_run::run_schedule(alloc, disk, links, steps)
+    iol_run::run_schedule(alloc, disk, links, schedule)
 }

@@ -1,9 +1,0 @@
-use Rattle.std.proofs.Common.{replicate}
-use Rattle.iol_run.specs.Schedules.{HasMade}
-use Rattle.iol_run.specs.declared.step.Step.TheVariants.{Flush}
-use Rattle.iol_commands.proofs.steps.drain.Given as goal
-
--- none of the turns so far had to wait
-abbrev pub invariant-loop : goal.invariant-loop
-invariant-loop g l =
-    HasMade g.D.SectorDisk.disk g.L.DeviceLink.number g.L.DeviceLink.steps (replicate l.counter Flush) 0 l.initial.run l.run
