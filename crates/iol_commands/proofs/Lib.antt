@@ -1,5 +1,5 @@
 pub mod ImageLaws
-pub mod Stepping
 pub mod SaidParameters
 pub mod SaidDevices
 pub mod Accepted
+pub mod Playing

@@ -6,3 +6,4 @@ pub mod Devices
 pub mod Steps
 pub mod Images
 pub mod Texts
+pub mod Played

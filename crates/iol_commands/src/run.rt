@@ -1,26 +1,25 @@
 //! The run of a script on one thread, over a disk that is empty at first.
-ghost use Rattle.std.specs.Prelude.{◌≡◌, [], All, map, length, vec_len, IfOk, IfErr};
-ghost use Rattle.iol_run.specs.Events.{stamp_of};
+ghost use Rattle.std.specs.Prelude.{◌≡◌, All, IfOk, IfErr};
+ghost use Rattle.iol_types.specs.State.{empty_state};
+ghost use Rattle.iol_journal.specs.Kept.{EachMeans};
+ghost use Rattle.iol_script.specs.Script.{said_of};
 ghost use Rattle.iol_commands.specs.Devices.{MayVisit};
 ghost use Rattle.iol_commands.specs.Fault.{status_of};
-ghost use Rattle.iol_commands.specs.Steps.{IsTold};
+ghost use Rattle.iol_commands.specs.Played.{FailsAsSaid, IsPlayed, IsRunOf, IsSaidGeometry, IsStoppedAs, run_disk};
 
 use crate::devices::links_of;
-use crate::disk::{Stoppable, failing};
+use crate::disk::failing;
 use crate::fault::Fault;
 use crate::recovery::recover;
 use crate::state_text::Recovered;
-use crate::steps::make_steps;
-use iol_disk::{FaultDisk, Pick, SectorDisk};
-use iol_front::{Front, Name};
-use iol_journal::{Geometry, Journal};
-use iol_link::DeviceLink;
-use iol_run::{Ended, Run, Stamped, Trace};
-use iol_script::{Script, Step};
+use crate::steps::tasks_of;
+use iol_disk::{FaultDisk, MemoryDisk, Pick};
+use iol_headline::run_schedule;
+use iol_journal::Geometry;
+use iol_run::{Ended, RunFault, Stamped, Trace};
+use iol_script::Script;
 use iol_sim::SimLink;
-use iol_types::MasterState;
 use std::alloc::Global;
-use std::marker::Brand;
 
 // The events of a run, and what was recovered of its disk after the stop at its end.
 #[derive(Drop)]
@@ -34,87 +33,63 @@ pub(crate) struct Report {
 //
 // # Errors
 // `Memory`, `Disk`, `TooSmall` or `AlreadyFormatted`, where it is first met.
-pub(crate) fn run<D: Stoppable + Drop>(
+pub(crate) fn run(
     alloc: Global,
-    mut disk: D,
+    mut disk: MemoryDisk,
     geometry: Geometry,
     script: &Script,
 ) -> Result<Report, Fault<'static>>
-    requires { All MayVisit script.now.devices.items }
-    ensures { IfErr result (λ fault. status_of fault ≡ 1) }
-{
-    iol_journal::format(alloc, &mut disk, geometry)?;
-    let trace = run_on(alloc, failing(disk, script.fail), script)?;
-    stop(alloc, trace, script.keep)
-}
-
-// Makes the steps of a script over the journal on a disk, with the script's devices at the ports.
-//
-// # Errors
-// `Memory`, or why the disk is not recovered.
-fn run_on<D: SectorDisk + Drop>(
-    alloc: Global,
-    disk: D,
-    script: &Script,
-) -> Result<Trace<D, SimLink>, Fault<'static>>
-    requires { All MayVisit script.now.devices.items }
-    ensures { IfErr result (λ fault. status_of fault ≡ 1) }
-{
-    let (journal, state) = recover(alloc, disk)?;
-    let links = links_of(alloc, &script.devices, state.ports())?;
-    let front = Front::new(alloc, journal.number(), &state)?;
-    carry_out::<D, SimLink, Brand>(alloc, front, journal, state, links, &script.steps)
-}
-
-// Makes the steps of a script over a journal that was just recovered.
-//
-// # Errors
-// `Memory`.
-fn carry_out<D: SectorDisk + Drop, L: DeviceLink + Drop, F: Name>(
-    alloc: Global,
-    front: Front,
-    journal: Journal<D>,
-    state: MasterState,
-    links: Vec<L>,
-    steps: &[Step],
-) -> Result<Trace<D, L>, Fault<'static>>
-    requires name { front ≡ F.front }
-    requires number { front.start.number ≡ journal.history.first }
-    requires state { (front.start.state ≡ journal.history.start) × (state ≡ journal.history.start) }
-    requires list { journal.history.commands ≡ [] }
-    requires ports { vec_len links ≡ length state }
-    // The events tell of the script's steps, made from the start of a run.
-    ensures told { IfOk result (λ trace.
-        IsTold D.disk L.number L.steps journal links.items steps.now (map stamp_of trace.events.items) trace.disk) }
+    requires devices { All MayVisit script.now.devices.items }
+    requires numbers { IsSaidGeometry (said_of script.now) geometry }
+    ensures played { IfOk result (IsPlayed (said_of script.now)) }
     ensures status { IfErr result (λ fault. status_of fault ≡ 1) }
 {
-    let Ok(mut run) = Run::<D, L, F>::begin(alloc, front, journal, state, links) else {
-        return Err(Fault::Memory);
-    };
-    match make_steps(&mut run, steps) {
-        Ok(()) => Ok(run.end(Ended::Whole, 0)),
-        Err(fault) => {
-            let _ = run.end(Ended::Memory, 0);
-            Err(fault)
-        }
+    iol_journal::format(alloc, &mut disk, geometry)?;
+    let given = failing(disk, script.fail);
+    let trace = make_run(alloc, given, geometry, script)?;
+    let Trace { events, disk, .. } = trace;
+    let recovered = stop(alloc, disk.disk(), script.keep)?;
+    Ok(Report { events, recovered })
+}
+
+// Makes the run that a script asks for, over a disk with an empty journal.
+//
+// # Errors
+// `Memory`, or `Disk` where a call of the recovery fails.
+fn make_run(
+    alloc: Global,
+    disk: FaultDisk<MemoryDisk>,
+    geometry: Geometry,
+    script: &Script,
+) -> Result<Trace<FaultDisk<MemoryDisk>, SimLink>, Fault<'static>>
+    requires devices { All MayVisit script.now.devices.items }
+    requires empty { EachMeans (run_disk disk) 0 (empty_state geometry.ports) }
+    requires fails { FailsAsSaid script.now.fail disk }
+    ensures run { IfOk result (IsRunOf (said_of script.now) geometry disk) }
+    ensures status { IfErr result (λ fault. status_of fault ≡ 1) }
+{
+    let links = links_of(alloc, &script.devices, geometry.ports())?;
+    let tasks = tasks_of(alloc, &script.steps)?;
+    match run_schedule(alloc, disk, links, &tasks) {
+        Ok(trace) => match trace.ended {
+            Ended::Whole => Ok(trace),
+            Ended::Memory => Err(Fault::Memory),
+        },
+        Err(RunFault::Recover(why)) => Err(Fault::from(why.cause)),
+        Err(RunFault::Ports(_)) => unreachable!(),
+        Err(RunFault::Memory(_)) => Err(Fault::Memory),
     }
 }
 
-// The events of a run, and what is recovered of its disk after a power stop. No disk call is made to fail any more.
+// Stops the power of a disk, and recovers what the stop leaves.
 //
 // # Errors
 // Why the disk is not recovered.
-fn stop<D: Stoppable + Drop>(
-    alloc: Global,
-    trace: Trace<FaultDisk<D>, SimLink>,
-    pick: Pick,
-) -> Result<Report, Fault<'static>>
-    ensures events { IfOk result (λ report. report.events ≡ trace.events) }
+fn stop(alloc: Global, disk: MemoryDisk, keep: Pick) -> Result<Recovered, Fault<'static>>
+    ensures stopped { IfOk result (λ recovered. IsStoppedAs keep disk recovered.number recovered.state) }
     ensures status { IfErr result (λ fault. status_of fault ≡ 1) }
 {
-    let Trace { events, disk, .. } = trace;
-    let (journal, state) = recover(alloc, disk.disk().stop(pick))?;
+    let (journal, state) = recover(alloc, disk.stop(keep))?;
     let number = journal.number();
-    let recovered = Recovered { number, state };
-    Ok(Report { events, recovered })
+    Ok(Recovered { number, state })
 }

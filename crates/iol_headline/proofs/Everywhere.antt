@@ -78,7 +78,8 @@ module _ (first : ℕ) (start : State) where
             let begun = there_is links there.0 there.2 in
             let link = there_is last there.0 (omega (arith, there.2, count)) in
             subst (λ (p : ℕ). OwnLaw first start p before e.event) (sym there.1)
-            (ported there.0 (steps_of (there.0 + 1) made) begun.0 link.0 events (omega (arith, there.2, are.count)) (are.runs there.0 begun.0 link.0 begun.1 link.1)
+            (ported there.0 (steps_of (there.0 + 1) made) begun.0 link.0 events (omega (arith, there.2, are.count)) (are.runs there.0
+                begun.0 link.0 begun.1 link.1)
             before behind e split)
 
     pub lawful : (made : List Step) (links : List L) (events : List Stamp) (last : List L) → length last ≡ length links

@@ -12,6 +12,7 @@ use iol_link::DeviceLink;
 
 /// A trace is lawful where what is told of each port is a run of its machine, and where acknowledged numbers do not fall.
 pub fn ports_are_lawful<L: DeviceLink>()
-    ensures lawful { (first : ℕ) (start : State) (made : List Step) (links : List L) (events : List Stamp) (last : List L) → length last ≡ length links
+    ensures lawful { (first : ℕ) (start : State) (made : List Step) (links : List L) (events : List Stamp) (last : List L)
+        → length last ≡ length links
         → ArePortRuns L.number L.steps first start made links events last → AcksRise first events → IsLawful first start events }
 {}

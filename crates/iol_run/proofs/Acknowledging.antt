@@ -50,17 +50,20 @@ more_rises old mid new told more one two = record {
 }
 
 module _ (t : ℕ) where
-  one_rises : (old new : CoreView) (e : Event) → acked_by old.number e ≡ new.number → old.number ≤ new.number → Rises old new (stamped t (e ∷ []))
+  one_rises : (old new : CoreView) (e : Event) → acked_by old.number e ≡ new.number → old.number ≤ new.number
+      → Rises old new (stamped t (e ∷ []))
   one_rises old new e is le = record { rise = (subst (λ (n : ℕ). old.number ≤ n) (sym is) le, tt); number = is }
 
   silent_rises : (old new : CoreView) (told : List Event) → told ≡ [] → new.number ≡ old.number → Rises old new (stamped t told)
-  silent_rises old new told none same = subst (λ (es : List Event). Rises old new (stamped t es)) (sym none) (record { rise = tt; number = sym same })
+  silent_rises old new told none same = subst (λ (es : List Event). Rises old new (stamped t es)) (sym none) (record { rise = tt; number =
+      sym same })
 
   none_rises : (last : ℕ) (told : List Event) → AcksNone told → AcksRise last (stamped t told) × (acked last (stamped t told) ≡ last)
   none_rises last [] none = (tt, refl)
   none_rises last (e ∷ told) none =
       let rest = none_rises last told none.1 in (
-        (subst (λ (n : ℕ). last ≤ n) (sym (none.0 last)) (omega arith), subst (λ (n : ℕ). AcksRise n (stamped t told)) (sym (none.0 last)) rest.0),
+        (subst (λ (n : ℕ). last ≤ n) (sym (none.0 last)) (omega arith), subst (λ (n : ℕ). AcksRise n (stamped t told)) (sym (none.0 last))
+            rest.0),
         ap (λ (n : ℕ). acked n (stamped t told)) (none.0 last) ∙ rest.1,
       )
 
@@ -79,14 +82,16 @@ module _ (t : ℕ) where
       one_rises old new _ (sym same) (omega (arith, same))
 
   -- a call of a port
-  change_rises : (old : CoreView) (change : Change) (told : List Event) → Tells old change told → Rises old (changed old change) (stamped t told)
+  change_rises : (old : CoreView) (change : Change) (told : List Event) → Tells old change told
+      → Rises old (changed old change) (stamped t told)
   change_rises old (Permits permits) told tells = quiet_rises old (changed old (Permits permits)) told tells refl
   change_rises old (Waits command permits) told tells =
       subst (λ (es : List Event). Rises old (changed old (Waits command permits)) (stamped t es)) (sym tells)
       (one_rises old (changed old (Waits command permits)) (Accepted _ command) refl (omega arith))
 
 module _ (t : ℕ) {D : Type 0} where
-  takes_rises : (old new : CoreOnDiskView D) (told : List Event) (turned : Turned) → Takes old new told turned → Rises old.core new.core (stamped t told)
+  takes_rises : (old new : CoreOnDiskView D) (told : List Event) (turned : Turned) → Takes old new told turned
+      → Rises old.core new.core (stamped t told)
   takes_rises old new told Made is = silent_rises t old.core new.core told is.5 (ap (λ (c : CoreView). c.number) is.1.others)
   takes_rises old new told Idle is = silent_rises t old.core new.core told is.2 (ap (λ (m : CoreOnDiskView D). m.core.number) is.1)
   takes_rises old new told Waited is = silent_rises t old.core new.core told is.2 (ap (λ (m : CoreOnDiskView D). m.core.number) is.1)
@@ -96,16 +101,19 @@ module _ (t : ℕ) {D : Type 0} where
     called_rises old new [] is = silent_rises t old.core new.core [] refl (ap (λ (c : CoreView). c.number) is.0)
     called_rises old new (e ∷ told) is =
         let same = ap (λ (c : CoreView). c.number) is.2 in
-        subst (λ (es : List Event). Rises old.core new.core (stamped t es)) (sym is.1) (one_rises t old.core new.core _ (sym same) (omega (arith, same)))
+        subst (λ (es : List Event). Rises old.core new.core (stamped t es)) (sym is.1) (one_rises t old.core new.core _ (sym same) (omega
+            (arith, same)))
 
     serves_rises : (needs : Need) (old new : CoreOnDiskView D) (told : List Event) (turned : Turned) → Serves disk needs old new told turned
         → Rises old.core new.core (stamped t told)
     serves_rises need.Batch old new told turned is = takes_rises old new told turned is
     serves_rises need.Disk old new told Made is = called_rises old new told is.2
     serves_rises need.Disk old new told Idle is = absurd is
-    serves_rises need.Disk old new told Waited is = silent_rises t old.core new.core told is.2 (ap (λ (m : CoreOnDiskView D). m.core.number) is.1)
+    serves_rises need.Disk old new told Waited is = silent_rises t old.core new.core told is.2 (ap (λ (m : CoreOnDiskView D).
+        m.core.number) is.1)
     serves_rises need.Publish old new told turned is = silent_rises t old.core new.core told is.1.4 (ap (λ (c : CoreView). c.number) is.1.2)
-    serves_rises need.Stopped old new told turned is = silent_rises t old.core new.core told is.2 (ap (λ (m : CoreOnDiskView D). m.core.number) is.1)
+    serves_rises need.Stopped old new told turned is = silent_rises t old.core new.core told is.2 (ap (λ (m : CoreOnDiskView D).
+        m.core.number) is.1)
 
     turn_rises : (committed : Option CommittedView) (old new : CoreOnDiskView D) (told : List Event) (turned : Turned)
         → IsTurn disk committed old new told turned → Rises old.core new.core (stamped t told)
@@ -119,13 +127,16 @@ module _ (t : ℕ) {D : Type 0} where
       port_rises : (there : Bool) (port : ℕ) (old new : CoreOnDiskView D) (ports last : PortsView L) (told : List Event)
           → StepsIf connection allows there port old new ports last told → Rises old.core new.core (stamped t told)
       port_rises true port old new ports last told is =
-          let becomes = step_becomes connection allows is.before is.after is.link is.linked old.core new.core is.called is.status is.steps_as in
+          let becomes = step_becomes connection allows is.before is.after is.link is.linked old.core new.core is.called is.status
+              is.steps_as in
           subst (λ (es : List Event). Rises old.core new.core (stamped t es)) (sym is.told_is)
           (subst (λ (ss : List Stamp). Rises old.core new.core ss) (sym (stamped_both t is.called is.status))
           (more_rises old.core new.core new.core (stamped t is.called) (stamped t is.status)
-          (subst (λ (c : CoreView). Rises old.core c (stamped t is.called)) (sym becomes.0.new_is) (change_rises t old.core becomes.0.change is.called becomes.0.tells))
+          (subst (λ (c : CoreView). Rises old.core c (stamped t is.called)) (sym becomes.0.new_is) (change_rises t old.core
+              becomes.0.change is.called becomes.0.tells))
           (quiet_rises t new.core new.core is.status becomes.1 refl)))
-      port_rises false port old new ports last told is = silent_rises t old.core new.core told is.2 (ap (λ (m : CoreOnDiskView D). m.core.number) is.0)
+      port_rises false port old new ports last told is = silent_rises t old.core new.core told is.2 (ap (λ (m : CoreOnDiskView D).
+          m.core.number) is.0)
 
       step_rises : (step : Step) (old new : CoreOnDiskView D) (ports last : PortsView L) (told : List Event) (turned : Turned)
           → Does disk connection allows step old new ports last told turned → Rises old.core new.core (stamped t told)

@@ -1,5 +1,6 @@
 -- Each client is answered once, as what was told before says.
-use Rattle.std.proofs.Common.{◌≡◌, refl, inl, inr, ⊎_elim, ◌⊎◌, ◌+◌, ℕ, nat_le, Bool, true, false, if◌then◌else◌, List, [], ◌∷◌, ◌++◌, length}
+use Rattle.std.proofs.Common.{◌≡◌, refl, inl, inr, ⊎_elim, ◌⊎◌, ◌+◌, ℕ, nat_le, Bool, true, false, if◌then◌else◌, List, [], ◌∷◌, ◌++◌}
+use Rattle.std.proofs.Common.{length}
 use Rattle.std.proofs.Common.{Option, Some, None, Result, Ok, Err, ap, sym, ◌∙◌, subst, rules, append-nil, append_assoc}
 use Rattle.iol_types.specs.Command.{CommandValue, Configure, Clear, Store, command_of}
 use Rattle.iol_types.specs.State.{State}
@@ -198,13 +199,15 @@ module _ (t : ℕ) where
   submit_on command (Ok n) old new is = one_on old new _ _ refl (λ never. never) (ap (λ (c : CoreView). c.stopped) is.2)
   submit_on command (Err f) old new is = one_on old new _ _ refl (λ never. never) (ap (λ (c : CoreView). c.stopped) is.1)
 
-  change_on : (old : CoreView) (change : Change) (told : List Event) → Tells old change told → GoesOn old (changed old change) (stamped t told)
+  change_on : (old : CoreView) (change : Change) (told : List Event) → Tells old change told
+      → GoesOn old (changed old change) (stamped t told)
   change_on old (Permits permits) told tells = record { same = refl; none = quiet_fails t told tells }
   change_on old (Waits command permits) told tells = one_on old _ told _ tells (λ never. never) refl
 
   module _ {D : Type 0} where
     port_on : {L : Type 0} (number : L → ℕ) (steps : L → LinkCall → LinkAnswer → L → Type 0) (there : Bool) (port : ℕ)
-        (old new : CoreOnDiskView D) (ports last : PortsView L) (told : List Event) → StepsIf number steps there port old new ports last told
+        (old new : CoreOnDiskView D) (ports last : PortsView L) (told : List Event)
+            → StepsIf number steps there port old new ports last told
         → GoesOn old.core new.core (stamped t told)
     port_on number steps true port old new ports last told is =
         let becomes = step_becomes number steps is.before is.after is.link is.linked old.core new.core is.called is.status is.steps_as in
@@ -297,7 +300,8 @@ module _ (first : ℕ) (start : State) where
   unfolding answers_in
   answers_none t before [] none = refl
   answers_none t before (e ∷ told) none =
-      next_none (λ (rest : List CommandValue). AnswersClients first start (before ++ record { event = e; clock = t } ∷ []) rest (stamped t told))
+      next_none (λ (rest : List CommandValue). AnswersClients first start (before ++ record { event = e; clock = t } ∷ []) rest (stamped t
+          told))
       before e told (is_answer e) none (λ behind. answers_none t (before ++ record { event = e; clock = t } ∷ []) told behind)
 
   -- what answers more, behind what answers some
@@ -337,7 +341,8 @@ module _ (first : ℕ) (start : State) where
           subst (λ (f : Option SubmitFault). IsAnswer old command (Accepted n command) f) (sym is.0)
           (ap (λ (m : ℕ). Accepted m command) is.1)
 
-      refused : (command : CommandValue) (f : SubmitFault) → IsSubmit old command new (Err f) → IsAnswer old command (Refused (refusal_of f))
+      refused : (command : CommandValue) (f : SubmitFault) → IsSubmit old command new (Err f)
+          → IsAnswer old command (Refused (refusal_of f))
           (submit_fault old command)
       refused command f is =
           subst (λ (o : Option SubmitFault). IsAnswer old command (Refused (refusal_of f)) o) (sym is.0) refl
@@ -345,7 +350,8 @@ module _ (first : ℕ) (start : State) where
       by : (change : client.Change) (answer : Result ℕ SubmitFault) → IsSubmit old (command_of change) new answer
           → AnswersClients first start before (command_of change ∷ []) (stamped t (submit_told (command_of change) answer))
       by (asked.Configure port config) (Ok n) is =
-          (_, [], refl, answered (command_of (asked.Configure port config)) _ (accepted (command_of (asked.Configure port config)) n is), refl)
+          (_, [], refl, answered (command_of (asked.Configure port config)) _ (accepted (command_of (asked.Configure port config)) n is),
+              refl)
       by (asked.Clear port) (Ok n) is =
           (_, [], refl, answered (command_of (asked.Clear port)) _ (accepted (command_of (asked.Clear port)) n is), refl)
       by change (Err f) is = (_, [], refl, answered (command_of change) _ (refused (command_of change) f is), refl)

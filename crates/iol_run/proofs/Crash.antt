@@ -65,20 +65,25 @@ module _ {D : Type 0} (disk : D → Disk) (start : Start) where
           (marks_of run.begun start.number run.events) run.master.flusher.stage marked)
 
 -- what an image means is the number and the state of how a journal stands on it
-abbrev number_in : Result Meaning Cause → ℕ
+abbrev pub number_in : Result Meaning Cause → ℕ
 number_in (Ok m) = m.number
 number_in (Err cause) = 0
 
-abbrev state_in : Result Meaning Cause → State
+abbrev pub state_in : Result Meaning Cause → State
 state_in (Ok m) = m.state
 state_in (Err cause) = []
 
-abbrev meaning_of : ℕ → State → Result Meaning Cause
+abbrev pub meaning_of : ℕ → State → Result Meaning Cause
 meaning_of number state = Ok (record { number = number; state = state })
+
+-- one meaning has one number and one state
+pub one_meaning : (number other : ℕ) (state more : State) → meaning_of number state ≡ meaning_of other more
+    → (number ≡ other) × (state ≡ more)
+one_meaning number other state more same = (ap number_in same, ap state_in same)
 
 pub means_is : (sectors : ℕ) (image : Image) (s : Standing) (first : ℕ) (state : State) → standing_in sectors image ≡ Ok s
     → meaning sectors image ≡ Ok (record { number = first; state = state }) → (s.number ≡ first) × (s.state ≡ state)
-means_is sectors image s first state stands means = (ap number_in same, ap state_in same)
+means_is sectors image s first state stands means = one_meaning s.number first s.state state same
   where
     same : meaning_of s.number s.state ≡ meaning_of first state
     same = sym (ap (λ (r : Result Standing Cause). r >>= λ s. Ok (record { number = s.number; state = s.state })) stands) ∙ means

@@ -95,6 +95,7 @@ module _ {L : Type 0} (number : L → ℕ) (steps : L → LinkCall → LinkAnswe
       let woken = woken_first (noted_by event before).stage in
       let acting = acting_history port before after link last old new called status history led is in (
         awake is.noted_value,
-        subst (λ (es : List Happening). HasLed port es (awake is.noted_value)) (sym (append_assoc woken (raised_first event) history)) acting,
+        subst (λ (es : List Happening). HasLed port es (awake is.noted_value)) (sym (append_assoc woken (raised_first event) history))
+            acting,
         is.acts.did,
       )

@@ -20,7 +20,8 @@ within layout some nine =
     subst (λ (n : ℕ). queue_turns layout ≤ 128 * (2 + 2 * (2 + n * layout.ports + 17 * layout.slots + layout.spare_sectors))) (sym nine)
     (omega (arith, some))
 
-pub turns_within : (sectors : ℕ) (image : Image) (s : Standing) → standing_in sectors image ≡ Ok s → queue_turns s.layout ≤ 128 * total s.layout
+pub turns_within : (sectors : ℕ) (image : Image) (s : Standing) → standing_in sectors image ≡ Ok s
+    → queue_turns s.layout ≤ 128 * total s.layout
 turns_within sectors image s is =
     let read = layout_in-geometry sectors image s.layout (stands_read sectors image s is).2.layout in
     within s.layout (subst (λ (l : Layout). 1 ≤ l.slots) (sym read.2) read.1.some_slot) (ap (λ (l : Layout). l.port_sectors) read.2)

@@ -1,5 +1,6 @@
 -- What the steps of a run tell of each port is a run of its machine.
-use Rattle.std.proofs.Common.{◌≡◌, ◌<◌, ◌⊎◌, inl, inr, refl, ◌+◌, ◌-◌, ℕ, zero, suc, nat_eq, nat_le, Bool, true, false, List, [], ◌∷◌, ◌++◌, length, Some}
+use Rattle.std.proofs.Common.{◌≡◌, ◌<◌, ◌⊎◌, inl, inr, refl, ◌+◌, ◌-◌, ℕ, zero, suc, nat_eq, nat_le, Bool, true, false, List, [], ◌∷◌, ◌++◌}
+use Rattle.std.proofs.Common.{length, Some}
 use Rattle.std.proofs.Common.{◌≤◌, slice_get, slice_set, get_or, ap, sym, ◌∙◌, subst, arith, append-nil, append_assoc}
 use Rattle.std.proofs.lemmas.Bool.{eqb-true}
 use Rattle.std.proofs.lemmas.Bool.Decides.{nat_tests}
@@ -47,13 +48,15 @@ apart_from place count q within (inl none) = grind (arith, nat_tests, none)
 apart_from place count q within (inr beyond) = apart_far (place + 1) q (omega (arith, within, beyond))
 
 -- one step more, which is another's, or the port's own
-steps_behind : (port : ℕ) (made : List Step) (step : Step) → steps_of port (made ++ step ∷ []) ≡ steps_of port made + steps_of port (step ∷ [])
+steps_behind : (port : ℕ) (made : List Step) (step : Step) → steps_of port (made ++ step ∷ []) ≡ steps_of port made + steps_of port (step ∷
+    [])
 steps_behind port [] step = omega arith
 steps_behind port (Client change ∷ made) step = steps_behind port made step
 steps_behind port (Port told ∷ made) step = omega (arith, steps_behind port made step)
 steps_behind port (Flush ∷ made) step = steps_behind port made step
 
-unmoved : (port : ℕ) (made : List Step) (step : Step) → steps_of port (step ∷ []) ≡ 0 → steps_of port (made ++ step ∷ []) ≡ steps_of port made
+unmoved : (port : ℕ) (made : List Step) (step : Step) → steps_of port (step ∷ []) ≡ 0
+    → steps_of port (made ++ step ∷ []) ≡ steps_of port made
 unmoved port made step none = omega (arith, steps_behind port made step, none)
 
 own_step : (port told : ℕ) → told ≡ port → steps_of port (Port told ∷ []) ≡ 1
@@ -162,14 +165,16 @@ module _ {L : Type 0} (number : L → ℕ) (steps : L → LinkCall → LinkAnswe
         machines = is.machines;
         runs = λ place begun link machine at linked there.
             let within = slice_get_within links place begun at in
-            subst (λ (n : ℕ). IsRun (place + 1) begun n machine link (events ++ more)) (sym (unmoved (place + 1) made step (still place within)))
+            subst (λ (n : ℕ). IsRun (place + 1) begun n machine link (events ++ more)) (sym (unmoved (place + 1) made step (still place
+                within)))
             (more_events (place + 1) begun (steps_of (place + 1) made) machine link events more (is.runs place begun link machine at linked
             there) (none (place + 1)));
         others = λ port beyond. own-append port events more
             ∙ (ap (λ (es : List Event). es ++ own port more) (is.others port beyond) ∙ none port);
       })
 
-  module _ {D : Type 0} (made : List Step) (t port : ℕ) (links : List L) (old new : CoreOnDiskView D) (ports last : PortsView L) (events : List Stamp)
+  module _ {D : Type 0} (made : List Step) (t port : ℕ) (links : List L) (old new : CoreOnDiskView D) (ports last : PortsView L) (events :
+      List Stamp)
       (told : List Event)
       (core : IsCoreAfter first start events old.core) (are : HaveRuns made links ports events)
       (is : StepsThere number steps port old new ports last told) where
@@ -226,7 +231,8 @@ module _ {L : Type 0} (number : L → ℕ) (steps : L → LinkCall → LinkAnswe
           others = refl;
         })
 
-    run_at : (other : ℕ) (same : Bool) → nat_eq other place ≡ same → RunAt (made ++ Port port ∷ []) links last (events ++ stamped t told) other
+    run_at : (other : ℕ) (same : Bool) → nat_eq other place ≡ same
+        → RunAt (made ++ Port port ∷ []) links last (events ++ stamped t told) other
     run_at other true eq = λ begun link machine at linked there.
         let here : other ≡ place = eqb-true other place eq in
         let count : ℕ → ℕ = λ n. steps_of (n + 1) (made ++ Port port ∷ []) in

@@ -48,7 +48,8 @@ module _ {D L : Type 0} (disk : D → Disk) (number : L → ℕ) (steps : L → 
         ArePortRuns number steps journal.standing.number journal.standing.state made links (told_in trace) ls) (sym from.links_are)
         (subst (λ (ss : List Stamp).
         ArePortRuns number steps journal.standing.number journal.standing.state made links ss from.new.ports.links) (sym from.told)
-        (all_port_runs number steps journal.standing.number journal.standing.state disk made from.waits journal links from.old from.new refl refl
+        (all_port_runs number steps journal.standing.number journal.standing.state disk made from.waits journal links from.old from.new
+            refl refl
         count from.fresh run));
     links_made =
         subst (λ (ls : List L). AreLinkRuns number steps links (told_in trace) ls) (sym from.links_are)
@@ -81,7 +82,8 @@ module _ {D L : Type 0} (disk : D → Disk) (number : L → ℕ) (steps : L → 
       answered : AnswersClients journal.standing.number journal.standing.state [] (clients_of made) from.new.events
           × (from.new.master.core.durable ≡ durable journal.standing.number journal.standing.state from.new.events)
       answered =
-          all_answered journal.standing.number journal.standing.state disk number steps made from.waits journal links from.old from.new refl refl
+          all_answered journal.standing.number journal.standing.state disk number steps made from.waits journal links from.old from.new
+              refl refl
           from.fresh run
 
   -- what was run over a journal is a trace over the disk that it was recovered from

@@ -1,5 +1,6 @@
 -- What is told of a port is what its machine, its link and the core did, step by step.
-use Rattle.std.specs.Prelude.{◌≡◌, ◌<◌, ◌+◌, ◌⊎◌, ℕ, zero, suc, nat_eq, if◌then◌else◌, List, [], ◌∷◌, ◌++◌, length, Option, Some, None, slice_get}
+use Rattle.std.specs.Prelude.{◌≡◌, ◌<◌, ◌+◌, ◌⊎◌, ℕ, zero, suc, nat_eq, if◌then◌else◌, List, [], ◌∷◌, ◌++◌, length, Option, Some, None}
+use Rattle.std.specs.Prelude.{slice_get}
 use Rattle.iol_types.specs.State.{State, after}
 use Rattle.iol_core.specs.Core.{CoreView, live, live_number}
 use Rattle.iol_link.specs.Link.{LinkCall, LinkAnswer}

@@ -6,7 +6,8 @@
 //!
 //! Modules in reading order: `core_on_disk`, a core and the flusher that brings its batches to the disk; `said`, `event`
 //! and `moment`, what is told and when; `port_step` and `ports`, the machines of ports over their links; `step` and `task`, what
-//! a schedule consists of; `run` and `schedule`. What a turn of the flusher does is said in `specs/Turns.antt`, what a step of a port does in
+//! a schedule consists of; `run` and `schedule`. What a turn of the flusher does is said in `specs/Turns.antt`, what a step of a port does
+//in
 //! `specs/PortSteps.antt` and `specs/Ports.antt`, what a step tells in `specs/Steps.antt`, and what a schedule does in
 //! `specs/Schedules.antt`.
 #![tactic(auto)]

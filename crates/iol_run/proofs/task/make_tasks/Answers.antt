@@ -16,7 +16,8 @@ returns-in-Memory-clause-runs g c =
     let l = g.L.DeviceLink in
     let is = c.loop-task.invariant in
     let tried : Tries d l.number l.steps Memory c.task-item.result c.make_task-ended.result.1 c.loop-task.run c.make_task-ended.new.run =
-    subst (λ (e : Ended). Tries d l.number l.steps e c.task-item.result c.make_task-ended.result.1 c.loop-task.run c.make_task-ended.new.run)
+    subst (λ (e : Ended). Tries d l.number l.steps e c.task-item.result c.make_task-ended.result.1 c.loop-task.run
+        c.make_task-ended.new.run)
     c.in-Memory.is c.make_task-ended.ensures.tries in (
       is.made ++ tried.0,
       is.waited + c.make_task-ended.result.1,
@@ -37,7 +38,8 @@ returns-in-Memory-clause-runs g c =
         made_is = refl;
         waits_is = refl;
       },
-      count_more c.loop-task.waits is.waited c.make_task-ended.result.1 c.saturating_add-waits.result is.count c.saturating_add-waits.ensures,
+      count_more c.loop-task.waits is.waited c.make_task-ended.result.1 c.saturating_add-waits.result is.count
+          c.saturating_add-waits.ensures,
     )
 
 -- one more task is done
@@ -61,7 +63,8 @@ loop-task-preserved g c =
           subst (λ (ts : List Task).
           HasDoneAll d l.number l.steps ts (is.made ++ tried.0) (is.waited + c.make_task-ended.result.1) c.args.run.now
           c.make_task-ended.new.run) (sym more)
-          (done_more d l.number l.steps (take i tasks) item is.made tried.0 is.waited c.make_task-ended.result.1 c.args.run.now c.loop-task.run
+          (done_more d l.number l.steps (take i tasks) item is.made tried.0 is.waited c.make_task-ended.result.1 c.args.run.now
+              c.loop-task.run
           c.make_task-ended.new.run is.done tried.1);
       count =
           count_more c.loop-task.waits is.waited c.make_task-ended.result.1 c.saturating_add-waits.result is.count

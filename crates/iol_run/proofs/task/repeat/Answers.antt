@@ -17,7 +17,8 @@ loop-preserved g c =
     record {
       made =
           subst (λ (ss : List Step).
-          HasMade d l.number l.steps ss (c.loop.waits + c.waits_of-waits.result) c.args.run.now c.step.new.self) (sym (replicate_next made step))
+          HasMade d l.number l.steps ss (c.loop.waits + c.waits_of-waits.result) c.args.run.now c.step.new.self) (sym (replicate_next made
+              step))
           (subst (λ (n : ℕ). HasMade d l.number l.steps (replicate made step ++ step ∷ []) n c.args.run.now c.step.new.self) (sym counted)
           (made_more d l.number l.steps (replicate made step) step c.in-Ok.turned c.loop.waits c.args.run.now c.loop.run c.step.new.self
           c.loop.invariant.made c.in-Ok.ensures.did));

@@ -1,0 +1,77 @@
+-- A script that was played: the run that it asked for, and what was recovered of the run's disk.
+use Rattle.std.specs.Prelude.{◌≡◌, ◌≤◌, ℕ, pos, List, length, take, Option, Some, None, Ok}
+use Rattle.iol_types.specs.State.{State, after, empty_state}
+use Rattle.iol_disk.specs.Content.{reads}
+use Rattle.iol_disk.specs.Disk.{Disk}
+use Rattle.iol_disk.specs.FaultDisk.{as_disk, inner, kind_of, due_of}
+use Rattle.iol_disk.specs.Memory as memory
+use Rattle.iol_disk.specs.Stops.{IsAfterStop}
+use Rattle.iol_disk.specs.declared.fault_disk.FaultDisk.{FaultDisk}
+use Rattle.iol_disk.specs.declared.memory.MemoryDisk.{MemoryDisk}
+use Rattle.iol_disk.specs.declared.pick.Pick.{Pick}
+use Rattle.iol_headline.specs.Headline.{IsHeadline}
+use Rattle.iol_journal.specs.Geometry.{Geometry, IsGeometry}
+use Rattle.iol_journal.specs.Kept.{EachMeans}
+use Rattle.iol_journal.specs.Meaning.{meaning}
+use Rattle.iol_run.specs.Schedules.{told_in}
+use Rattle.iol_run.specs.declared.schedule.Ended.TheVariants.{Whole}
+use Rattle.iol_run.specs.declared.schedule.Trace.{Trace}
+use Rattle.iol_script.specs.Script.{Said}
+use Rattle.iol_script.specs.declared.fail.FailingCall.{FailingCall}
+use Rattle.iol_sim.specs.SimLink.{Sim, SimStep}
+use Rattle.iol_trace.specs.Events.{Stamp}
+use Rattle.iol_trace.specs.Words.{accepted, acked}
+use Rattle.iol_commands.specs.Devices.{links_of}
+use Rattle.iol_commands.specs.Steps.{tasks_of}
+use Rattle.iol_commands.specs.Stop.{due_at}
+use Rattle.iol_commands.specs.declared.run.Report.{Report}
+
+-- the disk of a run, as contracts see it: in memory, and one call of it may fail (own)
+abbrev pub run_disk : FaultDisk MemoryDisk → Disk
+run_disk disk = as_disk memory.as_disk disk
+
+-- a geometry has the numbers that a script says (format, Scripts)
+pub record IsSaidGeometry (said : Said) (geometry : Geometry) : Type 0 where
+  pub ports : said.ports ≡ pos geometry.ports
+  pub slots : said.slots ≡ pos geometry.slots
+  pub sound : IsGeometry geometry
+
+-- the disk call that a script names fails, and no other (format, Scripts)
+abbrev pub FailsAsSaid : Option FailingCall → FaultDisk MemoryDisk → Type 0
+FailsAsSaid None disk = due_of disk ≡ due_at None
+FailsAsSaid (Some call) disk = (kind_of disk ≡ call.kind) × (due_of disk ≡ due_at (Some call))
+
+-- the run that a script asks for: of its tasks, all of them, over an empty journal of its geometry, with its devices at the ports
+-- and its disk call failing (format, Scripts)
+pub record IsRunOf (said : Said) (geometry : Geometry) (given : FaultDisk MemoryDisk) (trace : Trace (FaultDisk MemoryDisk) Sim) : Type 0
+    where
+  pub empty : EachMeans (run_disk given) 0 (empty_state geometry.ports)
+  pub fails : FailsAsSaid said.fail given
+  pub headline : IsHeadline run_disk (λ (link : Sim). link.connection) SimStep given (links_of geometry.ports said.devices)
+      (tasks_of said.steps) trace
+  pub whole : trace.ended ≡ Whole
+
+-- the power was stopped as a script says, and this number and state is what the disk then means (format, Scripts)
+pub record IsStoppedAs (keep : Pick) (last : MemoryDisk) (number : ℕ) (state : State) : Type 0 where
+  pub stopped : MemoryDisk
+  pub power : IsAfterStop keep (memory.as_disk last) (memory.as_disk stopped)
+  pub means : meaning (memory.as_disk stopped).sectors (reads (memory.as_disk stopped).content)
+      ≡ Ok (record { number = number; state = state })
+
+-- a state is that after the first of the commands that were accepted, from an empty state on: so many that those that were
+-- acknowledged are among them (own)
+pub record HoldsAcknowledged (ports : ℕ) (events : List Stamp) (number : ℕ) (state : State) : Type 0 where
+  pub within : number ≤ length (accepted events)
+  pub reaches : acked 0 events ≤ number
+  pub state_is : state ≡ after (empty_state ports) (take number (accepted events))
+
+-- a script was played: its run was made, its power was stopped, and what was recovered holds all that was acknowledged (own)
+pub record IsPlayed (said : Said) (report : Report) : Type 0 where
+  pub geometry : Geometry
+  pub given : FaultDisk MemoryDisk
+  pub trace : Trace (FaultDisk MemoryDisk) Sim
+  pub numbers : IsSaidGeometry said geometry
+  pub run : IsRunOf said geometry given trace
+  pub events : report.events ≡ trace.events
+  pub stopped : IsStoppedAs said.keep (inner trace.disk) report.recovered.number report.recovered.state
+  pub holds : HoldsAcknowledged geometry.ports (told_in trace) report.recovered.number report.recovered.state
