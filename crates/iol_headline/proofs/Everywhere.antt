@@ -18,6 +18,7 @@ use Rattle.iol_headline.proofs.Talks.{at_own}
 use Rattle.iol_headline.specs.Laws.{IsLawful}
 use Rattle.iol_headline.specs.Places.{Everywhere}
 
+-- a place of a list has an element
 there_is : {A : Type 0} (xs : List A) (i : ℕ) → i < length xs → (x : A) × (slice_get xs i ≡ Some x)
 there_is [] i within = absurd (omega (arith, within))
 there_is (x ∷ xs) zero within = (x, refl)
@@ -64,6 +65,7 @@ module _ (first : ℕ) (start : State) where
         everywhere (OwnLaw first start (place + 1)) events
         (run_told first start (place + 1) number steps (port_there place within) begun is.made is.machine link events is.run).each
 
+    -- each event of the trace
     all_lawful : (links : List L) (events : List Stamp) (last : List L) → length last ≡ length links
         → ArePortRuns number steps first start links events last → Everywhere (IsLawfulAt first start) events
     all_lawful links events last count are before behind e split =
@@ -80,6 +82,7 @@ module _ (first : ℕ) (start : State) where
             (ported there.0 begun.0 link.0 events (omega (arith, there.2, are.count)) (are.runs there.0 begun.0 link.0 begun.1 link.1)
             before behind e split)
 
+    -- the whole trace
     pub lawful : (links : List L) (events : List Stamp) (last : List L) → length last ≡ length links
         → ArePortRuns number steps first start links events last → AcksRise first events → IsLawful first start events
     lawful links events last count are rise = record {
