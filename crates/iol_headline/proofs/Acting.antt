@@ -52,24 +52,30 @@ module _ {L : Type 0} (number : L → ℕ) (steps : L → LinkCall → LinkAnswe
   abbrev machine : Option ℕ → Bool → Stage → PortValue
   machine under kept stage = record { port = port; under = under; kept = kept; stage = stage }
 
+  -- the status stays
   stays : (called : List Event) (stage : Stage) → Told first start port (number link) (events ++ stamped clock called) stage
       → Leads called stage stage
   stays called stage is = still first start port (number link) events clock called stage is
 
+  -- the port settles
   rests : (called : List Event) (was : PortStatus) (own : Rest) → Goes first start port (number link) events clock called was (Settled own)
   rests called was own = settles first start port (number link) events clock called was own
 
+  -- the machine goes on, or starts
   moves : (called : List Event) (was : PortStatus) (value : PortValue) (next : Next)
       → NextGoes first start port (number link) events clock called was next
       → Goes first start port (number link) events clock called was (moved value next).stage
   moves called was value next goes = moved_goes first start port (number link) events clock called was value next goes
 
+  -- what was told is this
   by_called : (called is : List Event) (was stage : Stage) → called ≡ is → Leads is was stage → Leads called was stage
   by_called called is was stage same goes = subst (λ (es : List Event). Leads es was stage) (sym same) goes
 
+  -- the stage behind what was heard
   abbrev After : Option ℕ → Bool → Stage → Input → Stage
   After under kept stage heard = (fed (machine under kept (after_action stage)) heard).stage
 
+  -- the table: each stage, and each thing that it may hear
   acts_goes : (under : Option ℕ) (kept : Bool) (stage : Stage) (heard : Input) (called : List Event) → IsTold stage → IsAtHand stage
       → ComesOf (wanted port stage) heard → Hears number steps port (wanted port stage) heard link last old new called
       → IsStage (After under kept stage heard) → Leads called stage (After under kept stage heard)
@@ -149,6 +155,7 @@ module _ {L : Type 0} (number : L → ℕ) (steps : L → LinkCall → LinkAnswe
   acts_goes under kept (Returning (held.Download permit) own) heard called is hand comes hears good = absurd comes
   acts_goes under kept (Returned transfer own) heard called is hand comes hears good = absurd cc
 
+  -- memory runs out in an upload
   out_goes : (was : Stage) (heard : Result Answer IsduFault) (later : Stage) (called : List Event) → RunsOut (after_action was) heard later
       → Leads called was later
   out_goes (Uploading grant page upload) heard later called out =

@@ -44,6 +44,7 @@ use Rattle.iol_headline.proofs.Stages.{Begins, Downloads, Told}
 use Rattle.iol_headline.proofs.Talks.{talk_more, own_more}
 use Rattle.iol_headline.specs.Conversations.{Converses}
 
+-- words that are apart
 downloading_starts : status.Downloading ≡ status.Starting → ⊥
 downloading_starts same = cc
 
@@ -63,13 +64,16 @@ module _ (first : ℕ) (start : State) (port connection : ℕ) (events : List St
   abbrev Leads : List Event → PortStatus → Stage → Type 0
   Leads called was stage = Goes first start port connection events clock called was stage
 
+  -- the status stays
   stays : (called : List Event) (stage : Stage) → Told first start port connection (behind called) stage
       → Leads called (status_of stage) stage
   stays called stage is = still first start port connection events clock called stage is
 
+  -- the port settles
   rests : (called : List Event) (was : PortStatus) (own : Rest) → Leads called was (Settled own)
   rests called was own = settles first start port connection events clock called was own
 
+  -- the core gives a permit to download, or refuses it
   pub download_goes : (found : Found) (checksum : ℕ) (begins : Result DownloadBegun DownloadFault) (old new : CoreView)
       → IsCoreAfter first start events old
       → Begins first start port connection decision.Download found events
@@ -106,6 +110,7 @@ module _ (first : ℕ) (start : State) (port connection : ℕ) (events : List St
         ((λ one. absurd (down_up (sym now.0 ∙ one))), (λ one. examined)),
       )
 
+  -- the answer to a request of a download
   pub sent_goes : (permit : ℕ) (page : PageValue) (download : Sender) (octets back : List ℕ) (heard : Result Answer IsduFault)
       → IsShortestRequest octets (sent_by download.sends)
       → Downloads first start port connection download events → answer_of back ≡ heard

@@ -19,6 +19,7 @@ use Rattle.iol_headline.proofs.Talks.{at_own}
 use Rattle.iol_headline.specs.Laws.{IsLawful}
 use Rattle.iol_headline.specs.Places.{Everywhere}
 
+-- a place of a list has an element
 there_is : {A : Type 0} (xs : List A) (i : ℕ) → i < length xs → (x : A) × (slice_get xs i ≡ Some x)
 there_is [] i within = absurd (omega (arith, within))
 there_is (x ∷ xs) zero within = (x, refl)
@@ -65,6 +66,7 @@ module _ (first : ℕ) (start : State) where
         everywhere (OwnLaw first start (place + 1)) events
         (run_told first start (place + 1) number steps (port_there place within) begun made is.machine link events is.run).each
 
+    -- each event of the trace
     all_lawful : (made : List Step) (links : List L) (events : List Stamp) (last : List L) → length last ≡ length links
         → ArePortRuns number steps first start made links events last → Everywhere (IsLawfulAt first start) events
     all_lawful made links events last count are before behind e split =
@@ -82,6 +84,7 @@ module _ (first : ℕ) (start : State) where
                 begun.0 link.0 begun.1 link.1)
             before behind e split)
 
+    -- the whole trace
     pub lawful : (made : List Step) (links : List L) (events : List Stamp) (last : List L) → length last ≡ length links
         → ArePortRuns number steps first start made links events last → AcksRise first events → IsLawful first start events
     lawful made links events last count are rise = record {

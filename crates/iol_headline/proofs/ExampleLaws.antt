@@ -37,12 +37,14 @@ long = (record { index = 0x0040; subindex = 0x00 }, 0x0A ∷ 0x64 ∷ [])
 abbrev short : Entry
 short = (record { index = 0x0041; subindex = 0x01 }, 0x7F ∷ [])
 
+-- the entries are ones that a set may have
 are : AreEntries (long ∷ short ∷ [])
 are =
     one-more (long ∷ []) short.0 short.1
     (one-more [] long.0 long.1 no-entries (record { index = omega arith; subindex = omega arith }) (may_be_added [] long.0 long.1 refl))
     (record { index = omega arith; subindex = omega arith }) (may_be_added (long ∷ []) short.0 short.1 refl)
 
+-- the exchanges are a finished upload of the set
 pub finished : IsFinished 500 43981 uploading (example_set 0x7F)
 finished = record {
   settled = uploading;
@@ -85,6 +87,7 @@ finished = record {
 
 -- ---- what the laws say of the trace
 
+-- the sensor and its replacement were examined before a transfer was decided
 pub flagged_examined : IsExamined decision.Upload 1 (own 1 (stamped 7 flagged))
 flagged_examined = record {
   before = Attended 1 (example_work None) ∷ Changed 1 Starting ∷ [];
@@ -134,6 +137,7 @@ flagged_page = record {
   connected = tt;
 }
 
+-- the page of the replacement is shown
 replaced_page : HasPage 1 1 (page_of example_page) (own 1 (stamped 7 replaced))
 replaced_page = record {
   before = before_replaced_page;
@@ -144,6 +148,7 @@ replaced_page = record {
   connected = tt;
 }
 
+-- the set was uploaded whole, and is stored
 pub whole : IsUploadedWhole 1 0 (example_set 0x7F) (stamped 7 uploaded)
 whole = record {
   early = stamped 7 flagged;
@@ -173,6 +178,7 @@ stored_whole = record {
   busy = refl;
 }
 
+-- the port settles by the page of its device
 pub judged_ready : IsJudged 1 None (own 1 (stamped 7 ended))
 judged_ready = record {
   work = example_work None;
@@ -224,6 +230,7 @@ judged_restored = record {
 
 -- ---- the download of the set
 
+-- each of both parameters is the next that the download writes
 pub first_write : IsDownloadOf 0 (empty_state 2) 1 1 (request.Write 0x0040 0x00 (carried (0x0A ∷ 0x64 ∷ []))) (stamped 7 restoring)
 first_write = record {
   early = stamped 7 replaced;

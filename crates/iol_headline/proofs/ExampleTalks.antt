@@ -125,6 +125,7 @@ restoring_exchanges =
     start_told ∷ first_told ∷ trace.Exchange 1 1 (0x25 ∷ 0x41 ∷ 0x01 ∷ 0x7F ∷ 0x1A ∷ []) (0x52 ∷ 0x52 ∷ [])
     ∷ trace.Exchange 1 1 (0x25 ∷ 0x03 ∷ 0x01 ∷ 0x04 ∷ 0x23 ∷ []) (0x52 ∷ 0x52 ∷ []) ∷ []
 
+-- the begin of the download, and its first parameter
 pub start_talk : Converses 1 1 (start_told ∷ []) (done (commanded DownloadStart) ∷ [])
 start_talk = (
   done (commanded DownloadStart),
@@ -154,6 +155,7 @@ first_talk = (
 abbrev pub both_read : List ℕ → List ℕ → List Exchange
 both_read state sum = read_of 3 2 state ∷ read_of 3 4 sum ∷ []
 
+-- both devices are examined
 pub flagged_talk : Converses 1 0 flagged_reads (both_read (0x80 ∷ []) (0x00 ∷ 0x00 ∷ 0x02 ∷ 0x4F ∷ []))
 flagged_talk = (
   read_of 3 2 (0x80 ∷ []),
@@ -208,6 +210,7 @@ checksum = read_of 3 4 (0x00 ∷ 0x00 ∷ 0x02 ∷ 0x4F ∷ [])
 abbrev pub uploading : List Exchange
 uploading = start ∷ size ∷ index_list ∷ first_value ∷ second_value ∷ checksum ∷ []
 
+-- the whole upload
 pub upload_talk : Converses 1 0 upload uploading
 upload_talk = (
   start,

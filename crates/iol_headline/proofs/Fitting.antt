@@ -38,6 +38,7 @@ connected-append (Page port connection octets ∷ told) more these those = absur
 connected-append (Lost port connection request ∷ told) more these those = absurd these
 connected-append (e ∷ told) more these those = connected-append told more these those
 
+-- the last work and the last page stay among more events
 pub last_more : (port : ℕ) (work : shows.Work) (events more : List Event) → WasToldLast port work events → AreUnsettled more
     → WasToldLast port work (events ++ more)
 last_more port work events more is quiet = record {
@@ -59,6 +60,7 @@ page_more port connection page events more is quiet = record {
   connected = connected-append is.since more is.connected quiet;
 }
 
+-- so does what was judged by them
 pub judged_more : (port : ℕ) (why : Option IdentFault) (events more : List Event) → IsJudged port why events → AreQuiet more
     → IsJudged port why (events ++ more)
 judged_more port why events more is quiet = record {
@@ -81,6 +83,7 @@ pub record Fits (port : ℕ) (found : Found) (events : List Event) : Type 0 wher
   pub shown : HasPage port connection found.page events
   pub wanted : ident_fault found.work.config found.page ≡ None
 
+-- a device that was found is still the one
 pub fits_more : (port : ℕ) (found : Found) (events more : List Event) → Fits port found events → AreQuiet more
     → Fits port found (events ++ more)
 fits_more port found events more is quiet = record {

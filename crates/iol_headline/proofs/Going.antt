@@ -40,6 +40,7 @@ IsPlain status.Uploading = ⊥
 IsPlain status.Downloading = ⊥
 IsPlain now = Unit {0}
 
+-- a settled port makes no transfer
 pub rest_plain : (own : Rest) → IsPlain (status_at_rest own)
 rest_plain rest.Off = tt
 rest_plain rest.Lost = tt
@@ -55,12 +56,14 @@ Began port events told =
     (told ≡ Changed port shows.Uploading ∷ [] → IsExamined decision.Upload port (own port events))
     × (told ≡ Changed port shows.Downloading ∷ [] → IsExamined decision.Download port (own port events))
 
+-- lists and statuses that are apart, or the same
 pub nil_one : (e : Event) → (let none : List Event = [] in none ≡ e ∷ []) → ⊥
 nil_one e same = cc
 
 pub status_is : (port : ℕ) (one other : shows.Status) → Changed port one ∷ [] ≡ Changed port other ∷ [] → one ≡ other
 status_is port one other same = cc
 
+-- neither is another status told as these
 plain_uploads : (now : PortStatus) → IsPlain now → status_told now ≡ shows.Uploading → ⊥
 plain_uploads status.Uploading plain same = plain
 plain_uploads status.Downloading plain same = plain
@@ -71,6 +74,7 @@ plain_downloads status.Uploading plain same = plain
 plain_downloads status.Downloading plain same = plain
 plain_downloads now plain same = absurd cc
 
+-- no transfer begins where nothing is told, or another status
 pub none_began : (port : ℕ) (events : List Stamp) (told : List Event) → told ≡ [] → Began port events told
 none_began port events told none = ((λ one. absurd (nil_one _ (sym none ∙ one))), (λ one. absurd (nil_one _ (sym none ∙ one))))
 
@@ -123,6 +127,7 @@ module _ (first : ℕ) (start : State) (port connection : ℕ) where
       )
       by false = settles events clock called was rest.Off
 
+  -- the machine goes on, or starts
   pub moved_goes : (events : List Stamp) (clock : ℕ) (called : List Event) (was : PortStatus) (value : PortValue) (next : Next)
       → NextGoes events clock called was next → Goes events clock called was (moved value next).stage
   moved_goes events clock called was value (To stage) goes = goes
@@ -142,6 +147,7 @@ module _ (first : ℕ) (start : State) (port connection : ℕ) where
       (ap (λ (s : State). port_numbered s port) (sym (ap (λ (es : List Stamp). after start (accepted es)) split ∙ after-more upto more))
       ∙ later)
 
+  -- what is found is one
   some_same : (x y : Work) → Some x ≡ Some y → x ≡ y
   some_same x y same = cc
 
@@ -154,6 +160,7 @@ module _ (first : ℕ) (start : State) (port connection : ℕ) where
     pub there : port_numbered (after start (accepted events)) port ≡ Some kept
     pub work_is : work ≡ work_of kept (durable_set old port)
 
+  -- what the core answers is what it knows
   pub is_said : (events : List Stamp) (old : CoreView) (work : Work) → IsCoreAfter first start events old → Some work ≡ work_at old port
       → IsSaid work old events
   is_said events old work core at = by (port_numbered (live old) port) refl at
@@ -167,6 +174,7 @@ module _ (first : ℕ) (start : State) (port connection : ℕ) where
         work_is = some_same work _ is;
       }
 
+  -- the core has just said it
   pub was_said : (events : List Stamp) (old : CoreView) (work : Work) → IsSaid work old events
       → WasSaid first start port connection work events
   was_said events old work is = record {
@@ -179,6 +187,7 @@ module _ (first : ℕ) (start : State) (port connection : ℕ) where
     revision = ap (λ (w : Work). w.revision) is.work_is;
   }
 
+  -- a port that was there is there still
   pub stays_since : (events upto more : List Stamp) (p : Port) → events ≡ upto ++ more
       → port_numbered (after start (accepted upto)) port ≡ Some p
       → (q : Port) × (port_numbered (after start (accepted events)) port ≡ Some q)

@@ -36,6 +36,7 @@ abbrev pub AckedThenEnd : ℕ → List Stamp → Event → Type 0
 AckedThenEnd first before e =
     (port connection : ℕ) → Sends port connection (commanded UploadEnd) e → WasStored first port connection before
 
+-- what is acknowledged behind more events is not below
 acked_rises : (last : ℕ) (events : List Stamp) → AcksRise last events → last ≤ acked last events
 acked_rises last [] rise = omega arith
 acked_rises last (e ∷ events) rise =
@@ -43,6 +44,7 @@ acked_rises last (e ∷ events) rise =
     let rest = acked_rises (acked_by last e.event) events rise.1 in
     omega (arith, one, rest)
 
+-- numbers do not fall in the second part of a trace, nor in its first
 rise_behind : (last : ℕ) (events more : List Stamp) → AcksRise last (events ++ more) → AcksRise (acked last events) more
 rise_behind last [] more rise = rise
 rise_behind last (e ∷ events) more rise = rise_behind (acked_by last e.event) events more rise.1
@@ -51,6 +53,7 @@ rise_before : (last : ℕ) (events more : List Stamp) → AcksRise last (events 
 rise_before last [] more rise = tt
 rise_before last (e ∷ events) more rise = (rise.0, rise_before (acked_by last e.event) events more rise.1)
 
+-- a number that was acknowledged is so still
 still_acked : (first number : ℕ) (events : List Stamp) → AcksRise first events → WasAcknowledged first number events
     → number ≤ acked first events
 still_acked first number events rise was =
@@ -60,6 +63,7 @@ still_acked first number events rise was =
     let enough = was.enough in
     omega (arith, more, same, enough)
 
+-- so DS_UploadEnd follows the acknowledgement
 pub durable_ends : (first : ℕ) (before behind : List Stamp) (e : Event) → AcksRise first (before ++ behind) → AckedThenEnd first before e
     → DurableThenEnd first before e
 durable_ends first before behind e rise ends port connection sent =
@@ -68,6 +72,7 @@ durable_ends first before behind e rise ends port connection sent =
 
 -- ---- all that is said of an event
 
+-- the laws of one event behind those before it
 pub record IsLawfulAt (first : ℕ) (start : State) (before : List Stamp) (e : Event) : Type 0 where
   pub whole : WholeSets before e
   pub ends : AckedThenEnd first before e

@@ -17,12 +17,14 @@ use Rattle.iol_headline.specs.Conversations.{IsToldAs, Converses}
 
 -- ---- lists
 
+-- heads and tails
 pub head_is : {A : Type 0} (x y : A) (xs ys : List A) → x ∷ xs ≡ y ∷ ys → x ≡ y
 head_is x y xs ys same = cc
 
 tail_is : {A : Type 0} (x y : A) (xs ys : List A) → x ∷ xs ≡ y ∷ ys → xs ≡ ys
 tail_is x y xs ys same = cc
 
+-- a list with an element is not empty
 cons_not : {A : Type 0} (x : A) (xs : List A) → x ∷ xs ≡ [] → ⊥
 cons_not x xs same = cc
 
@@ -44,6 +46,7 @@ abbrev pub Each : {A : Type 0} → (A → Type 0) → List A → Type 0
 Each Holds [] = Unit {0}
 Each Holds (x ∷ xs) = Holds x × Each Holds xs
 
+-- what holds of each holds of one, and of each in a part
 pub each_at : {A : Type 0} (Holds : A → Type 0) (front behind : List A) (x : A) → Each Holds (front ++ x ∷ behind) → Holds x
 each_at Holds [] behind x each = each.0
 each_at Holds (y ∷ front) behind x each = each_at Holds front behind x each.1
@@ -58,6 +61,7 @@ pub each_front : {A : Type 0} (Holds : A → Type 0) (front behind : List A) →
 each_front Holds [] behind each = tt
 each_front Holds (y ∷ front) behind each = (each.0, each_front Holds front behind each.1)
 
+-- and of one more
 pub each_and : {A : Type 0} (Holds : A → Type 0) (xs : List A) (x : A) → Each Holds xs → Holds x → Each Holds (xs ++ x ∷ [])
 each_and Holds [] x each holds = (holds, tt)
 each_and Holds (y ∷ xs) x each holds = (each.0, each_and Holds xs x each.1 holds)
@@ -93,6 +97,7 @@ TellsStatus port e = (status : Status) × (e ≡ Changed port status)
 abbrev pub TellsPage : Event → Type 0
 TellsPage e = (port : ℕ) × (connection : ℕ) × (octets : List ℕ) × (e ≡ Page port connection octets)
 
+-- events that are apart
 exchange_no_status : (port connection told : ℕ) (request answer : List ℕ) (status : Status)
     → trace.Exchange port connection request answer ≡ Changed told status → ⊥
 exchange_no_status port connection told request answer status same = cc
@@ -131,6 +136,7 @@ none_marked port (e ∷ events) each = (
 
 -- ---- one conversation
 
+-- exchanges that are told by one event are one
 told_same : (port on connection : ℕ) (request other answer back : List ℕ)
     → trace.Exchange port on request answer ≡ trace.Exchange port connection other back → (request ≡ other) × (answer ≡ back)
 told_same port on connection request other answer back same = (cc, cc)
@@ -147,6 +153,7 @@ one_exchange port on connection e x y one other =
     ap (λ (r : Request). record { request = r; answer = x.answer }) asked
     ∙ ap (λ (a : Answer). record { request = y.request; answer = a }) heard
 
+-- conversations that are told by the same events are one
 pub one_talk : (port on connection : ℕ) (told : List Event) (conversation other : List Exchange) → Converses port on told conversation
     → Converses port connection told other → conversation ≡ other
 one_talk port on connection [] conversation other talk same = talk ∙ sym same

@@ -9,6 +9,7 @@ module _ (Holds : List Stamp → Event → Type 0) where
   EachFrom before [] = Unit {0}
   EachFrom before (e ∷ events) = Holds before e.event × EachFrom (before ++ e ∷ []) events
 
+  -- this holds of more events
   pub each_append : (before events more : List Stamp) → EachFrom before events → EachFrom (before ++ events) more
       → EachFrom before (events ++ more)
   each_append before [] more each rest = subst (λ (b : List Stamp). EachFrom b more) (append-nil before) rest
@@ -18,6 +19,7 @@ module _ (Holds : List Stamp → Event → Type 0) where
         (subst (λ (b : List Stamp). EachFrom b more) (sym (append_assoc before (e ∷ []) events)) rest),
   )
 
+  -- what holds of each event in turn holds wherever it stands
   each_at : (begin before behind : List Stamp) (e : Stamp) → EachFrom begin (before ++ e ∷ behind) → Holds (begin ++ before) e.event
   each_at begin [] behind e each = subst (λ (b : List Stamp). Holds b e.event) (sym (append-nil begin)) each.0
   each_at begin (d ∷ before) behind e each =

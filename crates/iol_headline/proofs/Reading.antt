@@ -56,6 +56,7 @@ use Rattle.iol_headline.proofs.Going.{Goes, NextGoes, settles, still, IsSaid, wa
 use Rattle.iol_headline.proofs.Stages.{WasSaid, Shows, IsRead, AsksState, AsksChecksum, Begins, PagingTold, AttendingTold, Told, said_later}
 use Rattle.iol_headline.proofs.Talks.{talk_more, own_one, own_more, at_own}
 
+-- a length that was tested
 is_length : (octets : List ℕ) (count : ℕ) → (length octets == count) ≡ true → length octets ≡ count
 is_length octets count test = grind (arith, nat_tests, test)
 
@@ -79,13 +80,16 @@ module _ (first : ℕ) (start : State) (port connection : ℕ) (events : List St
   abbrev NextLeads : List Event → PortStatus → Next → Type 0
   NextLeads called was next = NextGoes first start port connection events clock called was next
 
+  -- the status stays
   stays : (called : List Event) (stage : Stage) → Told first start port connection (behind called) stage
       → Leads called (status_of stage) stage
   stays called stage is = still first start port connection events clock called stage is
 
+  -- the port settles
   rests : (called : List Event) (was : PortStatus) (own : Rest) → Leads called was (Settled own)
   rests called was own = settles first start port connection events clock called was own
 
+  -- one event more, of the port's own
   told_own : (e : Event) → (told : List Event) → own port events ≡ told → own port (stamped clock (e ∷ [])) ≡ e ∷ []
       → own port (events ++ stamped clock (e ∷ [])) ≡ told ++ e ∷ []
   told_own e told is one = own_more port events (stamped clock (e ∷ [])) (e ∷ []) one ∙ ap (λ (es : List Event). es ++ e ∷ []) is
@@ -96,6 +100,7 @@ module _ (first : ℕ) (start : State) (port connection : ℕ) (events : List St
   exchanged_own octets back =
       own_one port clock (trace.Exchange port connection octets back) (at_own port (trace.Exchange port connection octets back))
 
+  -- the page is still the last one
   shows_more : (found : Found) (conversation : List Exchange) (octets back : List ℕ) (sent : Request) (heard : Answer)
       → IsShortestRequest octets sent
       → answer_of back ≡ Ok heard → Shows first start port connection found conversation events
@@ -116,6 +121,7 @@ module _ (first : ℕ) (start : State) (port connection : ℕ) (events : List St
 
   -- ---- pages
 
+  -- the device is the one that the port wants
   found_goes : (work : Work) (octets : List ℕ) → WasSaid first start port connection work events
       → ident_fault work.config (page_of octets) ≡ None
       → Leads (paged octets) status.Starting (found_by work connection (page_of octets))
@@ -145,12 +151,14 @@ module _ (first : ℕ) (start : State) (port connection : ℕ) (events : List St
           })
       by false = rests (paged octets) status.Starting (rest.Ready (page_of octets))
 
+  -- its page is judged
   judged_goes : (work : Work) (octets : List ℕ) (why : Option IdentFault) → WasSaid first start port connection work events
       → ident_fault work.config (page_of octets) ≡ why
       → Leads (paged octets) status.Starting (judged work connection (page_of octets) why)
   judged_goes work octets None said is = found_goes work octets said is
   judged_goes work octets (Some why) said is = rests (paged octets) status.Starting (rest.Mismatch why (page_of octets))
 
+  -- the page of the device
   pub page_goes : (what : PageFor) (octets : List ℕ) → PagingTold first start port connection events what
       → NextLeads (paged octets) (status_paging what) (page_heard what connection (page_of octets))
   page_goes (page_for.Comparing work own) octets said = by (settled_with own (page_of octets))
@@ -162,6 +170,7 @@ module _ (first : ℕ) (start : State) (port connection : ℕ) (events : List St
 
   -- ---- State_Property and Parameter_Checksum
 
+  -- the answer to a read of State_Property
   pub state_goes : (found : Found) (left : ℕ) (octets back : List ℕ) (heard : Result Answer IsduFault)
       → IsShortestRequest octets state_request
       → AsksState first start port connection found left events → answer_of back ≡ heard
@@ -208,6 +217,7 @@ module _ (first : ℕ) (start : State) (port connection : ℕ) (events : List St
       by false below = rests (exchanged octets back) status.Starting (rest.Failed fault.Busy)
   state_goes found left octets back other spelled is read = rests (exchanged octets back) status.Starting (rest.Failed (read_fault other))
 
+  -- the answer to a read of Parameter_Checksum
   pub checksum_goes : (found : Found) (property : PropertyValue) (left : ℕ) (octets back : List ℕ) (heard : Result Answer IsduFault)
       → IsShortestRequest octets checksum_request
       → AsksChecksum first start port connection found property left events → answer_of back ≡ heard
@@ -262,6 +272,7 @@ module _ (first : ℕ) (start : State) (port connection : ℕ) (events : List St
 
   -- ---- what the core says
 
+  -- a settled port is woken
   resumed_goes : (own : Rest) (work : Work) → WasSaid first start port connection work events
       → NextLeads (attended_told port (Some work)) (status_at_rest own) (resumed own work)
   resumed_goes rest.Off work said = rests (attended_told port (Some work)) status.Off rest.Off
@@ -272,6 +283,7 @@ module _ (first : ℕ) (start : State) (port connection : ℕ) (events : List St
       (said_later first start port connection work events _ said)
 
   module _ (old : CoreView) (core : IsCoreAfter first start events old) where
+    -- it was decided so, from what was read and what the core says now
     begins : (now : Decision) (found : Found) (property : PropertyValue) (checksum : ℕ) (work : Work)
         → IsRead first start port connection found property checksum events
         → IsSaid first start port connection work old events → found.work.revision ≡ work.revision
@@ -314,6 +326,7 @@ module _ (first : ℕ) (start : State) (port connection : ℕ) (events : List St
             let revision = ap (λ (w : Work). w.revision) said.work_is in
             earlier.config ∙ (sym (held.config (sym revision ∙ (sym same ∙ earlier.revision))) ∙ sym later)
 
+    -- each decision
     decided_goes : (found : Found) (property : PropertyValue) (checksum : ℕ) (work : Work) (now : Decision)
         → IsRead first start port connection found property checksum events
         → IsSaid first start port connection work old events → found.work.revision ≡ work.revision
@@ -332,6 +345,7 @@ module _ (first : ℕ) (start : State) (port connection : ℕ) (events : List St
         stays (attended_told port (Some work)) (BeginningDownload found checksum)
         (begins decision.Download found property checksum work is said same now)
 
+    -- what the core says that the port is to work with
     pub attended_goes : (under : Option ℕ) (kept : Bool) (what : AttendFor) (work : Work)
         → AttendingTold first start port connection events what
         → IsSaid first start port connection work old events

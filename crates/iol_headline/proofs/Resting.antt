@@ -49,6 +49,7 @@ use Rattle.iol_headline.proofs.Stages.{Told, AttendingTold, IsWhole}
 use Rattle.iol_headline.proofs.Talks.{own_one, own_more, own_same, at_own}
 use Rattle.iol_headline.specs.Settled.{IsJudged}
 
+-- a port that is there has work
 none_some : (core : CoreView) (port : ℕ) (p : Port) → port_numbered (live core) port ≡ Some p
     → (let none : Option Work = None in none ≡ option_map (λ q. work_of q (durable_set core port)) (port_numbered (live core) port)) → ⊥
 none_some core port p there none =
@@ -64,12 +65,14 @@ module _ {L : Type 0} (number : L → ℕ) (steps : L → LinkCall → LinkAnswe
   abbrev Leads : List Event → Stage → Stage → Type 0
   Leads called was stage = Rests port (own port (events ++ stamped clock called)) (status_of was) stage
 
+  -- nothing was told
   by_none : (called : List Event) (was stage : Stage) → called ≡ [] → Rests port (own port events) (status_of was) stage
       → Leads called was stage
   by_none called was stage none goes =
       subst (λ (es : List Event). Leads es was stage) (sym none)
       (subst (λ (es : List Event). Rests port es (status_of was) stage) (sym (own_same port events [] refl)) goes)
 
+  -- one event of the port's own was told
   by_own : (called : List Event) (e : Event) (was stage : Stage) → called ≡ e ∷ [] → own_in port e ≡ e ∷ []
       → Rests port (own port events ++ e ∷ []) (status_of was) stage
       → Leads called was stage
@@ -101,6 +104,7 @@ module _ {L : Type 0} (number : L → ℕ) (steps : L → LinkCall → LinkAnswe
       earlier.config ∙ (sym (held.config (sym revision ∙ (sym same ∙ earlier.revision))) ∙ sym later)
   keeps attend.Restarting work is said = tt
 
+  -- the core takes the set, or refuses it
   filed_rests : (called : List Event) (grant : UploadGrant) (page : PageValue) (set : SetValue) (finished : Result ℕ FinishFault)
       → IsWhole first start port (number link) grant set events
       → IsJudged port None (own port events) → called ≡ filed_told (Some (store_of grant set)) finished
@@ -141,6 +145,7 @@ module _ {L : Type 0} (number : L → ℕ) (steps : L → LinkCall → LinkAnswe
   abbrev After : Option ℕ → Bool → Stage → Input → Stage
   After under kept stage heard = (fed (machine under kept (after_action stage)) heard).stage
 
+  -- the table: each stage, and each thing that it may hear
   acts_rest : (under : Option ℕ) (kept : Bool) (stage : Stage) (heard : Input) (called : List Event) → IsTold stage
       → StandsAt stage → IsAtHand stage → ComesOf (wanted port stage) heard
       → Hears number steps port (wanted port stage) heard link last old new called → Leads called stage (After under kept stage heard)
@@ -221,6 +226,7 @@ module _ {L : Type 0} (number : L → ℕ) (steps : L → LinkCall → LinkAnswe
   acts_rest under kept (Returning (held.Download permit) at_rest) heard called is stands hand comes hears = absurd comes
   acts_rest under kept (Returned transfer at_rest) heard called is stands hand comes hears = absurd cc
 
+  -- memory runs out in an upload
   out_rests : (was : Stage) (heard : Result Answer IsduFault) (later : Stage) (called : List Event) → RunsOut (after_action was) heard later
       → Leads called was later
   out_rests (Uploading grant page upload) heard later called out =

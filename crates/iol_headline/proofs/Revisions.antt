@@ -11,6 +11,7 @@ use Rattle.iol_headline.specs.Works.{Unconfigured}
 abbrev Evolves : Port → Port → Type 0
 Evolves before later = (before.revision < later.revision) ⊎ ((later.config ≡ before.config) × (later.revision ≡ before.revision))
 
+-- a port by its place
 pub at_place : (state : State) (number : ℕ) → 1 ≤ number → port_numbered state number ≡ slice_get state (number - 1)
 at_place state number h = ap (λ b. if b then slice_get state (number - 1) else None) (le-leb 1 number h)
 
@@ -18,6 +19,7 @@ is_there : (state : State) (number : ℕ) (port : Port) → port_numbered state 
 is_there state zero port e = absurd cc
 is_there state (suc n) port e = omega arith
 
+-- what is found is one
 some_is : {A : Type 0} (x y : A) → Some x ≡ Some y → x ≡ y
 some_is x y same = cc
 
@@ -68,6 +70,7 @@ behind port p r q command commands config revision more is = record {
   undisturbed = λ same. more (is.undisturbed (same ∙ sym revision));
 }
 
+-- what holds behind commands
 pub holds : (commands : List CommandValue) (state : State) (port : ℕ) (p q : Port) → port_numbered state port ≡ Some p
     → port_numbered (after state commands) port ≡ Some q → Holds port p q commands
 holds [] state port p q at later =

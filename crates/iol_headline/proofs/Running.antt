@@ -34,6 +34,7 @@ use Rattle.iol_headline.proofs.Stages.{Told, told_later}
 use Rattle.iol_headline.proofs.Talks.{own_one, own_more, own_same, at_own}
 use Rattle.iol_headline.proofs.Telling.{acts_lawful, changed_lawful, none_lawful}
 
+-- parts of an empty list are empty
 nil_parts : {A : Type 0} (xs ys : List A) → xs ++ ys ≡ [] → (xs ≡ []) × (ys ≡ [])
 nil_parts [] ys none = (refl, none)
 nil_parts (x ∷ xs) ys none = absurd cc
@@ -41,6 +42,7 @@ nil_parts (x ∷ xs) ys none = absurd cc
 none_one : {A : Type 0} (xs : List A) (x : A) → xs ≡ [] → xs ≡ x ∷ [] → ⊥
 none_one xs x none one = cc
 
+-- an event of the device changes no stage, and a woken machine keeps its status
 noted_stage : (event : Option ℕ) (value : PortValue) → (noted_by event value).stage ≡ value.stage
 noted_stage None value = refl
 noted_stage (Some code) value = refl
@@ -54,16 +56,19 @@ module _ (first : ℕ) (start : State) (port : ℕ) where
   abbrev pub OwnLaw : List Stamp → Event → Type 0
   OwnLaw before e = own_in port e ≡ e ∷ [] → IsLawfulAt first start before e
 
+  -- events that are not the port's own
   pub none_own : (before events : List Stamp) → own port events ≡ [] → EachFrom OwnLaw before events
   none_own before [] none = tt
   none_own before (e ∷ events) none =
       let parts = nil_parts (own_in port e.event) (own port events) none in
       ((λ one. absurd (none_one (own_in port e.event) e.event parts.0 one)), none_own (before ++ e ∷ []) events parts.1)
 
+  -- lawful events, whose they may be
   all_own : (before events : List Stamp) → EachFrom (IsLawfulAt first start) before events → EachFrom OwnLaw before events
   all_own before [] each = tt
   all_own before (e ∷ events) each = ((λ one. each.0), all_own (before ++ e ∷ []) events each.1)
 
+  -- a woken machine knows what it knew
   woken_told : (connection : ℕ) (events : List Stamp) (stage : Stage) → Told first start port connection events stage
       → Told first start port connection events (woken stage)
   woken_told connection events (Settled own) is = tt
@@ -73,6 +78,7 @@ module _ (first : ℕ) (start : State) (port : ℕ) where
   woken_stands events (Settled own) is = tt
   woken_stands events stage is = is
 
+  -- a status that is told is the port's own
   own_status : (was now : PortStatus) (clock : ℕ) (told : List Event) → StatusTold port was now told → own port (stamped clock told) ≡ told
   own_status was now clock told (inl none) = subst (λ (es : List Event). own port (stamped clock es) ≡ es) (sym none.0) refl
   own_status was now clock told (inr one) =
@@ -118,12 +124,15 @@ module _ (first : ℕ) (start : State) (port : ℕ) where
         (core : IsCoreAfter first start events old) (is : PortStep number steps before after link last old new called status)
         (told : Told first start port (number link) events before.stage) (stands : Stands port (own port events) before.stage)
         (there : (p : Port) × (port_numbered start port ≡ Some p)) where
-      acting : PortValue
+      -- the machine as it acts: it has noted an event of its device, and is awake
+      abbrev acting : PortValue
       acting = awake is.noted_value
 
+      -- the stage is as it was
       noted_is : is.noted_value.stage ≡ before.stage
       noted_is = ap (λ (v : PortValue). v.stage) is.hears_event.new_is ∙ noted_stage is.hears_event.event before
 
+      -- the machine was led to where it is
       pub after_led : Led port after
       after_led = (
         happened before is.hears_event.event is.acts.wants is.acts.heard ++ led.0,
@@ -133,41 +142,41 @@ module _ (first : ℕ) (start : State) (port : ℕ) where
       after_port : after.port ≡ port
       after_port = (led_is port after_led.0 after after_led.1).port_is
 
-      module _ (now : Led port (awake is.noted_value)) where
-        acting_port : (awake is.noted_value).port ≡ port
-        acting_port = (led_is port now.0 (awake is.noted_value) now.1).port_is
+      module _ (now : Led port acting) where
+        acting_port : acting.port ≡ port
+        acting_port = (led_is port now.0 acting now.1).port_is
 
-        acting_told : Told first start port (number is.mid) events (awake is.noted_value).stage
+        acting_told : Told first start port (number is.mid) events acting.stage
         acting_told =
             subst (λ (c : ℕ). Told first start port c events (woken is.noted_value.stage)) (sym is.hears_event.same)
             (subst (λ (s : Stage). Told first start port (number link) events (woken s)) (sym noted_is)
             (woken_told (number link) events before.stage told))
 
-        acting_status : status_of (awake is.noted_value).stage ≡ status_of before.stage
+        acting_status : status_of acting.stage ≡ status_of before.stage
         acting_status = woken_status is.noted_value.stage ∙ ap status_of noted_is
 
-        shown : StatusTold port (status_of (awake is.noted_value).stage) (status_of after.stage) status
+        shown : StatusTold port (status_of acting.stage) (status_of after.stage) status
         shown = subst (λ (s : PortStatus). StatusTold port s (status_of after.stage) status) (sym acting_status)
             (subst (λ (p : ℕ). ((status ≡ []) × (status_of after.stage ≡ status_of before.stage))
             ⊎ ((status ≡ Changed p (status_told (status_of after.stage)) ∷ []) × (status_of after.stage ≡ status_of before.stage → ⊥)))
             after_port is.told)
 
-        comes : ComesOf (wanted (awake is.noted_value).port (awake is.noted_value).stage) is.acts.heard
+        comes : ComesOf (wanted acting.port acting.stage) is.acts.heard
         comes = subst (λ (w : Wanted). ComesOf w is.acts.heard) is.acts.did.0 is.acts.did.1
 
-        hears : Hears number steps (awake is.noted_value).port (wanted (awake is.noted_value).port (awake is.noted_value).stage)
+        hears : Hears number steps acting.port (wanted acting.port acting.stage)
             is.acts.heard is.mid last old new called
-        hears = subst (λ (w : Wanted). Hears number steps (awake is.noted_value).port w is.acts.heard is.mid last old new called)
+        hears = subst (λ (w : Wanted). Hears number steps acting.port w is.acts.heard is.mid last old new called)
             is.acts.did.0 is.acts.hears
 
         behind : Told first start port (number is.mid) (events ++ stamped clock (called ++ status)) after.stage
             × Began port (events ++ stamped clock called) status
         behind =
             fed_goes number steps first start port events clock is.mid last old new core
-            (awake is.noted_value) after is.acts.heard called acting_port acting_told
-            (led_is port now.0 (awake is.noted_value) now.1).hand comes hears is.acts.did.2 is.acts.did.3 status shown
+            acting after is.acts.heard called acting_port acting_told
+            (led_is port now.0 acting now.1).hand comes hears is.acts.did.2 is.acts.did.3 status shown
 
-        acting_stands : Stands port (own port events) (awake is.noted_value).stage
+        acting_stands : Stands port (own port events) acting.stage
         acting_stands = subst (λ (s : Stage). Stands port (own port events) (woken s)) (sym noted_is)
             (woken_stands (own port events) before.stage stands)
 
@@ -180,8 +189,8 @@ module _ (first : ℕ) (start : State) (port : ℕ) where
             × SettlesTold port (own port (events ++ stamped clock called)) status
         settled =
             fed_rests number steps first start port events clock is.mid last old new core still_there
-            (awake is.noted_value) after is.acts.heard called acting_port acting_told
-            acting_stands (led_is port now.0 (awake is.noted_value) now.1).hand comes hears is.acts.did.2 status shown
+            acting after is.acts.heard called acting_port acting_told
+            acting_stands (led_is port now.0 acting now.1).hand comes hears is.acts.did.2 status shown
 
         after_stands : Stands port (own port (events ++ stamped clock (called ++ status))) after.stage
         after_stands =
@@ -189,18 +198,18 @@ module _ (first : ℕ) (start : State) (port : ℕ) where
             (sym (ap (λ (ss : List Stamp). own port (events ++ ss)) (stamped_both clock called status)
             ∙ (ap (own port) (sym (append_assoc events (stamped clock called) (stamped clock status)))
             ∙ own_more port (events ++ stamped clock called) (stamped clock status) status
-            (own_status (status_of (awake is.noted_value).stage) (status_of after.stage) clock status shown)))) settled.0
+            (own_status (status_of acting.stage) (status_of after.stage) clock status shown)))) settled.0
 
         stage_lost : is.acts.heard ≡ input.Lost → Told first start port (number last) (events ++ stamped clock (called ++ status))
             after.stage
         stage_lost lost_is =
-            let fed_is = subst (λ (h : Input). IsFed (at_stage (awake is.noted_value) (after_action (awake is.noted_value).stage)) h after)
+            let fed_is = subst (λ (h : Input). IsFed (at_stage acting (after_action acting.stage)) h after)
             lost_is is.acts.did.2 in
             subst (λ (s : Stage). Told first start port (number last) (events ++ stamped clock (called ++ status)) s)
             (sym (ap (λ (v : PortValue). v.stage) fed_is))
-            (lost_told (number last) (events ++ stamped clock (called ++ status)) (awake is.noted_value).stage
-            (subst (λ (p : ℕ). ComesOf (wanted p (awake is.noted_value).stage) input.Lost) acting_port
-            (subst (λ (h : Input). ComesOf (wanted (awake is.noted_value).port (awake is.noted_value).stage) h) lost_is comes)))
+            (lost_told (number last) (events ++ stamped clock (called ++ status)) acting.stage
+            (subst (λ (p : ℕ). ComesOf (wanted p acting.stage) input.Lost) acting_port
+            (subst (λ (h : Input). ComesOf (wanted acting.port acting.stage) h) lost_is comes)))
 
         after_told : Told first start port (number last) (events ++ stamped clock (called ++ status)) after.stage
         after_told =
@@ -208,21 +217,21 @@ module _ (first : ℕ) (start : State) (port : ℕ) where
             (λ (same : number last ≡ number is.mid). subst
             (λ (c : ℕ). Told first start port c (events ++ stamped clock (called ++ status)) after.stage) (sym same) behind.0)
             (λ (gone : is.acts.heard ≡ input.Lost). stage_lost gone)
-            (stays (wanted port (awake is.noted_value).stage) is.acts.heard is.mid last old new called
-            (subst (λ (p : ℕ). Hears number steps p (wanted p (awake is.noted_value).stage) is.acts.heard is.mid last old new called)
+            (stays (wanted port acting.stage) is.acts.heard is.mid last old new called
+            (subst (λ (p : ℕ). Hears number steps p (wanted p acting.stage) is.acts.heard is.mid last old new called)
             acting_port hears))
 
         called_lawful : EachFrom (IsLawfulAt first start) events (stamped clock called)
         called_lawful =
             acts_lawful first start number steps port events clock is.mid last old new core
-            (awake is.noted_value).stage is.acts.heard called acting_told
-            (led_is port now.0 (awake is.noted_value) now.1).hand
-            (subst (λ (p : ℕ). ComesOf (wanted p (awake is.noted_value).stage) is.acts.heard) acting_port comes)
-            (subst (λ (p : ℕ). Hears number steps p (wanted p (awake is.noted_value).stage) is.acts.heard is.mid last old new called)
+            acting.stage is.acts.heard called acting_told
+            (led_is port now.0 acting now.1).hand
+            (subst (λ (p : ℕ). ComesOf (wanted p acting.stage) is.acts.heard) acting_port comes)
+            (subst (λ (p : ℕ). Hears number steps p (wanted p acting.stage) is.acts.heard is.mid last old new called)
             acting_port hears)
 
         status_lawful : (at : List Stamp) → Began port at status → SettlesTold port (own port at) status
-            → StatusTold port (status_of (awake is.noted_value).stage) (status_of after.stage) status
+            → StatusTold port (status_of acting.stage) (status_of after.stage) status
             → EachFrom (IsLawfulAt first start) at (stamped clock status)
         status_lawful at began holds (inl none) = none_lawful first start at clock status none.0
         status_lawful at began holds (inr one) =
@@ -242,12 +251,14 @@ module _ (first : ℕ) (start : State) (port : ℕ) where
 
     -- ---- a run
 
+    -- what holds of a run of a port's machine, and of all that it has told
     pub record RunTold (machine : PortValue) (link : L) (events : List Stamp) : Type 0 where
       pub led : Led port machine
       pub told : Told first start port (number link) events machine.stage
       pub stands : Stands port (own port events) machine.stage
       pub each : EachFrom OwnLaw [] events
 
+    -- by induction on the steps
     pub run_told : (there : (p : Port) × (port_numbered start port ≡ Some p)) (begun : L) (made : ℕ) (machine : PortValue) (link : L)
         (events : List Stamp) → IsPortRun number steps first start port begun made machine link events
         → RunTold machine link events

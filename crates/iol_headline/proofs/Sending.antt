@@ -34,6 +34,7 @@ use Rattle.iol_headline.specs.Downloads.{WritesParameter, IsDownloadOf}
 ok_is : (one other : Request) → (let r : Result Request IsduFault = Ok one in r ≡ Ok other) → one ≡ other
 ok_is one other same = cc
 
+-- octets are one request
 pub one_request : (octets : List ℕ) (one other : Request) → IsShortestRequest octets one → IsShortestRequest octets other → one ≡ other
 one_request octets one other first second =
     ok_is one other (sym (request_reads octets one first.of_request) ∙ request_reads octets other second.of_request)
@@ -41,6 +42,7 @@ one_request octets one other first second =
 answer-is : (one other : Request) → AnswerTo one ≡ AnswerTo other → one ≡ other
 answer-is one other same = cc
 
+-- what a download sends next
 sending : (set : SetValue) (conversation : List Exchange) (download : Sender) → IsDownloading set conversation download
     → IsSending set conversation (sent_by download.sends) download.busy
 sending set conversation download since = record {
@@ -74,6 +76,7 @@ module _ (first : ℕ) (start : State) (port connection : ℕ) (events : List St
   ends_stored (Breaking holder why) is wants = absurd (break_other (answer-is _ _ wants))
   ends_stored stage is wants = absurd cc
 
+  -- nothing else writes a parameter
   exchange_writes : (what : ExchangeFor) → WritesParameter (request_for what) → ⊥
   exchange_writes (exchange.ReadingState found left) writes = writes
   exchange_writes (exchange.ReadingChecksum found property left) writes = writes
@@ -121,6 +124,7 @@ abbrev pub IsGood : Request → Type 0
 IsGood request = (subindex : ℕ) (octets : ArrayVec ℕ) → request ≡ Write DATA_STORAGE subindex octets
     → (c : DsCommand) × (Write DATA_STORAGE subindex octets ≡ commanded c)
 
+-- each request that a port sends is so
 command_good : (c : DsCommand) → IsGood (commanded c)
 command_good c subindex octets same = (c, sym same)
 
@@ -142,6 +146,7 @@ abbrev AreGood : List Request → Type 0
 AreGood [] = Unit {0}
 AreGood (request ∷ requests) = IsGood request × AreGood requests
 
+-- requests of a download
 writes_good : (entries : List Entry) → All IsEntry entries → AreGood (writes_of entries)
 writes_good [] all = (command_good command.DownloadEnd, tt)
 writes_good (entry ∷ entries) all =
@@ -151,6 +156,7 @@ middle_good : (front behind : List Request) (request : Request) → AreGood (fro
 middle_good [] behind request all = all.0
 middle_good (one ∷ front) behind request all = middle_good front behind request all.1
 
+-- requests of an upload, and others
 asks_good : (asks : Asks) → IsGood (asked_by asks)
 asks_good Start = command_good command.UploadStart
 asks_good Size = read_good _ _
@@ -165,6 +171,7 @@ exchange_good (exchange.EndingUpload page left) = command_good command.UploadEnd
 exchange_good (exchange.Stopping storing) = command_good command.Break
 exchange_good exchange.Yielding = command_good command.Break
 
+-- what a port sends at a stage
 pub writes_command : (first : ℕ) (start : State) (port connection : ℕ) (events : List Stamp) (stage : Stage) (request : Request)
     → Told first start port connection events stage
     → wanted port stage ≡ AnswerTo request → IsGood request

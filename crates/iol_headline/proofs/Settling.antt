@@ -72,11 +72,13 @@ NextRests port events was (To stage) = Rests port events was stage
 NextRests port events was (Start work) = WasToldLast port (work_told work) events
 
 module _ (port : ℕ) (events : List Event) where
+  -- a status that is told leaves the last work and the last page
   told_quiet : (was now : PortStatus) (told : List Event) → AreQuiet (Changed port (status_told now) ∷ []) → StatusTold port was now told
       → AreQuiet told
   told_quiet was now told quiet (inl none) = subst AreQuiet (sym none.0) (tt, tt)
   told_quiet was now told quiet (inr other) = subst AreQuiet (sym other.0) quiet
 
+  -- the status that is told fits
   pub settles_told : (was now : PortStatus) (told : List Event) → SettlesBy port events (status_told now) → StatusTold port was now told
       → SettlesTold port events told
   settles_told was now told holds (inl none) = λ other one. absurd (nil_one _ (sym none.0 ∙ one))
@@ -105,6 +107,7 @@ module _ (port : ℕ) (events : List Event) where
     settles_told was now told holds shown,
   )
 
+  -- the machine starts
   start_rests : (was : PortStatus) (value : PortValue) (work : Work) → WasToldLast port (work_told work) events
       → Rests port events was (started value work).stage
   start_rests was value work last = by (is_manual work.config.mode) refl
@@ -117,11 +120,13 @@ module _ (port : ℕ) (events : List Event) where
       )
       by false manual = rests was rest.Off (record { work = work_told work; last = last; manual = manual })
 
+  -- the machine goes on, or starts
   pub moved_rests : (was : PortStatus) (value : PortValue) (next : Next) → NextRests port events was next
       → Rests port events was (moved value next).stage
   moved_rests was value (To stage) is = is
   moved_rests was value (Start work) last = start_rests was value work last
 
+  -- a request is sent again, or has failed
   again_rests : (left : ℕ) (next : ExchangeFor) → ExchangingStands port events next
       → Rests port events (status_exchanging next) (again left next)
   again_rests left next is = by (nat_lt 1 left)
@@ -130,6 +135,7 @@ module _ (port : ℕ) (events : List Event) where
       by true = stay (Exchanging next) is
       by false = rests (status_exchanging next) (rest.Failed fault.Busy) tt
 
+  -- answers to a read of State_Property and to one of Parameter_Checksum
   pub state_rests : (found : Found) (left : ℕ) (heard : Result Answer IsduFault) → Fits port found events
       → Rests port events status.Starting (state_read found left heard)
   state_rests found left (Ok (answer.ReadOk values)) is = by (length values.items == 1)
@@ -153,12 +159,14 @@ module _ (port : ℕ) (events : List Event) where
   checksum_rests found property left (Ok answer.Busy) is = again_rests left (exchange.ReadingChecksum found property (left - 1)) is
   checksum_rests found property left other is = rests status.Starting (rest.Failed (read_fault other)) tt
 
+  -- the answer to DS_UploadEnd
   pub ended_rests : (page : PageValue) (left : ℕ) (heard : Result Answer IsduFault) → IsJudged port None events
       → Rests port events status.Storing (upload_ended page left heard)
   ended_rests page left (Ok answer.WriteOk) is = rests status.Storing (rest.Ready page) is
   ended_rests page left (Ok answer.Busy) is = again_rests left (exchange.EndingUpload page (left - 1)) is
   ended_rests page left other is = rests status.Storing (rest.Failed (write_fault other)) tt
 
+  -- the core gives a permit, or refuses it
   pub upload_rests : (page : PageValue) (begins : Result UploadGrant PermitFault) → IsJudged port None events
       → Rests port events status.Starting (upload_begun page begins)
   upload_rests page (Ok grant) is = passes status.Starting status.Uploading ((tt, tt), tt) tt is
@@ -169,9 +177,11 @@ module _ (port : ℕ) (events : List Event) where
   download_rests page (Ok begins) is = passes status.Starting status.Downloading ((tt, tt), tt) tt is
   download_rests page (Err why) is = rests status.Starting (rest.Failed (of_download why)) tt
 
+  -- the set is stored
   pub stored_rests : (number : ℕ) (page : PageValue) → IsJudged port None events → Rests port events status.Uploading (Storing number page)
   stored_rests number page is = passes status.Uploading status.Storing ((tt, tt), tt) tt is
 
+  -- the answer to a request of an upload
   pub uploaded_rests : (grant : UploadGrant) (page : PageValue) (upload : Machine) (heard : Result Answer IsduFault)
       → IsJudged port None events
       → Rests port events status.Uploading (upload_answered grant page upload heard)
@@ -183,12 +193,14 @@ module _ (port : ℕ) (events : List Event) where
       by (Whole set) = stay (Filing grant page set) is
       by (Fault why) = stay (Breaking (held.Upload grant) (of_transfer why)) tt
 
+  -- the core says whether the set is durable
   pub ticket_rests : (number : ℕ) (page : PageValue) (state : TicketState) → IsJudged port None events
       → Rests port events status.Storing (ticket_told number page state)
   ticket_rests number page ticket.Waiting is = stay (Storing number page) is
   ticket_rests number page ticket.Durable is = stay (Exchanging (exchange.EndingUpload page MOST_REQUESTS)) is
   ticket_rests number page ticket.Unsure is = stay (Exchanging (exchange.Stopping true)) tt
 
+  -- the answer to a request of a download
   pub sent_rests : (permit : ℕ) (page : PageValue) (download : Sender) (heard : Result Answer IsduFault) → IsJudged port None events
       → Rests port events status.Downloading (download_answered permit page download heard)
   sent_rests permit page download (Err why) is = stay (Breaking (held.Download permit) (of_isdu why)) tt
@@ -201,6 +213,7 @@ module _ (port : ℕ) (events : List Event) where
 
   -- ---- pages
 
+  -- the page that was just read
   page_shown : (connection : ℕ) (octets : List ℕ) → HasPage port connection (page_of octets) (events ++ Page port connection octets ∷ [])
   page_shown connection octets = record { before = events; octets = octets; since = []; split = refl; page_is = refl; connected = tt }
 
@@ -208,6 +221,7 @@ module _ (port : ℕ) (events : List Event) (connection on : ℕ) (octets : List
   abbrev paged : List Event
   paged = events ++ Page port connection octets ∷ []
 
+  -- the device is the one that the port wants
   found_rests : (work : Work) → WasToldLast port (work_told work) paged → is_manual work.config.mode ≡ true
       → ident_fault work.config (page_of octets) ≡ None
       → Rests port paged status.Starting (found_by work on (page_of octets))
@@ -234,6 +248,7 @@ module _ (port : ℕ) (events : List Event) (connection on : ℕ) (octets : List
         judged = wanted;
       })
 
+  -- its page is judged
   judged_rests : (work : Work) (why : Option IdentFault) → WasToldLast port (work_told work) paged → is_manual work.config.mode ≡ true
       → ident_fault work.config (page_of octets) ≡ why
       → Rests port paged status.Starting (judged work on (page_of octets) why)
@@ -248,6 +263,7 @@ module _ (port : ℕ) (events : List Event) (connection on : ℕ) (octets : List
     judged = is;
   })
 
+  -- the page of the device
   pub page_rests : (what : PageFor) → PagingStands port events what
       → NextRests port paged (status_paging what) (page_heard what on (page_of octets))
   page_rests (page_for.Comparing work own) last = by (settled_with own (page_of octets))
@@ -270,15 +286,18 @@ module _ (port : ℕ) (events : List Event) (work : Work) where
   abbrev said : List Event
   said = events ++ Attended port (work_told work) ∷ []
 
+  -- the work that was just told
   last_said : WasToldLast port (work_told work) said
   last_said = record { older = events; since = []; split = refl; unsettled = tt }
 
+  -- a settled port is woken
   resumed_rests : (own : Rest) → NextRests port said (status_at_rest own) (resumed own work)
   resumed_rests rest.Off = stay port said (Settled rest.Off) tt
   resumed_rests rest.Lost = last_said
   resumed_rests (rest.Failed why) = last_said
   resumed_rests own = stay port said (Paging (page_for.Comparing work own)) last_said
 
+  -- each decision
   decided_rests : (found : Found) (checksum : ℕ) (now : Decision) → IsJudged port None said
       → Rests port said status.Starting (decided found checksum now)
   decided_rests found checksum decision.Ready is = rests port said status.Starting (rest.Ready found.page) is
@@ -287,6 +306,7 @@ module _ (port : ℕ) (events : List Event) (work : Work) where
   decided_rests found checksum decision.Upload is = stay port said (BeginningUpload found) is
   decided_rests found checksum decision.Download is = stay port said (BeginningDownload found checksum) is
 
+  -- a device that was found fits what is told now
   still_fits : (found : Found) → Fits port found events → found.work.config ≡ work.config → IsJudged port None said
   still_fits found is same = record {
     work = work_told work;
@@ -298,6 +318,7 @@ module _ (port : ℕ) (events : List Event) (work : Work) where
     judged = subst (λ (c : PortConfig). ident_fault c found.page ≡ None) same is.wanted;
   }
 
+  -- what the core says that the port is to work with
   pub attended_rests : (under : Option ℕ) (kept : Bool) (what : AttendFor) → AttendingStands port events what → KeepsConfig what work
       → NextRests port said (status_attending what) (attended under kept what (Some work))
   attended_rests under kept (attend.Waking own) is keeps = by (is_under under work.revision && not kept)

@@ -189,6 +189,7 @@ module _ (first : ℕ) (start : State) (port connection : ℕ) where
 
   -- ---- events that are not the port's own change nothing
 
+  -- a split of events is one of more events
   further : (early late more : List Stamp) (e : Stamp) (events : List Stamp) → events ≡ early ++ e ∷ late
       → events ++ more ≡ early ++ e ∷ (late ++ more)
   further early late more e events split = ap (λ (es : List Stamp). es ++ more) split ∙ append_assoc early (e ∷ late) more
@@ -367,6 +368,7 @@ module _ (first : ℕ) (start : State) (port connection : ℕ) where
     since = is.since;
   }
 
+  -- whatever the stage
   pub told_later : (events more : List Stamp) (stage : Stage) → own port more ≡ [] → Told events stage → Told (events ++ more) stage
   told_later events more (Settled own) none is = tt
   told_later events more (Paging what) none is = paging_later events more what is

@@ -47,6 +47,7 @@ talk_connected port connection (e ∷ told) more conversation talk rest =
 pub own_one : (port clock : ℕ) (e : Event) → own_in port e ≡ e ∷ [] → own port (stamped clock (e ∷ [])) ≡ e ∷ []
 own_one port clock e is = ap (λ (es : List Event). es ++ []) is
 
+-- own events behind others
 pub own_more : (port : ℕ) (events more : List Stamp) (told : List Event) → own port more ≡ told
     → own port (events ++ more) ≡ own port events ++ told
 own_more port events more told is = own-append port events more ∙ ap (λ (es : List Event). own port events ++ es) is

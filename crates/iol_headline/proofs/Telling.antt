@@ -45,6 +45,7 @@ use Rattle.iol_headline.specs.Settled.{SettlesBy}
 use Rattle.iol_headline.specs.WholeSets.{IsUploadedWhole}
 
 module _ (first : ℕ) (start : State) where
+  -- a transfer that begins was decided
   decided_by : (before : List Stamp) (port : ℕ) (status : Status) (told : List Event) → told ≡ Changed port status ∷ []
       → Began port before told
       → DecidedFirst before (Changed port status)
@@ -52,6 +53,7 @@ module _ (first : ℕ) (start : State) where
   decided_by before port shows.Downloading told is began = began.1 is
   decided_by before port status told is began = tt
 
+  -- a status is told
   pub changed_lawful : (before : List Stamp) (port : ℕ) (status : Status) (told : List Event) → told ≡ Changed port status ∷ []
       → Began port before told
       → SettlesBy port (own port before) status → IsLawfulAt first start before (Changed port status)
@@ -85,6 +87,7 @@ module _ (first : ℕ) (start : State) where
         (ends_stored first start port (number link) events stage is (wants
         ∙ ap AnswerTo (one_request octets request (commanded command.UploadEnd) spelled sent.2))))
 
+    -- so is a parameter
     writes : (stage : Stage) (request : Request) (octets : List ℕ) (p c : ℕ) (other : Request)
         → Told first start port (number link) events stage
         → wanted port stage ≡ AnswerTo request → IsShortestRequest octets request → (port ≡ p) × (number link ≡ c)
@@ -96,6 +99,7 @@ module _ (first : ℕ) (start : State) where
         (writes_downloads first start port (number link) events stage other is (wants
         ∙ ap AnswerTo (one_request octets request other spelled sent.2)) parameter))
 
+    -- an exchange, and a loss at a request
     exchange_lawful : (stage : Stage) (request : Request) (octets back : List ℕ) → Told first start port (number link) events stage
         → wanted port stage ≡ AnswerTo request
         → IsShortestRequest octets request → IsLawfulAt first start events (trace.Exchange port (number link) octets back)
@@ -124,6 +128,7 @@ module _ (first : ℕ) (start : State) where
       settled = tt;
     }
 
+    -- whatever becomes of a request
     sent_lawful : (stage : Stage) (request : Request) (heard : Input) (called : List Event)
         → Told first start port (number link) events stage
         → wanted port stage ≡ AnswerTo request → (octets : List ℕ) → IsShortestRequest octets request
@@ -153,6 +158,7 @@ module _ (first : ℕ) (start : State) where
               ∙ ap (λ (s : State). option_map (λ stored. stored.set.checksum) (stored_at (port_numbered s port))) core.durable;
         }) tt tt
 
+    -- a set is accepted, or refused
     filed_lawful : (grant : UploadGrant) (set : SetValue) (finished : Result ℕ FinishFault) (called : List Event)
         → IsWhole first start port (number link) grant set events
         → (answer : IsFinish old grant set new finished) → called ≡ filed_told (Some (store_of grant set)) finished → AreLawful called
@@ -165,6 +171,7 @@ module _ (first : ℕ) (start : State) where
         ) tt tt tt)
     filed_lawful grant set (Err why) called is filed told = none_lawful events clock called told
 
+    -- the table: each stage, and each thing that it may hear
     pub acts_lawful : (stage : Stage) (heard : Input) (called : List Event) → Told first start port (number link) events stage
         → IsAtHand stage
         → ComesOf (wanted port stage) heard → Hears number steps port (wanted port stage) heard link last old new called → AreLawful called

@@ -67,6 +67,7 @@ use Rattle.iol_headline.specs.Conversations.{Converses, HasPage}
 use Rattle.iol_headline.proofs.Lawful.{WasStored}
 use Rattle.iol_headline.specs.WholeSets.{IsUploadedWhole}
 
+-- words that are apart
 uploading_starts : status.Uploading ≡ status.Starting → ⊥
 uploading_starts same = cc
 
@@ -103,10 +104,12 @@ module _ (first : ℕ) (start : State) (port connection : ℕ) (events : List St
   abbrev Leads : List Event → PortStatus → Stage → Type 0
   Leads called was stage = Goes first start port connection events clock called was stage
 
+  -- the status stays
   stays : (called : List Event) (stage : Stage) → Told first start port connection (behind called) stage
       → Leads called (status_of stage) stage
   stays called stage is = still first start port connection events clock called stage is
 
+  -- the port settles
   rests : (called : List Event) (was : PortStatus) (own : Rest) → Leads called was (Settled own)
   rests called was own = settles first start port connection events clock called was own
 
@@ -126,6 +129,7 @@ module _ (first : ℕ) (start : State) (port connection : ℕ) (events : List St
 
   -- ---- uploads
 
+  -- the core gives a permit to upload, or refuses it
   pub upload_goes : (found : Found) (begins : Result UploadGrant PermitFault) (old new : CoreView) → IsCoreAfter first start events old
       → Begins first start port connection decision.Upload found events
       → IsBeginUpload old port found.page.vendor found.page.device found.connection new begins
@@ -164,6 +168,7 @@ module _ (first : ℕ) (start : State) (port connection : ℕ) (events : List St
         ((λ one. examined), (λ one. absurd (up_down (sym now.0 ∙ one)))),
       )
 
+  -- one exchange more
   uploads_more : (grant : UploadGrant) (conversation : List Exchange) (octets back : List ℕ) (sent : Request) (heard : Answer)
       → IsShortestRequest octets sent
       → answer_of back ≡ Ok heard → Uploads first start port connection grant conversation events
@@ -191,6 +196,7 @@ module _ (first : ℕ) (start : State) (port connection : ℕ) (events : List St
     revision = is.revision;
   }
 
+  -- the answer to a request of an upload
   pub uploaded_goes : (grant : UploadGrant) (page : PageValue) (upload : Machine) (octets back : List ℕ) (heard : Result Answer IsduFault)
       → IsShortestRequest octets (asked upload)
       → AsksUpload first start port connection grant upload events → answer_of back ≡ heard
@@ -247,6 +253,7 @@ module _ (first : ℕ) (start : State) (port connection : ℕ) (events : List St
       revision = ap (λ (s : State). revision_of (port_numbered s port)) (sym core.live)
           ∙ (ap (λ (p : ℕ). revision_of (port_numbered (live old) p)) (sym is.uploads.port_is) ∙ at)
 
+  -- the core takes the set, or refuses it
   pub filed_goes : (grant : UploadGrant) (page : PageValue) (set : SetValue) (finished : Result ℕ FinishFault) (old new : CoreView)
       → IsCoreAfter first start events old
       → IsWhole first start port connection grant set events → IsFinish old grant set new finished
@@ -284,6 +291,7 @@ module _ (first : ℕ) (start : State) (port connection : ℕ) (events : List St
   filed_goes grant page set (Err (finish.Memory permit back)) old new core is filed =
       stays [] (Breaking (held.Upload permit) fault.Memory) tt
 
+  -- a ticket that is durable is not above the core's number
   durable_below : (old : CoreView) (number : ℕ) → ticket_state old number ≡ ticket.Durable → number ≤ old.number
   durable_below old number is = by (nat_le number old.number) refl (has_failed old.stopped) is
     where
@@ -293,6 +301,7 @@ module _ (first : ℕ) (start : State) (port connection : ℕ) (events : List St
       by false below true is = absurd cc
       by false below false is = absurd cc
 
+  -- the core says whether the set is durable
   pub ticket_goes : (number : ℕ) (page : PageValue) (state : TicketState) (old : CoreView) → IsCoreAfter first start events old
       → IsFiled first start port connection number events
       → state ≡ ticket_state old number → Leads [] status.Storing (ticket_told number page state)
@@ -324,6 +333,7 @@ module _ (first : ℕ) (start : State) (port connection : ℕ) (events : List St
       }))
   ticket_goes number page ticket.Unsure old core is at = stays [] (Exchanging (exchange.Stopping true)) tt
 
+  -- the answer to DS_UploadEnd
   pub ending_goes : (page : PageValue) (left : ℕ) (octets back : List ℕ) (heard : Result Answer IsduFault)
       → IsShortestRequest octets (commanded command.UploadEnd)
       → WasStored first port connection events → answer_of back ≡ heard

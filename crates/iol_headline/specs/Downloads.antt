@@ -40,7 +40,7 @@ pub record IsDownloadOf (first : ℕ) (start : State) (port connection : ℕ) (r
   pub device : stored.set.device ≡ page.device
   pub sending : IsSending stored.set conversation request busy
 
--- a parameter is written only so (own)
+-- a parameter is written only as the next request of a download of the port's durable set (own)
 abbrev pub DownloadsOnly : ℕ → State → List Stamp → Event → Type 0
 DownloadsOnly first start before e =
     (port connection : ℕ) (request : Request) → Sends port connection request e → WritesParameter request

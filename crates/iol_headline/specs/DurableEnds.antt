@@ -27,7 +27,7 @@ pub record IsStored (port connection number : ℕ) (events : List Stamp) : Type 
   pub since : own port late ≡ Changed port Storing ∷ told
   pub busy : Converses port connection told (busy_times times (commanded UploadEnd))
 
--- DS_UploadEnd is sent only so, and once that number is acknowledged (own)
+-- DS_UploadEnd is sent only where the last upload is stored, and once the number of its set is acknowledged (own)
 abbrev pub DurableThenEnd : ℕ → List Stamp → Event → Type 0
 DurableThenEnd first before e =
     (port connection : ℕ) → Sends port connection (commanded UploadEnd) e

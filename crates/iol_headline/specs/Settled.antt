@@ -20,7 +20,7 @@ IsUnsettled (Changed port Downloading) = Unit {0}
 IsUnsettled (Changed port status) = ⊥
 IsUnsettled told = Unit {0}
 
--- none of these events tells one of those (own)
+-- none of these events tells what a port is to work with, or that it has settled (own)
 abbrev pub AreUnsettled : List Event → Type 0
 AreUnsettled [] = Unit {0}
 AreUnsettled (told ∷ more) = IsUnsettled told × AreUnsettled more
@@ -58,7 +58,7 @@ SettlesBy port events ReadyEmpty = IsJudged port None events
 SettlesBy port events (Mismatch fault) = IsJudged port (Some fault) events
 SettlesBy port events status = Unit {0}
 
--- a port is `off`, `ready` of any kind or `mismatch` only so (own)
+-- a port is `off`, `ready` of any kind or `mismatch` only where its own events say so (own)
 abbrev pub SettledRight : List Stamp → Event → Type 0
 SettledRight before (Changed port status) = SettlesBy port (own port before) status
 SettledRight before _ = Unit {0}

@@ -26,7 +26,7 @@ pub record IsUploadedWhole (port connection : ℕ) (set : SetValue) (events : Li
   pub finished : IsFinished page.vendor page.device conversation set
   pub undisturbed : Unconfigured port (accepted late)
 
--- a set that is accepted was uploaded whole, on some connection (own)
+-- each set that is accepted was uploaded whole, on some connection (own)
 abbrev pub WholeSets : List Stamp → Event → Type 0
 WholeSets before (Accepted number (Store port revision set)) = (connection : ℕ) × IsUploadedWhole port connection set before
 WholeSets before _ = Unit {0}

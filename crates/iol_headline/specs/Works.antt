@@ -23,7 +23,7 @@ pub record IsWorkOf (first : ℕ) (start : State) (port : ℕ) (work : Work) (ev
   pub revision : work.revision ≡ kept.revision
   pub checksum : work.checksum ≡ option_map (λ stored. stored.set.checksum) (stored_at (port_numbered (durable first start events) port))
 
--- a port that is told what it is to work with is told this (own)
+-- a port is told to work with what it is to work with then (own)
 abbrev pub TellsWork : ℕ → State → List Stamp → Event → Type 0
 TellsWork first start before (Attended port work) = IsWorkOf first start port work before
 TellsWork first start before _ = Unit {0}

@@ -1,7 +1,7 @@
 //! A trace worked out: port 1 backs up its sensor, which breaks, and restores the replacement. Of each law is said that it holds
 //! of that trace, and of some wrong traces that it does not.
 
-ghost use Rattle.std.specs.Prelude.{◌≡◌, [], ◌∷◌, ◌++◌, Some, None};
+ghost use Rattle.std.specs.Prelude.{[], ◌∷◌, Some, None};
 ghost use Rattle.iol_types.specs.Command.{Store};
 ghost use Rattle.iol_types.specs.State.{empty_state};
 ghost use Rattle.iol_trace.specs.Events.{Accepted, Exchange, Attended, Changed, stamped};
