@@ -1,5 +1,6 @@
 -- The run of a script begins with an empty journal, and what is recovered behind its stop holds all that was acknowledged.
-use Rattle.std.proofs.Common.{◌≡◌, ◌≤◌, refl, ◌+◌, ℕ, true, IsTrue, List, length, take, replicate, inr, Result, Ok, Err, ap, sym, ◌∙◌, subst}
+use Rattle.std.proofs.Common.{◌≡◌, ◌≤◌, refl, ◌+◌, ℕ, true, IsTrue, List, length, take, replicate, inr, Result, Ok, Err, ap, sym, ◌∙◌}
+use Rattle.std.proofs.Common.{subst}
 use Rattle.std.proofs.Common.{arith}
 use Rattle.std.proofs.lemmas.List.{take_all, length-replicate}
 use Rattle.iol_types.specs.State.{State, after, empty_state, blank}
@@ -11,9 +12,10 @@ use Rattle.iol_disk.specs.Memory.{as_disk}
 use Rattle.iol_disk.specs.declared.fault_disk.FaultDisk.{FaultDisk}
 use Rattle.iol_disk.specs.declared.memory.MemoryDisk.{MemoryDisk}
 use Rattle.iol_journal.specs.Kept.{EachMeans, IsKept, KeptMeans}
-use Rattle.iol_journal.specs.Meaning.{Standing, standing_in, meaning}
+use Rattle.iol_journal.specs.Meaning.{Standing, Cause, standing_in, meaning}
 use Rattle.iol_journal.specs.Runs.{HasPrefix}
-use Rattle.iol_run.proofs.Crash.{means_is, one_meaning}
+use Rattle.iol_record.specs.Reading.{◌>>=◌}
+use Rattle.iol_run.proofs.Crash.{means_is, meaning_of, one_meaning}
 use Rattle.iol_run.specs.Causes.{FailsFor}
 use Rattle.iol_run.specs.Schedules.{told_in}
 use Rattle.iol_run.specs.declared.schedule.RunFault.TheVariants as fault
@@ -82,3 +84,10 @@ holds said geometry given trace image number state run left means = record {
 
     counted : prefix.count ≡ number
     counted = omega (arith, same.0)
+
+-- and this is what a journal that stands so means
+pub means_so : (sectors : ℕ) (image : Image) (journal : Standing) (number : ℕ) (state : State) → standing_in sectors image ≡ Ok journal
+    → number ≡ journal.number → state ≡ journal.state → meaning sectors image ≡ Ok (record { number = number; state = state })
+means_so sectors image journal number state stands counted same =
+    ap (λ (r : Result Standing Cause). r >>= λ s. Ok (record { number = s.number; state = s.state })) stands
+    ∙ (ap (λ (n : ℕ). meaning_of n journal.state) (sym counted) ∙ ap (meaning_of number) (sym same))

@@ -1,7 +1,7 @@
 -- A script that was played: the run that it asked for, and what was recovered of the run's disk.
 use Rattle.std.specs.Prelude.{◌≡◌, ◌≤◌, ℕ, pos, List, length, take, Option, Some, None, Ok}
 use Rattle.iol_types.specs.State.{State, after, empty_state}
-use Rattle.iol_disk.specs.Content.{reads}
+use Rattle.iol_disk.specs.Content.{IsImage, reads}
 use Rattle.iol_disk.specs.Disk.{Disk}
 use Rattle.iol_disk.specs.FaultDisk.{as_disk, inner, kind_of, due_of}
 use Rattle.iol_disk.specs.Memory as memory
@@ -51,10 +51,11 @@ pub record IsRunOf (said : Said) (geometry : Geometry) (given : FaultDisk Memory
       (tasks_of said.steps) trace
   pub whole : trace.ended ≡ Whole
 
--- the power was stopped as a script says, and this number and state is what the disk then means (format, Scripts)
+-- the power was stopped as a script says: what it left is an image of the disk, and means this number and state (format, Scripts)
 pub record IsStoppedAs (keep : Pick) (last : MemoryDisk) (number : ℕ) (state : State) : Type 0 where
   pub stopped : MemoryDisk
   pub power : IsAfterStop keep (memory.as_disk last) (memory.as_disk stopped)
+  pub left : IsImage (memory.as_disk last).content (reads (memory.as_disk stopped).content)
   pub means : meaning (memory.as_disk stopped).sectors (reads (memory.as_disk stopped).content)
       ≡ Ok (record { number = number; state = state })
 

@@ -2,7 +2,7 @@
 ghost use Rattle.std.specs.Prelude.{◌≡◌, IfOk};
 ghost use Rattle.iol_commands.specs.Steps.{task_of, tasks_of};
 
-use iol_run::{Step, Task};
+use iol_run::Task;
 use iol_script::Step as ScriptStep;
 use iol_types::Change;
 use std::alloc::{AllocError, Global};
@@ -26,18 +26,10 @@ fn task_of(step: ScriptStep) -> Task
     ensures { result ≡ task_of step }
 {
     match step {
-        ScriptStep::Configure { port, config } => {
-            Task::once(Step::Client(Change::Configure { port, config }))
-        }
-        ScriptStep::Clear { port } => Task::once(Step::Client(Change::Clear { port })),
-        ScriptStep::Port { port, times } => Task::Repeat {
-            step: Step::Port(port),
-            times,
-        },
-        ScriptStep::Flush { times } => Task::Repeat {
-            step: Step::Flush,
-            times,
-        },
+        ScriptStep::Configure { port, config } => Task::Client(Change::Configure { port, config }),
+        ScriptStep::Clear { port } => Task::Client(Change::Clear { port }),
+        ScriptStep::Port { port, times } => Task::Port { port, times },
+        ScriptStep::Flush { times } => Task::Flush { times },
         ScriptStep::Drain => Task::Drain,
     }
 }

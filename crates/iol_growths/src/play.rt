@@ -36,7 +36,7 @@ pub(crate) fn play(rt: &HostRuntime, schedule: Schedule, most: usize) -> anyhow:
 fn once_each(alloc: Global, steps: &[Step]) -> anyhow::Result<Vec<Task>> {
     let mut tasks = Vec::with_capacity(alloc, steps.len())?;
     for step in steps {
-        tasks.push(Task::once(*step))?;
+        tasks.push(Task::from(*step))?;
     }
     Ok(tasks)
 }

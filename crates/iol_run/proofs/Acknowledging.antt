@@ -55,15 +55,21 @@ module _ (t : ℕ) where
   one_rises old new e is le = record { rise = (subst (λ (n : ℕ). old.number ≤ n) (sym is) le, tt); number = is }
 
   silent_rises : (old new : CoreView) (told : List Event) → told ≡ [] → new.number ≡ old.number → Rises old new (stamped t told)
-  silent_rises old new told none same = subst (λ (es : List Event). Rises old new (stamped t es)) (sym none) (record { rise = tt; number =
-      sym same })
+  silent_rises old new told none same = subst (λ (es : List Event). Rises old new (stamped t es)) (sym none) (record {
+    rise = tt;
+    number =
+        sym same;
+  })
 
   none_rises : (last : ℕ) (told : List Event) → AcksNone told → AcksRise last (stamped t told) × (acked last (stamped t told) ≡ last)
   none_rises last [] none = (tt, refl)
   none_rises last (e ∷ told) none =
       let rest = none_rises last told none.1 in (
-        (subst (λ (n : ℕ). last ≤ n) (sym (none.0 last)) (omega arith), subst (λ (n : ℕ). AcksRise n (stamped t told)) (sym (none.0 last))
-            rest.0),
+        (
+          subst (λ (n : ℕ). last ≤ n) (sym (none.0 last)) (omega arith),
+          subst (λ (n : ℕ). AcksRise n (stamped t told)) (sym (none.0 last))
+              rest.0,
+        ),
         ap (λ (n : ℕ). acked n (stamped t told)) (none.0 last) ∙ rest.1,
       )
 
@@ -102,7 +108,7 @@ module _ (t : ℕ) {D : Type 0} where
     called_rises old new (e ∷ told) is =
         let same = ap (λ (c : CoreView). c.number) is.2 in
         subst (λ (es : List Event). Rises old.core new.core (stamped t es)) (sym is.1) (one_rises t old.core new.core _ (sym same) (omega
-            (arith, same)))
+        (arith, same)))
 
     serves_rises : (needs : Need) (old new : CoreOnDiskView D) (told : List Event) (turned : Turned) → Serves disk needs old new told turned
         → Rises old.core new.core (stamped t told)
@@ -128,12 +134,12 @@ module _ (t : ℕ) {D : Type 0} where
           → StepsIf connection allows there port old new ports last told → Rises old.core new.core (stamped t told)
       port_rises true port old new ports last told is =
           let becomes = step_becomes connection allows is.before is.after is.link is.linked old.core new.core is.called is.status
-              is.steps_as in
+          is.steps_as in
           subst (λ (es : List Event). Rises old.core new.core (stamped t es)) (sym is.told_is)
           (subst (λ (ss : List Stamp). Rises old.core new.core ss) (sym (stamped_both t is.called is.status))
           (more_rises old.core new.core new.core (stamped t is.called) (stamped t is.status)
           (subst (λ (c : CoreView). Rises old.core c (stamped t is.called)) (sym becomes.0.new_is) (change_rises t old.core
-              becomes.0.change is.called becomes.0.tells))
+          becomes.0.change is.called becomes.0.tells))
           (quiet_rises t new.core new.core is.status becomes.1 refl)))
       port_rises false port old new ports last told is = silent_rises t old.core new.core told is.2 (ap (λ (m : CoreOnDiskView D).
           m.core.number) is.0)

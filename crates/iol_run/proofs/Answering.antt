@@ -207,7 +207,7 @@ module _ (t : ℕ) where
   module _ {D : Type 0} where
     port_on : {L : Type 0} (number : L → ℕ) (steps : L → LinkCall → LinkAnswer → L → Type 0) (there : Bool) (port : ℕ)
         (old new : CoreOnDiskView D) (ports last : PortsView L) (told : List Event)
-            → StepsIf number steps there port old new ports last told
+        → StepsIf number steps there port old new ports last told
         → GoesOn old.core new.core (stamped t told)
     port_on number steps true port old new ports last told is =
         let becomes = step_becomes number steps is.before is.after is.link is.linked old.core new.core is.called is.status is.steps_as in
@@ -301,7 +301,7 @@ module _ (first : ℕ) (start : State) where
   answers_none t before [] none = refl
   answers_none t before (e ∷ told) none =
       next_none (λ (rest : List CommandValue). AnswersClients first start (before ++ record { event = e; clock = t } ∷ []) rest (stamped t
-          told))
+      told))
       before e told (is_answer e) none (λ behind. answers_none t (before ++ record { event = e; clock = t } ∷ []) told behind)
 
   -- what answers more, behind what answers some
@@ -349,9 +349,13 @@ module _ (first : ℕ) (start : State) where
 
       by : (change : client.Change) (answer : Result ℕ SubmitFault) → IsSubmit old (command_of change) new answer
           → AnswersClients first start before (command_of change ∷ []) (stamped t (submit_told (command_of change) answer))
-      by (asked.Configure port config) (Ok n) is =
-          (_, [], refl, answered (command_of (asked.Configure port config)) _ (accepted (command_of (asked.Configure port config)) n is),
-              refl)
+      by (asked.Configure port config) (Ok n) is = (
+        _,
+        [],
+        refl,
+        answered (command_of (asked.Configure port config)) _ (accepted (command_of (asked.Configure port config)) n is),
+        refl,
+      )
       by (asked.Clear port) (Ok n) is =
           (_, [], refl, answered (command_of (asked.Clear port)) _ (accepted (command_of (asked.Clear port)) n is), refl)
       by change (Err f) is = (_, [], refl, answered (command_of change) _ (refused (command_of change) f is), refl)

@@ -4,15 +4,15 @@ use Rattle.std.proofs.Common.{append-nil, append_assoc}
 use Rattle.iol_disk.specs.Disk.{Disk}
 use Rattle.iol_link.specs.Link.{LinkCall, LinkAnswer}
 use Rattle.iol_run.specs.Runs.{RunView, Did}
-use Rattle.iol_run.specs.Tasks.{IsCountOf, HasMade, HasBegun, HasStopped, HasDone, HasDoneAll, EndsAfter, HasRun, waits_of}
+use Rattle.iol_run.specs.Tasks.{IsCountOf, HasMade, HasRepeated, HasTried, HasDoneAll, EndsAfter, HasRun, waits_of}
 use Rattle.iol_run.specs.declared.core_on_disk.Turned.{Turned}
 use Rattle.iol_run.specs.declared.core_on_disk.Turned.TheVariants.{Made, Idle, Waited}
 use Rattle.iol_run.specs.declared.schedule.Ended.{Ended}
 use Rattle.iol_run.specs.declared.schedule.Ended.TheVariants.{Whole, Memory}
 use Rattle.iol_run.specs.declared.step.Step.{Step}
-use Rattle.iol_run.specs.declared.step.Step.TheVariants.{Flush}
+use Rattle.iol_run.specs.declared.step.Step.TheVariants.{Client, Port, Flush}
 use Rattle.iol_run.specs.declared.task.Task.{Task}
-use Rattle.iol_run.specs.declared.task.Task.TheVariants.{Repeat, Drain}
+use Rattle.iol_run.specs.declared.task.Task.TheVariants as task
 
 -- a step waits once at most
 pub one_wait : (turned : Turned) → waits_of turned ≤ 1
@@ -70,16 +70,25 @@ module _ {D L : Type 0} (disk : D → Disk) (connection : L → ℕ) (allows : L
   abbrev StepsMade : List Step → ℕ → RunView D L → RunView D L → Type 0
   StepsMade made waits old new = HasMade disk connection allows made waits old new
 
-  -- the steps of a task that is done were made
-  done_made : (task : Task) (made : List Step) (waits : ℕ) (old new : RunView D L) → HasDone disk connection allows task made waits old new
-      → StepsMade made waits old new
-  done_made (Repeat step times) made waits old new done = done.1
-  done_made Drain made waits old new done =
-      let drained = done.1 in
-      subst (λ (n : ℕ). StepsMade made n old new) (sym done.0)
+  -- the steps of a repeated one were made
+  repeated_made : (ended : Ended) (step : Step) (times : ℕ) (made : List Step) (waits : ℕ) (old new : RunView D L)
+      → HasRepeated disk connection allows ended step times made waits old new → StepsMade made waits old new
+  repeated_made Whole step times made waits old new repeated = repeated.1
+  repeated_made Memory step times made waits old new repeated = repeated.0.run
+
+  -- and those of a task
+  tried_made : (ended : Ended) (task : Task) (made : List Step) (waits : ℕ) (old new : RunView D L)
+      → HasTried disk connection allows ended task made waits old new → StepsMade made waits old new
+  tried_made ended (task.Client change) made waits old new tried = repeated_made ended (Client change) 1 made waits old new tried
+  tried_made ended (task.Port port times) made waits old new tried = repeated_made ended (Port port) times made waits old new tried
+  tried_made ended (task.Flush times) made waits old new tried = repeated_made ended Flush times made waits old new tried
+  tried_made Whole task.Drain made waits old new tried =
+      let drained = tried.1 in
+      subst (λ (n : ℕ). StepsMade made n old new) (sym tried.0)
       (subst (λ (ss : List Step). StepsMade ss 0 old new) (sym drained.made_is)
       (made_join (replicate drained.turns Flush) (Flush ∷ []) 0 0 old drained.last new drained.run
       (_, 0, new, drained.idle, omega arith, (refl, refl))))
+  tried_made Memory task.Drain made waits old new tried = tried.run
 
   -- and those of tasks
   all_made : (tasks : List Task) (made : List Step) (waits : ℕ) (old new : RunView D L)
@@ -89,19 +98,14 @@ module _ {D L : Type 0} (disk : D → Disk) (connection : L → ℕ) (allows : L
       let mid = done.4 in
       subst (λ (n : ℕ). StepsMade made n old new) (sym done.8)
       (subst (λ (ss : List Step). StepsMade ss (done.2 + done.3) old new) (sym done.7)
-      (made_join done.0 done.1 done.2 done.3 old mid new (done_made task done.0 done.2 old mid done.5)
+      (made_join done.0 done.1 done.2 done.3 old mid new (tried_made Whole task done.0 done.2 old mid done.5)
       (all_made tasks done.1 done.3 mid new done.6)))
 
-  -- of a task in which memory ran out
-  stopped_made : (task : Task) (made : List Step) (waits : ℕ) (old new : RunView D L)
-      → HasStopped disk connection allows task made waits old new → StepsMade made waits old new
-  stopped_made (Repeat step times) made waits old new stopped = stopped.0.run
-  stopped_made Drain made waits old new stopped = stopped.run
-
+  -- of the last task, in which memory may have run out
   end_made : (ended : Ended) (done : ℕ) (tasks : List Task) (made : List Step) (waits : ℕ) (old new : RunView D L)
       → EndsAfter disk connection allows ended done tasks made waits old new → StepsMade made waits old new
   end_made Whole done tasks made waits old new ends = subst (λ (ss : List Step). StepsMade ss waits old new) (sym ends.1) (ends.2, ends.3)
-  end_made Memory done tasks made waits old new ends = stopped_made ends.0 made waits old new ends.2
+  end_made Memory done tasks made waits old new ends = tried_made Memory ends.0 made waits old new ends.2
 
   -- the steps of a schedule that was run
   pub run_made : (tasks : List Task) (ended : Ended) (made : List Step) (waits : ℕ) (old new : RunView D L)
@@ -115,7 +119,7 @@ module _ {D L : Type 0} (disk : D → Disk) (connection : L → ℕ) (allows : L
 
   -- one more task behind those that are done
   pub done_more : (tasks : List Task) (task : Task) (made more : List Step) (waits waited : ℕ) (old mid new : RunView D L)
-      → HasDoneAll disk connection allows tasks made waits old mid → HasDone disk connection allows task more waited mid new
+      → HasDoneAll disk connection allows tasks made waits old mid → HasTried disk connection allows Whole task more waited mid new
       → HasDoneAll disk connection allows (tasks ++ task ∷ []) (made ++ more) (waits + waited) old new
   done_more [] task made more waits waited old mid new all done = (
     more,
@@ -123,7 +127,7 @@ module _ {D L : Type 0} (disk : D → Disk) (connection : L → ℕ) (allows : L
     waited,
     0,
     new,
-    subst (λ (r : RunView D L). HasDone disk connection allows task more waited r new) all.2 done,
+    subst (λ (r : RunView D L). HasTried disk connection allows Whole task more waited r new) all.2 done,
     (refl, refl, refl),
     ap (λ (ss : List Step). ss ++ more) all.0 ∙ sym (append-nil more),
     omega (arith, all.1),

@@ -166,7 +166,7 @@ module _ {L : Type 0} (number : L → ℕ) (steps : L → LinkCall → LinkAnswe
         runs = λ place begun link machine at linked there.
             let within = slice_get_within links place begun at in
             subst (λ (n : ℕ). IsRun (place + 1) begun n machine link (events ++ more)) (sym (unmoved (place + 1) made step (still place
-                within)))
+            within)))
             (more_events (place + 1) begun (steps_of (place + 1) made) machine link events more (is.runs place begun link machine at linked
             there) (none (place + 1)));
         others = λ port beyond. own-append port events more

@@ -49,7 +49,7 @@ module _ {D L : Type 0} (disk : D → Disk) (number : L → ℕ) (steps : L → 
         (subst (λ (ss : List Stamp).
         ArePortRuns number steps journal.standing.number journal.standing.state made links ss from.new.ports.links) (sym from.told)
         (all_port_runs number steps journal.standing.number journal.standing.state disk made from.waits journal links from.old from.new
-            refl refl
+        refl refl
         count from.fresh run));
     links_made =
         subst (λ (ls : List L). AreLinkRuns number steps links (told_in trace) ls) (sym from.links_are)
@@ -83,7 +83,7 @@ module _ {D L : Type 0} (disk : D → Disk) (number : L → ℕ) (steps : L → 
           × (from.new.master.core.durable ≡ durable journal.standing.number journal.standing.state from.new.events)
       answered =
           all_answered journal.standing.number journal.standing.state disk number steps made from.waits journal links from.old from.new
-              refl refl
+          refl refl
           from.fresh run
 
   -- what was run over a journal is a trace over the disk that it was recovered from

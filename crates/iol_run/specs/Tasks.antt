@@ -8,13 +8,19 @@ use Rattle.iol_run.specs.declared.core_on_disk.Turned.TheVariants.{Idle, Waited}
 use Rattle.iol_run.specs.declared.schedule.Ended.{Ended}
 use Rattle.iol_run.specs.declared.schedule.Ended.TheVariants.{Whole, Memory}
 use Rattle.iol_run.specs.declared.step.Step.{Step}
-use Rattle.iol_run.specs.declared.step.Step.TheVariants.{Flush}
+use Rattle.iol_run.specs.declared.step.Step.TheVariants.{Client, Port, Flush}
 use Rattle.iol_run.specs.declared.task.Task.{Task}
-use Rattle.iol_run.specs.declared.task.Task.TheVariants.{Repeat, Drain}
+use Rattle.iol_run.specs.declared.task.Task.TheVariants as task
 
 -- so many had to wait, of which a count tells as many as it can show (own)
 abbrev pub IsCountOf : ℕ → ℕ → Type 0
 IsCountOf count waits = count ≡ min waits (2 ^ 64 - 1)
+
+-- a step as a task: it is made once (own)
+abbrev pub once : Step → Task
+once (Client change) = task.Client change
+once (Port port) = task.Port port 1
+once Flush = task.Flush 1
 
 -- a turn of the flusher that met want of memory counts as a wait (own)
 abbrev pub waits_of : Turned → ℕ
@@ -37,32 +43,31 @@ module _ {D L : Type 0} (disk : D → Disk) (number : L → ℕ) (steps : L → 
     pub run : HasMade (replicate turns Flush) 0 old last
     pub idle : Did disk number steps Flush Idle last new
 
-  -- a task is done: its step was made so many times, or the flusher has drained the queue (own)
-  abbrev pub HasDone : Task → List Step → ℕ → RunView D L → RunView D L → Type 0
-  HasDone (Repeat step times) made waits old new = (made ≡ replicate times step) × HasMade made waits old new
-  HasDone Drain made waits old new = (waits ≡ 0) × HasDrained made old new
-
-  -- a task was begun, and its step made so many times (own)
+  -- a step was made so many times, after which memory may have run out (own)
   pub record HasBegun (step : Step) (made : List Step) (waits : ℕ) (old new : RunView D L) : Type 0 where
     pub times : ℕ
     pub made_is : made ≡ replicate times step
     pub run : HasMade made waits old new
 
-  -- memory ran out in a task: its step was made fewer times, or the flusher has not drained the queue (own)
-  abbrev pub HasStopped : Task → List Step → ℕ → RunView D L → RunView D L → Type 0
-  HasStopped (Repeat step times) made waits old new = (begun : HasBegun step made waits old new) × (begun.times < times)
-  HasStopped Drain made waits old new = HasBegun Flush made waits old new
+  -- one step was made so many times, or fewer where memory ran out (own)
+  abbrev pub HasRepeated : Ended → Step → ℕ → List Step → ℕ → RunView D L → RunView D L → Type 0
+  HasRepeated Whole step times made waits old new = (made ≡ replicate times step) × HasMade made waits old new
+  HasRepeated Memory step times made waits old new = (begun : HasBegun step made waits old new) × (begun.times < times)
 
-  -- a task was done whole, or memory ran out in it (own)
+  -- a task was done: its step was made so many times, or the flusher has drained the queue. Where memory ran out in it, its step was
+  -- made fewer times, or some turns of the flusher (own)
   abbrev pub HasTried : Ended → Task → List Step → ℕ → RunView D L → RunView D L → Type 0
-  HasTried Whole task made waits old new = HasDone task made waits old new
-  HasTried Memory task made waits old new = HasStopped task made waits old new
+  HasTried ended (task.Client change) made waits old new = HasRepeated ended (Client change) 1 made waits old new
+  HasTried ended (task.Port port times) made waits old new = HasRepeated ended (Port port) times made waits old new
+  HasTried ended (task.Flush times) made waits old new = HasRepeated ended Flush times made waits old new
+  HasTried Whole task.Drain made waits old new = (waits ≡ 0) × HasDrained made old new
+  HasTried Memory task.Drain made waits old new = HasBegun Flush made waits old new
 
   -- tasks were done one after another (own)
   abbrev pub HasDoneAll : List Task → List Step → ℕ → RunView D L → RunView D L → Type 0
   HasDoneAll [] made waits old new = (made ≡ []) × (waits ≡ 0) × (new ≡ old)
   HasDoneAll (task ∷ tasks) made waits old new =
-      (first rest : List Step) × (early late : ℕ) × (mid : RunView D L) × HasDone task first early old mid
+      (first rest : List Step) × (early late : ℕ) × (mid : RunView D L) × HasTried Whole task first early old mid
       × HasDoneAll tasks rest late mid new
       × (made ≡ first ++ rest) × (waits ≡ early + late)
 
@@ -70,7 +75,7 @@ module _ {D L : Type 0} (disk : D → Disk) (number : L → ℕ) (steps : L → 
   abbrev pub EndsAfter : Ended → ℕ → List Task → List Step → ℕ → RunView D L → RunView D L → Type 0
   EndsAfter Whole done tasks made waits old new = (done ≡ length tasks) × (made ≡ []) × (waits ≡ 0) × (new ≡ old)
   EndsAfter Memory done tasks made waits old new =
-      (task : Task) × (slice_get tasks done ≡ Some task) × HasStopped task made waits old new
+      (task : Task) × (slice_get tasks done ≡ Some task) × HasTried Memory task made waits old new
 
   -- a schedule was run: its first tasks, all of them unless memory ran out, in their order; these are the steps made (own)
   pub record HasRun (tasks : List Task) (ended : Ended) (made : List Step) (waits : ℕ) (old new : RunView D L) : Type 0 where
@@ -85,7 +90,10 @@ module _ {D L : Type 0} (disk : D → Disk) (number : L → ℕ) (steps : L → 
     pub made_is : made ≡ whole ++ partly
     pub waits_is : waits ≡ early + late
 
-  -- with some steps and some waits a task was tried, or a schedule was run, as a count tells (own)
+  -- with some steps one was repeated or a task tried, or with some waits too, as a count tells, a schedule was run (own)
+  abbrev pub Repeats : Ended → Step → ℕ → ℕ → RunView D L → RunView D L → Type 0
+  Repeats ended step times waits old new = (made : List Step) × HasRepeated ended step times made waits old new
+
   abbrev pub Tries : Ended → Task → ℕ → RunView D L → RunView D L → Type 0
   Tries ended task waits old new = (made : List Step) × HasTried ended task made waits old new
 

@@ -2,7 +2,7 @@
 
 ghost use Rattle.std.specs.Prelude.{◌≡◌};
 ghost use Rattle.iol_run.specs.Runs.{KeepsRun};
-ghost use Rattle.iol_run.specs.Tasks.{Runs, Tries, waits_of};
+ghost use Rattle.iol_run.specs.Tasks.{Repeats, Runs, Tries, once, waits_of};
 ghost use Rattle.iol_run.specs.declared.task.Task.TheVariants as task;
 
 use crate::core_on_disk::Turned;
@@ -12,23 +12,31 @@ use crate::step::Step;
 use iol_disk::SectorDisk;
 use iol_front::Name;
 use iol_link::DeviceLink;
+use iol_types::{Change, PortId};
 
 /// A task of a schedule.
 #[derive(Clone, Copy)]
 pub enum Task {
-    /// One step, so many times. A turn of the flusher that wants memory counts, and the next one tries again.
-    Repeat { step: Step, times: u16 },
-    /// Turns of the flusher until one finds nothing to do, as the queue is empty or the disk has failed. A turn that wants
+    /// A client asks for a change.
+    Client(Change),
+    /// A port makes so many steps.
+    Port { port: PortId, times: u16 },
+    /// The flusher makes so many turns. One that wants memory counts, and the next one tries again.
+    Flush { times: u16 },
+    /// The flusher makes turns until one finds nothing to do, as the queue is empty or the disk has failed. One that wants
     /// memory ends the schedule.
     Drain,
 }
 
-impl Task {
-    /// One step, once.
-    pub fn once(step: Step) -> Task
-        ensures { result ≡ task.Repeat step 1 }
-    {
-        Task::Repeat { step, times: 1 }
+impl From<Step> for Task {
+    ghost from_gives = { λ step made. made ≡ once step };
+
+    fn from(step: Step) -> Task {
+        match step {
+            Step::Client(change) => Task::Client(change),
+            Step::Port(port) => Task::Port { port, times: 1 },
+            Step::Flush => Task::Flush { times: 1 },
+        }
     }
 }
 
@@ -61,7 +69,9 @@ fn make_task<D: SectorDisk, L: DeviceLink, F: Name>(
     ensures kept { KeepsRun D.disk F.front.start run.old run.new }
 {
     match task {
-        Task::Repeat { step, times } => repeat(run, &step, times),
+        Task::Client(change) => repeat(run, &Step::Client(change), 1),
+        Task::Port { port, times } => repeat(run, &Step::Port(port), times),
+        Task::Flush { times } => repeat(run, &Step::Flush, times),
         Task::Drain => drain(run),
     }
 }
@@ -72,7 +82,7 @@ fn repeat<D: SectorDisk, L: DeviceLink, F: Name>(
     step: &Step,
     times: u16,
 ) -> (Ended, u64)
-    ensures tries { Tries D.disk L.number L.steps result.0 (task.Repeat step.now times) result.1 run.old run.new }
+    ensures repeats { Repeats D.disk L.number L.steps result.0 step.now times result.1 run.old run.new }
     ensures kept { KeepsRun D.disk F.front.start run.old run.new }
 {
     let mut waits = 0;

@@ -48,7 +48,7 @@ pub fn unplugged<R: Abort>(rt: &R, alloc: Global, ports: u16) -> Vec<SimLink> {
 fn once_each<R: Abort>(rt: &R, alloc: Global, steps: &[Step]) -> Vec<Task> {
     let mut tasks = Vec::new(alloc);
     for step in steps {
-        tasks.push(Task::once(*step)).expect(rt, "memory");
+        tasks.push(Task::from(*step)).expect(rt, "memory");
     }
     tasks
 }

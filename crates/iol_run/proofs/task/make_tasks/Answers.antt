@@ -17,7 +17,7 @@ returns-in-Memory-clause-runs g c =
     let is = c.loop-task.invariant in
     let tried : Tries d l.number l.steps Memory c.task-item.result c.make_task-ended.result.1 c.loop-task.run c.make_task-ended.new.run =
     subst (λ (e : Ended). Tries d l.number l.steps e c.task-item.result c.make_task-ended.result.1 c.loop-task.run
-        c.make_task-ended.new.run)
+    c.make_task-ended.new.run)
     c.in-Memory.is c.make_task-ended.ensures.tries in (
       is.made ++ tried.0,
       is.waited + c.make_task-ended.result.1,
@@ -64,7 +64,7 @@ loop-task-preserved g c =
           HasDoneAll d l.number l.steps ts (is.made ++ tried.0) (is.waited + c.make_task-ended.result.1) c.args.run.now
           c.make_task-ended.new.run) (sym more)
           (done_more d l.number l.steps (take i tasks) item is.made tried.0 is.waited c.make_task-ended.result.1 c.args.run.now
-              c.loop-task.run
+          c.loop-task.run
           c.make_task-ended.new.run is.done tried.1);
       count =
           count_more c.loop-task.waits is.waited c.make_task-ended.result.1 c.saturating_add-waits.result is.count

@@ -18,7 +18,7 @@ loop-preserved g c =
       made =
           subst (λ (ss : List Step).
           HasMade d l.number l.steps ss (c.loop.waits + c.waits_of-waits.result) c.args.run.now c.step.new.self) (sym (replicate_next made
-              step))
+          step))
           (subst (λ (n : ℕ). HasMade d l.number l.steps (replicate made step ++ step ∷ []) n c.args.run.now c.step.new.self) (sym counted)
           (made_more d l.number l.steps (replicate made step) step c.in-Ok.turned c.loop.waits c.args.run.now c.loop.run c.step.new.self
           c.loop.invariant.made c.in-Ok.ensures.did));
@@ -27,8 +27,8 @@ loop-preserved g c =
     }
 
 -- memory ran out before the next step
-pub returns-in-Err-clause-tries : goal.returns-in-Err-clause-tries
-returns-in-Err-clause-tries g c =
+pub returns-in-Err-clause-repeats : goal.returns-in-Err-clause-repeats
+returns-in-Err-clause-repeats g c =
     let d = g.D.SectorDisk.disk in
     let l = g.L.DeviceLink in
     let steps = replicate c.loop.counter c.args.step.now in

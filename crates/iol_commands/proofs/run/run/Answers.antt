@@ -1,0 +1,32 @@
+use Rattle.std.proofs.Common.{◌≡◌, ℕ, Ok, refl, sym, subst}
+use Rattle.iol_disk.specs.Content.{reads}
+use Rattle.iol_disk.specs.Memory.{as_disk}
+use Rattle.iol_disk.specs.declared.memory.MemoryDisk.{MemoryDisk}
+use Rattle.iol_disk.specs.FaultDisk.{inner}
+use Rattle.iol_journal.specs.Meaning.{meaning}
+use Rattle.iol_script.specs.Script.{said_of}
+use Rattle.iol_commands.proofs.Playing.{holds}
+use Rattle.iol_commands.specs.Played.{IsStoppedAs}
+use Rattle.iol_commands.proofs.run.run.Goals as goal
+
+pub returns-clause-played : goal.returns-clause-played
+returns-clause-played c =
+    let said = said_of c.args.script.now in
+    let trace = c.in_ok-trace.trace in
+    let number = c.in_ok-recovered.recovered.number in
+    let state = c.in_ok-recovered.recovered.state in
+    let stopped : IsStoppedAs said.keep (inner trace.disk) number state =
+    subst (λ (d : MemoryDisk). IsStoppedAs said.keep d number state) c.disk.ensures c.in_ok-recovered.ensures.stopped in
+    let image = reads (as_disk stopped.stopped).content in
+    record {
+      geometry = c.args.geometry;
+      given = c.failing-given.result;
+      trace = trace;
+      numbers = c.requires.numbers;
+      run = c.in_ok-trace.ensures.run;
+      events = refl;
+      stopped = stopped;
+      holds =
+          holds said c.args.geometry c.failing-given.result trace image number state c.in_ok-trace.ensures.run stopped.left
+          (subst (λ (n : ℕ). meaning n image ≡ Ok (record { number = number; state = state })) stopped.power.sectors stopped.means);
+    }
