@@ -3,3 +3,7 @@ pub mod Stepping
 pub mod SaidParameters
 pub mod SaidDevices
 pub mod Accepted
+pub mod Hexadecimal
+pub mod OctetLines
+pub mod PortLines
+pub mod TraceLines

@@ -6,3 +6,5 @@ pub mod Devices
 pub mod Steps
 pub mod Images
 pub mod Texts
+pub mod Lines
+pub mod Recovered
