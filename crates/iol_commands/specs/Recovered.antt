@@ -1,5 +1,5 @@
 -- The lines of a state that was recovered.
-use Rattle.std.specs.Prelude.{ℕ, ◌+◌, List, [], ◌∷◌, ◌++◌, length, codes, Option, Some, None}
+use Rattle.std.specs.Prelude.{◌≡◌, ℕ, ◌+◌, List, [], ◌∷◌, ◌++◌, length, codes, Option, Some, None, Ok}
 use Rattle.std.specs.Option.{option_map_or}
 use Rattle.std.specs.List.{flat_map}
 use Rattle.std.specs.Fmt.{decimal}
@@ -7,6 +7,9 @@ use Rattle.iol_types.specs.Config.{mode_octet, validation_octet}
 use Rattle.iol_types.specs.DataSet.{Entry, octets_of}
 use Rattle.iol_types.specs.State.{Stored, Port, State}
 use Rattle.iol_types.specs.declared.config.PortConfig.{PortConfig}
+use Rattle.iol_disk.specs.Disk.{Disk}
+use Rattle.iol_journal.specs.Meaning.{meaning}
+use Rattle.iol_journal.specs.Reading.{Shows}
 use Rattle.iol_commands.specs.Texts.{hex_of, hex_digits}
 
 -- the octets of a parameter behind a space, without spaces between them; nothing where there are none (format, Texts)
@@ -61,3 +64,9 @@ port_lines number (port ∷ ports) = port_text number port ++ port_lines (number
 -- the lines of a state after so many commands (format, Texts)
 abbrev pub recovered_text : ℕ → State → List ℕ
 recovered_text number state = codes "recovered " ++ (decimal number ++ (codes "\n" ++ port_lines 1 state))
+
+-- a text tells the state on a disk: that which each of its images means, after so many commands (format, Texts)
+abbrev pub TellsState : Disk → List ℕ → Type 0
+TellsState disk text =
+    (number : ℕ) × (state : State) × Shows disk (λ image. meaning disk.sectors image ≡ Ok (record { number = number; state = state }))
+    × (text ≡ recovered_text number state)

@@ -14,7 +14,7 @@
 //!   recovered state, and `fault` why a command fails.
 //! - `commands` and `image_commands` are the commands over writers. `words` reads what the command line asks for,
 //!   `version` has what `--version` prints, and `arguments` carries the command out.
-//! - `examples` has words of a trace, worked out.
+//! - `examples` has words and lines of a trace and of a state, worked out.
 //!
 //! Which texts can be run is defined in `specs/Runs.antt`, what the steps of a script are in `specs/Steps.antt`, the words
 //! of a trace in `specs/Texts.antt`, its lines in `specs/Lines.antt`, and those of a recovered state in
@@ -46,6 +46,6 @@ pub use arguments::{run_program, run_words};
 pub use commands::{report, run_text};
 pub use fault::Fault;
 pub use geometry::geometry_of;
-pub use image::{Shown, format_disk, show_disk};
+pub use image::{Shown, format_disk, show_disk, text_of_disk};
 pub use image_commands::{format_image, show_image};
 pub use state_text::Recovered;

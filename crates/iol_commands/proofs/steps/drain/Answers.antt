@@ -4,7 +4,7 @@ use Rattle.iol_run.proofs.Making.{made_more}
 use Rattle.iol_run.specs.Runs.{Did}
 use Rattle.iol_run.specs.Schedules.{HasMade}
 use Rattle.iol_run.specs.declared.core_on_disk.Turned.{Turned}
-use Rattle.iol_run.specs.declared.core_on_disk.Turned.TheVariants.{Made, Idle}
+use Rattle.iol_run.specs.declared.core_on_disk.Turned.TheVariants.{Made}
 use Rattle.iol_run.specs.declared.step.Step.{Step}
 use Rattle.iol_run.specs.declared.step.Step.TheVariants.{Flush}
 use Rattle.iol_commands.proofs.steps.drain.Goals as goal
