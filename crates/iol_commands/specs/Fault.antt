@@ -1,7 +1,9 @@
--- The exit status of a fault, and the fault of a script.
-use Rattle.std.specs.Prelude.{ℕ}
+-- The exit status and the words of a fault, and the fault of a script and of a recovery.
+use Rattle.std.specs.Prelude.{ℕ, List, ◌++◌, codes}
+use Rattle.std.specs.Fmt.{decimal}
 use Rattle.iol_commands.specs.declared.fault.Fault.{Fault}
-use Rattle.iol_commands.specs.declared.fault.Fault.TheVariants.{Words, Script, Geometry, Memory, NotFormatted, Damaged, Disk}
+use Rattle.iol_commands.specs.declared.fault.Fault.TheVariants.{NotFormatted, AlreadyFormatted, TooSmall, Damaged, Disk, Memory}
+use Rattle.iol_commands.specs.declared.fault.Fault.TheVariants.{Words, File, Script, Geometry}
 use Rattle.iol_journal.specs.declared.cause.RecoverCause.{RecoverCause}
 use Rattle.iol_journal.specs.declared.cause.RecoverCause.TheVariants as cause
 use Rattle.iol_script.specs.declared.script.ScriptFault.{ScriptFault}
@@ -14,6 +16,23 @@ status_of Words = 2
 status_of Script = 2
 status_of Geometry = 2
 status_of _ = 1
+
+-- the words for a fault (format, Texts)
+abbrev pub fault_text : Fault → List ℕ
+fault_text NotFormatted = codes "the disk is not formatted"
+fault_text AlreadyFormatted = codes "the disk is already formatted"
+fault_text TooSmall = codes "the disk is too small"
+fault_text (Damaged sector) = codes "damaged at sector " ++ decimal sector
+fault_text Disk = codes "the disk failed"
+fault_text Memory = codes "out of memory"
+fault_text Words = codes "a word is not UTF-8"
+fault_text (File path) = codes "cannot open " ++ path.now
+fault_text Script = codes "the script is not valid"
+fault_text Geometry = codes "the geometry is not valid"
+
+-- the line that says why a command failed (format, Texts)
+abbrev pub fault_line : Fault → List ℕ
+fault_line fault = codes "error: " ++ (fault_text fault ++ codes "\n")
 
 -- why a command fails whose script cannot be read (format, Texts)
 abbrev pub fault_for : ScriptFault → Fault

@@ -1,5 +1,5 @@
 -- The names and words of a trace.
-use Rattle.std.specs.Prelude.{ℕ, ◌/◌, ◌%◌, true, List, [], ◌∷◌, ◌++◌, codes}
+use Rattle.std.specs.Prelude.{ℕ, zero, suc, ◌/◌, ◌%◌, true, List, [], ◌∷◌, ◌++◌, codes}
 use Rattle.std.specs.Fmt.{digit_glyph}
 use Rattle.iol_types.specs.declared.command.CommandFault.{CommandFault}
 use Rattle.iol_types.specs.declared.command.CommandFault.TheVariants as fault
@@ -10,6 +10,11 @@ use Rattle.iol_trace.specs.Statuses as trace
 -- an octet in two hexadecimal digits, upper case (format, Texts)
 abbrev pub hex_of : ℕ → List ℕ
 hex_of octet = digit_glyph true (octet / 16) ∷ digit_glyph true (octet % 16) ∷ []
+
+-- the last so many hexadecimal digits of a number, upper case (format, Texts)
+unfoldable pub hex_digits : ℕ → ℕ → List ℕ
+hex_digits zero number = []
+hex_digits (suc count) number = hex_digits count (number / 16) ++ digit_glyph true (number % 16) ∷ []
 
 -- the name of why a command does not pass (format, Texts)
 abbrev pub command_name : CommandFault → List ℕ

@@ -1,7 +1,7 @@
 //! The program's commands, over a writer for their output and one for their faults.
 ghost use Rattle.std.specs.Prelude.{◌≡◌, ◌≤◌, ◌⊎◌, IfErr, OnOk};
 ghost use Rattle.std.specs.Io.KnownBytes.{Appends};
-ghost use Rattle.iol_commands.specs.Fault.{status_of};
+ghost use Rattle.iol_commands.specs.Fault.{status_of, fault_line};
 ghost use Rattle.iol_commands.specs.Runs.{CanRun, IsCause};
 
 use crate::fault::Fault;
@@ -68,6 +68,13 @@ fn write_through<W: Write>(out: &mut W, text: &[u8]) -> io::Result<()>
 pub fn report<E: Write>(err: &mut E, fault: &Fault<'_>) -> u8
     ensures { result ≡ status_of fault.now }
 {
-    let _ = writeln!(err, "error: {fault}");
+    let _ = write_fault(err, fault);
     fault.status()
+}
+
+// Writes the line that says why a command failed.
+fn write_fault<E: Write>(err: &mut E, fault: &Fault<'_>) -> io::Result<()>
+    ensures line { OnOk result (Appends (E.contents err.old) (E.contents err.new) (fault_line fault.now)) }
+{
+    writeln!(err, "error: {fault}")
 }

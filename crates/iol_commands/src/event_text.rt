@@ -1,4 +1,8 @@
 //! The lines of an event (docs/FORMATS.md, "Texts").
+ghost use Rattle.std.specs.Prelude.{◌≡◌};
+ghost use Rattle.std.specs.Fmt.{WritesOnOk};
+ghost use Rattle.iol_run.specs.Events.{event_of};
+ghost use Rattle.iol_commands.specs.Lines.{octets_line, event_text};
 
 use crate::names::refusal_name;
 use crate::status_text::StatusText;
@@ -8,7 +12,9 @@ use std::fmt;
 
 // The lines of an event: one, or two for an exchange and for a request that was lost. What the core answers to a port
 // has none.
-pub(crate) fn write_event<W: fmt::Write>(f: &mut fmt::Formatter<W>, event: &Event) -> fmt::Result {
+pub(crate) fn write_event<W: fmt::Write>(f: &mut fmt::Formatter<W>, event: &Event) -> fmt::Result
+    ensures { WritesOnOk W.write_str_gives f.old result (event_text (event_of event.now)) f.new }
+{
     match event {
         Event::Accepted { number, .. } => writeln!(f, "accepted {number}"),
         Event::Refused(fault) => writeln!(f, "refused {}", refusal_name(*fault)),
@@ -38,7 +44,9 @@ fn write_octets<W: fmt::Write>(
     port: PortId,
     sign: &str,
     octets: &[u8],
-) -> fmt::Result {
+) -> fmt::Result
+    ensures { WritesOnOk W.write_str_gives f.old result (octets_line port sign.now octets.now) f.new }
+{
     write!(f, "port {} {sign}", port.number())?;
     for octet in octets {
         write!(f, " {octet:02X}")?;

@@ -7,41 +7,56 @@ use iol_disk::DiskFault;
 use iol_journal::{FormatFault, RecoverCause};
 use iol_script::ScriptFault;
 use std::alloc::{AllocError, AllocFailed};
-use thiserror::Error;
+use std::error::Error;
+use std::fmt;
 
 // Why a command fails. The text of each stands on standard error after `error: `.
-#[derive(Clone, Copy, Debug, PartialEq, Eq, Error)]
+#[derive(Clone, Copy, Debug, PartialEq, Eq)]
 pub enum Fault<'a> {
     /// The disk has no journal.
-    #[error("the disk is not formatted")]
     NotFormatted,
     /// The disk has a journal already.
-    #[error("the disk is already formatted")]
     AlreadyFormatted,
     /// The disk has too few sectors for the geometry.
-    #[error("the disk is too small")]
     TooSmall,
     /// This sector holds what no journal writes.
-    #[error("damaged at sector {sector}")]
     Damaged { sector: usize },
     /// A call of the disk failed.
-    #[error("the disk failed")]
     Disk,
     /// Memory ran out.
-    #[error("out of memory")]
     Memory,
     /// A word of the command line is not UTF-8.
-    #[error("a word is not UTF-8")]
     Words,
     /// The file at this path cannot be opened, read or made.
-    #[error("cannot open {path}")]
     File { path: &'a str },
     /// The text is not a script.
-    #[error("the script is not valid")]
     Script,
     /// The numbers of ports and slots are not a geometry.
-    #[error("the geometry is not valid")]
     Geometry,
+}
+
+impl Error for Fault<'_> {}
+
+impl fmt::Display for Fault<'_> {
+    ghost use Rattle.std.specs.Prelude.{Some};
+    ghost use Rattle.iol_commands.specs.Fault.{fault_text};
+
+    ghost output = { λ fault. Some (fault_text fault) };
+
+    fn fmt<W: fmt::Write>(&self, f: &mut fmt::Formatter<W>) -> fmt::Result {
+        match self {
+            Fault::NotFormatted => f.write_str("the disk is not formatted"),
+            Fault::AlreadyFormatted => f.write_str("the disk is already formatted"),
+            Fault::TooSmall => f.write_str("the disk is too small"),
+            Fault::Damaged { sector } => write!(f, "damaged at sector {sector}"),
+            Fault::Disk => f.write_str("the disk failed"),
+            Fault::Memory => f.write_str("out of memory"),
+            Fault::Words => f.write_str("a word is not UTF-8"),
+            Fault::File { path } => write!(f, "cannot open {path}"),
+            Fault::Script => f.write_str("the script is not valid"),
+            Fault::Geometry => f.write_str("the geometry is not valid"),
+        }
+    }
 }
 
 impl Fault<'_> {

@@ -1,5 +1,5 @@
 //! Image files: opened or made, formatted, and shown.
-ghost use Rattle.std.specs.Prelude.{◌≡◌, ◌⊎◌, true, false, Ok, IfOk, IfErr, IsOk, OnOk};
+ghost use Rattle.std.specs.Prelude.{◌≡◌, ◌⊎◌, true, false, Ok, IfOk, IfErr, IsOk, OnOk, string_bytes};
 ghost use Rattle.iol_types.specs.State.{empty_state};
 ghost use Rattle.iol_disk.specs.Content.{IsImage};
 ghost use Rattle.iol_disk.specs.Moments.{LeavesOnly};
@@ -9,6 +9,7 @@ ghost use Rattle.iol_journal.specs.Meaning.{is_formatted, meaning, standing_in};
 ghost use Rattle.iol_journal.specs.Reading.{Shows};
 ghost use Rattle.iol_commands.specs.Fault.{status_of};
 ghost use Rattle.iol_commands.specs.Images.{IsFileCause, TellsWhy};
+ghost use Rattle.iol_commands.specs.Recovered.{TellsState};
 
 use crate::fault::Fault;
 use crate::state_text::Recovered;
@@ -108,6 +109,16 @@ fn erase_if_forced<D: SectorDisk>(disk: &mut D, force: bool) -> Result<(), DiskF
 pub struct Shown<D: SectorDisk> {
     pub recovered: Result<Recovered, Fault<'static>>,
     pub disk: D,
+}
+
+// What is printed of the state on a disk, or why nothing is: as `show_disk`, or `Memory` for the text.
+pub fn text_of_disk<D: SectorDisk + Drop>(alloc: Global, disk: D) -> Result<String, Fault<'static>>
+    ensures text { IfOk result (λ text. TellsState (D.disk disk) (string_bytes text)) }
+    ensures cause { IfErr result (λ fault. Shows (D.disk disk) (λ image. TellsWhy (standing_in (D.disk disk).sectors image) fault)) }
+    ensures status { IfErr result (λ fault. status_of fault ≡ 1) }
+{
+    let Shown { recovered, disk: _ } = show_disk(alloc, disk);
+    Ok(recovered?.to_string(alloc)?)
 }
 
 // Recovers the state on a disk, or says why not: `NotFormatted`, `Damaged`, `Disk` or `Memory`, as first met.

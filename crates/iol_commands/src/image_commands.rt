@@ -1,13 +1,15 @@
 //! The program's commands on image files, over a writer for their output and one for their faults.
-ghost use Rattle.std.specs.Prelude.{◌≡◌, ◌≤◌, ◌⊎◌, ◌↔◌, IfErr, IfOk, OnOk, string_bytes};
+ghost use Rattle.std.specs.Prelude.{◌≡◌, ◌≤◌, ◌⊎◌, ◌↔◌, ℕ, IfErr, IfOk, OnOk, string_bytes};
 ghost use Rattle.std.specs.Io.KnownBytes.{Appends};
 ghost use Rattle.iol_journal.specs.Geometry.{IsGeometry};
 ghost use Rattle.iol_commands.specs.Fault.{status_of};
 ghost use Rattle.iol_commands.specs.Images.{IsFormatCause, formatted_text};
+ghost use Rattle.iol_commands.specs.Recovered.{recovered_text};
+ghost use Rattle.iol_types.specs.State.{State};
 
 use crate::commands::{print, report};
 use crate::fault::Fault;
-use crate::image::{Shown, format_disk, opened, opened_or_made, show_disk};
+use crate::image::{format_disk, opened, opened_or_made, text_of_disk};
 use iol_journal::Geometry;
 use std::fs::OpenFile;
 use std::io::Write;
@@ -83,6 +85,8 @@ pub fn show_image<
     ensures statuses { result ≤ 1 }
     ensures one_writer { (out.new ≡ out.old) ⊎ (err.new ≡ err.old) }
     ensures quiet { result ≡ 0 → err.new ≡ err.old }
+    ensures printed { result ≡ 0 → (number : ℕ) × (state : State)
+        × Appends (W.contents out.old) (W.contents out.new) (recovered_text number state) }
 {
     match text_of_show(rt, path) {
         Ok(text) => print(out, text.as_bytes()),
@@ -95,9 +99,8 @@ fn text_of_show<'a, F: FileExt + OpenFile + Drop, R: Files<File = F> + AllocGlob
     rt: &R,
     path: &'a str,
 ) -> Result<String, Fault<'a>>
-    ensures { IfErr result (λ fault. status_of fault ≡ 1) }
+    ensures text { IfOk result (λ text. (number : ℕ) × (state : State) × (string_bytes text ≡ recovered_text number state)) }
+    ensures status { IfErr result (λ fault. status_of fault ≡ 1) }
 {
-    let disk = opened(rt, path)?;
-    let Shown { recovered, disk: _ } = show_disk(rt.alloc(), disk);
-    Ok(recovered?.to_string(rt.alloc())?)
+    text_of_disk(rt.alloc(), opened(rt, path)?)
 }

@@ -10,19 +10,22 @@
 //! - `disk` has the disk of a run, `recovery` the journal on it, `devices` the devices at the ports, `steps` the steps of
 //!   a script, and `run` runs it.
 //! - `image` formats and shows the disk of an image file.
-//! - `trace_text`, `event_text`, `status_text`, `names` and `state_text` have the lines, and `fault` why a command fails.
+//! - `trace_text`, `event_text`, `status_text` and `names` have the lines of a trace, `state_text` and `entry_text` those of a
+//!   recovered state, and `fault` why a command fails.
 //! - `commands` and `image_commands` are the commands over writers. `words` reads what the command line asks for,
 //!   `version` has what `--version` prints, and `arguments` carries the command out.
-//! - `examples` has words of a trace, worked out.
+//! - `examples` has words and lines of a trace and of a state, worked out.
 //!
-//! Which texts can be run is defined in `specs/Runs.antt`, what the steps of a script are in `specs/Steps.antt`, and the
-//! words of a trace in `specs/Texts.antt`.
+//! Which texts can be run is defined in `specs/Runs.antt`, what the steps of a script are in `specs/Steps.antt`, the words
+//! of a trace in `specs/Texts.antt`, its lines in `specs/Lines.antt`, and those of a recovered state in
+//! `specs/Recovered.antt`.
 #![tactic(auto)]
 
 mod arguments;
 mod commands;
 mod devices;
 mod disk;
+mod entry_text;
 mod event_text;
 pub mod examples;
 mod fault;
@@ -43,6 +46,6 @@ pub use arguments::{run_program, run_words};
 pub use commands::{report, run_text};
 pub use fault::Fault;
 pub use geometry::geometry_of;
-pub use image::{Shown, format_disk, show_disk};
+pub use image::{Shown, format_disk, show_disk, text_of_disk};
 pub use image_commands::{format_image, show_image};
 pub use state_text::Recovered;

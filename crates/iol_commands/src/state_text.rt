@@ -1,6 +1,13 @@
 //! The text of a state that was recovered (docs/FORMATS.md, "Texts").
+ghost use Rattle.std.specs.Prelude.{◌≡◌, []};
+ghost use Rattle.std.specs.Fmt.{WritesOnOk};
+ghost use Rattle.std.specs.Option.{option_map_or};
+ghost use Rattle.iol_types.specs.Numbers.{IsPortNumber};
+ghost use Rattle.iol_types.specs.State.{port_numbered};
+ghost use Rattle.iol_commands.specs.Recovered.{entry_lines, port_line, port_text, port_lines, recovered_text};
 
-use iol_types::{DataSet, MasterState, PortConfig, PortId, StoredSet};
+use crate::entry_text::write_entries;
+use iol_types::{MasterState, PortConfig, PortId, PortState, StoredSet};
 use std::fmt;
 
 // How many commands were recovered, and the state after them.
@@ -11,62 +18,90 @@ pub struct Recovered {
 }
 
 impl fmt::Display for Recovered {
+    ghost use Rattle.std.specs.Prelude.{Some};
+    ghost use Rattle.iol_commands.specs.Recovered.{recovered_text};
+
+    ghost output = { λ recovered. Some (recovered_text recovered.number recovered.state) };
+
     fn fmt<W: fmt::Write>(&self, f: &mut fmt::Formatter<W>) -> fmt::Result {
         write_recovered(f, self.number, &self.state)
     }
 }
 
 // The lines of a recovered state, below that of how many commands it is after.
-pub(crate) fn write_recovered<W: fmt::Write>(
+fn write_recovered<W: fmt::Write>(
     f: &mut fmt::Formatter<W>,
     number: u64,
     state: &MasterState,
-) -> fmt::Result {
+) -> fmt::Result
+    ensures { WritesOnOk W.write_str_gives f.old result (recovered_text number state.now) f.new }
+{
     writeln!(f, "recovered {number}")?;
     write_ports(f, state)
 }
 
-// A line for each port of a state, and for each parameter of its set.
-fn write_ports<W: fmt::Write>(f: &mut fmt::Formatter<W>, state: &MasterState) -> fmt::Result {
+// The lines of all ports of a state.
+fn write_ports<W: fmt::Write>(f: &mut fmt::Formatter<W>, state: &MasterState) -> fmt::Result
+    ensures { WritesOnOk W.write_str_gives f.old result (port_lines 1 state.now) f.new }
+{
     for number in 1..=state.ports() {
-        if let Some(port) = PortId::new(number)
-            && let Some(state) = state.port(port)
-        {
-            write!(f, "port {number} revision {} ", state.revision())?;
-            writeln!(
-                f,
-                "{} set {}",
-                Named(state.config()),
-                SetText(state.stored())
-            )?;
-            if let Some(stored) = state.stored() {
-                write_entries(f, &stored.set)?;
-            }
-        }
+        write_port_numbered(f, state, number)?;
     }
     Ok(())
 }
 
-fn write_entries<W: fmt::Write>(f: &mut fmt::Formatter<W>, set: &DataSet) -> fmt::Result {
-    for place in 0..set.len() {
-        if let Some((key, octets)) = set.entry(place) {
-            write!(f, "entry {:04X}.{:02X}", key.index, key.subindex)?;
-            write_octets(f, octets)?;
-            f.write_str("\n")?;
-        }
+// The lines of the port with this number, 1 to 32, if it is there.
+fn write_port_numbered<W: fmt::Write>(
+    f: &mut fmt::Formatter<W>,
+    state: &MasterState,
+    number: u8,
+) -> fmt::Result
+    requires { IsPortNumber number }
+    ensures { WritesOnOk W.write_str_gives f.old result (option_map_or (port_text number) (port_numbered state.now number) []) f.new }
+{
+    match PortId::new(number) {
+        Some(number) => write_port(f, state, number),
+        None => Ok(()),
     }
-    Ok(())
 }
 
-// A space and the octets, or nothing where there are none.
-fn write_octets<W: fmt::Write>(f: &mut fmt::Formatter<W>, octets: &[u8]) -> fmt::Result {
-    if !octets.is_empty() {
-        f.write_str(" ")?;
+// The lines of the port with this number, if it is there.
+fn write_port<W: fmt::Write>(
+    f: &mut fmt::Formatter<W>,
+    state: &MasterState,
+    number: PortId,
+) -> fmt::Result
+    ensures { WritesOnOk W.write_str_gives f.old result (option_map_or (port_text number) (port_numbered state.now number) []) f.new }
+{
+    match state.port(number) {
+        Some(port) => {
+            write_port_line(f, number.number(), port)?;
+            write_stored(f, port)
+        }
+        None => Ok(()),
     }
-    for octet in octets {
-        write!(f, "{octet:02X}")?;
+}
+
+// The line of a port.
+fn write_port_line<W: fmt::Write>(
+    f: &mut fmt::Formatter<W>,
+    number: u8,
+    port: &PortState,
+) -> fmt::Result
+    ensures { WritesOnOk W.write_str_gives f.old result (port_line number port.now) f.new }
+{
+    write!(f, "port {number} revision {} ", port.revision())?;
+    writeln!(f, "{} set {}", Named(port.config()), SetText(port.stored()))
+}
+
+// The lines of the parameters of the set that is stored for a port, if one is.
+fn write_stored<W: fmt::Write>(f: &mut fmt::Formatter<W>, port: &PortState) -> fmt::Result
+    ensures { WritesOnOk W.write_str_gives f.old result (option_map_or entry_lines port.now.stored []) f.new }
+{
+    match port.stored() {
+        Some(stored) => write_entries(f, &stored.set),
+        None => Ok(()),
     }
-    Ok(())
 }
 
 // A configuration, each number behind its name.
@@ -74,6 +109,11 @@ fn write_octets<W: fmt::Write>(f: &mut fmt::Formatter<W>, octets: &[u8]) -> fmt:
 struct Named(PortConfig);
 
 impl fmt::Display for Named {
+    ghost use Rattle.std.specs.Prelude.{Some};
+    ghost use Rattle.iol_commands.specs.Recovered.{config_text};
+
+    ghost output = { λ named. Some (config_text named.0) };
+
     fn fmt<W: fmt::Write>(&self, f: &mut fmt::Formatter<W>) -> fmt::Result {
         let config = &self.0;
         let mode = config.mode.to_octet();
@@ -90,6 +130,13 @@ impl fmt::Display for Named {
 struct SetText<'a>(Option<&'a StoredSet>);
 
 impl fmt::Display for SetText<'_> {
+    ghost use Rattle.std.specs.Prelude.{Some};
+    ghost use Rattle.std.specs.Option.{option_map};
+    ghost use Rattle.iol_types.specs.Port.{stored_of};
+    ghost use Rattle.iol_commands.specs.Recovered.{set_text};
+
+    ghost output = { λ text. Some (set_text (option_map (λ stored. stored_of stored.now) text.0)) };
+
     fn fmt<W: fmt::Write>(&self, f: &mut fmt::Formatter<W>) -> fmt::Result {
         let Some(stored) = self.0 else {
             return f.write_str("none");

@@ -1,4 +1,8 @@
 //! The text of a run: its trace, and the state that was recovered (docs/FORMATS.md, "Texts").
+ghost use Rattle.std.specs.Prelude.{◌≡◌};
+ghost use Rattle.std.specs.Fmt.{WritesOnOk};
+ghost use Rattle.iol_run.specs.Events.{event_of};
+ghost use Rattle.iol_commands.specs.Lines.{lost_in, is_said, lines_behind, lines_of, events_of};
 
 use crate::event_text::write_event;
 use crate::run::Report;
@@ -8,6 +12,11 @@ use iol_types::PortId;
 use std::fmt;
 
 impl fmt::Display for Report {
+    ghost use Rattle.std.specs.Prelude.{Some};
+    ghost use Rattle.iol_commands.specs.Lines.{events_of, report_text};
+
+    ghost output = { λ report. Some (report_text (events_of report.events.items) report.recovered.number report.recovered.state) };
+
     fn fmt<W: fmt::Write>(&self, f: &mut fmt::Formatter<W>) -> fmt::Result {
         write_events(f, &self.events)?;
         write!(f, "stopped\n{}", self.recovered)
@@ -15,19 +24,36 @@ impl fmt::Display for Report {
 }
 
 // The lines of events. A call that is lost says so itself, so that the status behind it is not said again.
-fn write_events<W: fmt::Write>(f: &mut fmt::Formatter<W>, events: &[Stamped]) -> fmt::Result {
+fn write_events<W: fmt::Write>(f: &mut fmt::Formatter<W>, events: &[Stamped]) -> fmt::Result
+    ensures { WritesOnOk W.write_str_gives f.old result (lines_of (events_of events.now)) f.new }
+{
     let mut lost = None;
     for stamped in events {
-        if !is_said_loss(&stamped.event, lost) {
-            write_event(f, &stamped.event)?;
-        }
+        write_lines(f, &stamped.event, lost)?;
         lost = lost_port(&stamped.event);
     }
     Ok(())
 }
 
+// The lines of an event behind another, which may have told a loss.
+fn write_lines<W: fmt::Write>(
+    f: &mut fmt::Formatter<W>,
+    event: &Event,
+    lost: Option<PortId>,
+) -> fmt::Result
+    ensures { WritesOnOk W.write_str_gives f.old result (lines_behind lost (event_of event.now)) f.new }
+{
+    if is_said_loss(event, lost) {
+        Ok(())
+    } else {
+        write_event(f, event)
+    }
+}
+
 // The port that this event has lost the device of, if it is such an event.
-fn lost_port(event: &Event) -> Option<PortId> {
+fn lost_port(event: &Event) -> Option<PortId>
+    ensures { result ≡ lost_in (event_of event.now) }
+{
     match event {
         Event::Lost { port, .. } => Some(*port),
         _ => None,
@@ -35,7 +61,9 @@ fn lost_port(event: &Event) -> Option<PortId> {
 }
 
 // Whether this is the status of a port whose loss was said right before.
-fn is_said_loss(event: &Event, lost: Option<PortId>) -> bool {
+fn is_said_loss(event: &Event, lost: Option<PortId>) -> bool
+    ensures { result ≡ is_said (event_of event.now) lost }
+{
     match event {
         Event::Status {
             port,
