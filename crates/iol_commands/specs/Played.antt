@@ -1,5 +1,5 @@
 -- A script that was played: the run that it asked for, and what was recovered of the run's disk.
-use Rattle.std.specs.Prelude.{◌≡◌, ◌≤◌, ℕ, pos, List, length, take, Option, Some, None, Ok}
+use Rattle.std.specs.Prelude.{◌≡◌, ◌≤◌, ℕ, pos, List, length, take, Option, Some, None, Ok, IsSomeAnd}
 use Rattle.iol_types.specs.State.{State, after, empty_state}
 use Rattle.iol_disk.specs.Content.{IsImage, reads}
 use Rattle.iol_disk.specs.Disk.{Disk}
@@ -16,12 +16,13 @@ use Rattle.iol_journal.specs.Meaning.{meaning}
 use Rattle.iol_run.specs.Schedules.{told_in}
 use Rattle.iol_run.specs.declared.schedule.Ended.TheVariants.{Whole}
 use Rattle.iol_run.specs.declared.schedule.Trace.{Trace}
-use Rattle.iol_script.specs.Script.{Said}
+use Rattle.iol_script.specs.Script.{Said, said_in}
 use Rattle.iol_script.specs.declared.fail.FailingCall.{FailingCall}
 use Rattle.iol_sim.specs.SimLink.{Sim, SimStep}
 use Rattle.iol_trace.specs.Events.{Stamp}
 use Rattle.iol_trace.specs.Words.{accepted, acked}
 use Rattle.iol_commands.specs.Devices.{links_of}
+use Rattle.iol_commands.specs.Lines.{events_of, report_text}
 use Rattle.iol_commands.specs.Steps.{tasks_of}
 use Rattle.iol_commands.specs.Stop.{due_at}
 use Rattle.iol_commands.specs.declared.run.Report.{Report}
@@ -76,3 +77,10 @@ pub record IsPlayed (said : Said) (report : Report) : Type 0 where
   pub events : report.events ≡ trace.events
   pub stopped : IsStoppedAs said.keep (inner trace.disk) report.recovered.number report.recovered.state
   pub holds : HoldsAcknowledged geometry.ports (told_in trace) report.recovered.number report.recovered.state
+
+-- a text tells a script's run: the events of a run that was played, that the power stopped, and the state that was recovered
+-- (format, Texts)
+pub record TellsRun (script text : List ℕ) : Type 0 where
+  pub report : Report
+  pub played : IsSomeAnd (said_in script) (λ said. IsPlayed said report)
+  pub text_is : text ≡ report_text (events_of report.events.items) report.recovered.number report.recovered.state

@@ -1,8 +1,9 @@
 //! The program's commands, over a writer for their output and one for their faults.
-ghost use Rattle.std.specs.Prelude.{◌≡◌, ◌≤◌, ◌⊎◌, IfErr, OnOk};
+ghost use Rattle.std.specs.Prelude.{◌≡◌, ◌≤◌, ◌⊎◌, ℕ, List, IfErr, IfOk, OnOk, string_bytes};
 ghost use Rattle.std.specs.Io.KnownBytes.{Appends};
 ghost use Rattle.iol_commands.specs.Fault.{status_of, fault_line};
-ghost use Rattle.iol_commands.specs.Runs.{CanRun, IsCause};
+ghost use Rattle.iol_commands.specs.Played.{TellsRun};
+ghost use Rattle.iol_commands.specs.Runs.{CanRun, IsCause, IsSilent};
 
 use crate::fault::Fault;
 use crate::geometry::geometry_of;
@@ -24,6 +25,10 @@ pub fn run_text<W: Write, E: Write>(alloc: Global, script: &[u8], out: &mut W, e
     ensures quiet { result ≡ 0 → err.new ≡ err.old }
     ensures not_valid { result ≡ 2 → CanRun script.now → ⊥ }
     ensures untouched { result ≡ 2 → out.new ≡ out.old }
+    // What is written is a run that was played: of the script, with what was recovered behind its stop.
+    ensures printed { result ≡ 0 → (text : List ℕ) × TellsRun script.now text × Appends (W.contents out.old) (W.contents out.new) text }
+    // Else a fault is why, and nothing is written to `out`; or writing to `out` failed.
+    ensures silent { (result ≡ 0 → ⊥) → IsSilent script.now result out.old out.new err.old err.new }
 {
     match text_of_run(alloc, script) {
         Ok(text) => print(out, text.as_bytes()),
@@ -34,6 +39,7 @@ pub fn run_text<W: Write, E: Write>(alloc: Global, script: &[u8], out: &mut W, e
 // What a run prints. The text is judged first, then whether its ports are there, then its numbers; then it is run.
 fn text_of_run(alloc: Global, text: &[u8]) -> Result<String, Fault<'static>>
     ensures ran { OnOk result (CanRun text.now) }
+    ensures printed { IfOk result (λ printed. TellsRun text.now (string_bytes printed)) }
     ensures cause { IfErr result (IsCause text.now) }
 {
     let script = Script::read(alloc, text)?;
