@@ -31,7 +31,7 @@ use Rattle.iol_commands.specs.Played.{run_disk, IsRunOf, HoldsAcknowledged}
 -- what a disk with an empty journal reads as
 empty_read : (given : FaultDisk MemoryDisk) (ports : ℕ) → EachMeans (run_disk given) 0 (empty_state ports)
     → KeptMeans (run_disk given).sectors 0 (empty_state ports) (reads (run_disk given).content)
-empty_read given ports empty = empty tt (reads (run_disk given).content) (reads-is_image (run_disk given).content)
+empty_read given ports empty = empty refl (reads (run_disk given).content) (reads-is_image (run_disk given).content)
 
 -- how a journal stands on it
 begins : (given : FaultDisk MemoryDisk) (ports : ℕ) (journal : Standing) → EachMeans (run_disk given) 0 (empty_state ports)
@@ -44,7 +44,7 @@ begins given ports journal empty stands =
 pub links_fit : (given left : FaultDisk MemoryDisk) (ports links : ℕ) → EachMeans (run_disk given) 0 (empty_state ports) → links ≡ ports
     → FailsFor run_disk given links (fault.Ports left) → ⊥
 links_fit given left ports links empty same fails =
-    let shown = fails tt in
+    let shown = fails refl in
     shown.2 (same ∙ (sym (length-replicate ports blank) ∙ ap length (sym (begins given ports shown.0 empty shown.1).1)))
 
 -- what a stop at the end leaves holds all that was acknowledged
@@ -65,17 +65,17 @@ holds said geometry given trace image number state run left means = record {
     events = told_in trace
 
     at : (run.headline.run.journal.standing.number ≡ 0) × (run.headline.run.journal.standing.state ≡ empty_state geometry.ports)
-    at = begins given geometry.ports run.headline.run.journal.standing run.empty (run.headline.run.recovered.found tt)
+    at = begins given geometry.ports run.headline.run.journal.standing run.empty (run.headline.run.recovered.found refl)
 
     crash : CrashPrefix (run_disk trace.disk) trace.begun 0 (empty_state geometry.ports) events
     crash =
         subst (λ (n : ℕ). CrashPrefix (run_disk trace.disk) trace.begun n (empty_state geometry.ports) events) at.0
         (subst (λ (s : State). CrashPrefix (run_disk trace.disk) trace.begun run.headline.run.journal.standing.number s events) at.1
-        (run.headline.crash_prefix tt (empty_read given geometry.ports run.empty).0))
+        (run.headline.crash_prefix refl (empty_read given geometry.ports run.empty).0))
 
     prefix : HasPrefix (run_disk trace.disk).sectors 0 (empty_state geometry.ports) (accepted events)
         (acked 0 (take (length events) events)) image
-    prefix = crash.images tt (length events) image (inr left)
+    prefix = crash.images refl (length events) image (inr left)
 
     same : (0 + prefix.count ≡ number) × (after (empty_state geometry.ports) (take prefix.count (accepted events)) ≡ state)
     same =

@@ -45,12 +45,12 @@ FailsAsSaid (Some call) disk = (kind_of disk ≡ call.kind) × (due_of disk ≡ 
 -- the run that a script asks for: of its tasks, all of them, over an empty journal of its geometry, with its devices at the ports
 -- and its disk call failing (format, Scripts)
 pub record IsRunOf (said : Said) (geometry : Geometry) (given : FaultDisk MemoryDisk) (trace : Trace (FaultDisk MemoryDisk) Sim) : Type 0
-    where
-  pub empty : EachMeans (run_disk given) 0 (empty_state geometry.ports)
-  pub fails : FailsAsSaid said.fail given
-  pub headline : IsHeadline run_disk (λ (link : Sim). link.connection) SimStep given (links_of geometry.ports said.devices)
-      (tasks_of said.steps) trace
-  pub whole : trace.ended ≡ Whole
+  where
+    pub empty : EachMeans (run_disk given) 0 (empty_state geometry.ports)
+    pub fails : FailsAsSaid said.fail given
+    pub headline : IsHeadline run_disk (λ (link : Sim). link.connection) SimStep given (links_of geometry.ports said.devices)
+        (tasks_of said.steps) trace
+    pub whole : trace.ended ≡ Whole
 
 -- the power was stopped as a script says: what it left is an image of the disk, and means this number and state (format, Scripts)
 pub record IsStoppedAs (keep : Pick) (last : MemoryDisk) (number : ℕ) (state : State) : Type 0 where

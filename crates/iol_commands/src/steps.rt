@@ -1,6 +1,6 @@
 //! The steps of a script, as tasks of a run.
-ghost use Rattle.std.specs.Prelude.{◌≡◌, IfOk};
-ghost use Rattle.iol_commands.specs.Steps.{task_of, tasks_of};
+ghost use Rattle.std.specs.Prelude.{◌≡◌, ◌++◌, IfOk, OnOk};
+ghost use Rattle.iol_commands.specs.Steps.{tasks_of};
 
 use iol_run::Task;
 use iol_script::Step as ScriptStep;
@@ -15,21 +15,26 @@ pub(crate) fn tasks_of(alloc: Global, steps: &[ScriptStep]) -> Result<Vec<Task>,
     ensures { IfOk result (λ tasks. tasks.items ≡ tasks_of steps.now) }
 {
     let mut tasks = Vec::with_capacity(alloc, steps.len())?;
-    for step in steps {
-        tasks.push(task_of(*step))?;
-    }
+    add_tasks(&mut tasks, steps)?;
     Ok(tasks)
 }
 
-// The task that a step asks for.
-fn task_of(step: ScriptStep) -> Task
-    ensures { result ≡ task_of step }
+// Adds the tasks of steps, in their order.
+fn add_tasks(tasks: &mut Vec<Task>, steps: &[ScriptStep]) -> Result<(), AllocError>
+    ensures { OnOk result (tasks.new.items ≡ tasks.old.items ++ tasks_of steps.now) }
 {
-    match step {
-        ScriptStep::Configure { port, config } => Task::Client(Change::Configure { port, config }),
-        ScriptStep::Clear { port } => Task::Client(Change::Clear { port }),
-        ScriptStep::Port { port, times } => Task::Port { port, times },
-        ScriptStep::Flush { times } => Task::Flush { times },
-        ScriptStep::Drain => Task::Drain,
+    for step in steps {
+        let task: Task = match *step {
+            ScriptStep::Configure { port, config } => Task::Client(Change::Configure {
+                port,
+                config,
+            }),
+            ScriptStep::Clear { port } => Task::Client(Change::Clear { port }),
+            ScriptStep::Port { port, times } => Task::Port { port, times },
+            ScriptStep::Flush { times } => Task::Flush { times },
+            ScriptStep::Drain => Task::Drain,
+        };
+        tasks.push(task)?;
     }
+    Ok(())
 }

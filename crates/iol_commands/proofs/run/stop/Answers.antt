@@ -1,3 +1,4 @@
+use Rattle.std.proofs.Common.{refl}
 use Rattle.iol_disk.specs.Content.{reads}
 use Rattle.iol_disk.specs.Memory.{as_disk}
 use Rattle.iol_commands.proofs.Playing.{means_so}
@@ -12,5 +13,5 @@ returns-clause-stopped c =
       left = c.stop.ensures.image;
       means =
           means_so stopped.sectors (reads stopped.content) c.in_ok-journal.journal.standing c.number-number.result c.in_ok-journal.state
-          (c.in_ok-journal.ensures.found tt) c.number-number.ensures.number c.in_ok-journal.ensures.state;
+          (c.in_ok-journal.ensures.found refl) c.number-number.ensures.number c.in_ok-journal.ensures.state;
     }

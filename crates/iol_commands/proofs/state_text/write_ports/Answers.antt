@@ -16,7 +16,7 @@ loop-number-preserved g c = record {
       put_two g.W.Write.write_str_gives c.args.f.now c.loop-number.f c.write_port_numbered.new.f (port_lines 1 (take (number - 1) state))
       (option_map_or (port_text number) (port_numbered state number) []) (port_lines 1 (take (number + 1 - 1) state))
       (c.loop-number.invariant.text plain) (search rules) (ports_next number state (omega arith)
-          ∙ ap (λ n. port_lines 1 (take n state)) next);
+      ∙ ap (λ n. port_lines 1 (take n state)) next);
   count = c.loop-number.invariant.count;
 }
 
