@@ -1,4 +1,4 @@
-use Rattle.std.proofs.Common.{rules, ◌≡◌, ◌+◌, ◌-◌, ◌≤◌, length, take, ap, ◌∙◌, arith, []}
+use Rattle.std.proofs.Common.{rules, ◌≡◌, ◌+◌, ◌-◌, ◌≤◌, ℕ, length, take, ap, ◌∙◌, arith, []}
 use Rattle.std.specs.Option.{option_map_or}
 use Rattle.std.proofs.lemmas.Grind.{put_two}
 use Rattle.std.proofs.lemmas.List.{take_all}
@@ -12,11 +12,12 @@ loop-number-preserved g c = record {
   text = λ plain.
       let number = c.loop-number.number in
       let state = c.args.state.now in
-      let next : number ≡ number + 1 - 1 = omega arith in
+      let here : number ≡ number + 1 - 1 = omega arith in
+      let same = ap (λ (n : ℕ). port_lines 1 (take n state)) here in
+      let next = ports_next number state (omega arith) in
       put_two g.W.Write.write_str_gives c.args.f.now c.loop-number.f c.write_port_numbered.new.f (port_lines 1 (take (number - 1) state))
       (option_map_or (port_text number) (port_numbered state number) []) (port_lines 1 (take (number + 1 - 1) state))
-      (c.loop-number.invariant.text plain) (search rules) (ports_next number state (omega arith)
-      ∙ ap (λ n. port_lines 1 (take n state)) next);
+      (c.loop-number.invariant.text plain) (search rules) (next ∙ same);
   count = c.loop-number.invariant.count;
 }
 
