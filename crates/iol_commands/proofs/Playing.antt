@@ -55,8 +55,8 @@ pub holds : (said : Said) (geometry : Geometry) (given : FaultDisk MemoryDisk) (
 holds said geometry given trace image number state run left means = record {
   within = subst (λ (n : ℕ). n ≤ length (accepted events)) counted prefix.within;
   reaches =
-      subst (λ (n : ℕ). acked 0 events ≤ n) counted
-      (subst (λ (es : List Stamp). acked 0 es ≤ prefix.count) (take_all (length events) events (omega arith)) prefix.reaches);
+      subst (λ (n : ℕ). acked 0 events ≤ n) same.0
+      (subst (λ (es : List Stamp). acked 0 es ≤ 0 + prefix.count) (take_all (length events) events (omega arith)) prefix.reaches);
   state_is = sym same.1
       ∙ ap (λ (n : ℕ). after (empty_state geometry.ports) (take n (accepted events))) counted;
 }
