@@ -1,17 +1,16 @@
 -- The run of a script begins with an empty journal, and what is recovered behind its stop holds all that was acknowledged.
-use Rattle.std.proofs.Common.{◌≡◌, ◌≤◌, refl, ◌+◌, ℕ, true, IsTrue, List, length, take, replicate, inr, Result, Ok, Err, ap, sym, ◌∙◌}
+use Rattle.std.proofs.Common.{◌≡◌, ◌≤◌, refl, ◌+◌, ℕ, List, length, take, inr, Result, Ok, ap, sym, ◌∙◌}
 use Rattle.std.proofs.Common.{subst}
 use Rattle.std.proofs.Common.{arith}
 use Rattle.std.proofs.lemmas.List.{take_all, length-replicate}
 use Rattle.iol_types.specs.State.{State, after, empty_state, blank}
 use Rattle.iol_disk.proofs.Images.{reads-is_image}
 use Rattle.iol_disk.specs.Content.{Image, IsImage, reads}
-use Rattle.iol_disk.specs.Disk.{Disk}
 use Rattle.iol_disk.specs.FaultDisk.{inner}
 use Rattle.iol_disk.specs.Memory.{as_disk}
 use Rattle.iol_disk.specs.declared.fault_disk.FaultDisk.{FaultDisk}
 use Rattle.iol_disk.specs.declared.memory.MemoryDisk.{MemoryDisk}
-use Rattle.iol_journal.specs.Kept.{EachMeans, IsKept, KeptMeans}
+use Rattle.iol_journal.specs.Kept.{EachMeans, KeptMeans}
 use Rattle.iol_journal.specs.Meaning.{Standing, Cause, standing_in, meaning}
 use Rattle.iol_journal.specs.Runs.{HasPrefix}
 use Rattle.iol_record.specs.Reading.{◌>>=◌}

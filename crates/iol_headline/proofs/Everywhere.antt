@@ -2,7 +2,6 @@
 use Rattle.std.proofs.Common.{◌≡◌, ◌⊎◌, inl, inr, ◌<◌, ◌+◌, refl, ℕ, zero, suc, Bool, true, false, nat_lt, List, [], ◌∷◌, length}
 use Rattle.std.proofs.Common.{Some, slice_get, sym, ap, ◌∙◌, subst, arith}
 use Rattle.std.proofs.lemmas.Bool.Decides.{nat_tests}
-use Rattle.std.specs.Prelude.{Result, Ok, Err, IfOk}
 use Rattle.iol_types.specs.Command.{Configure, Clear, Store}
 use Rattle.iol_types.specs.State.{State, Port, port_numbered}
 use Rattle.iol_link.specs.Link.{LinkCall, LinkAnswer}
@@ -81,7 +80,7 @@ module _ (first : ℕ) (start : State) where
             let link = there_is last there.0 (omega (arith, there.2, count)) in
             subst (λ (p : ℕ). OwnLaw first start p before e.event) (sym there.1)
             (ported there.0 (steps_of (there.0 + 1) made) begun.0 link.0 events (omega (arith, there.2, are.count)) (are.runs there.0
-                begun.0 link.0 begun.1 link.1)
+            begun.0 link.0 begun.1 link.1)
             before behind e split)
 
     -- the whole trace

@@ -1,5 +1,5 @@
 -- The headline follows of what a run over its disk tells.
-use Rattle.std.proofs.Common.{◌≡◌, ℕ, List, length, Result, Ok, Err, IfOk, ap}
+use Rattle.std.proofs.Common.{◌≡◌, ℕ, List, Result, Ok, Err, IfOk, ap}
 use Rattle.iol_types.specs.State.{State}
 use Rattle.iol_disk.specs.Disk.{Disk}
 use Rattle.iol_journal.specs.Kept.{IsKept}

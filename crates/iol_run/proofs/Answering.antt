@@ -1,15 +1,15 @@
 -- Each client is answered once, as what was told before says.
-use Rattle.std.proofs.Common.{◌≡◌, refl, inl, inr, ⊎_elim, ◌⊎◌, ◌+◌, ℕ, nat_le, Bool, true, false, if◌then◌else◌, List, [], ◌∷◌, ◌++◌}
+use Rattle.std.proofs.Common.{◌≡◌, refl, inl, inr, ⊎_elim, ℕ, nat_le, Bool, true, false, if◌then◌else◌, List, [], ◌∷◌, ◌++◌}
 use Rattle.std.proofs.Common.{length}
-use Rattle.std.proofs.Common.{Option, Some, None, Result, Ok, Err, ap, sym, ◌∙◌, subst, rules, append-nil, append_assoc}
-use Rattle.iol_types.specs.Command.{CommandValue, Configure, Clear, Store, command_of}
+use Rattle.std.proofs.Common.{Option, Some, None, Result, Ok, Err, ap, sym, ◌∙◌, subst, append-nil, append_assoc}
+use Rattle.iol_types.specs.Command.{CommandValue, command_of}
 use Rattle.iol_types.specs.State.{State}
 use Rattle.iol_types.specs.DataSet.{SetValue}
 use Rattle.iol_types.specs.declared.command.Change.TheVariants as asked
 use Rattle.iol_types.specs.declared.command.Change as client
 use Rattle.iol_disk.specs.Disk.{Disk}
-use Rattle.iol_core.specs.Core.{CoreView, live_number}
-use Rattle.iol_core.specs.Submit.{IsSubmit, submit_fault, has_failed, stopped_by}
+use Rattle.iol_core.specs.Core.{CoreView}
+use Rattle.iol_core.specs.Submit.{IsSubmit, submit_fault, stopped_by}
 use Rattle.iol_core.specs.Telling.{refusal_of}
 use Rattle.iol_core.specs.Uploads.{store_of}
 use Rattle.iol_core.specs.declared.permit.UploadGrant.{UploadGrant}
@@ -32,14 +32,14 @@ use Rattle.iol_port.specs.declared.action.Input.TheVariants as input
 use Rattle.iol_port.specs.declared.call.Reply.{Reply}
 use Rattle.iol_port.specs.declared.call.Reply.TheVariants as reply
 use Rattle.iol_trace.proofs.Words.{failure-append}
-use Rattle.iol_trace.specs.Events.{Event, Accepted, Refused, Acknowledged, Stamp, stamped}
+use Rattle.iol_trace.specs.Events.{Event, Accepted, Refused, Stamp, stamped}
 use Rattle.iol_trace.specs.Words.{durable, IsFailure, HasFailure}
 use Rattle.iol_run.proofs.Changes.{Change, Permits, Waits, Tells, changed}
 use Rattle.iol_run.proofs.CoreAfter.{Stands, core_after, fresh_stands, step_stands}
 use Rattle.iol_run.proofs.Counted.{failure_stays, failure_told}
 use Rattle.iol_run.proofs.FlusherTells.{PassesOver, turn_says}
 use Rattle.iol_run.proofs.PortCalls.{step_becomes}
-use Rattle.iol_run.proofs.Quiet.{AreQuiet, quiet_fails, stamped_both}
+use Rattle.iol_run.proofs.Quiet.{quiet_fails, stamped_both}
 use Rattle.iol_run.specs.Answers.{clients_of, is_answer, IsAnswer, Answers, AnswersNext, AnswersClients}
 use Rattle.iol_run.specs.CoreOnDisk.{CoreOnDiskView, clock_of}
 use Rattle.iol_run.specs.PortSteps.{attended_told, filed_told, reply_told, store_in, Hears, HearsCore, IsStatusTold}

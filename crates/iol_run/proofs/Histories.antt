@@ -9,7 +9,7 @@ use Rattle.iol_port.specs.Calls.{BeginUpload, FinishUpload, IsReplyTo}
 use Rattle.iol_port.specs.History.{Happening, Raised, Did, HasLed, ComesOf}
 use Rattle.iol_port.specs.Laws.{HasUploaded}
 use Rattle.iol_port.specs.Stage.{Stage, Settled, PortValue}
-use Rattle.iol_port.specs.Wanted.{Wanted, Nothing, AnswerTo, ReplyTo, wanted}
+use Rattle.iol_port.specs.Wanted.{Wanted, AnswerTo, ReplyTo, wanted}
 use Rattle.iol_port.specs.declared.action.Input.TheVariants as input
 use Rattle.iol_port.specs.declared.call.Reply.TheVariants as reply
 use Rattle.iol_trace.specs.Events.{Event}

@@ -1,18 +1,12 @@
 -- The layout of the journal that a disk shows: turns enough for a full queue are within 128 for each of its sectors.
-use Rattle.std.proofs.Common.{◌≡◌, ◌≤◌, ℕ, ◌+◌, ◌*◌, List, map, Result, Ok, Err, IfOk, ap, sym, ◌∙◌, subst, arith}
-use Rattle.iol_disk.specs.Content.{Image, reads}
-use Rattle.iol_disk.specs.Disk.{Disk}
-use Rattle.iol_journal.proofs.Chains.{stands_read, ok}
+use Rattle.std.proofs.Common.{◌≡◌, ◌≤◌, ℕ, ◌+◌, ◌*◌, List, Ok, ap, sym, subst, arith}
+use Rattle.iol_disk.specs.Content.{Image}
+use Rattle.iol_journal.proofs.Chains.{stands_read}
 use Rattle.iol_journal.proofs.Geometries.{layout_in-geometry}
 use Rattle.iol_journal.specs.Layout.{Layout, total}
 use Rattle.iol_journal.specs.Meaning.{Standing, standing_in}
-use Rattle.iol_journal.specs.Reading.{Shows}
 use Rattle.iol_trace.specs.Events.{Stamp}
-use Rattle.iol_run.specs.Events.{stamp_of}
 use Rattle.iol_run.specs.Flushed.{AllFlushed, queue_turns}
-use Rattle.iol_run.specs.declared.schedule.Ended.{Ended}
-use Rattle.iol_run.specs.declared.schedule.RunFault.{RunFault}
-use Rattle.iol_run.specs.declared.schedule.Trace.{Trace}
 use Rattle.iol_run.specs.declared.step.Step.{Step}
 
 within : (layout : Layout) → 1 ≤ layout.slots → layout.port_sectors ≡ 9 → queue_turns layout ≤ 128 * total layout

@@ -1,5 +1,5 @@
 -- What the steps of a schedule tell, from the disk that was handed in to the trace.
-use Rattle.std.proofs.Common.{◌≡◌, refl, ◌*◌, ℕ, IsTrue, List, [], ◌∷◌, length, map, Result, Ok, Err, IfOk, ap, sym, ◌∙◌, subst}
+use Rattle.std.proofs.Common.{◌≡◌, refl, ◌*◌, ℕ, IsTrue, List, [], length, Result, Ok, Err, IfOk, ap, sym, ◌∙◌, subst}
 use Rattle.iol_disk.specs.Content.{clock, reads}
 use Rattle.iol_disk.specs.Disk.{Disk}
 use Rattle.iol_flush.specs.Stages.{disk_of}
@@ -23,8 +23,7 @@ use Rattle.iol_run.specs.Clocks.{ClocksRise}
 use Rattle.iol_run.specs.Failures.{TellsFailures}
 use Rattle.iol_run.specs.Flushed.{AllFlushed, queue_turns}
 use Rattle.iol_run.specs.PortRuns.{ArePortRuns}
-use Rattle.iol_run.specs.Runs.{RunView}
-use Rattle.iol_run.specs.Schedules.{IsFresh, IsRecovered, AreLinkRuns, IsRunFrom, TellsRun, RunsAndTells, IsTraceOf, told_in}
+use Rattle.iol_run.specs.Schedules.{IsRecovered, AreLinkRuns, IsRunFrom, TellsRun, RunsAndTells, IsTraceOf, told_in}
 use Rattle.iol_run.specs.Stopped.{NoneOnceFailed}
 use Rattle.iol_run.specs.Tasks.{HasMade}
 use Rattle.iol_run.specs.declared.schedule.RunFault.{RunFault}

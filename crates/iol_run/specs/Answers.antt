@@ -1,6 +1,6 @@
 -- What a client is answered.
-use Rattle.std.specs.Prelude.{◌≡◌, ◌+◌, ℕ, Bool, true, false, List, [], ◌∷◌, ◌++◌, Option, Some, None, Result, Ok, Err}
-use Rattle.iol_types.specs.Command.{CommandValue, Configure, Clear, Store, command_of}
+use Rattle.std.specs.Prelude.{◌≡◌, ◌+◌, ℕ, Bool, true, false, List, [], ◌∷◌, ◌++◌, Option, Some, None}
+use Rattle.iol_types.specs.Command.{CommandValue, Store, command_of}
 use Rattle.iol_types.specs.State.{State}
 use Rattle.iol_core.specs.Core.{CoreView, live_number}
 use Rattle.iol_core.specs.Submit.{submit_fault}
@@ -12,7 +12,7 @@ use Rattle.iol_trace.specs.Events.{Event, Stamp}
 use Rattle.iol_trace.specs.Words.{HasFailure}
 use Rattle.iol_run.specs.PortRuns.{IsCoreAfter}
 use Rattle.iol_run.specs.declared.step.Step.{Step}
-use Rattle.iol_run.specs.declared.step.Step.TheVariants.{Client, Port, Flush}
+use Rattle.iol_run.specs.declared.step.Step.TheVariants.{Client}
 
 -- the commands that clients ask for, in the order of the steps that were made (own)
 abbrev pub clients_of : List Step → List CommandValue

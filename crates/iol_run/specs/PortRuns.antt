@@ -16,7 +16,7 @@ use Rattle.iol_trace.specs.Own.{own, status_shown}
 use Rattle.iol_trace.specs.Words.{accepted, acked, durable}
 use Rattle.iol_run.specs.PortSteps.{PortStep, noted_by}
 use Rattle.iol_run.specs.declared.step.Step.{Step}
-use Rattle.iol_run.specs.declared.step.Step.TheVariants.{Client, Port, Flush}
+use Rattle.iol_run.specs.declared.step.Step.TheVariants.{Port}
 
 -- how many of these steps are a port's (own)
 abbrev pub steps_of : ℕ → List Step → ℕ

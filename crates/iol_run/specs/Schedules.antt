@@ -1,6 +1,5 @@
 -- What a schedule does.
 use Rattle.std.specs.Prelude.{◌≡◌, ℕ, ◌+◌, ◌*◌, IsTrue, map, replicate, List, [], ◌∷◌, length, Some, None, slice_get, Ok}
-use Rattle.iol_types.specs.State.{State}
 use Rattle.iol_disk.specs.Calls.{sync, Made}
 use Rattle.iol_disk.specs.Content.{clock}
 use Rattle.iol_disk.specs.Disk.{Disk}

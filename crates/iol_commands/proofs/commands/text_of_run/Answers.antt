@@ -1,4 +1,4 @@
-use Rattle.std.proofs.Common.{Option, Some, IsSomeAnd, sym, subst, rules}
+use Rattle.std.proofs.Common.{Option, IsSomeAnd, sym, subst, rules}
 use Rattle.iol_script.specs.Script.{Said}
 use Rattle.iol_commands.proofs.SaidDevices.{may_visit}
 use Rattle.iol_commands.specs.Played.{IsPlayed}

@@ -1,4 +1,4 @@
-use Rattle.std.proofs.Common.{◌≡◌, ℕ, List, vec_len, ap, sym, ◌∙◌, subst}
+use Rattle.std.proofs.Common.{◌≡◌, ℕ, List, vec_len, ap, ◌∙◌, subst}
 use Rattle.iol_disk.specs.declared.fault_disk.FaultDisk.{FaultDisk}
 use Rattle.iol_disk.specs.declared.memory.MemoryDisk.{MemoryDisk}
 use Rattle.iol_headline.specs.Headline.{IsHeadline}

@@ -1,4 +1,4 @@
-use Rattle.std.proofs.Common.{◌≡◌, ℕ, Ok, refl, sym, subst}
+use Rattle.std.proofs.Common.{◌≡◌, ℕ, Ok, refl, subst}
 use Rattle.iol_disk.specs.Content.{reads}
 use Rattle.iol_disk.specs.Memory.{as_disk}
 use Rattle.iol_disk.specs.declared.memory.MemoryDisk.{MemoryDisk}

@@ -1,4 +1,4 @@
-use Rattle.std.proofs.Common.{refl, ℕ, List, length, map, sym, ap, ◌∙◌, subst}
+use Rattle.std.proofs.Common.{ℕ, length, map, sym, ap, ◌∙◌, subst}
 use Rattle.iol_disk.specs.Content.{clock}
 use Rattle.iol_front.specs.Fronts.{FrontId}
 use Rattle.iol_journal.specs.Runs.{begun}

@@ -1,10 +1,9 @@
-use Rattle.std.proofs.Common.{◌≡◌, refl, ◌+◌, ℕ, take, length, List, [], ◌∷◌, ◌++◌, sym, ap, ◌∙◌, subst, arith, append-nil}
-use Rattle.std.proofs.lemmas.List.{take_more, take_all}
+use Rattle.std.proofs.Common.{◌≡◌, refl, ◌+◌, take, length, List, [], ◌∷◌, ◌++◌, sym, ap, ◌∙◌, subst, arith, append-nil}
+use Rattle.std.proofs.lemmas.List.{take_more}
 use Rattle.std.proofs.lemmas.Option.{slice_get_read}
-use Rattle.iol_run.specs.Tasks.{HasDoneAll, HasTried, Tries}
+use Rattle.iol_run.specs.Tasks.{HasDoneAll, Tries}
 use Rattle.iol_run.specs.declared.schedule.Ended.{Ended}
 use Rattle.iol_run.specs.declared.schedule.Ended.TheVariants.{Whole, Memory}
-use Rattle.iol_run.specs.declared.step.Step.{Step}
 use Rattle.iol_run.specs.declared.task.Task.{Task}
 use Rattle.iol_run.proofs.Making.{done_more, count_more}
 use Rattle.iol_run.proofs.task.make_tasks.Goals as goal
