@@ -1,6 +1,6 @@
 -- The number of a core does not fall, and it is the one that is told as acknowledged.
 use Rattle.std.proofs.Common.{◌≡◌, ◌≤◌, refl, ℕ, nat_le, Bool, true, false, List, [], ◌∷◌, ◌++◌, length, Option, Some, None, Result, Ok}
-use Rattle.std.proofs.Common.{Err, ap, sym, ◌∙◌, subst, arith, append-nil, append_assoc}
+use Rattle.std.proofs.Common.{Err, ap, sym, ◌∙◌, subst, arith}
 use Rattle.iol_types.specs.Command.{CommandValue, command_of}
 use Rattle.iol_disk.specs.Disk.{Disk}
 use Rattle.iol_core.specs.Core.{CoreView}
@@ -12,13 +12,15 @@ use Rattle.iol_flush.specs.declared.need.Need.TheVariants as need
 use Rattle.iol_front.specs.Fronts.{CommittedView}
 use Rattle.iol_journal.specs.Journals.{JournalView}
 use Rattle.iol_link.specs.Link.{LinkCall, LinkAnswer}
+use Rattle.iol_trace.proofs.Words.{acked-append}
 use Rattle.iol_trace.specs.Events.{Event, Accepted, Acknowledged, Stamp, stamped}
 use Rattle.iol_trace.specs.Words.{acked, acked_by}
+use Rattle.iol_run.proofs.AllSteps.{all_tell}
 use Rattle.iol_run.proofs.Changes.{Change, Permits, Waits, Tells, changed}
 use Rattle.iol_run.proofs.PortCalls.{step_becomes}
 use Rattle.iol_run.proofs.Quiet.{AreQuiet, AcksNone, quiet_acks, stamped_both}
 use Rattle.iol_run.specs.Acknowledged.{AcksRise}
-use Rattle.iol_run.specs.CoreOnDisk.{CoreOnDiskView, clock_of}
+use Rattle.iol_run.specs.CoreOnDisk.{CoreOnDiskView}
 use Rattle.iol_run.specs.Ports.{PortsView, StepsIf}
 use Rattle.iol_run.specs.Runs.{RunView}
 use Rattle.iol_run.specs.Schedules.{IsFresh}
@@ -34,10 +36,6 @@ rise-append : (last : ℕ) (told more : List Stamp) → AcksRise last told → A
 rise-append last [] more these those = those
 rise-append last (e ∷ told) more these those = (these.0, rise-append (acked_by last e.event) told more these.1 those)
 
-ack-append : (last : ℕ) (told more : List Stamp) → acked last (told ++ more) ≡ acked (acked last told) more
-ack-append last [] more = refl
-ack-append last (e ∷ told) more = ack-append (acked_by last e.event) told more
-
 -- what is told from one core to the next
 record Rises (old new : CoreView) (told : List Stamp) : Type 0 where
   pub rise : AcksRise old.number told
@@ -46,7 +44,7 @@ record Rises (old new : CoreView) (told : List Stamp) : Type 0 where
 more_rises : (old mid new : CoreView) (told more : List Stamp) → Rises old mid told → Rises mid new more → Rises old new (told ++ more)
 more_rises old mid new told more one two = record {
   rise = rise-append old.number told more one.rise (subst (λ (n : ℕ). AcksRise n more) (sym one.number) two.rise);
-  number = ack-append old.number told more ∙ (ap (λ (n : ℕ). acked n more) one.number ∙ two.number);
+  number = acked-append old.number told more ∙ (ap (λ (n : ℕ). acked n more) one.number ∙ two.number);
 }
 
 module _ (t : ℕ) where
@@ -153,37 +151,15 @@ module _ (t : ℕ) {D : Type 0} where
           port_rises (nat_le port (length ports.links)) port old new ports last told is.1
       step_rises Flush old new ports last told turned is = turn_rises old.committed old new told turned is.1
 
+-- a core that stays
+stays_risen : (old new : CoreView) → new ≡ old → Rises old new []
+stays_risen old new same = silent_rises 0 old new [] refl (ap (λ (c : CoreView). c.number) same)
+
 module _ {D L : Type 0} (disk : D → Disk) (connection : L → ℕ) (allows : L → LinkCall → LinkAnswer → L → Type 0) where
-  record HasRisen (old new : RunView D L) : Type 0 where
-    more : List Stamp
-    events : new.events ≡ old.events ++ more
-    rises : Rises old.master.core new.master.core more
-
-  steps_rise : (steps : List Step) (waits : ℕ) (old new : RunView D L) → HasMade disk connection allows steps waits old new
-      → HasRisen old new
-  steps_rise [] waits old new made = record {
-    more = [];
-    events = ap (λ (r : RunView D L). r.events) made.1 ∙ sym (append-nil old.events);
-    rises = silent_rises 0 old.master.core new.master.core [] refl (ap (λ (r : RunView D L). r.master.core.number) made.1);
-  }
-  steps_rise (step ∷ steps) waits old new made =
-      let mid = made.2 in
-      let t = clock_of disk mid.master in
-      let one = step_rises t disk connection allows step old.master mid.master old.ports mid.ports made.3.0 made.0 made.3.1 in
-      let rest = steps_rise steps made.1 mid new made.5 in
-      record {
-        more = stamped t made.3.0 ++ rest.more;
-        events =
-            rest.events
-            ∙ (ap (λ (ss : List Stamp). ss ++ rest.more) made.3.2 ∙ append_assoc old.events (stamped t made.3.0) rest.more);
-        rises = more_rises old.master.core mid.master.core new.master.core (stamped t made.3.0) rest.more one rest.rises;
-      }
-
-  -- of a schedule that was run from a fresh run on
+  -- of steps that were made from a fresh run on
   pub acks_rise : (steps : List Step) (waits : ℕ) (journal : JournalView D) (links : List L) (old new : RunView D L)
       → IsFresh disk journal links old → HasMade disk connection allows steps waits old new → AcksRise journal.standing.number new.events
   acks_rise steps waits journal links old new fresh made =
-      let told = steps_rise steps waits old new made in
-      subst (λ (ss : List Stamp). AcksRise journal.standing.number ss)
-      (sym (told.events ∙ ap (λ (ss : List Stamp). ss ++ told.more) fresh.events))
-      (subst (λ (n : ℕ). AcksRise n told.more) fresh.number told.rises.rise)
+      subst (λ (n : ℕ). AcksRise n new.events) fresh.number
+      (all_tell disk connection allows (λ (m : CoreOnDiskView D). m.core) Rises stays_risen more_rises
+      (λ t. step_rises t disk connection allows) steps waits journal links old new fresh made).rise

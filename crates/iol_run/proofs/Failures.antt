@@ -1,6 +1,5 @@
 -- A failure of the disk is told exactly where it was counted.
 use Rattle.std.proofs.Common.{◌≡◌, ◌≤◌, inl, inr, ⊎_elim, ℕ, List, [], ◌∷◌, ◌++◌, map, Result, Ok, Err, IfOk, ap, sym, ◌∙◌, subst, arith}
-use Rattle.std.proofs.Common.{append-nil, append_assoc}
 use Rattle.iol_disk.specs.Calls.{Call, write, sync, Made, LeftBy}
 use Rattle.iol_disk.specs.Disk.{Disk, HasFailed}
 use Rattle.iol_flush.specs.Stages.{disk_of}
@@ -10,9 +9,10 @@ use Rattle.iol_link.specs.Link.{LinkCall, LinkAnswer}
 use Rattle.iol_trace.proofs.Words.{failure-append}
 use Rattle.iol_trace.specs.Events.{Event, Stamp, stamped}
 use Rattle.iol_trace.specs.Words.{HasFailure}
+use Rattle.iol_run.proofs.AllSteps.{all_tell}
 use Rattle.iol_run.proofs.Counted.{failure_stays, failure_told}
 use Rattle.iol_run.proofs.DiskSteps.{DiskStep, Stays, Makes, Fails, disk_step}
-use Rattle.iol_run.specs.CoreOnDisk.{clock_of}
+use Rattle.iol_run.specs.CoreOnDisk.{CoreOnDiskView}
 use Rattle.iol_run.specs.Events.{stamp_of}
 use Rattle.iol_run.specs.Failures.{TellsFailures}
 use Rattle.iol_run.specs.Runs.{RunView}
@@ -72,44 +72,20 @@ step_counts t old new told (Fails calls why failed telling) =
     })
 
 module _ {D L : Type 0} (disk : D → Disk) (connection : L → ℕ) (allows : L → LinkCall → LinkAnswer → L → Type 0) where
-  abbrev disk_at : RunView D L → Disk
-  disk_at run = disk (disk_of run.master.flusher.stage)
+  abbrev disk_in : CoreOnDiskView D → Disk
+  disk_in master = disk (disk_of master.flusher.stage)
 
-  record HasCounted (old new : RunView D L) : Type 0 where
-    more : List Stamp
-    events : new.events ≡ old.events ++ more
-    counts : Counts (disk_at old) (disk_at new) more
-
-  steps_count : (steps : List Step) (waits : ℕ) (old new : RunView D L) → HasMade disk connection allows steps waits old new
-      → HasCounted old new
-  steps_count [] waits old new made = record {
-    more = [];
-    events = ap (λ (r : RunView D L). r.events) made.1 ∙ sym (append-nil old.events);
-    counts = counts_same (disk_at old) (disk_at new) [] (ap (λ (r : RunView D L). (disk_at r).failures) made.1) (λ never. never);
-  }
-  steps_count (step ∷ steps) waits old new made =
-      let mid = made.2 in
-      let t = clock_of disk mid.master in
-      let one = step_counts t (disk_at old) (disk_at mid) made.3.0
-      (disk_step disk connection allows step old.master mid.master old.ports mid.ports made.3.0 made.0 made.3.1) in
-      let rest = steps_count steps made.1 mid new made.5 in
-      record {
-        more = stamped t made.3.0 ++ rest.more;
-        events =
-            rest.events
-            ∙ (ap (λ (ss : List Stamp). ss ++ rest.more) made.3.2 ∙ append_assoc old.events (stamped t made.3.0) rest.more);
-        counts = counts_more (disk_at old) (disk_at mid) (disk_at new) (stamped t made.3.0) rest.more one rest.counts;
-      }
-
-  -- of a schedule that was run from a fresh run on
+  -- of steps that were made from a fresh run on
   pub tells_failures : (steps : List Step) (waits : ℕ) (journal : JournalView D) (links : List L) (old new : RunView D L)
       → IsFresh disk journal links old
-      → HasMade disk connection allows steps waits old new → TellsFailures (disk journal.disk) (disk_at new) new.events
+      → HasMade disk connection allows steps waits old new → TellsFailures (disk journal.disk) (disk_in new.master) new.events
   tells_failures steps waits journal links old new fresh made =
-      let all = steps_count steps waits old new made in
-      subst (λ (d : Disk). TellsFailures d (disk_at new) new.events) (ap (λ (s : Stage D). disk (disk_of s)) fresh.stage)
-      (subst (λ (ss : List Stamp). TellsFailures (disk_at old) (disk_at new) ss)
-      (sym (all.events ∙ ap (λ (ss : List Stamp). ss ++ all.more) fresh.events)) all.counts.tells)
+      subst (λ (d : Disk). TellsFailures d (disk_in new.master) new.events) (ap (λ (s : Stage D). disk (disk_of s)) fresh.stage)
+      (all_tell disk connection allows disk_in Counts
+      (λ old new same. counts_same old new [] (ap (λ (d : Disk). d.failures) same) (λ never. never)) counts_more
+      (λ t step old new ports last told turned does. step_counts t (disk_in old) (disk_in new) told
+      (disk_step disk connection allows step old new ports last told turned does))
+      steps waits journal links old new fresh made).tells
 
 -- and of the disk that was recovered
 recovered_tells : (given recovered new : Disk) (events : List Stamp) → Made (sync ∷ []) given recovered → TellsFailures recovered new events

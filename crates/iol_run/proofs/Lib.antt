@@ -32,3 +32,4 @@ pub mod PortRuns
 pub mod Acknowledging
 pub mod Answering
 pub mod Traces
+pub mod AllSteps

@@ -1,6 +1,6 @@
 -- A core that knows a failure of the disk accepts nothing more.
 use Rattle.std.proofs.Common.{◌≡◌, refl, inl, inr, ⊎_elim, ℕ, nat_le, Bool, true, false, if◌then◌else◌, List, [], ◌∷◌, ◌++◌, length, Option}
-use Rattle.std.proofs.Common.{Some, None, is_some, Result, Ok, Err, ap, sym, ◌∙◌, subst, rules, append-nil, append_assoc}
+use Rattle.std.proofs.Common.{Some, None, is_some, Result, Ok, Err, ap, sym, ◌∙◌, subst, rules}
 use Rattle.iol_types.specs.Command.{CommandValue, command_of}
 use Rattle.iol_types.specs.State.{check}
 use Rattle.iol_types.specs.declared.command.CommandFault.{CommandFault}
@@ -19,11 +19,12 @@ use Rattle.iol_link.specs.Link.{LinkCall, LinkAnswer}
 use Rattle.iol_trace.proofs.Words.{accepted-append, failure-append}
 use Rattle.iol_trace.specs.Events.{Event, Accepted, Acknowledged, Stamp, stamped}
 use Rattle.iol_trace.specs.Words.{accepted, IsFailure, HasFailure}
+use Rattle.iol_run.proofs.AllSteps.{all_tell}
 use Rattle.iol_run.proofs.Changes.{Change, Permits, Waits, HasRoom, Tells, changed}
 use Rattle.iol_run.proofs.PortCalls.{step_becomes}
 use Rattle.iol_run.proofs.Quiet.{AreQuiet, quiet_accepted, quiet_fails, stamped_both}
 use Rattle.iol_run.proofs.Serving.{knows}
-use Rattle.iol_run.specs.CoreOnDisk.{CoreOnDiskView, clock_of}
+use Rattle.iol_run.specs.CoreOnDisk.{CoreOnDiskView}
 use Rattle.iol_run.specs.Ports.{PortsView, StepsIf}
 use Rattle.iol_run.specs.Runs.{RunView}
 use Rattle.iol_run.specs.Schedules.{IsFresh}
@@ -199,38 +200,15 @@ module _ (t : ℕ) {D : Type 0} where
           port_heeds (nat_le port (length ports.links)) port old new ports last told is.1
       step_heeds Flush old new ports last told turned is = turn_heeds old.committed old new told turned is.1
 
+-- a core that stays
+stays_heeding : (old new : CoreView) → new ≡ old → Heeds old new []
+stays_heeding old new same = silent_heeds 0 old new [] refl (ap (λ (c : CoreView). c.stopped) same)
+
 module _ {D L : Type 0} (disk : D → Disk) (connection : L → ℕ) (allows : L → LinkCall → LinkAnswer → L → Type 0) where
-  -- what a run has told since a moment
-  record HasHeeded (old new : RunView D L) : Type 0 where
-    more : List Stamp
-    events : new.events ≡ old.events ++ more
-    heeds : Heeds old.master.core new.master.core more
-
-  steps_heed : (steps : List Step) (waits : ℕ) (old new : RunView D L) → HasMade disk connection allows steps waits old new
-      → HasHeeded old new
-  steps_heed [] waits old new made = record {
-    more = [];
-    events = ap (λ (r : RunView D L). r.events) made.1 ∙ sym (append-nil old.events);
-    heeds = silent_heeds 0 old.master.core new.master.core [] refl (ap (λ (r : RunView D L). r.master.core.stopped) made.1);
-  }
-  steps_heed (step ∷ steps) waits old new made =
-      let mid = made.2 in
-      let t = clock_of disk mid.master in
-      let one = step_heeds t disk connection allows step old.master mid.master old.ports mid.ports made.3.0 made.0 made.3.1 in
-      let rest = steps_heed steps made.1 mid new made.5 in
-      record {
-        more = stamped t made.3.0 ++ rest.more;
-        events =
-            rest.events
-            ∙ (ap (λ (ss : List Stamp). ss ++ rest.more) made.3.2 ∙ append_assoc old.events (stamped t made.3.0) rest.more);
-        heeds = more_heeds old.master.core mid.master.core new.master.core (stamped t made.3.0) rest.more one rest.heeds;
-      }
-
-  -- of a schedule that was run from a fresh run on
+  -- of steps that were made from a fresh run on
   pub none_once_failed : (steps : List Step) (waits : ℕ) (journal : JournalView D) (links : List L) (old new : RunView D L)
       → IsFresh disk journal links old
       → HasMade disk connection allows steps waits old new → NoneOnceFailed new.events
   none_once_failed steps waits journal links old new fresh made =
-      let told = steps_heed steps waits old new made in
-      subst (λ (ss : List Stamp). NoneOnceFailed ss) (sym (told.events ∙ ap (λ (ss : List Stamp). ss ++ told.more) fresh.events))
-      told.heeds.none
+      (all_tell disk connection allows (λ (m : CoreOnDiskView D). m.core) Heeds stays_heeding more_heeds
+      (λ t. step_heeds t disk connection allows) steps waits journal links old new fresh made).none
