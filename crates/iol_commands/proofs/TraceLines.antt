@@ -3,7 +3,7 @@ use Rattle.std.proofs.Common.{◌≡◌, refl, ℕ, ◌+◌, ◌<◌, List, [], 
 use Rattle.std.proofs.Common.{append-nil}
 use Rattle.std.specs.Prelude.{Option, None}
 use Rattle.std.proofs.lemmas.List.{take_more, map-append}
-use Rattle.iol_run.specs.Events.{event_of, stamp_of}
+use Rattle.iol_run.specs.Events.{event_of}
 use Rattle.iol_run.specs.declared.run.Stamped.{Stamped}
 use Rattle.iol_trace.specs.Events.{Event}
 use Rattle.iol_commands.specs.Lines.{lost_in, lines_behind, lines_from, lines_of, events_of}
@@ -42,8 +42,3 @@ pub lost_next : (stamped : List Stamped) (i : ℕ) (item : Stamped) → i < leng
     → lost_in (event_of item.event) ≡ lost_after None (events_of (take (i + 1) stamped))
 lost_next stamped i item within is =
     sym (ap (lost_after None) (next_events stamped i item within is) ∙ after_more None (events_of (take i stamped)) (event_of item.event))
-
--- the events of a trace are those of its stamps
-pub events_of-stamps : (stamped : List Stamped) → events_of stamped ≡ map (λ stamp. stamp.event) (map stamp_of stamped)
-events_of-stamps [] = refl
-events_of-stamps (item ∷ stamped) = ap (λ (events : List Event). event_of item.event ∷ events) (events_of-stamps stamped)

@@ -19,8 +19,8 @@ spaced octets = flat_map (λ octet. codes " " ++ hex_of octet) octets
 abbrev pub octets_line : ℕ → List ℕ → List ℕ → List ℕ
 octets_line port sign octets = codes "port " ++ (decimal port ++ (codes " " ++ (sign ++ (spaced octets ++ codes "\n"))))
 
--- the lines of an event. An exchange has two, and so has a loss at a request that was sent; what a port is told to work
--- with has none (format, Texts)
+-- the lines of an event: two of an exchange and of a loss at a request that was sent, none of the work that a port is
+-- told, and else one (format, Texts)
 abbrev pub event_text : Event → List ℕ
 event_text (Accepted number command) = codes "accepted " ++ (decimal number ++ codes "\n")
 event_text (Refused refusal) = codes "refused " ++ (refusal_name refusal ++ codes "\n")

@@ -1,15 +1,18 @@
 //! Runs of a master on one thread, over any disk and any links: a schedule of steps in, a trace of events out.
 //!
-//! [`run_schedule`] recovers a disk and makes the steps of a schedule: a client asks for a change, a port makes a step, or
-//! the flusher makes a turn. Each step tells what happened, stamped with the disk's clock, which contracts alone see. The [`Trace`] has the
-//! events in their order, the durable state at the end, and the disk. [`Run`] is the same step by step.
+//! [`run_schedule`] recovers a disk and makes the tasks of a schedule: a client asks for a change, a port makes steps, or
+//! the flusher makes turns. Each step tells what happened, stamped with the disk's clock, which contracts alone see. The
+//! [`Trace`] has the events in their order, the durable state at the end, and the disk. [`Run`] is the same step by step.
 //!
-//! Modules in reading order: `core_on_disk`, a core and the flusher that brings its batches to the disk; `said`, `event`
-//! and `moment`, what is told and when; `port_step` and `ports`, the machines of ports over their links; `step` and `task`, what
-//! a schedule consists of; `run` and `schedule`. What a turn of the flusher does is said in `specs/Turns.antt`, what a step of a port does
-//in
-//! `specs/PortSteps.antt` and `specs/Ports.antt`, what a step tells in `specs/Steps.antt`, and what a schedule does in
-//! `specs/Schedules.antt`.
+//! Modules in reading order:
+//! - `core_on_disk` is a core and the flusher that brings its batches to the disk.
+//! - `said`, `event` and `moment` are what is told and when.
+//! - `port_step` and `ports` are the machines of ports over their links.
+//! - `step` and `task` are what a schedule consists of, `run` and `schedule` what is made of it.
+//!
+//! What a turn of the flusher does is said in `specs/Turns.antt`, what a step of a port does in `specs/PortSteps.antt` and
+//! `specs/Ports.antt`, and what a step tells in `specs/Steps.antt`. What a task does is in `specs/Tasks.antt`, how a client
+//! is answered in `specs/Answers.antt`, and what holds of a whole trace in `specs/Schedules.antt`.
 #![tactic(auto)]
 
 mod core_on_disk;
