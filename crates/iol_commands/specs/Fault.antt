@@ -4,6 +4,8 @@ use Rattle.std.specs.Fmt.{decimal}
 use Rattle.iol_commands.specs.declared.fault.Fault.{Fault}
 use Rattle.iol_commands.specs.declared.fault.Fault.TheVariants.{NotFormatted, AlreadyFormatted, TooSmall, Damaged, Disk, Memory}
 use Rattle.iol_commands.specs.declared.fault.Fault.TheVariants.{Words, File, Script, Geometry}
+use Rattle.iol_journal.specs.declared.formatting.FormatFault.{FormatFault}
+use Rattle.iol_journal.specs.declared.formatting.FormatFault.TheVariants as format
 use Rattle.iol_journal.specs.declared.cause.RecoverCause.{RecoverCause}
 use Rattle.iol_journal.specs.declared.cause.RecoverCause.TheVariants as cause
 use Rattle.iol_script.specs.declared.script.ScriptFault.{ScriptFault}
@@ -38,6 +40,13 @@ fault_line fault = codes "error: " ++ (fault_text fault ++ codes "\n")
 abbrev pub fault_for : ScriptFault → Fault
 fault_for script.NotValid = Script
 fault_for script.Memory = Memory
+
+-- why a command fails whose disk is not formatted (format, Texts)
+abbrev pub unformatted : FormatFault → Fault
+unformatted format.TooSmall = TooSmall
+unformatted format.AlreadyFormatted = AlreadyFormatted
+unformatted format.Memory = Memory
+unformatted (format.Disk fault) = Disk
 
 -- why a command fails whose disk is not recovered (format, Texts)
 abbrev pub unrecovered : RecoverCause → Fault

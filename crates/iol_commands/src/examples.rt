@@ -8,9 +8,10 @@ ghost use Rattle.iol_types.specs.Examples.{example_config, example_port, port_of
 ghost use Rattle.iol_trace.specs.Events as event;
 ghost use Rattle.iol_trace.specs.Statuses as trace;
 ghost use Rattle.iol_commands.specs.Fault.{fault_line};
-ghost use Rattle.iol_commands.specs.Lines.{event_text, lines_of};
+ghost use Rattle.iol_commands.specs.Lines.{event_text, lines_of, report_text};
 ghost use Rattle.iol_commands.specs.Recovered.{entry_line, port_line, recovered_text};
-ghost use Rattle.iol_commands.specs.declared.fault.Fault.TheVariants.{Damaged};
+ghost use Rattle.iol_commands.specs.declared.fault.Fault.TheVariants.{NotFormatted, AlreadyFormatted, TooSmall, Damaged, Disk};
+ghost use Rattle.iol_commands.specs.declared.fault.Fault.TheVariants.{Memory, Words, Script, Geometry};
 ghost use Rattle.iol_commands.specs.Texts.{refusal_name, status_text};
 
 /// The ErrorCode and AdditionalCode of a refusal: two digits each, upper case.
@@ -62,6 +63,7 @@ pub fn events()
     ensures lost_at_a_request { event_text (event.Lost 32 4 (Some (0x10 ∷ []))) ≡ codes "port 32 > 10\nport 32 lost\n" }
     ensures lost_at_the_page { event_text (event.Lost 32 4 None) ≡ codes "port 32 lost\n" }
     ensures acknowledged { event_text (event.Acknowledged 12) ≡ codes "acknowledged 12\n" }
+    ensures failed { event_text event.DiskFailed ≡ codes "disk failed\n" }
 {}
 
 /// A loss is not told twice: the status behind it has no line of its own, but that of another port has one.
@@ -92,7 +94,18 @@ pub fn states()
         ++ codes "entry 0040.00 0A64\nentry 0041.01 7F\n" ++ port_line 2 (port_of example_config 7) }
 {}
 
-/// The line of a fault.
+/// What a run prints: its events, that the power stopped, and the state that was recovered.
+pub fn reports()
+    ensures { report_text (event.Acknowledged 1 ∷ []) 1 [] ≡ codes "acknowledged 1\nstopped\nrecovered 1\n" }
+{}
+
+/// The lines of faults.
 pub fn faults()
-    ensures { fault_line (Damaged 40) ≡ codes "error: damaged at sector 40\n" }
+    ensures damaged { fault_line (Damaged 40) ≡ codes "error: damaged at sector 40\n" }
+    ensures of_a_disk { map fault_line (NotFormatted ∷ AlreadyFormatted ∷ TooSmall ∷ Disk ∷ [])
+        ≡ codes "error: the disk is not formatted\n" ∷ codes "error: the disk is already formatted\n"
+        ∷ codes "error: the disk is too small\n" ∷ codes "error: the disk failed\n" ∷ [] }
+    ensures others { map fault_line (Memory ∷ Words ∷ Script ∷ Geometry ∷ [])
+        ≡ codes "error: out of memory\n" ∷ codes "error: a word is not UTF-8\n" ∷ codes "error: the script is not valid\n"
+        ∷ codes "error: the geometry is not valid\n" ∷ [] }
 {}

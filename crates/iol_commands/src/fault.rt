@@ -1,6 +1,6 @@
 //! Why a command of the program fails.
 ghost use Rattle.std.specs.Prelude.{◌≡◌};
-ghost use Rattle.iol_commands.specs.Fault.{status_of, fault_for, unrecovered};
+ghost use Rattle.iol_commands.specs.Fault.{status_of, fault_for, unrecovered, unformatted};
 ghost use Rattle.iol_commands.specs.declared.fault.Fault.TheVariants.{Disk, Memory};
 
 use iol_disk::DiskFault;
@@ -107,7 +107,7 @@ impl From<DiskFault> for Fault<'_> {
 }
 
 impl From<FormatFault> for Fault<'_> {
-    ghost from_gives = { λ _ fault. status_of fault ≡ 1 };
+    ghost from_gives = { λ cause fault. fault ≡ unformatted cause };
 
     fn from(fault: FormatFault) -> Self {
         match fault {

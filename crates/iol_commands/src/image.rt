@@ -8,7 +8,7 @@ ghost use Rattle.iol_journal.specs.Kept.{EachMeans, KeptMeans};
 ghost use Rattle.iol_journal.specs.Meaning.{is_formatted, meaning, standing_in};
 ghost use Rattle.iol_journal.specs.Reading.{Shows};
 ghost use Rattle.iol_commands.specs.Fault.{status_of};
-ghost use Rattle.iol_commands.specs.Images.{IsFileCause, TellsWhy};
+ghost use Rattle.iol_commands.specs.Images.{IsFileCause, TellsWhy, formatted_text};
 ghost use Rattle.iol_commands.specs.Recovered.{TellsState};
 
 use crate::fault::Fault;
@@ -65,7 +65,7 @@ fn of_image(fault: ImageFault, path: &str) -> Fault<'_>
     }
 }
 
-// Formats a disk. Where that is forced, its journal is erased first.
+// Formats a disk, and says how many sectors its journal takes. Where that is forced, its journal is erased first.
 //
 // # Errors
 // `TooSmall`, `AlreadyFormatted` or `Memory`, or `Disk` where a disk call fails.
@@ -74,7 +74,8 @@ pub fn format_disk<D: SectorDisk>(
     disk: &mut D,
     geometry: Geometry,
     force: bool,
-) -> Result<(), Fault<'static>>
+) -> Result<String, Fault<'static>>
+    ensures text { IfOk result (λ text. string_bytes text ≡ formatted_text geometry) }
     // Each image is an empty journal.
     ensures done { OnOk result (EachMeans (D.disk disk.new) 0 (empty_state geometry.ports)) }
     // A journal that is there stays, unless its end is forced.
@@ -88,7 +89,8 @@ pub fn format_disk<D: SectorDisk>(
 {
     erase_if_forced(disk, force)?;
     iol_journal::format(alloc, disk, geometry)?;
-    Ok(())
+    let sectors = geometry.sectors();
+    Ok(format!(in alloc; "formatted {sectors} sectors\n")?)
 }
 
 // Erases a disk, where that is forced.

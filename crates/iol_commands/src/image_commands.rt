@@ -55,19 +55,18 @@ fn text_of_format<'a, F: FileExt + OpenFile + Drop, R: Files<File = F> + AllocGl
     ensures cause { IfErr result (IsFormatCause (record { ports = ports; slots = slots })) }
 {
     let geometry = Geometry::new(ports, slots).ok_or(Fault::Geometry)?;
-    let sectors = geometry.sectors();
-    format_file(rt, path, geometry, force)?;
-    Ok(format!(in rt.alloc(); "formatted {sectors} sectors\n")?)
+    format_file(rt, path, geometry, force)
 }
 
-// Opens or makes the image file at this path, and formats it.
+// Opens or makes the image file at this path, and formats it; what is printed of that.
 fn format_file<'a, F: FileExt + OpenFile + Drop, R: Files<File = F> + AllocGlobal>(
     rt: &R,
     path: &'a str,
     geometry: Geometry,
     force: bool,
-) -> Result<(), Fault<'a>>
-    ensures { IfErr result (λ fault. status_of fault ≡ 1) }
+) -> Result<String, Fault<'a>>
+    ensures text { IfOk result (λ text. string_bytes text ≡ formatted_text geometry) }
+    ensures status { IfErr result (λ fault. status_of fault ≡ 1) }
 {
     let mut disk = opened_or_made(rt, path, geometry.sectors())?;
     format_disk(rt.alloc(), &mut disk, geometry, force)
