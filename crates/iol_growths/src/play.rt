@@ -12,6 +12,8 @@ use std::alloc::Global;
 /// Plays a schedule, its first steps alone where they are fewer, and prints how it ended and what its disk then holds.
 pub(crate) fn play(rt: &HostRuntime, schedule: Schedule, most: usize) -> anyhow::Result<()> {
     let steps = schedule.steps(rt.alloc())?;
+    let made = steps.len().min(most);
+    let tasks = once_each(rt.alloc(), &steps[..made])?;
     let links = schedule.links(rt.alloc())?;
     let geometry = Geometry::new(2, 4).context("no geometry")?;
     let mut disk = MemoryDisk::new(rt.alloc(), geometry.sectors())?;
@@ -20,8 +22,6 @@ pub(crate) fn play(rt: &HostRuntime, schedule: Schedule, most: usize) -> anyhow:
         println!(rt; "no format {fault:?}")?;
         return show(rt, disk);
     }
-    let made = steps.len().min(most);
-    let tasks = once_each(rt.alloc(), &steps[..made])?;
     match run_schedule(rt.alloc(), disk, links, &tasks) {
         Ok(trace) => {
             tell(rt, trace.events.as_slice())?;
