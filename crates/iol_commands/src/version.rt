@@ -1,12 +1,12 @@
-//! The version of the program, and the toolchain that it is proved with.
+//! The version of the program, and the logic that it is proved in.
 ghost use Rattle.std.specs.Prelude.{◌≡◌, ◌++◌, codes, IfOk, string_bytes};
 
 use std::alloc::{AllocError, Global};
 
 const VERSION: &str = "0.1.0";
 
-// The toolchain that proves and builds the program, as `rt version` names it.
-const TOOLCHAIN: &str = "rattle-kit-13f logic dac8208d650f15bf";
+// The toolchain's logic, which `rt version` names behind its release: releases of one logic prove the same.
+const TOOLCHAIN: &str = "rattle logic dac8208d650f15bf";
 
 // What is printed behind the program's name: its version, and the toolchain on a line of its own.
 pub(crate) fn version_text(alloc: Global) -> Result<String, AllocError>
