@@ -1,18 +1,17 @@
 -- What a format leaves, where an erasure came before it.
-use Rattle.std.proofs.Common.{◌⊎◌, inl, inr, IsTrue, subst, ℕ}
-use Rattle.iol_types.specs.State.{empty_state}
-use Rattle.iol_disk.specs.Content.{Image, IsImage}
+use Rattle.std.proofs.Common.{◌≡◌, ◌⊎◌, inl, inr, IsTrue, Bool, true, false, ◌&&◌, ℕ, sym, subst}
+use Rattle.iol_disk.specs.Content.{Image, IsImage, reads}
 use Rattle.iol_disk.specs.Disk.{Disk}
 use Rattle.iol_disk.specs.Moments.{LeavesOnly}
 use Rattle.iol_disk.proofs.DiskLaws.{and_then, each_now, weaker}
 use Rattle.iol_journal.specs.Erasing.{MeansAsBeforeOrNothing}
-use Rattle.iol_journal.specs.Formatting.{IsEmptyOrUnformatted}
+use Rattle.iol_journal.specs.Formatting.{IsEmptyJournalOf, IsEmptyOrUnformatted}
 use Rattle.iol_journal.specs.Geometry.{Geometry}
-use Rattle.iol_journal.specs.Kept.{KeptMeans}
+use Rattle.iol_journal.specs.Reading.{Shows}
 
 -- at a moment of a forced format: as before, or nothing, or an empty journal
 abbrev pub IsOnTheWay : Geometry → Disk → Image → Type 0
-IsOnTheWay g old image = MeansAsBeforeOrNothing old.sectors old.content image ⊎ KeptMeans old.sectors 0 (empty_state g.ports) image
+IsOnTheWay g old image = MeansAsBeforeOrNothing old.sectors old.content image ⊎ IsEmptyJournalOf g old.sectors image
 
 pub leaves_forced : (g : Geometry) (old between new : Disk) → LeavesOnly old between (MeansAsBeforeOrNothing old.sectors old.content)
     → LeavesOnly between new (λ image. IsImage between.content image ⊎ IsEmptyOrUnformatted g between.sectors image)
@@ -24,9 +23,26 @@ leaves_forced g old between new erased formatted =
   where
     later : (image : Image) → IsEmptyOrUnformatted g old.sectors image → IsOnTheWay g old image
     later image (inl nothing) = inl (inl nothing)
-    later image (inr kept) = inr kept
+    later image (inr empty) = inr empty
 
     on_the_way : IsTrue between.honest → (image : Image) → IsImage between.content image ⊎ IsEmptyOrUnformatted g between.sectors image
         → IsOnTheWay g old image
     on_the_way h image (inl is) = inl (each_now old between _ erased h image is)
     on_the_way h image (inr is) = later image (subst (λ (sectors : ℕ). IsEmptyOrUnformatted g sectors image) erased.sectors is)
+
+-- both of two tests hold
+second_holds : (one two : Bool) → (one && two) ≡ true → two ≡ true
+second_holds true two both = both
+second_holds false two both = absurd (untrue both)
+  where
+    untrue : false ≡ true → ⊥
+    untrue wrong = cc
+
+-- a journal that is there, behind an open gate of a disk large enough, stays where it is not erased
+pub kept_unforced : (large : Bool) (is_open : Image → Bool) (old between new : Disk) → between ≡ old
+    → (Shows between (λ image. is_open image ≡ true) → LeavesOnly between new (IsImage between.content))
+    → Shows old (λ image. (large && is_open image) ≡ true) → LeavesOnly old new (IsImage old.content)
+kept_unforced large is_open old between new same kept formatted =
+    subst (λ (d : Disk). LeavesOnly d new (IsImage d.content)) same
+    (kept (subst (λ (d : Disk). Shows d (λ image. is_open image ≡ true)) (sym same)
+    (λ honest. second_holds large (is_open (reads old.content)) (formatted honest))))

@@ -10,7 +10,8 @@ use Rattle.iol_disk.specs.FaultDisk.{inner}
 use Rattle.iol_disk.specs.Memory.{as_disk}
 use Rattle.iol_disk.specs.declared.fault_disk.FaultDisk.{FaultDisk}
 use Rattle.iol_disk.specs.declared.memory.MemoryDisk.{MemoryDisk}
-use Rattle.iol_journal.specs.Kept.{EachMeans, KeptMeans}
+use Rattle.iol_journal.specs.Formatting.{EachIsEmptyJournal}
+use Rattle.iol_journal.specs.Kept.{KeptMeans}
 use Rattle.iol_journal.specs.Meaning.{Standing, Cause, standing_in, meaning}
 use Rattle.iol_journal.specs.Runs.{HasPrefix}
 use Rattle.iol_record.specs.Reading.{◌>>=◌}
@@ -28,23 +29,23 @@ use Rattle.iol_journal.specs.Geometry.{Geometry}
 use Rattle.iol_commands.specs.Played.{run_disk, IsRunOf, HoldsAcknowledged}
 
 -- what a disk with an empty journal reads as
-empty_read : (given : FaultDisk MemoryDisk) (ports : ℕ) → EachMeans (run_disk given) 0 (empty_state ports)
-    → KeptMeans (run_disk given).sectors 0 (empty_state ports) (reads (run_disk given).content)
-empty_read given ports empty = empty refl (reads (run_disk given).content) (reads-is_image (run_disk given).content)
+empty_read : (given : FaultDisk MemoryDisk) (g : Geometry) → EachIsEmptyJournal (run_disk given) g
+    → KeptMeans (run_disk given).sectors 0 (empty_state g.ports) (reads (run_disk given).content)
+empty_read given g empty = (empty refl (reads (run_disk given).content) (reads-is_image (run_disk given).content)).empty
 
 -- how a journal stands on it
-begins : (given : FaultDisk MemoryDisk) (ports : ℕ) (journal : Standing) → EachMeans (run_disk given) 0 (empty_state ports)
+begins : (given : FaultDisk MemoryDisk) (g : Geometry) (journal : Standing) → EachIsEmptyJournal (run_disk given) g
     → standing_in (run_disk given).sectors (reads (run_disk given).content) ≡ Ok journal
-    → (journal.number ≡ 0) × (journal.state ≡ empty_state ports)
-begins given ports journal empty stands =
-    means_is (run_disk given).sectors (reads (run_disk given).content) journal 0 (empty_state ports) stands (empty_read given ports empty).1
+    → (journal.number ≡ 0) × (journal.state ≡ empty_state g.ports)
+begins given g journal empty stands =
+    means_is (run_disk given).sectors (reads (run_disk given).content) journal 0 (empty_state g.ports) stands (empty_read given g empty).1
 
 -- there is a link for each of its ports
-pub links_fit : (given left : FaultDisk MemoryDisk) (ports links : ℕ) → EachMeans (run_disk given) 0 (empty_state ports) → links ≡ ports
+pub links_fit : (given left : FaultDisk MemoryDisk) (g : Geometry) (links : ℕ) → EachIsEmptyJournal (run_disk given) g → links ≡ g.ports
     → FailsFor run_disk given links (fault.Ports left) → ⊥
-links_fit given left ports links empty same fails =
+links_fit given left g links empty same fails =
     let shown = fails refl in
-    shown.2 (same ∙ (sym (length-replicate ports blank) ∙ ap length (sym (begins given ports shown.0 empty shown.1).1)))
+    shown.2 (same ∙ (sym (length-replicate g.ports blank) ∙ ap length (sym (begins given g shown.0 empty shown.1).1)))
 
 -- what a stop at the end leaves holds all that was acknowledged
 pub holds : (said : Said) (geometry : Geometry) (given : FaultDisk MemoryDisk) (trace : Trace (FaultDisk MemoryDisk) Sim) (image : Image)
@@ -64,13 +65,13 @@ holds said geometry given trace image number state run left means = record {
     events = told_in trace
 
     at : (run.headline.run.journal.standing.number ≡ 0) × (run.headline.run.journal.standing.state ≡ empty_state geometry.ports)
-    at = begins given geometry.ports run.headline.run.journal.standing run.empty (run.headline.run.recovered.found refl)
+    at = begins given geometry run.headline.run.journal.standing run.empty (run.headline.run.recovered.found refl)
 
     crash : CrashPrefix (run_disk trace.disk) trace.begun 0 (empty_state geometry.ports) events
     crash =
         subst (λ (n : ℕ). CrashPrefix (run_disk trace.disk) trace.begun n (empty_state geometry.ports) events) at.0
         (subst (λ (s : State). CrashPrefix (run_disk trace.disk) trace.begun run.headline.run.journal.standing.number s events) at.1
-        (run.headline.crash_prefix refl (empty_read given geometry.ports run.empty).0))
+        (run.headline.crash_prefix refl (empty_read given geometry run.empty).0))
 
     prefix : HasPrefix (run_disk trace.disk).sectors 0 (empty_state geometry.ports) (accepted events)
         (acked 0 (take (length events) events)) image

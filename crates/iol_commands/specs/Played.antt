@@ -10,8 +10,8 @@ use Rattle.iol_disk.specs.declared.fault_disk.FaultDisk.{FaultDisk}
 use Rattle.iol_disk.specs.declared.memory.MemoryDisk.{MemoryDisk}
 use Rattle.iol_disk.specs.declared.pick.Pick.{Pick}
 use Rattle.iol_headline.specs.Headline.{IsHeadline}
+use Rattle.iol_journal.specs.Formatting.{EachIsEmptyJournal}
 use Rattle.iol_journal.specs.Geometry.{Geometry, IsGeometry}
-use Rattle.iol_journal.specs.Kept.{EachMeans}
 use Rattle.iol_journal.specs.Meaning.{meaning}
 use Rattle.iol_run.specs.Schedules.{told_in}
 use Rattle.iol_run.specs.declared.schedule.Ended.TheVariants.{Whole}
@@ -42,11 +42,11 @@ abbrev pub FailsAsSaid : Option FailingCall → FaultDisk MemoryDisk → Type 0
 FailsAsSaid None disk = due_of disk ≡ due_at None
 FailsAsSaid (Some call) disk = (kind_of disk ≡ call.kind) × (due_of disk ≡ due_at (Some call))
 
--- the run that a script asks for: of its tasks, all of them, over an empty journal of its geometry, with its devices at the ports
+-- the run that a script asks for: of its tasks, all of them, over an empty journal of its ports and slots, with its devices at the ports
 -- and its disk call failing (format, Scripts)
 pub record IsRunOf (said : Said) (geometry : Geometry) (given : FaultDisk MemoryDisk) (trace : Trace (FaultDisk MemoryDisk) Sim) : Type 0
   where
-    pub empty : EachMeans (run_disk given) 0 (empty_state geometry.ports)
+    pub empty : EachIsEmptyJournal (run_disk given) geometry
     pub fails : FailsAsSaid said.fail given
     pub headline : IsHeadline run_disk (λ (link : Sim). link.connection) SimStep given (links_of geometry.ports said.devices)
         (tasks_of said.steps) trace

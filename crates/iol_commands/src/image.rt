@@ -1,10 +1,9 @@
 //! Image files: opened or made, formatted, and shown.
 ghost use Rattle.std.specs.Prelude.{◌≡◌, ◌⊎◌, true, false, Ok, IfOk, IfErr, IsOk, OnOk, string_bytes};
-ghost use Rattle.iol_types.specs.State.{empty_state};
 ghost use Rattle.iol_disk.specs.Content.{IsImage};
 ghost use Rattle.iol_disk.specs.Moments.{LeavesOnly};
 ghost use Rattle.iol_journal.specs.Erasing.{MeansAsBeforeOrNothing};
-ghost use Rattle.iol_journal.specs.Kept.{EachMeans, KeptMeans};
+ghost use Rattle.iol_journal.specs.Formatting.{EachIsEmptyJournal, IsEmptyJournalOf};
 ghost use Rattle.iol_journal.specs.Meaning.{is_formatted, meaning, standing_in};
 ghost use Rattle.iol_journal.specs.Reading.{Shows};
 ghost use Rattle.iol_commands.specs.Fault.{status_of};
@@ -76,15 +75,15 @@ pub fn format_disk<D: SectorDisk>(
     force: bool,
 ) -> Result<String, Fault<'static>>
     ensures text { IfOk result (λ text. string_bytes text ≡ formatted_text geometry) }
-    // Each image is an empty journal.
-    ensures done { OnOk result (EachMeans (D.disk disk.new) 0 (empty_state geometry.ports)) }
+    // Each image is an empty journal of this geometry.
+    ensures done { OnOk result (EachIsEmptyJournal (D.disk disk.new) geometry) }
     // A journal that is there stays, unless its end is forced.
     ensures kept { force ≡ false → Shows (D.disk disk.old) (λ image. is_formatted (D.disk disk.old).sectors image ≡ true)
         → LeavesOnly (D.disk disk.old) (D.disk disk.new) (IsImage (D.disk disk.old).content) }
-    // At any moment each image means what one meant before, or is not formatted, or is an empty journal.
+    // At any moment each image means what one meant before, or is not formatted, or is an empty journal of this geometry.
     ensures any_moment { LeavesOnly (D.disk disk.old) (D.disk disk.new)
         (λ image. MeansAsBeforeOrNothing (D.disk disk.old).sectors (D.disk disk.old).content image
-        ⊎ KeptMeans (D.disk disk.old).sectors 0 (empty_state geometry.ports) image) }
+        ⊎ IsEmptyJournalOf geometry (D.disk disk.old).sectors image) }
     ensures status { IfErr result (λ fault. status_of fault ≡ 1) }
 {
     erase_if_forced(disk, force)?;

@@ -1,7 +1,6 @@
 //! The run of a script on one thread, over a disk that is empty at first.
 ghost use Rattle.std.specs.Prelude.{◌≡◌, All, IfOk, IfErr};
-ghost use Rattle.iol_types.specs.State.{empty_state};
-ghost use Rattle.iol_journal.specs.Kept.{EachMeans};
+ghost use Rattle.iol_journal.specs.Formatting.{EachIsEmptyJournal};
 ghost use Rattle.iol_script.specs.Script.{said_of};
 ghost use Rattle.iol_commands.specs.Devices.{MayVisit};
 ghost use Rattle.iol_commands.specs.Fault.{status_of};
@@ -63,7 +62,7 @@ fn make_run(
     script: &Script,
 ) -> Result<Trace<FaultDisk<MemoryDisk>, SimLink>, Fault<'static>>
     requires devices { All MayVisit script.now.devices.items }
-    requires empty { EachMeans (run_disk disk) 0 (empty_state geometry.ports) }
+    requires empty { EachIsEmptyJournal (run_disk disk) geometry }
     requires fails { FailsAsSaid script.now.fail disk }
     ensures run { IfOk result (IsRunOf (said_of script.now) geometry disk) }
     ensures status { IfErr result (λ fault. status_of fault ≡ 1) }

@@ -1,6 +1,6 @@
 pub mod Places
 mod Queues
 mod Permits
-mod Standing
+pub mod Standing
 mod Longest
 mod Keeping

@@ -107,6 +107,7 @@ impl<F: Name> Core<F> {
     pub fn live_number(&self) -> u64
         ensures number { result ≡ live_number self.now }
         ensures bound { result ≤ LAST_NUMBER }
+        ensures core { IsCore F.front.start self.now }
     {
         self.number + self.queue.len() as u64
     }

@@ -8,6 +8,7 @@ use Rattle.iol_journal.specs.CheckpointViews.{CheckpointingView}
 use Rattle.iol_journal.specs.Journals.{JournalView, WritingView, values}
 use Rattle.iol_journal.specs.Runs.{Run, IsRun, with_batch_begun, with_batch_written}
 use Rattle.iol_journal.specs.Running.{IsRunAtRest, IsRunWriting}
+use Rattle.iol_journal.specs.Underway.{IsAtRest}
 use Rattle.iol_journal.specs.Written.{WrittenView}
 use Rattle.iol_journal.specs.declared.batch.Batch.{Batch}
 use Rattle.iol_flush.specs.Flushing.{run_of, KeepsRun}
@@ -106,3 +107,8 @@ pub keeps_given : {D : Type 0} (disk : D → Disk) (j k : JournalView D) (batch 
 keeps_given {D} disk j k batch same journal_is batch_is =
     subst (λ (l : JournalView D). KeepsRun disk (Given j batch) (Given l same)) (sym journal_is)
     (subst (λ (b : Batch). KeepsRun disk (Given j batch) (Given j b)) (sym batch_is) (keeps_self disk (Given j batch)))
+
+-- a journal that comes back is at rest as before
+pub rests_still : {D : Type 0} (disk : D → Disk) (j back : JournalView D) → back ≡ j → IsAtRest (disk j.disk) j.standing j.idle
+    → IsAtRest (disk back.disk) back.standing back.idle
+rests_still {D} disk j back same rest = subst (λ (x : JournalView D). IsAtRest (disk x.disk) x.standing x.idle) (sym same) rest

@@ -10,6 +10,8 @@ use Rattle.iol_journal.specs.Journals.{values}
 use Rattle.iol_journal.specs.Meaning.{Standing}
 use Rattle.iol_journal.specs.Runs.{Run, Mark, HasPrefix, IsRun}
 use Rattle.iol_journal.specs.Running.{IsRunAtRest, IsRunWriting}
+use Rattle.iol_journal.specs.Underway.{IsAtRest, IsUnderway}
+use Rattle.iol_journal.specs.CheckpointViews.{IsCheckpointUnderway}
 use Rattle.iol_journal.specs.declared.batch.Batch.{Batch}
 use Rattle.iol_flush.specs.declared.stage.Stage.{Stage}
 use Rattle.iol_flush.specs.declared.stage.Stage.TheVariants.{Resting, Given, Checkpointing, Writing, Publishing, Failed}
@@ -71,3 +73,13 @@ pub record HoldsBy (d : Disk) (number : ℕ) (state : State) (commands : List Co
   pub passes : legal state commands ≡ true
   pub images : All (λ mark. IsTrue d.honest → (image : Image) → IsImageSince mark.clock d.content image
       → HasPrefix d.sectors number state commands mark.acknowledged image) marks
+
+-- what a stop of an honest disk may leave is kept, at each stage of a flusher: the journal is at rest, or what is on its way
+-- is underway; of a disk that failed nothing is said (own)
+abbrev pub IsSound : {D : Type 0} → (D → Disk) → Stage D → Type 0
+IsSound disk (Resting journal) = IsAtRest (disk journal.disk) journal.standing journal.idle
+IsSound disk (Given journal batch) = IsAtRest (disk journal.disk) journal.standing journal.idle
+IsSound disk (Checkpointing checkpoint batch) = IsCheckpointUnderway disk checkpoint
+IsSound disk (Writing writing) = IsUnderway disk writing
+IsSound disk (Publishing journal written) = IsAtRest (disk journal.disk) journal.standing journal.idle
+IsSound disk (Failed left fault) = Unit {0}

@@ -5,7 +5,7 @@ ghost use Rattle.iol_journal.specs.Begin.{is_too_large};
 ghost use Rattle.iol_journal.specs.Journals.{values};
 ghost use Rattle.iol_flush.specs.Stages.{HasFewCalls, is_full, need_of};
 ghost use Rattle.iol_flush.specs.Steps.{IsDiskStep};
-ghost use Rattle.iol_flush.specs.Flushing.{KeepsRun};
+ghost use Rattle.iol_flush.specs.Flushing.{KeepsRun, IsSound};
 ghost use Rattle.iol_flush.specs.declared.need.Need.TheVariants as need;
 ghost use Rattle.iol_flush.specs.declared.stage.Stage.TheVariants as stage;
 
@@ -27,6 +27,7 @@ pub(crate) fn make_call<D: SectorDisk>(
     ensures step { IsDiskStep D.disk stage result.0 result.1 }
     ensures few { HasFewCalls result.0 }
     ensures run { KeepsRun D.disk stage result.0 }
+    ensures sound { IsSound D.disk stage → IsSound D.disk result.0 }
 {
     match stage {
         Stage::Given(journal, batch) => begin(journal, batch),
@@ -42,6 +43,7 @@ fn begin<D: SectorDisk>(journal: Journal<D>, batch: Batch) -> (Stage<D>, Result<
     ensures step { IsDiskStep D.disk (stage.Given journal batch) result.0 result.1 }
     ensures few { HasFewCalls result.0 }
     ensures run { KeepsRun D.disk (stage.Given journal batch) result.0 }
+    ensures sound { IsSound D.disk (stage.Given journal batch) → IsSound D.disk result.0 }
 {
     match journal.begin(batch) {
         Ok(writing) => write(writing),
@@ -72,6 +74,7 @@ fn begin_checkpoint<D: SectorDisk>(
     ensures step { IsDiskStep D.disk (stage.Given journal batch) result.0 result.1 }
     ensures few { HasFewCalls result.0 }
     ensures run { KeepsRun D.disk (stage.Given journal batch) result.0 }
+    ensures sound { IsSound D.disk (stage.Given journal batch) → IsSound D.disk result.0 }
 {
     match journal.checkpoint() {
         Ok(checkpointing) => checkpoint(checkpointing, batch),
@@ -91,6 +94,7 @@ fn checkpoint<D: SectorDisk>(
     ensures step { IsDiskStep D.disk (stage.Checkpointing checkpointing batch) result.0 result.1 }
     ensures few { HasFewCalls result.0 }
     ensures run { KeepsRun D.disk (stage.Checkpointing checkpointing batch) result.0 }
+    ensures sound { IsSound D.disk (stage.Checkpointing checkpointing batch) → IsSound D.disk result.0 }
 {
     match checkpointing.step() {
         CheckpointProgress::More(more) => (Stage::Checkpointing(more, batch), Ok(())),
@@ -107,6 +111,7 @@ fn write<D: SectorDisk>(writing: Writing<D>) -> (Stage<D>, Result<(), FlushFault
     ensures step { IsDiskStep D.disk (stage.Writing writing) result.0 result.1 }
     ensures few { HasFewCalls result.0 }
     ensures run { KeepsRun D.disk (stage.Writing writing) result.0 }
+    ensures sound { IsSound D.disk (stage.Writing writing) → IsSound D.disk result.0 }
 {
     match writing.step() {
         Progress::More(more) => (Stage::Writing(more), Ok(())),

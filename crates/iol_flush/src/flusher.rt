@@ -3,7 +3,7 @@
 ghost use Rattle.std.specs.Prelude.{◌≡◌, ◌⊎◌};
 ghost use Rattle.iol_flush.specs.Stages.{need_of, failure_of, HasHistory, HasFewCalls, IsInStep};
 ghost use Rattle.iol_flush.specs.Steps.{IsDiskStep, IsGift, HasGivenUp, IsPublished, IsEnd};
-ghost use Rattle.iol_flush.specs.Flushing.{KeepsRun};
+ghost use Rattle.iol_flush.specs.Flushing.{KeepsRun, IsSound};
 ghost use Rattle.iol_flush.specs.declared.need.Need.TheVariants as need;
 ghost use Rattle.iol_flush.specs.declared.stage.Stage.TheVariants as stage;
 
@@ -108,6 +108,8 @@ impl<D: SectorDisk, F: Name> Flusher<D, F> {
         ensures few { HasFewCalls self.new.stage }
         // Each run of the journal goes on: each image since a moment of it has all that was acknowledged by then.
         ensures run { KeepsRun D.disk self.old.stage self.new.stage }
+        // Where each image was kept, each is kept still.
+        ensures sound { IsSound D.disk self.old.stage → IsSound D.disk self.new.stage }
     {
         replace_with(&mut self.stage, (), make_call)
     }

@@ -1,6 +1,5 @@
 -- While the gate of the disk is shut nothing counts that is written behind it; what is there counts once the gate is durable and open.
 use Rattle.std.proofs.Common.{◌≡◌, ◌≢◌, ◌≤◌, ℕ, zero, suc, false, List, [], ◌∷◌, ◌++◌, inl, sym, ◌∙◌, ap, subst, take}
-use Rattle.iol_types.specs.State.{empty_state}
 use Rattle.iol_disk.specs.Content.{Image, Content, IsImage, reads, wrote, synced}
 use Rattle.iol_disk.specs.Calls.{Call, write, sync, content_after, content_after_all}
 use Rattle.iol_disk.proofs.DiskLaws.{reads-is_image, image-wrote, image-synced, reads-wrote_here, reads-wrote_other, HasOnTheWay}
@@ -8,12 +7,11 @@ use Rattle.iol_slots.specs.Gate.{is_open, open_gate}
 use Rattle.iol_slots.proofs.SlotLaws.{is_open-open_gate}
 use Rattle.iol_journal.specs.Geometry.{Geometry}
 use Rattle.iol_journal.specs.Layout.{layout_of, total}
-use Rattle.iol_journal.specs.Kept.{KeptMeans}
-use Rattle.iol_journal.specs.Formatting.{IsEmptyOrUnformatted}
+use Rattle.iol_journal.specs.Formatting.{IsEmptyJournalOf, IsEmptyOrUnformatted}
 use Rattle.iol_journal.proofs.EmptyParts.{IsEmptyJournal}
 use Rattle.iol_journal.specs.Orders.{opening_calls}
 use Rattle.iol_journal.specs.declared.geometry.TheConstants.{DISK_GATE}
-use Rattle.iol_journal.proofs.EmptyJournals.{shut-unformatted, journal-behind_gate, empty-kept, empty-or_unformatted}
+use Rattle.iol_journal.proofs.EmptyJournals.{shut-unformatted, journal-behind_gate, empty-journal, empty-or_unformatted}
 
 -- whatever a stop leaves, the gate of the disk is closed
 abbrev pub Shut : Content → Type 0
@@ -95,8 +93,8 @@ module _ (g : Geometry) (sectors : ℕ) (fits : total (layout_of g) ≤ sectors)
       last (suc place) image is = synced_last image is
 
   -- once it is durable each image is the empty journal
-  pub durable : (image : Image) → IsImage (content_after_all opening_calls c) image → KeptMeans sectors 0 (empty_state g.ports) image
+  pub durable : (image : Image) → IsImage (content_after_all opening_calls c) image → IsEmptyJournalOf g sectors image
   durable image is =
-      subst (λ (left : Image). KeptMeans sectors 0 (empty_state g.ports) left) (sym (image-synced gated image is))
-      (empty-kept g sectors (reads gated) fits (ap is_open (reads-wrote_here DISK_GATE open_gate (synced c)) ∙ is_open-open_gate)
+      subst (λ (left : Image). IsEmptyJournalOf g sectors left) (sym (image-synced gated image is))
+      (empty-journal g sectors (reads gated) fits (ap is_open (reads-wrote_here DISK_GATE open_gate (synced c)) ∙ is_open-open_gate)
       (journal-behind_gate g (reads gated) (reads c) (λ i other. reads-wrote_other DISK_GATE open_gate (synced c) i other) journal))

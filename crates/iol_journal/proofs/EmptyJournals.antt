@@ -9,8 +9,7 @@ use Rattle.iol_journal.specs.Geometry.{Geometry}
 use Rattle.iol_journal.specs.Header.{header_of}
 use Rattle.iol_journal.specs.Layout.{layout_of, total, gate_at, header_at, slot_at}
 use Rattle.iol_journal.specs.Meaning.{unformatted, layout_in, standing_in, meaning}
-use Rattle.iol_journal.specs.Kept.{KeptMeans}
-use Rattle.iol_journal.specs.Formatting.{IsEmptyOrUnformatted}
+use Rattle.iol_journal.specs.Formatting.{IsEmptyJournalOf, IsEmptyOrUnformatted}
 use Rattle.iol_journal.proofs.EmptyParts.{HasAreas, IsEmptyJournal}
 use Rattle.iol_journal.proofs.Frames.{kept_means}
 use Rattle.iol_journal.proofs.OtherArea.{whole_stands, standing_with}
@@ -49,14 +48,19 @@ layout-said g sectors image fits formatted areas =
     let large : nat_le (total (layout_of g)) sectors ≡ true = grind (arith, nat_tests) in
     rw (formatted_large, areas.geometry, large) refl
 
--- behind an open gate it is kept, and means number 0 and the empty state
-pub empty-kept : (g : Geometry) (sectors : ℕ) (image : Image) → total (layout_of g) ≤ sectors → is_open (image DISK_GATE) ≡ true
+-- behind an open gate it has its layout, is kept, and means number 0 and the empty state
+pub empty-journal : (g : Geometry) (sectors : ℕ) (image : Image) → total (layout_of g) ≤ sectors → is_open (image DISK_GATE) ≡ true
     → IsEmptyJournal g image
-    → KeptMeans sectors 0 (empty_state g.ports) image
-empty-kept g sectors image fits formatted is =
-    kept_means sectors (standing_with (layout_of g) A (record { epoch = 1; base = 0 }) (empty_state g.ports)) Closed image
-    (whole_stands sectors (layout_of g) A (record { epoch = 1; base = 0 }) (empty_state g.ports) Closed image
-    (layout-said g sectors image fits formatted is.areas) is.areas.a_open refl (rw is.areas.b_closed tt) is.areas.b_closed is.whole)
+    → IsEmptyJournalOf g sectors image
+empty-journal g sectors image fits formatted is =
+    let laid_out = layout-said g sectors image fits formatted is.areas in
+    record {
+      laid_out = laid_out;
+      empty =
+          kept_means sectors (standing_with (layout_of g) A (record { epoch = 1; base = 0 }) (empty_state g.ports)) Closed image
+          (whole_stands sectors (layout_of g) A (record { epoch = 1; base = 0 }) (empty_state g.ports) Closed image laid_out
+          is.areas.a_open refl (rw is.areas.b_closed tt) is.areas.b_closed is.whole);
+    }
 
 -- whatever a stop leaves of the gate of the disk
 pub empty-or_unformatted : (g : Geometry) (sectors : ℕ) (image : Image) → total (layout_of g) ≤ sectors → IsEmptyJournal g image
@@ -64,5 +68,5 @@ pub empty-or_unformatted : (g : Geometry) (sectors : ℕ) (image : Image) → to
 empty-or_unformatted g sectors image fits is = at (is_open (image DISK_GATE)) refl
   where
     at : (b : Bool) → is_open (image DISK_GATE) ≡ b → IsEmptyOrUnformatted g sectors image
-    at true formatted = inr (empty-kept g sectors image fits formatted is)
+    at true formatted = inr (empty-journal g sectors image fits formatted is)
     at false shut = inl (shut-unformatted sectors image shut)

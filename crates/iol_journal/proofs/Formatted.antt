@@ -1,7 +1,6 @@
 -- What a stop leaves of a disk while it is formatted.
 use Rattle.std.proofs.Common.{◌≡◌, ◌≤◌, ◌⊎◌, ℕ, ◌+◌, Bool, true, false, IsTrue, ◌∷◌, [], ◌++◌, Result, Ok, Err, IfErr, inl, inr, ◌∙◌, ap}
 use Rattle.std.proofs.Common.{sym, subst, arith, length-append}
-use Rattle.iol_types.specs.State.{empty_state}
 use Rattle.iol_disk.specs.Content.{Image, Content, IsImage, IsImageSince, clock, now, reads, synced}
 use Rattle.iol_disk.specs.Disk.{Disk, After, Same}
 use Rattle.iol_disk.specs.Moments.{LeavesOnly}
@@ -13,8 +12,7 @@ use Rattle.iol_disk.specs.Calls.{content_after_all, Made, FailedIn}
 use Rattle.iol_slots.specs.Gate.{is_open, IsShut}
 use Rattle.iol_journal.specs.Geometry.{Geometry, IsGeometry}
 use Rattle.iol_journal.specs.Layout.{layout_of, total}
-use Rattle.iol_journal.specs.Kept.{KeptMeans, EachMeans}
-use Rattle.iol_journal.specs.Formatting.{IfUntouched, IsEmptyOrUnformatted, LeavesFormat}
+use Rattle.iol_journal.specs.Formatting.{EachIsEmptyJournal, IfUntouched, IsEmptyJournalOf, IsEmptyOrUnformatted, LeavesFormat}
 use Rattle.iol_journal.specs.Reading.{Shows}
 use Rattle.iol_journal.specs.Orders.{Makes, MakesFormat, journal_writes, opening_calls, format_calls}
 use Rattle.iol_journal.specs.declared.geometry.TheConstants.{DISK_GATE}
@@ -77,13 +75,13 @@ behind-makes (Err told) g old new is fits failed shut =
     failed_leaves _ told old new _ failed (λ h. way g old.sectors old.content is fits (shut h))
 
 -- all of them made, each image is the empty journal
-pub made-means : (g : Geometry) (old new : Disk) → IsGeometry g → total (layout_of g) ≤ old.sectors
-    → Made (journal_writes g ++ opening_calls) old new → IsShut DISK_GATE old → EachMeans new 0 (empty_state g.ports)
-made-means g old new is fits made shut h image is_image =
+pub made-empty : (g : Geometry) (old new : Disk) → IsGeometry g → total (layout_of g) ≤ old.sectors
+    → Made (journal_writes g ++ opening_calls) old new → IsShut DISK_GATE old → EachIsEmptyJournal new g
+made-empty g old new is fits made shut h image is_image =
     let h_old = subst IsTrue made.after.honest h in
     let written = content_after_all (journal_writes g) old.content in
     let all = made.after.content h_old ∙ content_after_append (journal_writes g) opening_calls old.content in
-    subst (λ (n : ℕ). KeptMeans n 0 (empty_state g.ports) image) (sym made.after.sectors)
+    subst (λ (n : ℕ). IsEmptyJournalOf g n image) (sym made.after.sectors)
     (durable g old.sectors fits written (spared-end (journal_writes g) old.content (spares-journal g) (shut h_old))
     (journal-writes g old.content is) image
     (subst (λ (c : Content). IsImage c image) all is_image))

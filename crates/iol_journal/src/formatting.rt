@@ -1,13 +1,11 @@
 //! An empty journal is written.
 
 ghost use Rattle.std.specs.Prelude.{◌≡◌, ◌≤◌, ◌<◌, ◌⊎◌, ◌↔◌, ◌++◌, [], ◌∷◌, true, false, Err, OnOk, IfOk, IfErr, IsErrOf};
-ghost use Rattle.iol_types.specs.State.{empty_state};
 ghost use Rattle.iol_disk.specs.Content.{IsImage};
 ghost use Rattle.iol_disk.specs.Moments.{LeavesOnly};
 ghost use Rattle.iol_slots.specs.Gate.{is_open};
 ghost use Rattle.iol_journal.specs.AreaWrites.{header_write};
-ghost use Rattle.iol_journal.specs.Formatting.{IfUntouched, IsEmptyOrUnformatted, IsFirstArea, LeavesFormat};
-ghost use Rattle.iol_journal.specs.Kept.{EachMeans};
+ghost use Rattle.iol_journal.specs.Formatting.{EachIsEmptyJournal, IfUntouched, IsEmptyOrUnformatted, IsFirstArea, LeavesFormat};
 ghost use Rattle.iol_journal.specs.Layout.{layout_of, total};
 ghost use Rattle.iol_journal.specs.Orders.{Makes, MakesFormat, gate_writes, journal_writes, opening_calls};
 ghost use Rattle.iol_journal.specs.Reading.{Shows};
@@ -87,11 +85,11 @@ pub fn format<D: SectorDisk>(
     ensures kept { Shows (D.disk disk.old) (λ image. is_open (image DISK_GATE) ≡ true)
         → LeavesOnly (D.disk disk.old) (D.disk disk.new) (IsImage (D.disk disk.old).content) }
     ensures was_closed { OnOk result (Shows (D.disk disk.old) (λ image. is_open (image DISK_GATE) ≡ false)) }
-    // Since its first sync each image of a disk whose gate was closed is unformatted, or means the empty state.
+    // Since its first sync each image of a disk whose gate was closed is unformatted, or an empty journal.
     ensures since { Shows (D.disk disk.old) (λ image. is_open (image DISK_GATE) ≡ false)
         → LeavesFormat geometry (D.disk disk.old) (D.disk disk.new) }
-    // Each image is an empty journal.
-    ensures done { OnOk result (EachMeans (D.disk disk.new) 0 (empty_state geometry.ports)) }
+    // Each image is an empty journal of this geometry.
+    ensures done { OnOk result (EachIsEmptyJournal (D.disk disk.new) geometry) }
     ensures size { (D.disk disk.new).sectors ≡ (D.disk disk.old).sectors }
 {
     if disk.sectors() < geometry.sectors() {

@@ -22,6 +22,9 @@ impl Model for History {
     ghost also_owns = { λ _. ftrue };
 }
 
+// It owns nothing, so it may go to another thread.
+unsafe impl Send for History {}
+
 // What a history is read off.
 #[derive(Clone, Copy, Drop)]
 enum Source<'a> {

@@ -38,7 +38,7 @@ module _ {D L : Type 0} (disk : D → Disk) (connection : L → ℕ) (allows : L
       (more.0, waits_of made.0 + more.1, more.2, (made.0, more.1, made.2, made.3, refl, more.3), omega (arith, made.4, more.4), more.5)
 
   -- a failure that was told before a step is told after it
-  steps_told : (steps : List Step) (waits : ℕ) (old new : RunView D L) → HasMade disk connection allows steps waits old new
+  pub steps_told : (steps : List Step) (waits : ℕ) (old new : RunView D L) → HasMade disk connection allows steps waits old new
       → HasFailure old.events → HasFailure new.events
   steps_told [] waits old new made failed = subst (λ (r : RunView D L). HasFailure r.events) (sym made.1) failed
   steps_told (s ∷ steps) waits old new made failed =
@@ -48,11 +48,11 @@ module _ {D L : Type 0} (disk : D → Disk) (connection : L → ℕ) (allows : L
 
   module _ (layout : Layout) (first : ℕ) where
     -- what holds of a run between steps
-    record Holds (run : RunView D L) : Type 0 where
+    pub record Holds (run : RunView D L) : Type 0 where
       pub served : Served layout run.master
       pub counted : IsCounted first run.master.core run.events
 
-    steps_hold : (steps : List Step) (waits : ℕ) (old new : RunView D L) → HasMade disk connection allows steps waits old new → Holds old
+    pub steps_hold : (steps : List Step) (waits : ℕ) (old new : RunView D L) → HasMade disk connection allows steps waits old new → Holds old
         → Holds new
     steps_hold [] waits old new made was = subst (λ (r : RunView D L). Holds r) (sym made.1) was
     steps_hold (s ∷ steps) waits old new made was =
@@ -94,9 +94,8 @@ module _ {D L : Type 0} (disk : D → Disk) (connection : L → ℕ) (allows : L
         failure_told failed = steps_told (Flush ∷ []) (waits_of made.0) old mid (made.0, 0, mid, made.3, omega arith, (refl, refl)) failed
 
     -- a run before its first step
-    fresh_holds : (journal : JournalView D) (links : List L) (run : RunView D L) → IsFresh disk journal links run → journal.standing.layout
-        ≡ layout → journal.standing.number ≡ first
-        → Holds run
+    pub fresh_holds : (journal : JournalView D) (links : List L) (run : RunView D L) → IsFresh disk journal links run
+        → journal.standing.layout ≡ layout → journal.standing.number ≡ first → Holds run
     fresh_holds journal links run fresh same number = record {
       served =
           subst (λ (c : Option CommittedView). IsServed layout run.master.core run.master.flusher.stage c) (sym fresh.committed)

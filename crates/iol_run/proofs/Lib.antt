@@ -13,6 +13,7 @@ pub mod Served
 pub mod Counted
 pub mod Progress
 pub mod Flushing
+pub mod Draining
 pub mod Stopped
 pub mod DiskSteps
 pub mod Clocks

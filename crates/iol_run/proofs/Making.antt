@@ -67,7 +67,7 @@ module _ {D L : Type 0} (disk : D → Disk) (connection : L → ℕ) (allows : L
     made_join front rest first.1 late first.2 mid new first.5 behind,
   )
 
-  abbrev StepsMade : List Step → ℕ → RunView D L → RunView D L → Type 0
+  abbrev pub StepsMade : List Step → ℕ → RunView D L → RunView D L → Type 0
   StepsMade made waits old new = HasMade disk connection allows made waits old new
 
   -- the steps of a repeated one were made
@@ -77,7 +77,7 @@ module _ {D L : Type 0} (disk : D → Disk) (connection : L → ℕ) (allows : L
   repeated_made Memory step times made waits old new repeated = repeated.0.run
 
   -- and those of a task
-  tried_made : (ended : Ended) (task : Task) (made : List Step) (waits : ℕ) (old new : RunView D L)
+  pub tried_made : (ended : Ended) (task : Task) (made : List Step) (waits : ℕ) (old new : RunView D L)
       → HasTried disk connection allows ended task made waits old new → StepsMade made waits old new
   tried_made ended (task.Client change) made waits old new tried = repeated_made ended (Client change) 1 made waits old new tried
   tried_made ended (task.Port port times) made waits old new tried = repeated_made ended (Port port) times made waits old new tried

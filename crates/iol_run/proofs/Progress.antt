@@ -40,7 +40,7 @@ less_behind : (each own old new : ℕ) → own + 1 ≤ each → each + new ≤ o
 less_behind each own old new short fewer = omega (arith, short, fewer)
 
 -- where no batch may be taken, none is in flight and the disk has not failed, nothing waits
-nothing_waits : (waits flies : ℕ) (failed : Bool) → (not (nat_eq waits 0) && nat_eq flies 0 && not failed) ≡ false → flies ≡ 0
+pub nothing_waits : (waits flies : ℕ) (failed : Bool) → (not (nat_eq waits 0) && nat_eq flies 0 && not failed) ≡ false → flies ≡ 0
     → (failed ≡ true → ⊥)
     → waits ≡ 0
 nothing_waits zero flies failed none rests sound = refl
@@ -117,7 +117,7 @@ module _ {D : Type 0} (layout : Layout) where
   taken_own (Publishing j written) t batch has same = absurd has
   taken_own (Failed d f) t batch has same = absurd has
 
-  resting : (core : CoreView) (stage : Stage D) → need_of stage ≡ need.Batch → HasFlight core stage → (own_turns stage None ≡ 0)
+  pub resting : (core : CoreView) (stage : Stage D) → need_of stage ≡ need.Batch → HasFlight core stage → (own_turns stage None ≡ 0)
       × (core.flight ≡ 0)
   resting core (Resting j) is flight = (refl, flight)
   resting core (Given j b) is flight = search rules
@@ -215,7 +215,7 @@ module _ {D : Type 0} (layout : Layout) where
         ))
         (ap (turns_behind layout) is.2)
 
-    stopped : (core : CoreView) (stage : Stage D) → need_of stage ≡ need.Stopped → HasFlight core stage → has_failed core.stopped ≡ true
+    pub stopped : (core : CoreView) (stage : Stage D) → need_of stage ≡ need.Stopped → HasFlight core stage → has_failed core.stopped ≡ true
     stopped core (Failed d f) needs flight = flight
     stopped core (Resting j) needs flight = search rules
     stopped core (Given j b) needs flight = search rules

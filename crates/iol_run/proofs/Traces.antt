@@ -11,6 +11,7 @@ use Rattle.iol_trace.specs.Words.{durable}
 use Rattle.iol_run.proofs.Acknowledging.{acks_rise}
 use Rattle.iol_run.proofs.Answering.{all_answered}
 use Rattle.iol_run.proofs.Clocks.{clocks_rise}
+use Rattle.iol_run.proofs.Draining.{all_drained}
 use Rattle.iol_run.proofs.Flushing.{all_flushed}
 use Rattle.iol_run.proofs.Layouts.{more_flushed, turns_within}
 use Rattle.iol_run.proofs.LinksMade.{all_link_runs}
@@ -21,7 +22,7 @@ use Rattle.iol_run.specs.Acknowledged.{AcksRise}
 use Rattle.iol_run.specs.Answers.{AnswersClients, clients_of}
 use Rattle.iol_run.specs.Clocks.{ClocksRise}
 use Rattle.iol_run.specs.Failures.{TellsFailures}
-use Rattle.iol_run.specs.Flushed.{AllFlushed, queue_turns}
+use Rattle.iol_run.specs.Flushed.{AllDrained, AllFlushed, queue_turns}
 use Rattle.iol_run.specs.PortRuns.{ArePortRuns}
 use Rattle.iol_run.specs.Schedules.{IsRecovered, AreLinkRuns, IsRunFrom, TellsRun, RunsAndTells, IsTraceOf, told_in}
 use Rattle.iol_run.specs.Stopped.{NoneOnceFailed}
@@ -98,6 +99,10 @@ module _ {D L : Type 0} (disk : D → Disk) (number : L → ℕ) (steps : L → 
     run = runs.1;
     tells = runs.2;
     failures = failures;
+    drained =
+        subst (λ (ss : List Stamp). AllDrained tasks trace.ended journal.standing.number ss) (sym runs.1.told)
+        (all_drained disk number steps journal.standing.layout journal.standing.number tasks trace.ended runs.0 runs.1.waits journal links
+        runs.1.old runs.1.new runs.1.fresh refl refl runs.1.run);
     flushed = λ honest. more_flushed (queue_turns journal.standing.layout) (128 * total journal.standing.layout) runs.0
         journal.standing.number trace.waits (told_in trace)
         (turns_within (disk given).sectors (reads (disk given).content) journal.standing (recovered.found honest)) runs.2.flushed;

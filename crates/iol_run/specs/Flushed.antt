@@ -1,12 +1,16 @@
--- What turns enough of the flusher leave.
-use Rattle.std.specs.Prelude.{◌≡◌, ◌≤◌, ℕ, ◌+◌, ◌*◌, List, ◌++◌, length, replicate}
+-- What turns enough of the flusher leave, and what a drain does.
+use Rattle.std.specs.Prelude.{◌≡◌, ◌≤◌, ℕ, ◌+◌, ◌*◌, List, [], ◌∷◌, ◌++◌, length, replicate}
 use Rattle.iol_core.specs.declared.core_value.TheConstants.{QUEUE_COMMANDS}
 use Rattle.iol_flush.specs.Stages.{most_checkpoint_calls}
 use Rattle.iol_journal.specs.Layout.{Layout}
 use Rattle.iol_trace.specs.Events.{Stamp}
 use Rattle.iol_trace.specs.Words.{accepted, acked, HasFailure}
+use Rattle.iol_run.specs.declared.schedule.Ended.{Ended}
+use Rattle.iol_run.specs.declared.schedule.Ended.TheVariants.{Whole}
 use Rattle.iol_run.specs.declared.step.Step.{Step}
 use Rattle.iol_run.specs.declared.step.Step.TheVariants.{Flush}
+use Rattle.iol_run.specs.declared.task.Task.{Task}
+use Rattle.iol_run.specs.declared.task.Task.TheVariants.{Drain}
 
 -- steps end in this many turns of the flusher, or in more (own)
 pub record EndsInTurns (steps : List Step) (least : ℕ) : Type 0 where
@@ -20,6 +24,13 @@ pub record EndsInTurns (steps : List Step) (least : ℕ) : Type 0 where
 abbrev pub AllFlushed : ℕ → List Step → ℕ → ℕ → List Stamp → Type 0
 AllFlushed least made first waits events =
     EndsInTurns made least → waits ≡ 0 → (HasFailure events → ⊥) → acked first events ≡ first + length (accepted events)
+
+-- where a schedule ends in a drain, all of its tasks were done and no failure was told, the number acknowledged last is that of
+-- the last command accepted (own)
+abbrev pub AllDrained : List Task → Ended → ℕ → List Stamp → Type 0
+AllDrained tasks ended first events =
+    (before : List Task) → tasks ≡ before ++ Drain ∷ [] → ended ≡ Whole → (HasFailure events → ⊥)
+    → acked first events ≡ first + length (accepted events)
 
 -- the most turns that a batch needs: it is taken, no slot is free, its checkpoint and its 19 disk calls are made, it is
 -- published and acknowledged (own)

@@ -19,7 +19,7 @@ use Rattle.iol_run.specs.Clocks.{ClocksRise}
 use Rattle.iol_run.specs.CoreOnDisk.{clock_of}
 use Rattle.iol_run.specs.Events.{stamp_of}
 use Rattle.iol_run.specs.Failures.{TellsFailures}
-use Rattle.iol_run.specs.Flushed.{AllFlushed, queue_turns}
+use Rattle.iol_run.specs.Flushed.{AllDrained, AllFlushed, queue_turns}
 use Rattle.iol_run.specs.PortRuns.{ArePortRuns}
 use Rattle.iol_run.specs.Ports.{new_machines}
 use Rattle.iol_run.specs.Runs.{RunView}
@@ -100,8 +100,9 @@ module _ {D L : Type 0} (disk : D → Disk) (number : L → ℕ) (steps : L → 
       (made : List Step) × IsRunFrom journal links tasks made trace × TellsRun journal links made trace
 
   -- a trace is that of a schedule over a disk, with these links: a journal was recovered from the disk, and the schedule run over it.
-  -- A failure of the disk is told exactly where the disk that was handed in has counted one since; and where the steps end in 128
-  -- turns of the flusher for each sector of the geometry that an honest disk shows, all that was accepted is acknowledged (own)
+  -- A failure of the disk is told exactly where the disk that was handed in has counted one since. Where the schedule ends in a
+  -- drain, or its steps in 128 turns of the flusher for each sector of the geometry that an honest disk shows, all that was accepted is
+  -- acknowledged (own)
   pub record IsTraceOf (given : D) (links : List L) (tasks : List Task) (trace : Trace D L) : Type 0 where
     pub journal : JournalView D
     pub made : List Step
@@ -109,6 +110,7 @@ module _ {D L : Type 0} (disk : D → Disk) (number : L → ℕ) (steps : L → 
     pub run : IsRunFrom journal links tasks made trace
     pub tells : TellsRun journal links made trace
     pub failures : TellsFailures (disk given) (disk trace.disk) (told_in trace)
+    pub drained : AllDrained tasks trace.ended journal.standing.number (told_in trace)
     pub flushed : IsTrue (disk given).honest
         → AllFlushed (128 * total journal.standing.layout) made journal.standing.number trace.waits (told_in trace)
 

@@ -42,7 +42,7 @@ returns-in-Whole-clause-run c =
 -- there is a link for each port of the geometry
 pub unreachable-requires : goal.unreachable-requires
 unreachable-requires c =
-    links_fit c.args.disk c.in-Err-Ports.field-0-0 c.args.geometry.ports (vec_len c.in_ok-links.links) c.requires.empty
+    links_fit c.args.disk c.in-Err-Ports.field-0-0 c.args.geometry (vec_len c.in_ok-links.links) c.requires.empty
     (c.in_ok-links.ensures.count ∙ c.ports.ensures.value)
     (subst (λ (f : RunFault (FaultDisk MemoryDisk)). FailsFor run_disk c.args.disk (vec_len c.in_ok-links.links) f)
     c.in-Err-Ports.field-0-is

@@ -2,4 +2,5 @@ use Rattle.iol_types.specs.State.{empty_state}
 use Rattle.iol_example.proofs.store.create.Goals as goal
 
 pub returns-in-Ok-clause-empty : goal.returns-in-Ok-clause-empty
-returns-in-Ok-clause-empty g c = c.in-Ok.ensures.means 0 (empty_state c.args.geometry.ports) c.in_default.ensures.done
+returns-in-Ok-clause-empty g c =
+    c.in-Ok.ensures.means 0 (empty_state c.args.geometry.ports) (λ h image is. (c.in_default.ensures.done h image is).empty)

@@ -1,5 +1,5 @@
 use Rattle.iol_journal.specs.Journals.{values}
-use Rattle.iol_flush.proofs.Keeping.{begins_batch, keeps_given}
+use Rattle.iol_flush.proofs.Keeping.{begins_batch, keeps_given, rests_still}
 use Rattle.iol_flush.proofs.Steps.{as_begun, begun}
 use Rattle.iol_flush.proofs.disk_call.begin.Goals as goal
 
@@ -32,3 +32,23 @@ pub returns-in-Misfit-clause-run : goal.returns-in-Misfit-clause-run
 returns-in-Misfit-clause-run g c =
     keeps_given g.D.SectorDisk.disk c.args.journal c.in-Err.fault.journal c.args.batch c.in-Err.fault.batch c.in-Err.ensures.back.0
     c.in-Err.ensures.back.1
+
+pub returns-in-Ok-clause-sound : goal.returns-in-Ok-clause-sound
+returns-in-Ok-clause-sound g c = λ rest. c.write.ensures.sound (c.in-Ok.ensures.underway rest)
+
+pub returns-in-NeedsCheckpoint-clause-sound : goal.returns-in-NeedsCheckpoint-clause-sound
+returns-in-NeedsCheckpoint-clause-sound g c = λ rest.
+    c.begin_checkpoint.ensures.sound
+    (rests_still g.D.SectorDisk.disk c.args.journal c.in-Err.fault.journal c.in-Err.ensures.back.0 rest)
+
+pub returns-in-Memory-clause-sound : goal.returns-in-Memory-clause-sound
+returns-in-Memory-clause-sound g c = λ rest.
+    rests_still g.D.SectorDisk.disk c.args.journal c.in-Err.fault.journal c.in-Err.ensures.back.0 rest
+
+pub returns-in-TooLarge-clause-sound : goal.returns-in-TooLarge-clause-sound
+returns-in-TooLarge-clause-sound g c = λ rest.
+    rests_still g.D.SectorDisk.disk c.args.journal c.in-Err.fault.journal c.in-Err.ensures.back.0 rest
+
+pub returns-in-Misfit-clause-sound : goal.returns-in-Misfit-clause-sound
+returns-in-Misfit-clause-sound g c = λ rest.
+    rests_still g.D.SectorDisk.disk c.args.journal c.in-Err.fault.journal c.in-Err.ensures.back.0 rest

@@ -11,3 +11,6 @@ returns-in-Done-clause-run g c =
 
 pub returns-in-Failed-clause-run : goal.returns-in-Failed-clause-run
 returns-in-Failed-clause-run g c = not_written g.D.SectorDisk.disk c.args.writing c.in-Failed.disk c.in-Failed.fault c.in-Failed.ensures.run
+
+pub returns-in-Done-clause-sound : goal.returns-in-Done-clause-sound
+returns-in-Done-clause-sound g c = λ sound. (c.in-Done.ensures.durable sound).0

@@ -5,7 +5,7 @@ use Rattle.iol_disk.proofs.DiskLaws.{made_one, made_append, made_then_same, fail
 use Rattle.iol_journal.specs.Orders.{journal_writes, opening_calls}
 use Rattle.iol_journal.proofs.Making.{makes_sync, failed_of}
 use Rattle.iol_journal.proofs.Formatted.{quiet-moments, quiet-any_moment, closed-before, behind-nothing, written-any_moment, written-since}
-use Rattle.iol_journal.proofs.Formatted.{closed-or_kept, untouched, read_shut, shut-same, behind-makes, made-means, format_failed}
+use Rattle.iol_journal.proofs.Formatted.{closed-or_kept, untouched, read_shut, shut-same, behind-makes, made-empty, format_failed}
 use Rattle.iol_journal.proofs.formatting.format.Goals as goal
 
 pub returns-in_err-is_open-clause-any_moment : goal.returns-in_err-is_open-clause-any_moment
@@ -124,6 +124,6 @@ pub returns-clause-done : goal.returns-clause-done
 returns-clause-done g c =
     let synced = c.in_ok-sync.ensures.synced in
     let closed = closed-before _ _ _ _ synced c.gate.ensures c.if-branch.false c.in_ok-is_open.ensures.«open» in
-    made-means c.args.geometry _ _ c.sectors-2.ensures.within
+    made-empty c.args.geometry _ _ c.sectors-2.ensures.within
     (omega (arith, c.sectors-2.ensures.total, synced.sectors, c.is_open.ensures.same.sectors))
     c.in_ok-write_journal.ensures (shut-same _ _ c.is_open.ensures.same (read_shut _ _ synced closed))

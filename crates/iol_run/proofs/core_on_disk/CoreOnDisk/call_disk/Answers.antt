@@ -1,9 +1,18 @@
-use Rattle.std.proofs.Common.{◌≡◌, refl, None, ap, ◌∙◌}
+use Rattle.std.proofs.Common.{◌≡◌, refl, None, ap, sym, ◌∙◌, subst}
 use Rattle.iol_core.specs.Core.{CoreView}
-use Rattle.iol_run.specs.CoreOnDisk.{CoreOnDiskView}
+use Rattle.iol_run.specs.CoreOnDisk.{CoreOnDiskView, IsInStep}
 use Rattle.iol_run.proofs.InStep.{from_none, to_none}
-use Rattle.iol_run.proofs.Serving.{called_running}
+use Rattle.iol_run.proofs.Serving.{called_in_step, called_running}
 use Rattle.iol_run.proofs.core_on_disk.CoreOnDisk.call_disk.Goals as goal
+
+pub invariant_of-self : goal.invariant_of-self
+invariant_of-self g c =
+    let i = c.self.inside in
+    let start = g.F.Name.front.start in
+    let none : i.committed ≡ None = ap (λ (m : CoreOnDiskView g.row.D.Denot). m.committed) c.self.view_is ∙ c.requires.0 in
+    subst (λ o. IsInStep start i.core c.disk_step.new.self o) (sym none)
+    (called_in_step g.D.SectorDisk.disk start i.core i.flusher c.disk_step.new.self c.disk_step.ensures.published c.in-Ok.ensures.step
+    (subst (λ o. IsInStep start i.core i.flusher o) none c.self.invariant))
 
 pub returns-in-Ok-clause-run : goal.returns-in-Ok-clause-run
 returns-in-Ok-clause-run g c =
