@@ -52,8 +52,8 @@ module _ {D L : Type 0} (disk : D → Disk) (connection : L → ℕ) (allows : L
       pub served : Served layout run.master
       pub counted : IsCounted first run.master.core run.events
 
-    pub steps_hold : (steps : List Step) (waits : ℕ) (old new : RunView D L) → HasMade disk connection allows steps waits old new → Holds old
-        → Holds new
+    pub steps_hold : (steps : List Step) (waits : ℕ) (old new : RunView D L)
+        → HasMade disk connection allows steps waits old new → Holds old → Holds new
     steps_hold [] waits old new made was = subst (λ (r : RunView D L). Holds r) (sym made.1) was
     steps_hold (s ∷ steps) waits old new made was =
         let did = made.3 in
@@ -94,8 +94,8 @@ module _ {D L : Type 0} (disk : D → Disk) (connection : L → ℕ) (allows : L
         failure_told failed = steps_told (Flush ∷ []) (waits_of made.0) old mid (made.0, 0, mid, made.3, omega arith, (refl, refl)) failed
 
     -- a run before its first step
-    pub fresh_holds : (journal : JournalView D) (links : List L) (run : RunView D L) → IsFresh disk journal links run
-        → journal.standing.layout ≡ layout → journal.standing.number ≡ first → Holds run
+    pub fresh_holds : (journal : JournalView D) (links : List L) (run : RunView D L)
+        → IsFresh disk journal links run → journal.standing.layout ≡ layout → journal.standing.number ≡ first → Holds run
     fresh_holds journal links run fresh same number = record {
       served =
           subst (λ (c : Option CommittedView). IsServed layout run.master.core run.master.flusher.stage c) (sym fresh.committed)

@@ -11,7 +11,8 @@ returns-in_err-format-clause-any_moment g c =
 pub returns-in_err-format-clause-kept : goal.returns-in_err-format-clause-kept
 returns-in_err-format-clause-kept g c = λ unforced formatted.
     let disk = g.D.SectorDisk.disk in
-    kept_unforced (nat_lt 1 (disk c.args.disk.now).sectors) (is_formatted 2) (disk c.args.disk.now) (disk c.erase_if_forced.new.disk) (disk c.format.new.disk)
+    let old = disk c.args.disk.now in
+    kept_unforced (nat_lt 1 old.sectors) (is_formatted 2) old (disk c.erase_if_forced.new.disk) (disk c.format.new.disk)
     (ap disk (c.erase_if_forced.ensures.untouched unforced).0) c.format.ensures.kept formatted
 
 pub returns-clause-any_moment : goal.returns-clause-any_moment
