@@ -1,0 +1,6 @@
+mod Waiting
+mod Notices
+mod Since
+mod Ends
+mod Reading
+mod Serving

@@ -1,0 +1,41 @@
+-- A command of a batch stands at its number.
+use Rattle.std.proofs.Common.{◌≡◌, refl, ◌<◌, ◌≤◌, ℕ, ◌+◌, ◌-◌, zero, suc, List, [], ◌∷◌, ◌++◌, length, Some, slice_get, sym, ap, ◌∙◌}
+use Rattle.std.proofs.Common.{arith, zero-add, suc-add, length-append}
+use Rattle.std.proofs.lemmas.Option.{slice_get_within}
+use mathlib.Core.List.{IsPrefix}
+use Rattle.iol_types.specs.Command.{CommandValue}
+use Rattle.iol_front.specs.Fronts.{Start}
+use Rattle.iol_master.specs.Receipts.{StandsAt}
+
+module _ {A : Type 0} where
+  got_behind : (xs ys : List A) (i : ℕ) → slice_get (xs ++ ys) (length xs + i) ≡ slice_get ys i
+  got_behind [] ys i = ap (slice_get ys) (zero-add i)
+  got_behind (x ∷ xs) ys i = rw suc-add (got_behind xs ys i)
+
+  got_before : (xs ys : List A) (i : ℕ) (x : A) → slice_get xs i ≡ Some x → slice_get (xs ++ ys) i ≡ Some x
+  got_before [] ys i x is = absurd cc
+  got_before (a ∷ xs) ys zero x is = is
+  got_before (a ∷ xs) ys (suc i) x is = got_before xs ys i x is
+
+  -- what stands in a beginning stands in the whole
+  got_in : (xs zs : List A) (i : ℕ) (x : A) → IsPrefix xs zs → slice_get xs i ≡ Some x → slice_get zs i ≡ Some x
+  got_in xs zs i x (rest, whole) is = ap (λ (l : List A). slice_get l i) (sym whole) ∙ got_before xs rest i x is
+
+-- a command at a place of a batch that was seen
+pub stands_at : (start : Start) (before commands seen : List CommandValue) (number place : ℕ) (command : CommandValue)
+    → IsPrefix (before ++ commands) seen → slice_get commands place ≡ Some command → number ≡ start.number + length before + 1 + place
+    → StandsAt start seen number command
+stands_at start before commands seen number place command shown at is =
+    let here : number - start.number - 1 ≡ length before + place = omega (arith, is) in
+    record {
+      above = omega (arith, is);
+      there =
+          ap (slice_get seen) here
+          ∙ got_in (before ++ commands) seen (length before + place) command shown (got_behind before commands place ∙ at);
+    }
+
+-- it is no number above the count
+pub stands_within : (start : Start) (seen : List CommandValue) (number : ℕ) (command : CommandValue) → StandsAt start seen number command
+    → number ≤ start.number + length seen
+stands_within start seen number command at =
+    omega (arith, slice_get_within seen (number - start.number - 1) command at.there, at.above)

@@ -1,0 +1,58 @@
+-- What a client reads, and why it reads nothing.
+use Rattle.std.proofs.Common.{◌≡◌, refl, ◌≤◌, ℕ, ◌+◌, ◌-◌, zero, suc, nat_le, Bool, true, false, if◌then◌else◌, List, [], ◌∷◌, length, take}
+use Rattle.std.proofs.Common.{Option, Some, None, IsNone, Result, Ok, Err, IfErr, IfOk, slice_get, sym, ap, ◌∙◌, subst, arith}
+use Rattle.std.specs.Option.{option_map}
+use mathlib.Core.List.{IsPrefix}
+use Rattle.iol_types.proofs.StateLemmas.{length-after}
+use Rattle.iol_types.specs.Command.{CommandValue}
+use Rattle.iol_types.specs.State.{Port, State, port_numbered}
+use Rattle.iol_front.specs.Fronts.{Start}
+use Rattle.iol_core.proofs.Standing.{stands_later}
+use Rattle.iol_core.specs.Core.{CoreView}
+use Rattle.iol_core.specs.Ports.{view_at}
+use Rattle.iol_core.specs.Standing.{Stands, state_at}
+use Rattle.iol_core.specs.declared.port.View.{View}
+use Rattle.iol_master.specs.Faults.{IsUnknown}
+
+-- what is not there in a list is not there in one as long
+not_there : {A : Type 0} (one two : List A) (i : ℕ) → length two ≡ length one → slice_get one i ≡ None → slice_get two i ≡ None
+not_there one [] i same is = refl
+not_there [] (y ∷ two) i same is = absurd (omega (arith, same))
+not_there (x ∷ one) (y ∷ two) zero same is = absurd cc
+not_there (x ∷ one) (y ∷ two) (suc i) same is = not_there one two i (omega (arith, same)) is
+
+lacks_place : (there : Bool) (one two : State) (place : ℕ) → length two ≡ length one
+    → (if there then slice_get one place else None) ≡ None → (if there then slice_get two place else None) ≡ None
+lacks_place true one two place same is = not_there one two place same is
+lacks_place false one two place same is = refl
+
+-- a port that the state lacks after some commands, it lacked before
+unknown_before : (start : Start) (seen : List CommandValue) (number port : ℕ) (state : State) → Stands start seen number state
+    → IsUnknown state port → IsUnknown start.state port
+unknown_before start seen number port state stands is =
+    lacks_place (nat_le 1 port) state start.state (port - 1)
+    (sym (ap length stands.state ∙ length-after start.state (take (number - start.number) seen))) is
+
+-- the port that is answered is that of the client's own list
+pub view_later : (start : Start) (core : CoreView) (later : List CommandValue) (port : ℕ) (p : Port)
+    → Stands start core.seen core.number core.durable → IsPrefix core.seen later → port_numbered core.durable port ≡ Some p
+    → (core.number ≤ start.number + length later) × (port_numbered (state_at start later core.number) port ≡ Some p)
+view_later start core later port p stands met is =
+    let now = stands_later start core.seen later core.number core.durable stands met in
+    (now.within, ap (λ (s : State). port_numbered s port) (sym now.state) ∙ is)
+
+-- a port of which there is no view is not there
+no_view : (found : Option Port) (number : ℕ) → IsNone {T = View} (option_map (λ (p : Port). record { port = p; number = number }) found)
+    → found ≡ None
+no_view None number none = refl
+no_view (Some p) number none = let wrong : true ≡ false = none in absurd cc
+
+pub no_views : {E : Type 0} (start : Start) (core new : CoreView) (port : ℕ) (answer : Result (Option View) E)
+    → IfOk answer (λ (v : Option View). v ≡ view_at core port) → new ≡ record core { seen = new.seen }
+    → Stands start new.seen new.number new.durable → IfOk answer (λ (v : Option View). IsNone v → IsUnknown start.state port)
+no_views start core new port (Err why) is others stands = tt
+no_views start core new port (Ok found) is others stands = λ none.
+    let gone : port_numbered core.durable port ≡ None =
+    no_view (port_numbered core.durable port) core.number (subst (λ (v : Option View). IsNone v) is none) in
+    unknown_before start new.seen new.number port new.durable stands
+    (ap (λ (c : CoreView). port_numbered c.durable port) others ∙ gone)

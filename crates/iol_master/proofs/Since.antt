@@ -1,0 +1,170 @@
+-- What a flusher keeps from one stage to a later one.
+use Rattle.std.proofs.Common.{◌≡◌, ◌⊎◌, inl, inr, ◌<◌, Bool, true, false, List, [], ◌∷◌, Option, Some, None, Result, Ok, Err, refl, sym, ap}
+use Rattle.std.proofs.Common.{◌∙◌, subst, arith}
+use Rattle.iol_types.specs.Command.{CommandValue}
+use Rattle.iol_disk.specs.Calls.{Call, Made, FailedIn}
+use Rattle.iol_disk.specs.Disk.{Disk, HasFailed}
+use Rattle.iol_disk.specs.declared.fault.DiskFault.{DiskFault}
+use Rattle.iol_front.specs.Fronts.{CommittedView}
+use Rattle.iol_journal.specs.CheckpointViews.{CheckpointingView}
+use Rattle.iol_journal.specs.Journals.{JournalView, WritingView, values}
+use Rattle.iol_journal.specs.declared.batch.Batch.{Batch}
+use Rattle.iol_flush.specs.Flushing.{IsSound}
+use Rattle.iol_flush.specs.Stages.{FlusherView, calls_owed, disk_of, failure_of, is_full, next_calls}
+use Rattle.iol_flush.specs.Steps.{HasBegun, HasCheckpointed, HasMade, HasPublished, HasTaken, HasWritten, IsDiskStep, IsGift, IsPublished}
+use Rattle.iol_flush.specs.Steps.{checkpoint_of, writing_of}
+use Rattle.iol_flush.specs.declared.fault.FlushFault.{FlushFault}
+use Rattle.iol_flush.specs.declared.fault.FlushFault.TheVariants as fault
+use Rattle.iol_flush.specs.declared.fault.GiveFault.{GiveFault}
+use Rattle.iol_flush.specs.declared.fault.GiveFault.TheVariants as give
+use Rattle.iol_flush.specs.declared.stage.Stage.{Stage}
+use Rattle.iol_flush.specs.declared.stage.Stage.TheVariants.{Resting, Given, Checkpointing, Writing, Publishing, Failed}
+use Rattle.iol_master.specs.Since.{CountsAs, IsSince}
+
+-- a failure that is counted from a disk with as many
+fails_from : (first mid last : Disk) → mid.failures ≡ first.failures → HasFailed mid last → HasFailed first last
+fails_from first mid last same (inl rose) = inl (omega (arith, same, rose))
+fails_from first mid last same (inr most) = inr most
+
+counts_from : (told : Option DiskFault) (first mid last : Disk) → mid.failures ≡ first.failures → CountsAs told mid last
+    → CountsAs told first last
+counts_from None first mid last same counts = counts ∙ same
+counts_from (Some cause) first mid last same failed = fails_from first mid last same failed
+
+-- what tells no failure tells none
+tells_none : (told : Option DiskFault) (cause : DiskFault) → told ≡ None → told ≡ Some cause → ⊥
+tells_none told cause none some = let wrong : None ≡ Some cause = sym none ∙ some in absurd cc
+
+counts_none : (told : Option DiskFault) (first last : Disk) → told ≡ None → last.failures ≡ first.failures → CountsAs told first last
+counts_none told first last none same = subst (λ (o : Option DiskFault). CountsAs o first last) (sym none) same
+
+module _ {D : Type 0} (disk : D → Disk) where
+  pub since_self : (stage : Stage D) → IsSince disk stage stage
+  since_self stage = record {
+    sound = λ sound. sound;
+    counts = λ none. counts_none (failure_of stage) (disk (disk_of stage)) (disk (disk_of stage)) none refl;
+    failed = λ cause told. refl;
+  }
+
+  pub since_same : (old new : Stage D) → new ≡ old → IsSince disk old new
+  since_same old new same = subst (λ (s : Stage D). IsSince disk old s) (sym same) (since_self old)
+
+  -- one behind the other
+  pub since_both : (old mid new : Stage D) → IsSince disk old mid → IsSince disk mid new → IsSince disk old new
+  since_both old mid new one two = record {
+    sound = λ sound. two.sound (one.sound sound);
+    counts = λ none. joined (failure_of mid) refl (one.counts none);
+    failed = λ cause told.
+        let same : mid ≡ old = one.failed cause told in two.failed cause (ap (λ (s : Stage D). failure_of s) same ∙ told) ∙ same;
+  }
+    where
+      joined : (told : Option DiskFault) → failure_of mid ≡ told → CountsAs told (disk (disk_of old)) (disk (disk_of mid))
+          → CountsAs (failure_of new) (disk (disk_of old)) (disk (disk_of new))
+      joined None is counts =
+          counts_from (failure_of new) (disk (disk_of old)) (disk (disk_of mid)) (disk (disk_of new)) counts (two.counts is)
+      joined (Some cause) is failed =
+          subst (λ (s : Stage D). CountsAs (failure_of s) (disk (disk_of old)) (disk (disk_of s))) (sym (two.failed cause is))
+          (subst (λ (o : Option DiskFault). CountsAs o (disk (disk_of old)) (disk (disk_of mid))) (sym is) failed)
+
+  -- behind a call that was made no failure is told
+  checkpointed_none : (c : CheckpointingView D) (batch : Batch) (new : Stage D) → HasCheckpointed c batch new → failure_of new ≡ None
+  checkpointed_none c batch (Given j b) has = refl
+  checkpointed_none c batch (Checkpointing k b) has = refl
+  checkpointed_none c batch (Resting j) has = absurd has
+  checkpointed_none c batch (Writing w) has = absurd has
+  checkpointed_none c batch (Publishing j w) has = absurd has
+  checkpointed_none c batch (Failed d f) has = absurd has
+
+  written_none : (w : WritingView D) (new : Stage D) → HasWritten w new → failure_of new ≡ None
+  written_none w (Writing v) has = refl
+  written_none w (Publishing j v) has = refl
+  written_none w (Resting j) has = absurd has
+  written_none w (Given j b) has = absurd has
+  written_none w (Checkpointing k b) has = absurd has
+  written_none w (Failed d f) has = absurd has
+
+  begun_none : (full : Bool) (j : JournalView D) (batch : Batch) (new : Stage D) → HasBegun full j batch new → failure_of new ≡ None
+  begun_none true j batch new has = checkpointed_none (checkpoint_of j) batch new has.1
+  begun_none false j batch new has = written_none (writing_of j (values batch.commands.items)) new has.1
+
+  made_none : (old new : Stage D) → HasMade old new → (failure_of old ≡ None) × (failure_of new ≡ None)
+  made_none (Given j b) new has = (refl, begun_none (is_full j) j b new has)
+  made_none (Checkpointing k b) new has = (refl, checkpointed_none k b new has)
+  made_none (Writing w) new has = (refl, written_none w new has)
+  made_none (Resting j) new has = absurd has
+  made_none (Publishing j w) new has = absurd has
+  made_none (Failed d f) new has = absurd has
+
+  -- what has failed owes no call
+  owes_none : (old : Stage D) (cause : DiskFault) (call : Call) (left : List Call) → failure_of old ≡ Some cause
+      → next_calls old ≡ call ∷ left → ⊥
+  owes_none (Failed d f) cause call left told owes = absurd cc
+  owes_none (Resting j) cause call left told owes = absurd cc
+  owes_none (Given j b) cause call left told owes = absurd cc
+  owes_none (Checkpointing k b) cause call left told owes = absurd cc
+  owes_none (Writing w) cause call left told owes = absurd cc
+  owes_none (Publishing j w) cause call left told owes = absurd cc
+
+  counts_failed : (new : Stage D) (cause : DiskFault) (first : Disk) → failure_of new ≡ Some cause
+      → HasFailed first (disk (disk_of new)) → CountsAs (failure_of new) first (disk (disk_of new))
+  counts_failed new cause first told failed =
+      subst (λ (o : Option DiskFault). CountsAs o first (disk (disk_of new))) (sym told) failed
+
+  -- a disk step
+  pub since_step : (old new : Stage D) (answer : Result Unit FlushFault) → IsDiskStep disk old new answer
+      → (IsSound disk old → IsSound disk new) → IsSince disk old new
+  since_step old new (Ok done) step sound =
+      let none = made_none old new step.0 in
+      record {
+        sound = sound;
+        counts = λ was. counts_none (failure_of new) (disk (disk_of old)) (disk (disk_of new)) none.1 step.1.made.no_failure;
+        failed = λ cause told. absurd (tells_none (failure_of old) cause none.0 told);
+      }
+  since_step old new (Err (fault.Disk cause)) step sound = record {
+    sound = sound;
+    counts = λ none. counts_failed new cause (disk (disk_of old)) step.0
+        (fails_from (disk (disk_of old)) step.1.failed.between (disk (disk_of new)) step.1.failed.before.no_failure
+        step.1.failed.failed.counted);
+    failed = λ was told. absurd (owes_none old was step.1.call step.1.left told step.1.order);
+  }
+  since_step old new (Err fault.Stopped) step sound = since_same old new step.1
+  since_step old new (Err fault.Memory) step sound = since_same old new step.1
+  since_step old new (Err fault.Misfit) step sound = since_same old new step.1
+
+  -- a batch is given to a flusher at rest
+  given : (old : Stage D) (batch : Batch) (new : Stage D) → HasTaken old batch new → IsSince disk old new
+  given (Resting j) batch new has = subst (λ (s : Stage D). IsSince disk (Resting j) s) (sym has) (record {
+    sound = λ sound. sound;
+    counts = λ none. refl;
+    failed = λ cause told. absurd (tells_none None cause refl told);
+  })
+  given (Given j b) batch new has = absurd has
+  given (Checkpointing k b) batch new has = absurd has
+  given (Writing w) batch new has = absurd has
+  given (Publishing j w) batch new has = absurd has
+  given (Failed d f) batch new has = absurd has
+
+  pub since_gift : (old : Stage D) (batch : Batch) (new : Stage D) (answer : Result Unit GiveFault) → IsGift old batch new answer
+      → IsSince disk old new
+  since_gift old batch new (Ok done) gift = given old batch new gift
+  since_gift old batch new (Err (give.Stopped back)) gift = since_same old new gift.1
+
+  -- a batch is published
+  published : (old : Stage D) (list : List CommandValue) (new : FlusherView D) (committed : CommittedView)
+      → HasPublished old list new committed → IsSince disk old new.stage
+  published (Publishing j w) list new committed has =
+      subst (λ (s : Stage D). IsSince disk (Publishing j w) s) (sym (ap (λ (f : FlusherView D). f.stage) has.0)) (record {
+        sound = λ sound. sound;
+        counts = λ none. refl;
+        failed = λ cause told. absurd (tells_none None cause refl told);
+      })
+  published (Resting j) list new committed has = absurd has
+  published (Given j b) list new committed has = absurd has
+  published (Checkpointing k b) list new committed has = absurd has
+  published (Writing w) list new committed has = absurd has
+  published (Failed d f) list new committed has = absurd has
+
+  pub since_published : (old new : FlusherView D) (answer : Result CommittedView FlushFault) → IsPublished old new answer
+      → IsSince disk old.stage new.stage
+  since_published old new (Ok committed) is = published old.stage old.published new committed is
+  since_published old new (Err why) is = since_same old.stage new.stage (ap (λ (f : FlusherView D). f.stage) is.2)

@@ -1,0 +1,181 @@
+-- Who waits for a command waits for the one at its place.
+use Rattle.std.proofs.Common.{◌≡◌, refl, ◌<◌, ◌≤◌, ℕ, ◌+◌, zero, suc, Bool, true, false, if◌then◌else◌, replicate, List, [], ◌∷◌, ◌++◌}
+use Rattle.std.proofs.Common.{length}
+use Rattle.std.proofs.Common.{take, drop, Option, Some, None, Result, Ok, Err, IfOk, IfErr, IsOk, OnOk, slice_get, sym, ◌∙◌, ap, arith}
+use Rattle.std.proofs.Common.{subst, suc-add, length-append}
+use Rattle.iol_types.specs.Command.{CommandValue, command_of}
+use Rattle.iol_types.specs.declared.command.Change.{Change}
+use Rattle.iol_types.specs.State.{check}
+use Rattle.iol_types.specs.declared.command.CommandFault.{CommandFault}
+use Rattle.iol_core.specs.Batches.{IsInFlight, IsStranger, acknowledged}
+use Rattle.iol_core.specs.Core.{CoreView, live, live_number}
+use Rattle.iol_core.specs.Submit.{first_cause, is_stopped, queue_fault, submit_fault}
+use Rattle.iol_core.specs.declared.batches.AckFault.{AckFault}
+use Rattle.iol_core.specs.declared.batches.AckFault.TheVariants.{Stranger}
+use Rattle.iol_core.specs.declared.core_value.TheConstants.{QUEUE_COMMANDS}
+use Rattle.iol_core.specs.declared.ticket.SubmitFault.{SubmitFault}
+use Rattle.iol_core.specs.declared.ticket.SubmitFault.TheVariants.{Command, Stopped}
+use Rattle.iol_front.specs.Fronts.{CommittedView, Start}
+use Rattle.iol_port.specs.Calls.{Call, Replies}
+use Rattle.iol_port.specs.declared.call.Reply.{Reply}
+use Rattle.iol_run.proofs.Changes.{Change as Made, Permits, Waits, changed, replied, room_in}
+use Rattle.iol_master.specs.Callers.{AreCallersOf}
+
+-- as many places as commands
+pub as_many : (queue : List CommandValue) (callers : List (Option Change)) → AreCallersOf queue callers → length callers ≡ length queue
+as_many [] [] are = refl
+as_many [] (c ∷ callers) are = absurd are
+as_many (command ∷ queue) [] are = absurd are
+as_many (command ∷ queue) (None ∷ callers) are = ap suc (as_many queue callers are)
+as_many (command ∷ queue) (Some change ∷ callers) are = ap suc (as_many queue callers are.1)
+
+-- one more command, for which nobody waits, or who asked for it
+pub waits_more : (queue : List CommandValue) (callers : List (Option Change)) (command : CommandValue) (caller : Option Change)
+    → AreCallersOf queue callers → AreCallersOf (command ∷ []) (caller ∷ [])
+    → AreCallersOf (queue ++ command ∷ []) (callers ++ caller ∷ [])
+waits_more [] [] command caller are last = last
+waits_more [] (c ∷ callers) command caller are last = absurd are
+waits_more (first ∷ queue) [] command caller are last = absurd are
+waits_more (first ∷ queue) (None ∷ callers) command caller are last = waits_more queue callers command caller are last
+waits_more (first ∷ queue) (Some change ∷ callers) command caller are last = (are.0, waits_more queue callers command caller are.1 last)
+
+-- of the first commands, and of those behind them
+pub first_callers : (count : ℕ) (queue : List CommandValue) (callers : List (Option Change)) → AreCallersOf queue callers
+    → AreCallersOf (take count queue) (take count callers)
+first_callers zero queue callers are = tt
+first_callers (suc n) [] [] are = tt
+first_callers (suc n) [] (c ∷ callers) are = absurd are
+first_callers (suc n) (command ∷ queue) [] are = absurd are
+first_callers (suc n) (command ∷ queue) (None ∷ callers) are = first_callers n queue callers are
+first_callers (suc n) (command ∷ queue) (Some change ∷ callers) are = (are.0, first_callers n queue callers are.1)
+
+pub other_callers : (count : ℕ) (queue : List CommandValue) (callers : List (Option Change)) → AreCallersOf queue callers
+    → AreCallersOf (drop count queue) (drop count callers)
+other_callers zero queue callers are = are
+other_callers (suc n) [] [] are = tt
+other_callers (suc n) [] (c ∷ callers) are = absurd are
+other_callers (suc n) (command ∷ queue) [] are = absurd are
+other_callers (suc n) (command ∷ queue) (None ∷ callers) are = other_callers n queue callers are
+other_callers (suc n) (command ∷ queue) (Some change ∷ callers) are = other_callers n queue callers are.1
+
+-- there are as many places as commands, so that a count of commands is one of places
+pub taken_places : (count : ℕ) (queue : List CommandValue) (callers : List (Option Change)) → AreCallersOf queue callers
+    → (take (length (take count queue)) callers ≡ take count callers) × (drop (length (take count queue)) callers ≡ drop count callers)
+taken_places zero queue callers are = (refl, refl)
+taken_places (suc n) [] [] are = (refl, refl)
+taken_places (suc n) [] (c ∷ callers) are = absurd are
+taken_places (suc n) (command ∷ queue) [] are = absurd are
+taken_places (suc n) (command ∷ queue) (None ∷ callers) are =
+    let rest = taken_places n queue callers are in (ap (λ (ws : List (Option Change)). None ∷ ws) rest.0, rest.1)
+taken_places (suc n) (command ∷ queue) (Some change ∷ callers) are =
+    let rest = taken_places n queue callers are.1 in (ap (λ (ws : List (Option Change)). Some change ∷ ws) rest.0, rest.1)
+
+-- nobody waits for any of them
+pub nobody_waits : (queue : List CommandValue) → AreCallersOf queue (replicate (length queue) None)
+nobody_waits [] = tt
+nobody_waits (command ∷ queue) = nobody_waits queue
+
+-- who asked at a place asked for the command there
+pub asked_at : (queue : List CommandValue) (callers : List (Option Change)) (place : ℕ) (change : Change) → AreCallersOf queue callers
+    → slice_get callers place ≡ Some (Some change) → slice_get queue place ≡ Some (command_of change)
+asked_at [] [] place change are there = absurd (gone there)
+  where
+    gone : None ≡ Some (Some change) → ⊥
+    gone wrong = cc
+asked_at [] (c ∷ callers) place change are there = absurd are
+asked_at (command ∷ queue) [] place change are there = absurd are
+asked_at (command ∷ queue) (None ∷ callers) zero change are there = absurd (other there)
+  where
+    other : Some None ≡ Some (Some change) → ⊥
+    other wrong = cc
+asked_at (command ∷ queue) (None ∷ callers) (suc place) change are there = asked_at queue callers place change are there
+asked_at (command ∷ queue) (Some asked ∷ callers) zero change are there =
+    ap Some (sym are.0 ∙ ap command_of (same there))
+  where
+    same : Some (Some asked) ≡ Some (Some change) → asked ≡ change
+    same is = cc
+asked_at (command ∷ queue) (Some asked ∷ callers) (suc place) change are there = asked_at queue callers place change are.1 there
+
+-- a place in the first ones
+pub taken_at : {A : Type 0} (count place : ℕ) (xs : List A) → place < count → slice_get (take count xs) place ≡ slice_get xs place
+taken_at zero place xs below = absurd (omega (arith, below))
+taken_at (suc n) place [] below = refl
+taken_at (suc n) zero (x ∷ xs) below = refl
+taken_at (suc n) (suc place) (x ∷ xs) below = taken_at n place xs (omega (arith, below))
+
+-- the first one behind a place is that at the place
+pub first_behind : {A : Type 0} (xs : List A) (place : ℕ) (x : A) (rest : List A) → drop place xs ≡ x ∷ rest
+    → slice_get xs place ≡ Some x
+first_behind [] zero x rest is = absurd (no_first is)
+  where
+    no_first : [] ≡ x ∷ rest → ⊥
+    no_first wrong = cc
+first_behind [] (suc n) x rest is = absurd (no_first is)
+  where
+    no_first : [] ≡ x ∷ rest → ⊥
+    no_first wrong = cc
+first_behind (y ∷ ys) zero x rest is = ap (λ (l : List _). slice_get l 0) is
+first_behind (y ∷ ys) (suc n) x rest is = first_behind ys n x rest is
+
+-- a list is full where it takes no more
+pub not_taken : {A E : Type 0} (answer : Result A E) (why : E) → IsOk answer → answer ≡ Err why → ⊥
+not_taken (Ok done) why ok is = cc
+not_taken (Err fault) why ok is = cc
+
+-- a command is taken only where the queue has room
+queue_free : (stopped : Bool) (checked : Option CommandFault) (queue : Option SubmitFault)
+    → (if stopped then Some Stopped else first_cause checked queue) ≡ None → queue ≡ None
+queue_free true checked queue none = absurd (there none)
+  where
+    there : Some Stopped ≡ None → ⊥
+    there wrong = cc
+queue_free false (Some fault) queue none = absurd (there none)
+  where
+    there : Some (Command fault) ≡ None → ⊥
+    there wrong = cc
+queue_free false None queue none = none
+
+pub submit_room : (core : CoreView) (command : CommandValue) → submit_fault core command ≡ None
+    → length core.queue + 1 ≤ QUEUE_COMMANDS
+submit_room core command none = room_in core (queue_free (is_stopped core) (check (live core) command) (queue_fault core) none)
+
+-- what a call of a port makes of the queue: where the number rises one more command waits, for which nobody does
+pub record IsStillWaited (old new : ℕ) (queue : List CommandValue) (callers : List (Option Change)) : Type 0 where
+  pub more : old < new → AreCallersOf queue (callers ++ None ∷ [])
+  pub same : (old < new → ⊥) → AreCallersOf queue callers
+
+made_waits : (made : Made) (old new : CoreView) (callers : List (Option Change)) → new ≡ changed old made → AreCallersOf old.queue callers
+    → IsStillWaited (live_number old) (live_number new) new.queue callers
+made_waits (Permits permits) old new callers is are = record {
+  more = λ rises. absurd (omega (arith, rises, ap live_number is));
+  same = λ stays. subst (λ (q : List CommandValue). AreCallersOf q callers) (sym (ap (λ (c : CoreView). c.queue) is)) are;
+}
+made_waits (Waits command permits) old new callers is are = record {
+  more = λ rises. subst (λ (q : List CommandValue). AreCallersOf q (callers ++ None ∷ [])) (sym (ap (λ (c : CoreView). c.queue) is))
+      (waits_more old.queue callers command None are tt);
+  same = λ stays. absurd (stays (omega (arith, ap live_number is, length-append old.queue (command ∷ []))));
+}
+
+pub call_waits : (call : Call) (old new : CoreView) (heard : Reply) (callers : List (Option Change)) → Replies call old new heard
+    → AreCallersOf old.queue callers → IsStillWaited (live_number old) (live_number new) new.queue callers
+call_waits call old new heard callers replies are =
+    let became = replied 0 call old new heard replies in made_waits became.change old new callers became.new_is are
+
+-- what is behind the first of what is dropped to a place
+pub dropped_next : {A : Type 0} (xs : List A) (place : ℕ) → drop 1 (drop place xs) ≡ drop (place + 1) xs
+dropped_next [] zero = refl
+dropped_next [] (suc n) = rw suc-add refl
+dropped_next (x ∷ xs) zero = refl
+dropped_next (x ∷ xs) (suc n) = rw suc-add (dropped_next xs n)
+
+-- what holds in any case holds where it went well
+pub on_ok : {A E P : Type 0} (answer : Result A E) → P → OnOk answer P
+on_ok (Ok done) p = p
+on_ok (Err why) p = tt
+
+-- the batch in flight is no stranger
+pub not_strange : {F : Type 0} (start : Start) (old new : CoreView) (committed : CommittedView) (answer : Result ℕ (AckFault F))
+    → IsInFlight start old committed → IfOk answer (λ number. new ≡ acknowledged old new.seen)
+    → IfErr answer (λ fault. IsStranger start old committed fault × (new ≡ old)) → new ≡ acknowledged old new.seen
+not_strange start old new committed (Ok number) flies done strange = done
+not_strange start old new committed (Err (Stranger back)) flies done strange = absurd (strange.0.1 flies)

@@ -1,0 +1,37 @@
+use Rattle.std.proofs.Common.{refl, ◌∷◌, [], ◌++◌, Some, List, Option, map, sym, ap, ◌∙◌, subst, arith}
+use Rattle.std.proofs.lemmas.List.{length-map, map-append}
+use Rattle.iol_types.specs.Command.{CommandValue, command_of}
+use Rattle.iol_types.specs.declared.command.Change.{Change}
+use Rattle.iol_core.specs.Core.{CoreView}
+use Rattle.iol_master.specs.Callers.{AreCallersOf, asked}
+use Rattle.iol_master.proofs.Waiting.{as_many, not_taken, submit_room, waits_more}
+use Rattle.iol_master.proofs.guarded.Guarded.submit.Goals as goal
+
+-- the queue has room, and so has the list of those who wait
+pub unreachable-requires : goal.unreachable-requires
+unreachable-requires g c =
+    let i = c.self.inside in
+    not_taken c.push_back.result c.in_default.field-0
+    (c.push_back.ensures.succeeds
+    (omega (
+      arith,
+      as_many i.core.queue (map asked i.callers.items) c.self.invariant.0,
+      length-map i.callers.items asked,
+      i.callers.ok.0,
+      submit_room i.core (command_of c.args.caller.change) c.in_ok-ticket.ensures.0,
+      c.self.invariant.1,
+    )))
+    c.in_default.is
+
+-- who waits for the new command asked for it
+pub invariant_of-self-2 : goal.invariant_of-self-2
+invariant_of-self-2 g c =
+    let i = c.self.inside in
+    let change = c.args.caller.change in
+    let queued = ap (λ (core : CoreView). core.queue) c.in_ok-ticket.ensures.2 in (
+      subst (λ (ws : List (Option Change)). AreCallersOf c.submit.new.self.queue ws)
+          (sym (ap (map asked) c.in-Ok.ensures.items ∙ map-append asked i.callers.items (Some c.args.caller ∷ [])))
+          (subst (λ (q : List CommandValue). AreCallersOf q (map asked i.callers.items ++ Some change ∷ [])) (sym queued)
+          (waits_more i.core.queue (map asked i.callers.items) (command_of change) (Some change) c.self.invariant.0 (refl, tt))),
+      omega (arith, c.self.invariant.1, c.in-Ok.ensures.capacity),
+    )

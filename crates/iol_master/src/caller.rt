@@ -1,0 +1,66 @@
+//! Who waits for a change, and what is told once it is durable.
+
+ghost use Rattle.std.specs.Prelude.{◌≡◌};
+ghost use Rattle.iol_types.specs.Command.{command_of};
+ghost use Rattle.iol_master.specs.Receipts.{StandsAt};
+
+use crossbeam_channel::Sender;
+use iol_front::{Name, Pass};
+use iol_types::Change;
+use std::alloc::Global;
+use std::marker::Model;
+
+/// A change is durable under this number: it stands there in the list that the pass has seen. A contract sees the record
+/// `NoticeView` of `specs/Receipts.antt`.
+#[derive(Drop)]
+pub(crate) struct Notice<F: Name> {
+    number: u64,
+    change: Change,
+    pass: Pass<F>,
+}
+
+impl<F: Name> Model for Notice<F> {
+    ghost use Rattle.iol_types.specs.Command.{command_of};
+    ghost use Rattle.iol_master.specs.Receipts.{NoticeView, StandsAt};
+
+    ghost Value = { NoticeView };
+
+    ghost view = { λ n. record { number = n.number; change = n.change; seen = n.pass } };
+
+    ghost invariant = { λ n. StandsAt F.front.start n.pass n.number (command_of n.change) };
+}
+
+impl<F: Name> Notice<F> {
+    // The change stands at this number in the list that the pass has seen.
+    pub(crate) fn new(number: u64, change: Change, pass: Pass<F>) -> Notice<F>
+        requires { StandsAt F.front.start pass number (command_of change) }
+        ensures { result ≡ record { number = number; change = change; seen = pass } }
+    {
+        Notice {
+            number,
+            change,
+            pass,
+        }
+    }
+
+    // What it says, and the pass.
+    pub(crate) fn into_parts(self) -> (u64, Change, Pass<F>)
+        ensures parts { self ≡ record { number = result.0; change = result.1; seen = result.2 } }
+        ensures stands { StandsAt F.front.start result.2 result.0 (command_of result.1) }
+    {
+        let Notice {
+            number,
+            change,
+            pass,
+        } = self;
+        (number, change, pass)
+    }
+}
+
+/// A caller that waits for its change: the pass that is to see it, and where the notice goes.
+#[derive(Drop)]
+pub(crate) struct Caller<F: Name> {
+    pub(crate) change: Change,
+    pub(crate) pass: Pass<F>,
+    pub(crate) told: Sender<Notice<F>, Global>,
+}

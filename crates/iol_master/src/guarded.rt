@@ -1,0 +1,293 @@
+//! What the lock guards: the core, who waits for which of its commands, and what wakes the ports.
+
+ghost use Rattle.std.specs.Prelude.{◌≡◌, ◌++◌, ◌≤◌, [], ◌∷◌, drop, length, map, replicate, take, true, IfErr, IfOk, OnErr, OnOk};
+ghost use Rattle.std.specs.Prelude.{None, Some, slice_get};
+ghost use Rattle.std.specs.VecDeque.{deque_capacity};
+ghost use mathlib.Core.List.{IsPrefix};
+ghost use Rattle.iol_types.specs.Command.{command_of};
+ghost use Rattle.iol_record.specs.declared.encode.TheConstants.{LARGEST_COMMAND_RECORD};
+ghost use Rattle.iol_core.specs.Batches.{IsInFlight, IsStranger, IsTake, acknowledged, has_batch};
+ghost use Rattle.iol_core.specs.Core.{IsCore, live_number};
+ghost use Rattle.iol_core.specs.Ports.{view_at};
+ghost use Rattle.iol_core.specs.Standing.{Stands};
+ghost use Rattle.iol_core.specs.Submit.{IsSubmit, stopped_by};
+ghost use Rattle.iol_core.specs.declared.stop.StopCause.TheVariants.{Closed, DiskFailed};
+ghost use Rattle.iol_port.specs.Calls.{IsReplyTo, MayBeMade, Replies, call_of};
+ghost use Rattle.iol_port.specs.Ending.{ended};
+ghost use Rattle.iol_master.specs.Callers.{AreCallersOf, asked};
+ghost use Rattle.iol_master.specs.declared.guarded.Phase.TheVariants as phase;
+
+use crate::caller::{Caller, Notice};
+use iol_core::{AckFault, Core, QUEUE_COMMANDS, StopCause, SubmitFault, View};
+use iol_front::{Committed, Name, Pass};
+use iol_journal::Batch;
+use iol_port::{CoreCall, PortMachine, Reply};
+use iol_types::{Change, PortId};
+use std::alloc::{AllocError, Global};
+use std::collections::VecDeque;
+use std::marker::Model;
+use std::sync::Wait;
+
+/// How far a run is.
+#[derive(Clone, Copy, Debug, PartialEq, Eq)]
+pub(crate) enum Phase {
+    /// Ports are served.
+    Running,
+    /// Each port is woken once more, and ends where it settles.
+    Ending,
+    /// No more is taken; what waits is still written.
+    Closed,
+}
+
+/// The core, and for each command of its queue the caller that waits for it, if one does. A contract sees the record `GuardedView`
+/// of `specs/Callers.antt`.
+#[derive(Drop)]
+pub(crate) struct Guarded<F: Name> {
+    core: Core<F>,
+    callers: VecDeque<Option<Caller<F>>>,
+    // how often each port was woken, port 1 first
+    wakes: Vec<u64>,
+    phase: Phase,
+}
+
+impl<F: Name> Model for Guarded<F> {
+    ghost use Rattle.std.specs.Prelude.{◌≤◌, map};
+    ghost use Rattle.std.specs.VecDeque.{deque_capacity};
+    ghost use Rattle.iol_core.specs.declared.core_value.TheConstants.{QUEUE_COMMANDS};
+    ghost use Rattle.iol_master.specs.Callers.{AreCallersOf, GuardedView, asked};
+
+    ghost Value = { GuardedView };
+
+    ghost view = { λ g. record { core = g.core; callers = map asked g.callers.items; wakes = g.wakes.items; phase = g.phase } };
+
+    ghost invariant = { λ g. AreCallersOf g.core.queue (map asked g.callers.items) × (QUEUE_COMMANDS ≤ deque_capacity g.callers) };
+}
+
+impl<F: Name> Guarded<F> {
+    // A core for whose commands nobody waits, of this many ports, each woken once.
+    pub(crate) fn new(alloc: Global, core: Core<F>, ports: u8) -> Result<Guarded<F>, AllocError>
+        requires { core.queue ≡ [] }
+        ensures { IfOk result (λ guarded. guarded ≡ record {
+          core = core;
+          callers = [];
+          wakes = replicate ports 1;
+          phase = phase.Running;
+        }) }
+    {
+        let callers = VecDeque::with_capacity(alloc, QUEUE_COMMANDS)?;
+        let wakes = vec![in alloc; 1; usize::from(ports)]?;
+        Ok(Guarded {
+            core,
+            callers,
+            wakes,
+            phase: Phase::Running,
+        })
+    }
+
+    // The number of the last command that waits, or of the last durable one.
+    pub(crate) fn live_number(&self) -> u64
+        ensures number { result ≡ live_number self.now.core }
+        ensures core { IsCore F.front.start self.now.core }
+    {
+        self.core.live_number()
+    }
+
+    // Takes a change, for which this caller waits; its port is woken, unless ports are to end. As `Core::submit`.
+    pub(crate) fn submit(&mut self, caller: Caller<F>) -> Result<u64, SubmitFault>
+        ensures submit { IsSubmit self.old.core (command_of caller.change) self.new.core result }
+        ensures waits { IfOk result (λ _. self.new.callers ≡ self.old.callers ++ Some caller.change ∷ []) }
+        ensures refused { OnErr result (self.new ≡ self.old) }
+        ensures phase { self.new.phase ≡ self.old.phase }
+    {
+        let ticket = self.core.submit(caller.change)?;
+        wake(self.phase, &mut self.wakes, port_of(&caller.change));
+        let Ok(()) = self.callers.push_back(Some(caller)) else {
+            unreachable!()
+        };
+        Ok(ticket.number())
+    }
+
+    // As `Core::view`.
+    pub(crate) fn view(
+        &mut self,
+        port: PortId,
+        pass: &mut Pass<F>,
+    ) -> Result<Option<View>, AllocError>
+        ensures view { IfOk result (λ view. view ≡ view_at self.old.core port) }
+        ensures others { self.new ≡ record self.old { core = record self.old.core { seen = self.new.core.seen } } }
+        ensures kept { IsPrefix self.old.core.seen self.new.core.seen × IsPrefix pass.old pass.new }
+        ensures met { OnOk result (IsPrefix self.new.core.seen pass.new) }
+        ensures stands { Stands F.front.start self.new.core.seen self.new.core.number self.new.core.durable }
+        ensures unchanged { OnErr result ((self.new ≡ self.old) × (pass.new ≡ pass.old)) }
+    {
+        self.core.view(port, pass)
+    }
+
+    // Makes a call that a port asks of the core. For a Store that is taken nobody waits.
+    pub(crate) fn make(&mut self, call: CoreCall) -> Reply
+        requires { MayBeMade (call_of call) }
+        ensures replies { Replies (call_of call) self.old.core self.new.core result }
+        ensures of_the_call { IsReplyTo (call_of call) result }
+        ensures others { (self.new.wakes ≡ self.old.wakes) × (self.new.phase ≡ self.old.phase) }
+    {
+        let before = self.core.live_number();
+        let reply = call.make(&mut self.core);
+        if before < self.core.live_number() {
+            let Ok(()) = self.callers.push_back(None) else {
+                unreachable!()
+            };
+        }
+        reply
+    }
+
+    // Ends the machine of a port: a permit that it holds is returned.
+    pub(crate) fn end_port(&mut self, machine: PortMachine)
+        ensures { self.new ≡ record self.old { core = ended self.old.core machine.stage } }
+    {
+        machine.end(&mut self.core);
+    }
+
+    // As `Core::take_batch`.
+    pub(crate) fn take_batch(&mut self, room: usize) -> Result<Option<Batch>, AllocError>
+        requires { LARGEST_COMMAND_RECORD ≤ room }
+        ensures take { IfOk result (λ batch. IsTake self.old.core room self.new.core batch) }
+        ensures callers { self.new.callers ≡ self.old.callers }
+        ensures unchanged { OnErr result ((has_batch self.old.core ≡ true) × (self.new ≡ self.old)) }
+    {
+        self.core.take_batch(room)
+    }
+
+    // As `Core::acknowledge`; who waits for a command of the batch is told, and waits no more.
+    pub(crate) fn acknowledge<R: Wait>(
+        &mut self,
+        rt: &R,
+        mut committed: Committed<F>,
+    ) -> Result<u64, AckFault<F>>
+        ensures acknowledged { IfOk result (λ number. IsInFlight F.front.start self.old.core committed
+            × (self.new.core ≡ acknowledged self.old.core self.new.core.seen) × (number ≡ self.new.core.number)) }
+        ensures told { OnOk result (self.new.callers ≡ drop self.old.core.flight self.old.callers) }
+        ensures stranger { IfErr result (λ fault. IsStranger F.front.start self.old.core committed fault × (self.new ≡ self.old)) }
+    {
+        if !self.core.awaits(&committed) {
+            return Err(AckFault::Stranger(committed));
+        }
+        tell_all(rt, &mut self.callers, &mut committed);
+        self.core.acknowledge(committed)
+    }
+
+    // The disk has failed: nobody is told any more, and who waits hears that.
+    pub(crate) fn fail(&mut self)
+        ensures core { self.new.core ≡ record self.old.core { stopped = Some (stopped_by self.old.core.stopped DiskFailed) } }
+        ensures callers { self.new.callers ≡ replicate (length self.old.callers) None }
+        ensures phase { self.new.phase ≡ self.old.phase }
+    {
+        self.core.stop(StopCause::DiskFailed);
+        let_go(&mut self.callers);
+    }
+
+    // Ports end where they settle, once each has been woken.
+    pub(crate) fn end_ports(&mut self)
+        ensures core { (self.new.core ≡ self.old.core) × (self.new.callers ≡ self.old.callers) }
+        ensures phase { self.new.phase ≡ phase.Ending }
+    {
+        self.phase = Phase::Ending;
+        for wakes in &mut self.wakes {
+            *wakes = wakes.wrapping_add(1);
+        }
+    }
+
+    // No more is taken; what waits is still written.
+    pub(crate) fn close(&mut self)
+        ensures core { self.new.core ≡ record self.old.core { stopped = Some (stopped_by self.old.core.stopped Closed) } }
+        ensures callers { self.new.callers ≡ self.old.callers }
+        ensures phase { self.new.phase ≡ phase.Closed }
+    {
+        self.core.stop(StopCause::Closed);
+        self.phase = Phase::Closed;
+    }
+
+    // How far the run is.
+    pub(crate) fn phase(&self) -> Phase
+        ensures { result ≡ self.now.phase }
+    {
+        self.phase
+    }
+
+    // Whether there is nothing to write, and more may come.
+    pub(crate) fn is_idle(&self) -> bool {
+        self.phase != Phase::Closed && self.callers.is_empty()
+    }
+
+    // How often a port was woken; 0 for one that is not there.
+    pub(crate) fn wakes(&self, port: PortId) -> u64 {
+        match self.wakes.get(port.place()) {
+            Some(wakes) => *wakes,
+            None => 0,
+        }
+    }
+}
+
+// Wakes a port while ports are served.
+fn wake(phase: Phase, wakes: &mut [u64], port: PortId) {
+    if phase != Phase::Running {
+        return;
+    }
+    if let Some(wakes) = wakes.get_mut(port.place()) {
+        *wakes = wakes.wrapping_add(1);
+    }
+}
+
+// The port that a change is for.
+fn port_of(change: &Change) -> PortId {
+    match change {
+        Change::Configure { port, .. } | Change::Clear { port } => *port,
+    }
+}
+
+// Lets go who waits, and keeps their places.
+fn let_go<F: Name>(callers: &mut VecDeque<Option<Caller<F>>>)
+    ensures none { map asked callers.new.items ≡ replicate (length callers.old.items) None }
+    ensures room { deque_capacity callers.new ≡ deque_capacity callers.old }
+{
+    let places = callers.len();
+    callers.clear();
+    for _ in 0..places {
+        let Ok(()) = callers.push_back(None) else {
+            unreachable!()
+        };
+    }
+}
+
+// Tells those who wait for the first commands, which are those of a batch.
+fn tell_all<F: Name, R: Wait>(
+    rt: &R,
+    callers: &mut VecDeque<Option<Caller<F>>>,
+    committed: &mut Committed<F>,
+)
+    requires { AreCallersOf committed.old.commands (take (length committed.old.commands) (map asked callers.old.items)) }
+    ensures same { committed.new ≡ committed.old }
+    ensures left { map asked callers.new.items ≡ drop (length committed.old.commands) (map asked callers.old.items) }
+    ensures room { deque_capacity callers.new ≡ deque_capacity callers.old }
+{
+    for place in 0..committed.len() {
+        if let Some(Some(caller)) = callers.pop_front() {
+            tell(rt, caller, committed, place);
+        }
+    }
+}
+
+// Tells a caller that waits for this command of a batch.
+fn tell<F: Name, R: Wait>(rt: &R, caller: Caller<F>, committed: &mut Committed<F>, place: usize)
+    requires { slice_get committed.old.commands place ≡ Some (command_of caller.change) }
+    ensures { committed.new ≡ committed.old }
+{
+    let Caller {
+        change,
+        mut pass,
+        told,
+    } = caller;
+    committed.show(&mut pass);
+    let number = committed.first() + place as u64;
+    // A caller that is gone needs no notice.
+    let _ = told.send(rt, Notice::new(number, change, pass));
+}

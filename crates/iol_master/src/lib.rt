@@ -1,0 +1,26 @@
+//! A running master: a worker for each port, one flusher, and clients in any threads.
+//!
+//! [`Master::start`] takes a journal that was just recovered, and a link for each port. From then on each port makes its steps in a
+//! thread of its own, at its link's pace, and one more thread brings what is accepted to the disk. A [`Client`] asks for a change and
+//! waits until it is durable; its [`Receipt`] says under which number it stands. [`Master::shutdown`] ends all threads, and hands
+//! back the journal, or the disk where a call of it has failed.
+//!
+//! One lock guards the core, and each time it is held one call of the core is made; a call of the disk or of a link is made without
+//! it. What is decided is decided in `iol_core`, `iol_port` and `iol_flush`, by the same calls that a run on one thread makes
+//! (`iol_run`). Threads and waiting stand in this crate alone.
+//!
+//! Modules in reading order: `caller`, who waits and what is told; `guarded`, what the lock guards; `client`; `flushing` and
+//! `working`, the two kinds of thread; `ending`, how a master ends; `master`, which starts and ends them.
+#![tactic(auto)]
+
+mod caller;
+mod client;
+mod ending;
+mod flushing;
+mod guarded;
+mod master;
+mod working;
+
+pub use client::{CallFault, Client, ReadFault, Receipt};
+pub use ending::{Ending, StartFault};
+pub use master::Master;

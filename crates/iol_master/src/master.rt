@@ -1,0 +1,282 @@
+//! The master: it starts its threads, and ends them.
+
+ghost use Rattle.std.specs.Prelude.{◌≡◌, ◌≤◌, [], length, vec_capacity, vec_len, IfErr, IfOk};
+ghost use Rattle.iol_flush.specs.Stages.{HasHistory};
+ghost use Rattle.iol_journal.specs.Journals.{JournalView};
+ghost use Rattle.iol_master.specs.Endings.{EndsFrom, IsEnding, IsLeft, IsStartFault};
+
+use crate::client::{Client, Shared};
+use crate::ending::{Ending, StartFault};
+use crate::flushing::{Charge, FromCharge, flush_all};
+use crate::guarded::Guarded;
+use crate::working::{ServedPort, serve, served_ports};
+use iol_core::Core;
+use iol_disk::SectorDisk;
+use iol_flush::FlushEnd;
+use iol_front::{Name, Pass, Publisher};
+use iol_journal::Journal;
+use iol_link::DeviceLink;
+use iol_types::MasterState;
+use std::alloc::{AllocError, Global};
+use std::marker::Model;
+use std::snapshot::Snapshot;
+use std::sync::{Arc, Condvar, Mutex, Wait};
+use std::thread;
+use std::thread::{JoinHandle, PromisedHandle, Threads};
+
+/// A running master. It is ended by `shutdown`: one that is let go leaves its threads running, and its disk with them. A contract sees
+/// the journal that it was started with.
+#[derive(Drop)]
+pub struct Master<D: SectorDisk, F: Name> {
+    alloc: Global,
+    shared: Arc<Shared<F>, Global>,
+    pass: Pass<F>,
+    workers: Vec<JoinHandle<()>>,
+    flusher: PromisedHandle<FlushEnd<D, F>, FromCharge<D, F>>,
+}
+
+impl<D: SectorDisk, F: Name> Model for Master<D, F> {
+    ghost use Rattle.iol_journal.specs.Journals.{JournalView};
+
+    ghost Value = { JournalView D };
+
+    ghost view = { λ m. m.flusher.promise.0.value };
+}
+
+impl<D: SectorDisk + Drop + Send + 'static, F: Name + 'static> Master<D, F> {
+    /// Starts a master over a journal that was just recovered, with its state, the publisher of a front of that number and state,
+    /// which has published nothing, and a link for each port, port 1 first.
+    ///
+    /// # Errors
+    /// `Ports` where there is not one link for each port, `Memory` and `Thread`, in this order, each with the disk. The links are
+    /// gone then.
+    pub fn start<L: DeviceLink + Drop + Send + 'static, R: Threads + Wait + Copy + Send + 'static>(
+        rt: &R,
+        alloc: Global,
+        journal: Journal<D>,
+        state: MasterState,
+        mut publisher: Publisher<F>,
+        links: Vec<L>,
+    ) -> Result<Master<D, F>, StartFault<D>>
+        requires journal { HasHistory F.front.start [] journal.history }
+        requires state { state ≡ F.front.start.state }
+        requires publisher { publisher ≡ [] }
+        ensures started { IfOk result (λ master. master ≡ journal) }
+        ensures fault { IfErr result (IsStartFault D.disk F.front.start journal (vec_len links)) }
+    {
+        let ports = state.ports();
+        if links.len() != usize::from(ports) {
+            return Err(StartFault::Ports(journal.disk()));
+        }
+        let Ok(room) = Room::new(alloc, state, &mut publisher, ports, links) else {
+            return Err(StartFault::Memory(journal.disk()));
+        };
+        begin(rt, alloc, Charge::new(journal, publisher), room)
+    }
+
+    /// A further client, which has seen nothing of this run.
+    ///
+    /// # Errors
+    /// Memory ran out; nothing changes.
+    pub fn client(&mut self) -> Result<Client<F>, AllocError>
+        ensures { self.new ≡ self.old }
+    {
+        let pass = self.pass.another()?;
+        let shared = Arc::try_clone(&self.shared)?;
+        Ok(Client::new(self.alloc, shared, pass))
+    }
+
+    /// Ends the run: each port is woken once more and runs until it is settled, what waits is brought to the disk, and all threads
+    /// have ended.
+    pub fn shutdown<R: Threads + Wait>(self, rt: &R) -> Ending<D, F>
+        ensures { IsEnding D.disk F.front.start self result }
+    {
+        let Master {
+            alloc: _,
+            shared,
+            pass: _,
+            workers,
+            flusher,
+        } = self;
+        shared.guarded.lock(rt).end_ports();
+        shared.woken.notify_all();
+        join_all(rt, workers);
+        shared.guarded.lock(rt).close();
+        shared.work.notify_all();
+        match flusher.join(rt) {
+            FlushEnd::Closed(journal, publisher) => Ending::Closed(journal, publisher),
+            FlushEnd::Faulted(disk, fault) => Ending::Faulted(disk, fault),
+            FlushEnd::Midway(_) => unreachable!(),
+        }
+    }
+}
+
+// All that a master needs memory for, made before its first thread.
+#[derive(Drop)]
+struct Room<L: DeviceLink + Drop, F: Name> {
+    pass: Pass<F>,
+    shared: Arc<Shared<F>, Global>,
+    // the flusher's own
+    theirs: Arc<Shared<F>, Global>,
+    served: Vec<ServedPort<L, F>>,
+    workers: Vec<JoinHandle<()>>,
+}
+
+impl<L: DeviceLink + Drop, F: Name> Room<L, F> {
+    fn new(
+        alloc: Global,
+        state: MasterState,
+        publisher: &mut Publisher<F>,
+        ports: u8,
+        links: Vec<L>,
+    ) -> Result<Room<L, F>, AllocError>
+        requires state { state ≡ F.front.start.state }
+        requires publisher { publisher.old ≡ [] }
+        ensures publisher { publisher.new ≡ publisher.old }
+        ensures room { IfOk result (λ room. vec_len room.served ≤ vec_capacity room.workers) }
+        ensures empty { IfOk result (λ room. vec_len room.workers ≡ 0) }
+    {
+        let own = publisher.pass()?;
+        let pass = publisher.pass()?;
+        let shared = share(alloc, state, own, ports)?;
+        let theirs = Arc::try_clone(&shared)?;
+        let served = served_ports(alloc, &shared, links)?;
+        let workers = Vec::with_capacity(alloc, served.len())?;
+        Ok(Room {
+            pass,
+            shared,
+            theirs,
+            served,
+            workers,
+        })
+    }
+}
+
+// What the threads share, over a state that is durable.
+fn share<F: Name>(
+    alloc: Global,
+    state: MasterState,
+    pass: Pass<F>,
+    ports: u8,
+) -> Result<Arc<Shared<F>, Global>, AllocError>
+    requires { (state ≡ F.front.start.state) × (pass ≡ []) }
+{
+    let core = Core::new(alloc, state, pass)?;
+    let shared = Shared {
+        guarded: Mutex::new(Guarded::new(alloc, core, ports)?),
+        work: Condvar::new(),
+        woken: Condvar::new(),
+    };
+    match Arc::new(alloc, shared) {
+        Ok(shared) => Ok(shared),
+        Err(_) => Err(AllocError),
+    }
+}
+
+// Starts the flusher, and then a worker for each port. Where a thread is not made, those that were end again.
+fn begin<
+    D: SectorDisk + Drop + Send + 'static,
+    L: DeviceLink + Drop + Send + 'static,
+    F: Name + 'static,
+    R: Threads + Wait + Copy + Send + 'static,
+>(
+    rt: &R,
+    alloc: Global,
+    charge: Charge<D, F>,
+    room: Room<L, F>,
+) -> Result<Master<D, F>, StartFault<D>>
+    requires room { vec_len room.served ≤ vec_capacity room.workers }
+    requires empty { vec_len room.workers ≡ 0 }
+    ensures started { IfOk result (λ master. master ≡ charge) }
+    ensures fault { IfErr result (IsStartFault D.disk F.front.start charge (length F.front.start.state)) }
+{
+    let Room {
+        pass,
+        shared,
+        theirs,
+        served,
+        workers,
+    } = room;
+    let promise = FromCharge(Snapshot::of(&charge));
+    let rt = *rt;
+    let started = thread::spawn_with(
+        &rt,
+        promise,
+        move || -> FlushEnd<D, F>
+            ensures { EndsFrom D.disk F.front.start charge result }
+        { flush_all(rt, theirs, charge) },
+    );
+    let flusher = match started {
+        Ok(flusher) => flusher,
+        Err(refused) => {
+            shared.guarded.lock(&rt).close();
+            return Err(StartFault::Thread(left_by((refused.value)())));
+        }
+    };
+    let (workers, all) = start_workers(&rt, alloc, served, workers);
+    let master = Master {
+        alloc,
+        shared,
+        pass,
+        workers,
+        flusher,
+    };
+    if all {
+        Ok(master)
+    } else {
+        Err(StartFault::Thread(disk_of(master.shutdown(&rt))))
+    }
+}
+
+// Starts a worker for each port, and says whether all were made.
+fn start_workers<
+    L: DeviceLink + Drop + Send + 'static,
+    F: Name + 'static,
+    R: Threads + Wait + Copy + Send + 'static,
+>(
+    rt: &R,
+    alloc: Global,
+    served: Vec<ServedPort<L, F>>,
+    workers: Vec<JoinHandle<()>>,
+) -> (Vec<JoinHandle<()>>, bool)
+    requires room { vec_len served ≤ vec_capacity workers }
+    requires empty { vec_len workers ≡ 0 }
+{
+    let rt = *rt;
+    let mut workers = workers;
+    let mut served = served;
+    while let Some(port) = served.pop() {
+        match thread::spawn(&rt, move || serve(rt, alloc, port)) {
+            Ok(worker) => workers.push_reserved(worker),
+            Err(_) => return (workers, false),
+        }
+    }
+    (workers, true)
+}
+
+// Waits until these threads have ended.
+fn join_all<R: Threads>(rt: &R, workers: Vec<JoinHandle<()>>) {
+    for worker in workers {
+        worker.join(rt);
+    }
+}
+
+// The disk that a flusher leaves.
+fn left_by<D: SectorDisk, F: Name>(end: FlushEnd<D, F>) -> D
+    ensures { (first : JournalView D) → EndsFrom D.disk F.front.start first end → IsLeft D.disk F.front.start first result }
+{
+    match end {
+        FlushEnd::Closed(journal, _) => journal.disk(),
+        FlushEnd::Midway(disk) | FlushEnd::Faulted(disk, _) => disk,
+    }
+}
+
+// The disk that a master leaves.
+fn disk_of<D: SectorDisk, F: Name>(ending: Ending<D, F>) -> D
+    ensures { (first : JournalView D) → IsEnding D.disk F.front.start first ending → IsLeft D.disk F.front.start first result }
+{
+    match ending {
+        Ending::Closed(journal, _) => journal.disk(),
+        Ending::Faulted(disk, _) => disk,
+    }
+}

@@ -1,0 +1,120 @@
+//! A client that reads while a disk call is made.
+
+ghost use Rattle.std.specs.Prelude.{◌≡◌};
+
+use super::scene::{Found, client_of, closed, formatted, port, unplugged};
+use super::signal::Signal;
+use iol_disk::{DiskFault, MemoryDisk, SECTOR_OCTETS, SectorDisk};
+use iol_front::Name;
+use iol_master::Client;
+use std::alloc::Global;
+use std::marker::Brand;
+use std::process::Abort;
+use std::sync::{Arc, Wait};
+use std::thread;
+use std::thread::Threads;
+
+// What a disk that is held tells, and what it is told.
+#[derive(Drop)]
+struct Hold {
+    // a write was begun
+    begun: Signal,
+    // it may go on
+    released: Signal,
+    // it went on without being told so
+    gave_up: Signal,
+}
+
+// Another disk, whose writes wait until it is released.
+#[derive(Drop)]
+struct HeldDisk<D: SectorDisk> {
+    disk: D,
+    hold: Arc<Hold, Global>,
+}
+
+impl<D: SectorDisk> SectorDisk for HeldDisk<D> {
+    ghost disk = { λ d. D.disk d.disk };
+
+    fn sectors(&self) -> usize {
+        self.disk.sectors()
+    }
+
+    fn read(&mut self, n: usize, octets: &mut [u8; SECTOR_OCTETS]) -> Result<(), DiskFault> {
+        self.disk.read(n, octets)
+    }
+
+    fn write(&mut self, n: usize, octets: &[u8; SECTOR_OCTETS]) -> Result<(), DiskFault> {
+        self.hold.begun.give();
+        if !self.hold.released.wait() {
+            self.hold.gave_up.give();
+        }
+        self.disk.write(n, octets)
+    }
+
+    fn sync(&mut self) -> Result<(), DiskFault> {
+        self.disk.sync()
+    }
+}
+
+// A hold of a disk that has written nothing.
+fn new_hold<R: Abort>(rt: &R, alloc: Global) -> Arc<Hold, Global> {
+    let hold = Hold {
+        begun: Signal::new(),
+        released: Signal::new(),
+        gave_up: Signal::new(),
+    };
+    let Ok(hold) = Arc::new(alloc, hold) else {
+        panic!(rt; "memory")
+    };
+    hold
+}
+
+#[test]
+fn a_read_is_answered_while_the_disk_writes(rt: HostRuntime) {
+    let alloc = rt.alloc();
+    let ours = new_hold(&rt, alloc);
+    let theirs = Arc::try_clone(&ours).expect(&rt, "memory");
+    let disk = HeldDisk {
+        disk: formatted(&rt, alloc, 1),
+        hold: theirs,
+    };
+    let found = Found::on(&rt, alloc, disk);
+    read_while_held::<Brand, _>(&rt, alloc, found, &ours);
+}
+
+fn read_while_held<F: Name + 'static, R: Threads + Wait + Abort + Copy + Send + 'static>(
+    rt: &R,
+    alloc: Global,
+    found: Found<HeldDisk<MemoryDisk>>,
+    hold: &Hold,
+)
+    requires { found ≡ F.front }
+{
+    let mut master = found.start::<F, _, _>(rt, alloc, unplugged(rt, alloc, 1));
+    let writer = client_of(rt, &mut master);
+    let mut reader = client_of(rt, &mut master);
+    let rt = *rt;
+    let Ok(child) = thread::spawn(&rt, move || clear_once(&rt, writer)) else {
+        panic!(rt; "a thread")
+    };
+    assert!(rt; hold.begun.wait(), "a write");
+    let Ok(view) = reader.read(&rt, port(1)) else {
+        panic!(rt; "an answer")
+    };
+    hold.released.give();
+    assert!(rt; view.number == 0, "what is being written is not told");
+    assert!(rt; child.join(&rt) == 1);
+    closed(&rt, master);
+    assert!(rt;
+        !hold.gave_up.is_given(),
+        "the read came once the write was made"
+    );
+}
+
+// The number of a Clear of port 1.
+fn clear_once<F: Name, R: Wait + Abort>(rt: &R, mut client: Client<F>) -> u64 {
+    let Ok(receipt) = client.clear(rt, port(1)) else {
+        panic!(rt; "a receipt")
+    };
+    receipt.number
+}
