@@ -22,23 +22,27 @@ is_number() {
     [ "$digits" -le 65535 ] 2>/dev/null
 }
 
-# Whether the words are a whole `format` or `show`, which works on a file and so wants the proved program.
+# Whether the words are a whole `format`, `show` or `live`, which works on a file and so wants the proved program.
 ask_for_image() {
-    case ${1-} in format | show) command=$1 ;; *) return 1 ;; esac
+    case ${1-} in format | show | live) command=$1 ;; *) return 1 ;; esac
     shift
-    options=yes images=0 ports=0 slots=0 forces=0
+    options=yes paths=0 ports=0 slots=0 forces=0 receipts=0
     while [ $# -gt 0 ]; do
         case $options,$command,$1 in
             yes,*,--) options=no ;;
             yes,format,--force) forces=$((forces + 1)) ;;
+            yes,live,--receipts) receipts=$((receipts + 1)) ;;
             yes,format,--ports) is_number "${2-}" && shift && ports=$((ports + 1)) || return 1 ;;
             yes,format,--slots) is_number "${2-}" && shift && slots=$((slots + 1)) || return 1 ;;
             yes,format,--ports=*) is_number "${1#*=}" && ports=$((ports + 1)) || return 1 ;;
             yes,format,--slots=*) is_number "${1#*=}" && slots=$((slots + 1)) || return 1 ;;
             yes,*,-?*) return 1 ;;
-            *) images=$((images + 1)) ;;
+            *) paths=$((paths + 1)) ;;
         esac
         shift
     done
-    case $command,$images,$ports,$slots,$forces in show,1,0,0,0 | format,1,1,1,[01]) ;; *) return 1 ;; esac
+    case $command,$paths,$ports,$slots,$forces,$receipts in
+        show,1,0,0,0,0 | format,1,1,1,[01],0 | live,2,0,0,0,[01]) ;;
+        *) return 1 ;;
+    esac
 }

@@ -26,3 +26,20 @@ run_keeping_each() {
 stops() {
     "${TESTS:?}/stops" "$@"
 }
+
+# Runs iolmaster while another process has a file open and locked.
+while_locked() {
+    locked=$1
+    shift
+    flock "$locked" "${IOLMASTER:?}" "$@"
+}
+
+# Runs iolmaster where no file may reach behind so many sectors, so that a write there fails.
+within_sectors() {
+    (trap '' XFSZ && ulimit -f "$1" && shift && iolmaster "$@")
+}
+
+# Runs iolmaster where it may map so many kilobytes; the stack of each thread takes 8,192 of them.
+within_kilobytes() {
+    (export MALLOC_ARENA_MAX=1 && ulimit -v "$1" && shift && iolmaster "$@")
+}

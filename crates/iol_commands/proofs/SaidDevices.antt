@@ -10,6 +10,7 @@ use Rattle.iol_types.specs.DataSet.{Entry}
 use Rattle.iol_script.specs.Device.{SaidDevice, device_keys, device_with, device_by, device_of}
 use Rattle.iol_script.specs.Devices.{devices_of, said_devices}
 use Rattle.iol_script.specs.Fail.{fail_in}
+use Rattle.iol_script.specs.LiveScript.{SaidLive, changes_of, live_by, live_in, live_of}
 use Rattle.iol_script.specs.Number.{port_in, vendor_in, device_in, octet_or, calls_at}
 use Rattle.iol_script.specs.Parameters.{of_device, parameters_of, parameters_in}
 use Rattle.iol_script.specs.Script.{Said, script_keys, said_with, said_by, said_in, said_of}
@@ -18,6 +19,7 @@ use Rattle.iol_script.specs.Table.{integer_at, values_at, has_only_keys, truth_o
 use Rattle.iol_script.specs.declared.device.Device.{Device}
 use Rattle.iol_script.specs.declared.device.TheConstants.{USUAL_REVISION}
 use Rattle.iol_script.specs.declared.fail.FailingCall.{FailingCall}
+use Rattle.iol_script.specs.declared.live_script.LiveScript.{LiveScript}
 use Rattle.iol_script.specs.declared.script.Script.{Script}
 use Rattle.iol_sim.specs.Parameters.{AreParameters}
 use Rattle.iol_commands.proofs.SaidParameters.{map_some, of_a_device}
@@ -98,6 +100,16 @@ table_sound table said is =
     option_and_then_some _ (values_at (codes "step") table) said is (λ steps _ is.
     said_sound said values devices there (devices_kept ports slots fail devices steps said is))))))
 
+-- the same of a script for a master that runs in threads
+live_sound : (table : Members) (said : SaidLive) → live_by table ≡ Some said → AllByRecursion IsSound said.devices
+live_sound table said is =
+    let values = values_at (codes "device") table in
+    option_and_then_some _ (option_and_then devices_of values) said (let_through (has_only_keys script_keys table) _ said is)
+    (λ devices there is.
+    map_some _ (option_and_then changes_of (values_at (codes "step") table)) said is (λ changes _ same.
+    option_and_then_some devices_of values devices there (λ items _ each.
+    subst (AllByRecursion IsSound) (ap (λ (s : SaidLive). s.devices) same) (devices_sound items devices each))))
+
 -- ---- a script that was read
 
 unsaid : (devices : List Device) → AllByRecursion IsSound (said_devices devices) → AllByRecursion MayVisit devices
@@ -108,3 +120,8 @@ pub may_visit : (text : List ℕ) (script : Script) → said_in text ≡ Some (s
 may_visit text script is =
     option_and_then_some said_by (parse_document text) (said_of script) is (λ table _ said.
     All-from_recursion MayVisit script.devices.items (unsaid script.devices.items (table_sound table (said_of script) said)))
+
+pub may_visit_live : (text : List ℕ) (script : LiveScript) → live_in text ≡ Some (live_of script) → All MayVisit script.devices.items
+may_visit_live text script is =
+    option_and_then_some live_by (parse_document text) (live_of script) is (λ table _ said.
+    All-from_recursion MayVisit script.devices.items (unsaid script.devices.items (live_sound table (live_of script) said)))

@@ -3,7 +3,7 @@ use Rattle.std.specs.Prelude.{ℕ, List, ◌++◌, codes}
 use Rattle.std.specs.Fmt.{decimal}
 use Rattle.iol_commands.specs.declared.fault.Fault.{Fault}
 use Rattle.iol_commands.specs.declared.fault.Fault.TheVariants.{NotFormatted, AlreadyFormatted, TooSmall, Damaged, Disk, Memory}
-use Rattle.iol_commands.specs.declared.fault.Fault.TheVariants.{Words, File, Script, Geometry}
+use Rattle.iol_commands.specs.declared.fault.Fault.TheVariants.{Words, File, InUse, Thread, Call, Fit, Script, Geometry}
 use Rattle.iol_journal.specs.declared.formatting.FormatFault.{FormatFault}
 use Rattle.iol_journal.specs.declared.formatting.FormatFault.TheVariants as format
 use Rattle.iol_journal.specs.declared.cause.RecoverCause.{RecoverCause}
@@ -29,6 +29,10 @@ fault_text Disk = codes "the disk failed"
 fault_text Memory = codes "out of memory"
 fault_text Words = codes "a word is not UTF-8"
 fault_text (File path) = codes "cannot open " ++ path.now
+fault_text InUse = codes "the image is in use"
+fault_text Thread = codes "a thread could not start"
+fault_text Call = codes "a call failed"
+fault_text Fit = codes "the script does not fit the image"
 fault_text Script = codes "the script is not valid"
 fault_text Geometry = codes "the geometry is not valid"
 

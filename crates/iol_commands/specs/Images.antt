@@ -6,7 +6,7 @@ use Rattle.iol_journal.specs.Layout.{layout_of, total}
 use Rattle.iol_journal.specs.Meaning.{Cause, unformatted, damaged}
 use Rattle.iol_commands.specs.Fault.{status_of}
 use Rattle.iol_commands.specs.declared.fault.Fault.{Fault}
-use Rattle.iol_commands.specs.declared.fault.Fault.TheVariants.{Geometry, File, NotFormatted, Damaged, Disk, Memory}
+use Rattle.iol_commands.specs.declared.fault.Fault.TheVariants.{Geometry, File, InUse, NotFormatted, Damaged, Disk, Memory}
 use Rattle.iol_disk.specs.declared.image_fault.ImageFault.{ImageFault}
 use Rattle.iol_disk.specs.declared.image_fault.ImageFault.TheVariants as image
 
@@ -22,6 +22,7 @@ IsFormatCause g fault = ((fault ≡ Geometry) × (IsGeometry g → ⊥)) ⊎ ((s
 -- why a command fails whose image file is not opened or made (format, Texts)
 abbrev pub IsFileCause : ImageFault → Fault → Type 0
 IsFileCause image.Open (File path) = Unit {0}
+IsFileCause image.InUse InUse = Unit {0}
 IsFileCause (image.Disk fault) Disk = Unit {0}
 IsFileCause image.Memory Memory = Unit {0}
 IsFileCause image_fault fault = ⊥

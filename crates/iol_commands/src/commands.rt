@@ -53,7 +53,7 @@ fn text_of_run(alloc: Global, text: &[u8]) -> Result<String, Fault<'static>>
 }
 
 // Writes a command's output, and returns the exit status: 0, or 1 where the writing fails.
-pub(crate) fn print<W: Write>(out: &mut W, text: &[u8]) -> u8
+pub fn print<W: Write>(out: &mut W, text: &[u8]) -> u8
     ensures status { (result ≡ 0) ⊎ (result ≡ 1) }
     ensures written { result ≡ 0 → Appends (W.contents out.old) (W.contents out.new) text.now }
 {
@@ -72,7 +72,8 @@ fn write_through<W: Write>(out: &mut W, text: &[u8]) -> io::Result<()>
 
 // Writes why a command failed, and returns its exit status, also where the writing fails.
 pub fn report<E: Write>(err: &mut E, fault: &Fault<'_>) -> u8
-    ensures { result ≡ status_of fault.now }
+    ensures status { result ≡ status_of fault.now }
+    ensures small { result ≤ 2 }
 {
     let _ = write_fault(err, fault);
     fault.status()

@@ -15,11 +15,7 @@ use std::alloc::{AllocError, Global};
 //
 // # Errors
 // `Memory`.
-pub(crate) fn links_of(
-    alloc: Global,
-    devices: &[Device],
-    ports: u8,
-) -> Result<Vec<SimLink>, AllocError>
+pub fn links_of(alloc: Global, devices: &[Device], ports: u8) -> Result<Vec<SimLink>, AllocError>
     requires { All MayVisit devices.now }
     ensures links { IfOk result (λ links. links.items ≡ links_of ports (said_devices devices.now)) }
     ensures count { IfOk result (λ links. vec_len links ≡ ports) }

@@ -1,5 +1,5 @@
 //! Why a command of the program fails.
-ghost use Rattle.std.specs.Prelude.{◌≡◌};
+ghost use Rattle.std.specs.Prelude.{◌≡◌, ◌≤◌};
 ghost use Rattle.iol_commands.specs.Fault.{status_of, fault_for, unrecovered, unformatted};
 ghost use Rattle.iol_commands.specs.declared.fault.Fault.TheVariants.{Disk, Memory};
 
@@ -29,6 +29,14 @@ pub enum Fault<'a> {
     Words,
     /// The file at this path cannot be opened, read or made.
     File { path: &'a str },
+    /// The image is open already, by this program or another.
+    InUse,
+    /// A thread of a running master could not start.
+    Thread,
+    /// A call of a client of a running master was refused.
+    Call,
+    /// The script has a device at a port that the image does not have.
+    Fit,
     /// The text is not a script.
     Script,
     /// The numbers of ports and slots are not a geometry.
@@ -53,6 +61,10 @@ impl fmt::Display for Fault<'_> {
             Fault::Memory => f.write_str("out of memory"),
             Fault::Words => f.write_str("a word is not UTF-8"),
             Fault::File { path } => write!(f, "cannot open {path}"),
+            Fault::InUse => f.write_str("the image is in use"),
+            Fault::Thread => f.write_str("a thread could not start"),
+            Fault::Call => f.write_str("a call failed"),
+            Fault::Fit => f.write_str("the script does not fit the image"),
             Fault::Script => f.write_str("the script is not valid"),
             Fault::Geometry => f.write_str("the geometry is not valid"),
         }
@@ -62,7 +74,8 @@ impl fmt::Display for Fault<'_> {
 impl Fault<'_> {
     // The exit status: 2 where the words, the script or its geometry are not valid, and else 1.
     pub fn status(&self) -> u8
-        ensures { result ≡ status_of self.now }
+        ensures status { result ≡ status_of self.now }
+        ensures small { result ≤ 2 }
     {
         match self {
             Fault::Words | Fault::Script | Fault::Geometry => 2,

@@ -12,7 +12,7 @@ ghost use Rattle.iol_commands.specs.Recovered.{TellsState};
 
 use crate::fault::Fault;
 use crate::state_text::Recovered;
-use iol_disk::{DiskFault, ImageFault, ImageFile, SectorDisk};
+use iol_disk::{DiskFault, ImageFault, ImageFile, LockFile, SectorDisk};
 use iol_journal::{Geometry, Journal, RecoverFault};
 use std::alloc::Global;
 use std::fs::OpenFile;
@@ -22,8 +22,8 @@ use std::rt::Files;
 // Opens the image file at this path.
 //
 // # Errors
-// `File`, `Disk` or `Memory`.
-pub(crate) fn opened<'a, F: FileExt + OpenFile + Drop, R: Files<File = F>>(
+// `File`, `InUse`, `Disk` or `Memory`.
+pub fn opened<'a, F: FileExt + OpenFile + LockFile + Drop, R: Files<File = F>>(
     rt: &R,
     path: &'a str,
 ) -> Result<ImageFile<F>, Fault<'a>>
@@ -35,8 +35,8 @@ pub(crate) fn opened<'a, F: FileExt + OpenFile + Drop, R: Files<File = F>>(
 // Opens the image file at this path, or makes it with this many sectors if there is none.
 //
 // # Errors
-// `File`, `Disk` or `Memory`.
-pub(crate) fn opened_or_made<'a, F: FileExt + OpenFile + Drop, R: Files<File = F>>(
+// `File`, `InUse`, `Disk` or `Memory`.
+pub(crate) fn opened_or_made<'a, F: FileExt + OpenFile + LockFile + Drop, R: Files<File = F>>(
     rt: &R,
     path: &'a str,
     sectors: usize,
@@ -59,6 +59,7 @@ fn of_image(fault: ImageFault, path: &str) -> Fault<'_>
 {
     match fault {
         ImageFault::Open => Fault::File { path },
+        ImageFault::InUse => Fault::InUse,
         ImageFault::Disk(_) => Fault::Disk,
         ImageFault::Memory => Fault::Memory,
     }

@@ -10,6 +10,7 @@ ghost use Rattle.iol_types.specs.State.{State};
 use crate::commands::{print, report};
 use crate::fault::Fault;
 use crate::image::{format_disk, opened, opened_or_made, text_of_disk};
+use iol_disk::LockFile;
 use iol_journal::Geometry;
 use std::fs::OpenFile;
 use std::io::Write;
@@ -23,7 +24,7 @@ use std::rt::Files;
 /// nothing is written to `err`. A file that is not there is made, with as many sectors as the geometry has. A journal
 /// that is there stays, unless `force` has it erased first.
 pub fn format_image<
-    F: FileExt + OpenFile + Drop,
+    F: FileExt + OpenFile + LockFile + Drop,
     R: Files<File = F> + AllocGlobal,
     W: Write,
     E: Write,
@@ -43,7 +44,7 @@ pub fn format_image<
 }
 
 // What a format prints. The numbers are judged before the file is opened or made.
-fn text_of_format<'a, F: FileExt + OpenFile + Drop, R: Files<File = F> + AllocGlobal>(
+fn text_of_format<'a, F: FileExt + OpenFile + LockFile + Drop, R: Files<File = F> + AllocGlobal>(
     rt: &R,
     path: &'a str,
     ports: u16,
@@ -59,7 +60,7 @@ fn text_of_format<'a, F: FileExt + OpenFile + Drop, R: Files<File = F> + AllocGl
 }
 
 // Opens or makes the image file at this path, and formats it; what is printed of that.
-fn format_file<'a, F: FileExt + OpenFile + Drop, R: Files<File = F> + AllocGlobal>(
+fn format_file<'a, F: FileExt + OpenFile + LockFile + Drop, R: Files<File = F> + AllocGlobal>(
     rt: &R,
     path: &'a str,
     geometry: Geometry,
@@ -76,7 +77,7 @@ fn format_file<'a, F: FileExt + OpenFile + Drop, R: Files<File = F> + AllocGloba
 /// else 1. Where the recovery fails, a line on `err` says why, and nothing is written to `out`. Where writing to `out`
 /// fails, nothing is written to `err`.
 pub fn show_image<
-    F: FileExt + OpenFile + Drop,
+    F: FileExt + OpenFile + LockFile + Drop,
     R: Files<File = F> + AllocGlobal,
     W: Write,
     E: Write,
@@ -94,7 +95,7 @@ pub fn show_image<
 }
 
 // What is printed of the state on an image file.
-fn text_of_show<'a, F: FileExt + OpenFile + Drop, R: Files<File = F> + AllocGlobal>(
+fn text_of_show<'a, F: FileExt + OpenFile + LockFile + Drop, R: Files<File = F> + AllocGlobal>(
     rt: &R,
     path: &'a str,
 ) -> Result<String, Fault<'a>>

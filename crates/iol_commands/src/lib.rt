@@ -1,4 +1,5 @@
-//! The commands of `iolmaster`, the program of an IO-Link master's data storage, over writers.
+//! The commands of `iolmaster`, the program of an IO-Link master's data storage, over writers: all but `live`, which has a
+//! crate of its own (`iol_live`), since it runs in threads.
 //!
 //! A script in TOML says a geometry, simulated devices and steps. Its run formats a disk in memory, makes the steps of
 //! clients, ports and the flusher, stops the power, and recovers what the disk holds. Each event and the recovered state
@@ -12,8 +13,7 @@
 //! - `image` formats and shows the disk of an image file.
 //! - `trace_text`, `event_text`, `status_text` and `names` have the lines of a trace, `state_text` and `entry_text` those of a
 //!   recovered state, and `fault` why a command fails.
-//! - `commands` and `image_commands` are the commands over writers. `words` reads what the command line asks for,
-//!   `version` has what `--version` prints, and `arguments` carries the command out.
+//! - `commands` and `image_commands` are the commands over writers.
 //! - `examples` has words and lines of a trace and of a state, worked out.
 //!
 //! Which texts can be run is defined in `specs/Runs.antt`, what the steps of a script are in `specs/Steps.antt`, the words
@@ -21,7 +21,6 @@
 //! `specs/Recovered.antt`.
 #![tactic(auto)]
 
-mod arguments;
 mod commands;
 mod devices;
 mod disk;
@@ -39,13 +38,12 @@ mod state_text;
 mod status_text;
 mod steps;
 mod trace_text;
-mod version;
-mod words;
 
-pub use arguments::{run_program, run_words};
-pub use commands::{report, run_text};
+pub use commands::{print, report, run_text};
+pub use devices::links_of;
 pub use fault::Fault;
 pub use geometry::geometry_of;
-pub use image::{Shown, format_disk, show_disk, text_of_disk};
+pub use image::{Shown, format_disk, opened, show_disk, text_of_disk};
 pub use image_commands::{format_image, show_image};
+pub use recovery::recover;
 pub use state_text::Recovered;

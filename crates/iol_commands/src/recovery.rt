@@ -1,7 +1,9 @@
 //! The journal on a disk.
 ghost use Rattle.std.specs.Prelude.{◌≡◌, Ok, [], IfOk, IfErr};
+ghost use Rattle.iol_journal.specs.Kept.{IsKept};
 ghost use Rattle.iol_journal.specs.Meaning.{standing_in};
 ghost use Rattle.iol_journal.specs.Reading.{Shows};
+ghost use Rattle.iol_journal.specs.Underway.{IsAtRest};
 ghost use Rattle.iol_commands.specs.Fault.{status_of};
 ghost use Rattle.iol_commands.specs.Images.{TellsWhy};
 
@@ -15,12 +17,15 @@ use std::alloc::Global;
 //
 // # Errors
 // Why the disk is not recovered.
-pub(crate) fn recover<D: SectorDisk + Drop>(
+pub fn recover<D: SectorDisk + Drop>(
     alloc: Global,
     disk: D,
 ) -> Result<(Journal<D>, MasterState), Fault<'static>>
     ensures found { IfOk result (λ found. Shows (D.disk disk) (λ image. standing_in (D.disk disk).sectors image ≡ Ok found.0.standing)) }
     ensures state { IfOk result (λ found. found.1 ≡ found.0.standing.state) }
+    // On a kept image the journal is at rest.
+    ensures at_rest { IfOk result (λ found. Shows (D.disk disk) (IsKept (D.disk disk).sectors)
+        → IsAtRest (D.disk found.0.disk) found.0.standing found.0.idle) }
     ensures history { IfOk result (λ found. found.0.history ≡ record { first = found.0.standing.number; start = found.1; commands = [] }) }
     ensures cause { IfErr result (λ fault. Shows (D.disk disk) (λ image. TellsWhy (standing_in (D.disk disk).sectors image) fault)) }
     ensures status { IfErr result (λ fault. status_of fault ≡ 1) }

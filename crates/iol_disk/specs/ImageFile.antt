@@ -5,7 +5,7 @@ use Rattle.iol_disk.specs.Disk.{Disk}
 use Rattle.iol_disk.specs.declared.disk.TheConstants.{SECTOR_OCTETS}
 use Rattle.iol_disk.specs.declared.fault.DiskFault.TheVariants.{Read, Write, Sync}
 use Rattle.iol_disk.specs.declared.image_fault.ImageFault.{ImageFault}
-use Rattle.iol_disk.specs.declared.image_fault.ImageFault.TheVariants.{Open, Disk as OfDisk, Memory}
+use Rattle.iol_disk.specs.declared.image_fault.ImageFault.TheVariants.{Open, InUse, Disk as OfDisk, Memory}
 use Rattle.iol_disk.specs.declared.image_file.ImageFile.{ImageFile}
 
 -- what stands for the content of a disk of which nothing is known; no promise speaks of it (own)
@@ -30,10 +30,14 @@ pub record IsUnknown (d : Disk) : Type 0 where
 abbrev pub IsUnopened : ImageFault → Type 0
 IsUnopened fault = (fault ≡ Open) ⊎ (fault ≡ Memory)
 
--- why a file is not made: it cannot be, or a write or a sync of the new file failed (own)
-abbrev pub IsCreateFault : ImageFault → Type 0
-IsCreateFault fault = IsUnopened fault ⊎ ((fault ≡ OfDisk Write) ⊎ (fault ≡ OfDisk Sync))
+-- the file is open already, or it cannot be locked (own)
+abbrev pub IsUnlocked : ImageFault → Type 0
+IsUnlocked fault = (fault ≡ InUse) ⊎ IsUnopened fault
 
--- why a file is not opened: it cannot be, or its length cannot be read (own)
+-- why a file is not made: it cannot be, or not be locked, or a write or a sync of the new file failed (own)
+abbrev pub IsCreateFault : ImageFault → Type 0
+IsCreateFault fault = IsUnlocked fault ⊎ ((fault ≡ OfDisk Write) ⊎ (fault ≡ OfDisk Sync))
+
+-- why a file is not opened: it cannot be, or not be locked, or its length cannot be read (own)
 abbrev pub IsOpenFault : ImageFault → Type 0
-IsOpenFault fault = IsUnopened fault ⊎ (fault ≡ OfDisk Read)
+IsOpenFault fault = IsUnlocked fault ⊎ (fault ≡ OfDisk Read)

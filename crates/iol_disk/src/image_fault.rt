@@ -1,8 +1,9 @@
 //! Why an image file is not made or opened.
 
-ghost use Rattle.iol_disk.specs.ImageFile.{IsUnopened};
+ghost use Rattle.iol_disk.specs.ImageFile.{IsUnlocked, IsUnopened};
 
 use crate::fault::DiskFault;
+use std::fs::TryLockError;
 use std::io::{self, ErrorKind};
 use thiserror::Error;
 
@@ -12,6 +13,9 @@ pub enum ImageFault {
     /// There is no such file, or it may not be opened; or it cannot be made, also where one is there.
     #[error("the image file cannot be opened or made")]
     Open,
+    /// It is open already, here or in another process.
+    #[error("the image file is in use")]
+    InUse,
     /// A later call of the file failed.
     #[error("a call of the image file failed")]
     Disk(#[source] DiskFault),
@@ -26,5 +30,15 @@ pub(crate) fn unopened(error: io::Error) -> ImageFault
     match error.kind() {
         ErrorKind::OutOfMemory => ImageFault::Memory,
         _ => ImageFault::Open,
+    }
+}
+
+// Why an open file is not locked.
+pub(crate) fn unlocked(error: TryLockError) -> ImageFault
+    ensures { IsUnlocked result }
+{
+    match error {
+        TryLockError::WouldBlock => ImageFault::InUse,
+        TryLockError::Error(error) => unopened(error),
     }
 }

@@ -2,7 +2,8 @@
 
 use crate::disk::{SECTOR_OCTETS, SectorDisk};
 use crate::fault::DiskFault;
-use crate::image_fault::{ImageFault, unopened};
+use crate::image_fault::{ImageFault, unlocked, unopened};
+use crate::lock_file::LockFile;
 use crate::new_file::{octets_of, settle, write_zeros};
 use std::fs::{File, OpenFile};
 use std::io;
@@ -14,7 +15,8 @@ use std::rt::Files;
 ///
 /// Nothing is known of what a file keeps, so it is not honest, and no contract promises its content. How many sectors it
 /// has is told once, when it is made or opened. A call goes on where the system took or gave only a part, and takes no
-/// memory. Nothing keeps another program from the file.
+/// memory. The file is locked for as long as it is open, so it is opened once at a time; what does not ask for the lock can
+/// write to it all the same.
 #[derive(Drop)]
 pub struct ImageFile<F> {
     file: F,
@@ -23,7 +25,7 @@ pub struct ImageFile<F> {
     failures: u64,
 }
 
-impl<F: FileExt + OpenFile + Drop> ImageFile<F> {
+impl<F: FileExt + OpenFile + LockFile + Drop> ImageFile<F> {
     ghost use Rattle.std.specs.Prelude.{◌≡◌, ◌<◌, ◌≤◌, ◌*◌, ◌^◌, Err, IfOk, IfErr};
     ghost use Rattle.iol_disk.specs.Disk.{Same, FailsOnlyAs};
     ghost use Rattle.iol_disk.specs.declared.disk.TheConstants.{SECTOR_OCTETS};
@@ -35,8 +37,8 @@ impl<F: FileExt + OpenFile + Drop> ImageFile<F> {
     ///
     /// # Errors
     /// `Open` where the file cannot be made, as where one is there or no file can have so many octets, or `Memory`; there
-    /// is no new file then. `Disk` where a call on the new file fails, by `Write` or by `Sync`: the file stays, with fewer
-    /// zeros or not settled.
+    /// is no new file then, unless it was made and could not be locked. `InUse` where another was first to lock the new file.
+    /// `Disk` where a call on the new file fails, by `Write` or by `Sync`: the file stays, with fewer zeros or not settled.
     pub fn create<R: Files<File = F>>(
         rt: &R,
         path: &str,
@@ -52,6 +54,7 @@ impl<F: FileExt + OpenFile + Drop> ImageFile<F> {
             Ok(file) => file,
             Err(error) => return Err(unopened(error)),
         };
+        file.try_lock().map_err(unlocked)?;
         if write_zeros(&file, octets).is_err() {
             return Err(ImageFault::Disk(DiskFault::Write));
         }
@@ -68,8 +71,8 @@ impl<F: FileExt + OpenFile + Drop> ImageFile<F> {
     /// Opens the file at `path`, to read and to write.
     ///
     /// # Errors
-    /// `Open` where it cannot be opened, as where there is none, or `Memory`; `Disk` of `Read` where its length cannot be
-    /// read.
+    /// `Open` where it cannot be opened, as where there is none, or `Memory`; `InUse` where it is open already, here or in
+    /// another process; `Disk` of `Read` where its length cannot be read.
     pub fn open<R: Files<File = F>>(rt: &R, path: &str) -> Result<ImageFile<F>, ImageFault>
         ensures unknown { IfOk result (λ opened. IsUnknown (as_disk opened)) }
         ensures fault { IfErr result IsOpenFault }
@@ -78,6 +81,7 @@ impl<F: FileExt + OpenFile + Drop> ImageFile<F> {
             Ok(file) => file,
             Err(error) => return Err(unopened(error)),
         };
+        file.try_lock().map_err(unlocked)?;
         let octets = match file.metadata() {
             Ok(metadata) => metadata.len(),
             Err(_) => return Err(ImageFault::Disk(DiskFault::Read)),
@@ -112,7 +116,7 @@ impl<F: FileExt + OpenFile + Drop> ImageFile<F> {
     }
 }
 
-impl<F: FileExt + OpenFile + Drop> SectorDisk for ImageFile<F> {
+impl<F: FileExt + OpenFile + LockFile + Drop> SectorDisk for ImageFile<F> {
     ghost use Rattle.iol_disk.specs.ImageFile.{as_disk};
 
     ghost disk = { as_disk };

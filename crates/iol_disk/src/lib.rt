@@ -4,7 +4,7 @@
 //! contract, what a read gives and what a stop at any moment may leave. [`MemoryDisk`] is such a disk, and can
 //! be stopped: a [`Pick`] says what the stop leaves of the sectors that no sync has settled. [`FaultDisk`] is another
 //! disk of which one call fails, and [`RecordedDisk`] one whose calls are recorded. [`ImageFile`] is a file of sectors, of
-//! which nothing is promised but its size and its faults.
+//! which nothing is promised but its size and its faults; [`LockFile`] locks it for as long as it is open.
 //!
 //! Read `disk` first, then `memory`, `fault_disk`, `recorded_disk` and `image_file`; `specs/Content.antt` has the words.
 //!
@@ -19,6 +19,7 @@ mod fault;
 mod fault_disk;
 mod image_fault;
 mod image_file;
+mod lock_file;
 mod memory;
 mod new_file;
 mod pick;
@@ -30,6 +31,7 @@ pub use fault::DiskFault;
 pub use fault_disk::{Due, FaultDisk};
 pub use image_fault::ImageFault;
 pub use image_file::ImageFile;
+pub use lock_file::LockFile;
 pub use memory::MemoryDisk;
 pub use pick::Pick;
 pub use recorded_disk::{DiskCall, RecordedDisk};

@@ -1,5 +1,5 @@
 mod Waiting
-mod Notices
+pub mod Notices
 mod Since
 mod Ends
 mod Reading

@@ -39,3 +39,11 @@ pub stands_within : (start : Start) (seen : List CommandValue) (number : ℕ) (c
     → number ≤ start.number + length seen
 stands_within start seen number command at =
     omega (arith, slice_get_within seen (number - start.number - 1) command at.there, at.above)
+
+-- it stands in each list that the list begins
+pub stands_later : (start : Start) (seen later : List CommandValue) (number : ℕ) (command : CommandValue)
+    → StandsAt start seen number command → IsPrefix seen later → StandsAt start later number command
+stands_later start seen later number command at longer = record {
+  above = at.above;
+  there = got_in seen later (number - start.number - 1) command longer at.there;
+}

@@ -14,6 +14,7 @@ use iol_front::Name;
 use iol_isdu::{Request, write_request};
 use iol_link::{DeviceLink, Lost};
 use iol_port::{Action, CoreCall, Input, PortMachine, PortStatus, Reply};
+use iol_run::{hear_event, wake};
 use iol_types::{PORTS, PortId};
 use std::alloc::{AllocError, Global};
 use std::sync::{Arc, Wait};
@@ -105,27 +106,6 @@ fn step<L: DeviceLink, F: Name, R: Wait>(
     hear_event(machine, link);
     wake(machine);
     act(rt, shared, machine, link);
-}
-
-// Notes an event of the device, if there is one.
-fn hear_event<L: DeviceLink>(machine: &mut PortMachine, link: &mut L)
-    requires ready { IsReady machine.old.stage }
-    ensures ready { IsReady machine.new.stage }
-{
-    if let Some(code) = link.take_event() {
-        machine.feed(Input::Event(code));
-    }
-}
-
-// Wakes a machine that is settled.
-fn wake(machine: &mut PortMachine)
-    requires ready { IsReady machine.old.stage }
-    ensures ready { IsReady machine.new.stage }
-    ensures open { is_settled machine.new.stage ≡ false }
-{
-    if machine.is_settled() {
-        machine.feed(Input::Wake);
-    }
 }
 
 // What the machine wants is done.

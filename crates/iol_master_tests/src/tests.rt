@@ -3,6 +3,8 @@
 mod backups;
 mod beginnings;
 mod failing_disks;
+mod full_queue;
+mod held;
 mod held_disk;
 mod many_clients;
 mod meeting_link;

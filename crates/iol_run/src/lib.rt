@@ -29,7 +29,7 @@ mod task;
 pub use core_on_disk::{CoreOnDisk, Turn, Turned};
 pub use event::{Event, Exchanged};
 pub use moment::Moment;
-pub use port_step::{PortTold, step_port};
+pub use port_step::{PortTold, hear_event, step_port, wake};
 pub use ports::Ports;
 pub use run::{Run, Stamped};
 pub use said::Said;

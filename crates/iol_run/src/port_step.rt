@@ -63,8 +63,8 @@ pub fn step_port<D: SectorDisk, L: DeviceLink, F: Name>(
     }
 }
 
-// Notes an event of the device, if there is one.
-fn hear_event<L: DeviceLink>(machine: &mut PortMachine, link: &mut L)
+/// Notes an event of the device, if there is one.
+pub fn hear_event<L: DeviceLink>(machine: &mut PortMachine, link: &mut L)
     requires ready { IsReady machine.old.stage }
     ensures event { HasEvent L.number L.steps machine.old machine.new link.old link.new }
     ensures ready { IsReady machine.new.stage }
@@ -74,8 +74,8 @@ fn hear_event<L: DeviceLink>(machine: &mut PortMachine, link: &mut L)
     }
 }
 
-// Wakes a machine that is settled.
-fn wake(machine: &mut PortMachine)
+/// Wakes a machine that is settled.
+pub fn wake(machine: &mut PortMachine)
     requires ready { IsReady machine.old.stage }
     ensures awake { machine.new ≡ awake machine.old }
     ensures ready { IsReady machine.new.stage }

@@ -1,5 +1,5 @@
 -- What values say one after another.
-use Rattle.std.proofs.Common.{◌≡◌, List, [], ◌∷◌, ◌++◌, map, Option, Some, None, option_map, refl, ap}
+use Rattle.std.proofs.Common.{◌≡◌, List, [], ◌∷◌, ◌++◌, map, Option, Some, None, option_map, refl, ap, append_assoc}
 
 -- what the next one says stands behind what those before it say, and in front of what those that are left say
 in_order : {A B : Type 0} (f : A → B) (before : List A) (next : A) (left : List B)
@@ -12,3 +12,10 @@ pub said_in_order : {A B : Type 0} (f : A → B) (before : List A) (next : A) (l
     ≡ option_map (λ others. map f (before ++ next ∷ []) ++ others) left
 said_in_order f before next None = refl
 said_in_order f before next (Some left) = ap Some (in_order f before next left)
+
+-- the next one, in front of those that are left, is the last one of those so far
+pub appended_in_order : {A : Type 0} (before : List A) (next : A) (left : Option (List A))
+    → option_map (λ others. before ++ others) (option_map (λ others. next ∷ others) left)
+    ≡ option_map (λ others. (before ++ next ∷ []) ++ others) left
+appended_in_order before next None = refl
+appended_in_order before next (Some others) = rw append_assoc

@@ -4,8 +4,10 @@ use Rattle.toml.specs.Data.{Data, integer, array, Items, no_items, item, Members
 use Rattle.iol_types.specs.declared.config.PortMode.TheVariants.{IolManual}
 use Rattle.iol_types.specs.declared.config.Validation.TheVariants.{Restore}
 use Rattle.iol_types.specs.DataSet.{Entry}
+use Rattle.iol_types.specs.declared.command.Change.TheVariants as change
 use Rattle.iol_types.specs.Examples.{example_set}
 use Rattle.iol_script.specs.Device.{SaidDevice}
+use Rattle.iol_script.specs.LiveScript.{SaidLive}
 use Rattle.iol_script.specs.Script.{Said}
 use Rattle.iol_script.specs.declared.step.Step.TheVariants.{Configure, Clear, Port, Flush, Drain}
 use Rattle.iol_disk.specs.declared.fault.DiskFault.TheVariants.{Write}
@@ -105,5 +107,22 @@ full_text =
     ++ codes "step = [{ do = \"configure\", port = 2, mode = 1, validation = 4, vendor = 502, device = 8 },"
     ++ codes "{ do = \"clear\", port = 3 }, { do = \"port\", port = 2, times = 6 }, { do = \"flush\", times = 9 },"
     ++ codes "{ do = \"drain\" }, { do = \"stop\", keep = \"zero\" }]\n"
+    ++ codes "[[device]]\nport = 2\nvendor = 501\ndevice = 7\nrevision = 16\nisdu = false\nflag = true\nlocked = true\n"
+    ++ codes "keys = [[80, 9]]\nvalues = [\"fF\"]\nanswers = 4\nevent = 3\n"
+
+-- for worked examples: a script for a master that runs in threads, with that device, and a step of each kind (own)
+abbrev pub live_script : SaidLive
+live_script = record {
+  devices = full_device ∷ [];
+  changes =
+      change.Configure 2 (record { mode = IolManual; validation = Restore; vendor = 502; device = 8 }) ∷ change.Clear 3 ∷ [];
+}
+
+-- for worked examples: its text, by lines, with numbers and a failing call that are not read (own)
+abbrev pub live_text : List ℕ
+live_text =
+    codes "ports = 99\nslots = \"none\"\nfail = 7\n"
+    ++ codes "step = [{ do = \"configure\", port = 2, mode = 1, validation = 4, vendor = 502, device = 8 },"
+    ++ codes "{ do = \"clear\", port = 3 }]\n"
     ++ codes "[[device]]\nport = 2\nvendor = 501\ndevice = 7\nrevision = 16\nisdu = false\nflag = true\nlocked = true\n"
     ++ codes "keys = [[80, 9]]\nvalues = [\"fF\"]\nanswers = 4\nevent = 3\n"

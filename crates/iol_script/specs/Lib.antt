@@ -9,4 +9,5 @@ pub mod Stop
 pub mod Steps
 pub mod Fail
 pub mod Script
+pub mod LiveScript
 pub mod Examples

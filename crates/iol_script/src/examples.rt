@@ -12,7 +12,10 @@ ghost use Rattle.iol_script.specs.Fail.{kind_of, call_in};
 ghost use Rattle.iol_script.specs.Stop.{keep_of};
 ghost use Rattle.iol_script.specs.Script.{IsText, said_in, is_port_of, fits_ports};
 ghost use Rattle.iol_script.specs.Examples.{numbers, empty_at, empty_from, said_at, blanks, example_script, example_text, full_script};
-ghost use Rattle.iol_script.specs.Examples.{full_text};
+ghost use Rattle.iol_script.specs.Examples.{full_text, live_script, live_text};
+ghost use Rattle.iol_script.specs.LiveScript.{change_by, live_in};
+ghost use Rattle.iol_script.specs.declared.step.Step.TheVariants.{Port, Flush, Drain};
+ghost use Rattle.iol_types.specs.declared.command.Change.TheVariants as change;
 
 use crate::device::USUAL_REVISION;
 
@@ -127,6 +130,21 @@ pub fn a_script()
 /// A whole script, in which each key of a device and of a step has another value than where it is missing.
 pub fn a_full_script()
     ensures { said_in full_text ≡ Some full_script }
+{}
+
+/// A whole script for a master that runs in threads: its numbers and its failing call are not read, and may be missing.
+pub fn a_live_script()
+    ensures said { live_in live_text ≡ Some live_script }
+    ensures no_numbers { live_in (codes "step = [{ do = \"clear\", port = 2 }]\n")
+        ≡ Some (record { devices = []; changes = change.Clear 2 ∷ [] }) }
+    ensures no_key { live_in (codes "port = 2\n") ≡ None }
+{}
+
+/// A port's step, one of the flusher, a drain and a stop are no steps of a client.
+pub fn steps_of_no_client()
+    ensures steps { map change_by (Port 1 1 ∷ Flush 1 ∷ Drain ∷ []) ≡ None ∷ None ∷ None ∷ [] }
+    ensures stop { live_in (codes "step = [{ do = \"stop\", keep = \"new\" }]\n") ≡ None }
+    ensures drain { live_in (codes "step = [{ do = \"clear\", port = 2 }, { do = \"drain\" }]\n") ≡ None }
 {}
 
 /// A text of 65,536 octets is judged, and one of one octet more is not.

@@ -8,15 +8,18 @@ use crate::fail::{FailingCall, fail_in};
 use crate::step::Step;
 use crate::steps::{before_stop, read_steps};
 use crate::table::{has_only_keys, integer_at, values_at};
+use crate::text::read_table;
 use iol_disk::Pick;
 use iol_types::PortId;
 use std::alloc::{AllocError, AllocFailed, Global};
-use std::str;
 use thiserror::Error;
 use toml::Table;
 
 /// The most octets that a script has.
 pub const SCRIPT_OCTETS: usize = 65_536;
+
+// The keys of a script.
+pub(crate) const TOP_KEYS: [&str; 5] = ["ports", "slots", "fail", "device", "step"];
 
 /// What a script says.
 #[derive(Drop)]
@@ -79,24 +82,15 @@ impl Script {
         ensures not_valid { result ≡ Err ScriptFault.NotValid → IsText text.now → said_in text.now ≡ None }
         ensures memory { result ≡ Err ScriptFault.Memory → IsText text.now }
     {
-        if SCRIPT_OCTETS < text.len() {
-            return Err(ScriptFault::NotValid);
-        }
-        let Ok(text) = str::from_utf8(text) else {
-            return Err(ScriptFault::NotValid);
-        };
-        match toml::table_from_str(alloc, text) {
-            Ok(table) => Script::from_table(alloc, &table),
-            Err(error) if error.is_memory() => Err(ScriptFault::Memory),
-            Err(_) => Err(ScriptFault::NotValid),
-        }
+        let table = read_table(alloc, text)?;
+        Script::from_table(alloc, &table)
     }
 
     fn from_table(alloc: Global, table: &Table) -> Result<Script, ScriptFault>
         ensures script { IfOk result (λ script. said_by (table_view table.now) ≡ Some (said_of script)) }
         ensures not_valid { result ≡ Err ScriptFault.NotValid → said_by (table_view table.now) ≡ None }
     {
-        if !has_only_keys(table, &["ports", "slots", "fail", "device", "step"]) {
+        if !has_only_keys(table, &TOP_KEYS) {
             return Err(ScriptFault::NotValid);
         }
         let ports = integer_at(table, "ports").ok_or(ScriptFault::NotValid)?;

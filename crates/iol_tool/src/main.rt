@@ -1,9 +1,16 @@
-//! `iolmaster`, the program: the commands of `iol_commands` over its words, standard output and standard error.
+//! `iolmaster`, the program: the commands of `iol_words` over its words, standard output and standard error.
 #![tactic(auto)]
 
-use iol_commands::run_program;
+use iol_live::Telling;
+use iol_words::run_program;
+use std::io::IsTerminal;
 use std::process::ExitCode;
 
 fn main(rt: HostRuntime) -> ExitCode {
-    ExitCode::from(run_program(&rt, &mut rt.stdout(), &mut rt.stderr()))
+    let telling = if rt.stderr().is_terminal() {
+        Telling::Progress
+    } else {
+        Telling::Nothing
+    };
+    ExitCode::from(run_program(&rt, telling, &mut rt.stdout(), &mut rt.stderr()))
 }

@@ -2,9 +2,10 @@
 
 ghost use Rattle.std.specs.Prelude.{◌≡◌};
 
+use super::held::{HeldDisk, Hold, new_hold};
 use super::scene::{Found, client_of, closed, formatted, port, unplugged};
-use super::signal::Signal;
-use iol_disk::{DiskFault, MemoryDisk, SECTOR_OCTETS, SectorDisk};
+use super::signal::MOST_TURNS;
+use iol_disk::MemoryDisk;
 use iol_front::Name;
 use iol_master::Client;
 use std::alloc::Global;
@@ -14,65 +15,10 @@ use std::sync::{Arc, Wait};
 use std::thread;
 use std::thread::Threads;
 
-// What a disk that is held tells, and what it is told.
-#[derive(Drop)]
-struct Hold {
-    // a write was begun
-    begun: Signal,
-    // it may go on
-    released: Signal,
-    // it went on without being told so
-    gave_up: Signal,
-}
-
-// Another disk, whose writes wait until it is released.
-#[derive(Drop)]
-struct HeldDisk<D: SectorDisk> {
-    disk: D,
-    hold: Arc<Hold, Global>,
-}
-
-impl<D: SectorDisk> SectorDisk for HeldDisk<D> {
-    ghost disk = { λ d. D.disk d.disk };
-
-    fn sectors(&self) -> usize {
-        self.disk.sectors()
-    }
-
-    fn read(&mut self, n: usize, octets: &mut [u8; SECTOR_OCTETS]) -> Result<(), DiskFault> {
-        self.disk.read(n, octets)
-    }
-
-    fn write(&mut self, n: usize, octets: &[u8; SECTOR_OCTETS]) -> Result<(), DiskFault> {
-        self.hold.begun.give();
-        if !self.hold.released.wait() {
-            self.hold.gave_up.give();
-        }
-        self.disk.write(n, octets)
-    }
-
-    fn sync(&mut self) -> Result<(), DiskFault> {
-        self.disk.sync()
-    }
-}
-
-// A hold of a disk that has written nothing.
-fn new_hold<R: Abort>(rt: &R, alloc: Global) -> Arc<Hold, Global> {
-    let hold = Hold {
-        begun: Signal::new(),
-        released: Signal::new(),
-        gave_up: Signal::new(),
-    };
-    let Ok(hold) = Arc::new(alloc, hold) else {
-        panic!(rt; "memory")
-    };
-    hold
-}
-
 #[test]
 fn a_read_is_answered_while_the_disk_writes(rt: HostRuntime) {
     let alloc = rt.alloc();
-    let ours = new_hold(&rt, alloc);
+    let ours = new_hold(&rt, alloc, MOST_TURNS);
     let theirs = Arc::try_clone(&ours).expect(&rt, "memory");
     let disk = HeldDisk {
         disk: formatted(&rt, alloc, 1),

@@ -30,9 +30,14 @@ impl Signal {
         self.given.load(Ordering::SeqCst)
     }
 
-    /// Waits for it, giving up the processor at each turn, and says whether it came.
+    /// Waits for it for at most [`MOST_TURNS`], and says whether it came.
     pub fn wait(&self) -> bool {
-        for _turn in 0..MOST_TURNS {
+        self.wait_for(MOST_TURNS)
+    }
+
+    /// Waits for it for at most so many turns, giving up the processor at each, and says whether it came.
+    pub fn wait_for(&self, turns: u32) -> bool {
+        for _turn in 0..turns {
             if self.is_given() {
                 return true;
             }

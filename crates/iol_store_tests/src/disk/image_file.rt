@@ -2,7 +2,7 @@
 
 use super::trial_files::{FileCall, TrialFiles, Trouble};
 use super::{FIRST, SECOND, ZEROS, expect_sector, expect_synced, expect_written, read, write};
-use iol_disk::{DiskFault, ImageFault, ImageFile, SECTOR_OCTETS, SectorDisk};
+use iol_disk::{DiskFault, ImageFault, ImageFile, LockFile, SECTOR_OCTETS, SectorDisk};
 use std::fs::{self, OpenFile};
 use std::io::ErrorKind;
 use std::os::unix::fs::FileExt;
@@ -20,7 +20,7 @@ fn write_file<R: Abort + Files + AllocGlobal>(rt: &R, path: &str, octets: usize)
     fs::write(rt, path, octets).expect(rt, "a file to write");
 }
 
-fn created<F: FileExt + OpenFile + Drop, R: Abort, S: Files<File = F>>(
+fn created<F: FileExt + OpenFile + LockFile + Drop, R: Abort, S: Files<File = F>>(
     rt: &R,
     files: &S,
     path: &str,
@@ -32,7 +32,7 @@ fn created<F: FileExt + OpenFile + Drop, R: Abort, S: Files<File = F>>(
     }
 }
 
-fn opened<F: FileExt + OpenFile + Drop, R: Abort, S: Files<File = F>>(
+fn opened<F: FileExt + OpenFile + LockFile + Drop, R: Abort, S: Files<File = F>>(
     rt: &R,
     files: &S,
     path: &str,
@@ -44,7 +44,7 @@ fn opened<F: FileExt + OpenFile + Drop, R: Abort, S: Files<File = F>>(
 }
 
 // The fault of the making of a file of so many sectors, and that of its opening.
-fn fault_of_create<F: FileExt + OpenFile + Drop, S: Files<File = F>>(
+fn fault_of_create<F: FileExt + OpenFile + LockFile + Drop, S: Files<File = F>>(
     files: &S,
     path: &str,
     sectors: usize,
@@ -52,7 +52,7 @@ fn fault_of_create<F: FileExt + OpenFile + Drop, S: Files<File = F>>(
     ImageFile::create(files, path, sectors).err()
 }
 
-fn fault_of_open<F: FileExt + OpenFile + Drop, S: Files<File = F>>(
+fn fault_of_open<F: FileExt + OpenFile + LockFile + Drop, S: Files<File = F>>(
     files: &S,
     path: &str,
 ) -> Option<ImageFault> {
@@ -60,14 +60,20 @@ fn fault_of_open<F: FileExt + OpenFile + Drop, S: Files<File = F>>(
 }
 
 // A new file of three sectors, of which the first and the last are written.
-fn make_kept<F: FileExt + OpenFile + Drop, R: Abort + Files<File = F>>(rt: &R, path: &str) {
+fn make_kept<F: FileExt + OpenFile + LockFile + Drop, R: Abort + Files<File = F>>(
+    rt: &R,
+    path: &str,
+) {
     let mut disk = created(rt, rt, path, 3);
     expect_written(rt, &mut disk, 0, &FIRST);
     expect_written(rt, &mut disk, 2, &SECOND);
     expect_synced(rt, &mut disk);
 }
 
-fn expect_kept<F: FileExt + OpenFile + Drop, R: Abort + Files<File = F>>(rt: &R, path: &str) {
+fn expect_kept<F: FileExt + OpenFile + LockFile + Drop, R: Abort + Files<File = F>>(
+    rt: &R,
+    path: &str,
+) {
     let mut disk = opened(rt, rt, path);
     assert!(rt; disk.sectors() == 3, "{} sectors", disk.sectors());
     expect_sector(rt, &mut disk, 0, &FIRST, "kept");
@@ -86,12 +92,10 @@ fn a_file_keeps_what_was_written(rt: HostRuntime) {
     free(&rt, path);
 }
 
-fn expect_sectors_in<F: FileExt + OpenFile + Drop, R: Abort + Files<File = F> + AllocGlobal>(
-    rt: &R,
-    path: &str,
-    octets: usize,
-    sectors: usize,
-) {
+fn expect_sectors_in<
+    F: FileExt + OpenFile + LockFile + Drop,
+    R: Abort + Files<File = F> + AllocGlobal,
+>(rt: &R, path: &str, octets: usize, sectors: usize) {
     write_file(rt, path, octets);
     let found = opened(rt, rt, path).sectors();
     assert!(rt; found == sectors, "{octets} octets are {found} sectors");
@@ -120,6 +124,26 @@ fn what_cannot_be_opened_or_made_is_told(rt: HostRuntime) {
     }
 }
 
+#[test]
+fn a_file_that_is_open_is_in_use(rt: HostRuntime) {
+    let path = "image_file_test_in_use.img";
+    free(&rt, path);
+    let made = created(&rt, &rt, path, 3);
+    assert!(rt;
+        fault_of_open(&rt, path) == Some(ImageFault::InUse),
+        "while it is made"
+    );
+    drop(made);
+    let first = opened(&rt, &rt, path);
+    assert!(rt;
+        fault_of_open(&rt, path) == Some(ImageFault::InUse),
+        "while it is open"
+    );
+    drop(first);
+    assert!(rt; fault_of_open(&rt, path).is_none(), "once it is closed");
+    free(&rt, path);
+}
+
 // What fails behind how many calls of its kind, and the faults of the making of a file of 65 sectors, and of its opening.
 const WRITE: Option<ImageFault> = Some(ImageFault::Disk(DiskFault::Write));
 
@@ -127,7 +151,7 @@ const SYNC: Option<ImageFault> = Some(ImageFault::Disk(DiskFault::Sync));
 
 const LENGTH: Option<ImageFault> = Some(ImageFault::Disk(DiskFault::Read));
 
-const TROUBLES: [(FileCall, usize, Option<ImageFault>, Option<ImageFault>); 8] = [
+const TROUBLES: [(FileCall, usize, Option<ImageFault>, Option<ImageFault>); 10] = [
     (
         FileCall::Open,
         0,
@@ -140,10 +164,12 @@ const TROUBLES: [(FileCall, usize, Option<ImageFault>, Option<ImageFault>); 8] =
     (FileCall::Open, 1, SYNC, None),
     (FileCall::Sync, 1, SYNC, None),
     (FileCall::Open, 2, None, Some(ImageFault::Open)),
+    (FileCall::Lock, 0, Some(ImageFault::Open), None),
+    (FileCall::Lock, 1, None, Some(ImageFault::Open)),
     (FileCall::Length, 0, None, LENGTH),
 ];
 
-fn expect_faults<F: FileExt + OpenFile + Drop, R: Abort, S: Files<File = F>>(
+fn expect_faults<F: FileExt + OpenFile + LockFile + Drop, R: Abort, S: Files<File = F>>(
     rt: &R,
     files: &S,
     path: &str,
@@ -181,7 +207,10 @@ fn want_of_memory_is_told(rt: HostRuntime) {
 }
 
 // A file of two sectors, with octets in the first.
-fn make_two_sectors<F: FileExt + OpenFile + Drop, R: Abort + Files<File = F>>(rt: &R, path: &str) {
+fn make_two_sectors<F: FileExt + OpenFile + LockFile + Drop, R: Abort + Files<File = F>>(
+    rt: &R,
+    path: &str,
+) {
     free(rt, path);
     let mut disk = created(rt, rt, path, 2);
     expect_written(rt, &mut disk, 0, &FIRST);

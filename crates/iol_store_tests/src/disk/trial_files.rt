@@ -1,8 +1,9 @@
 //! The system's files, of which one call fails, or each is short.
 
+use iol_disk::LockFile;
 use std::alloc::Allocator;
 use std::cell::Cell;
-use std::fs::{self, File, Metadata, OpenFile, OpenOptions};
+use std::fs::{self, File, Metadata, OpenFile, OpenOptions, TryLockError};
 use std::io::{self, ErrorKind, Read, Seek, SeekFrom, Write};
 use std::os::unix::fs::FileExt;
 use std::rt::Files;
@@ -11,6 +12,7 @@ use std::rt::Files;
 #[derive(Clone, Copy, Debug, PartialEq, Eq)]
 pub enum FileCall {
     Open,
+    Lock,
     Length,
     Read,
     Write,
@@ -117,6 +119,15 @@ impl OpenFile for TrialFile<'_> {
 
     fn sync_data(&self) -> io::Result<()> {
         self.sync_all()
+    }
+}
+
+impl LockFile for TrialFile<'_> {
+    fn try_lock(&self) -> Result<(), TryLockError> {
+        if let Err(error) = self.trouble.meet(FileCall::Lock) {
+            return Err(TryLockError::Error(error));
+        }
+        self.file.try_lock()
     }
 }
 

@@ -14,6 +14,11 @@ pub(crate) enum Asked<'a> {
         slots: u16,
         force: bool,
     },
+    Live {
+        image: &'a str,
+        script: &'a str,
+        receipts: bool,
+    },
     Show {
         image: &'a str,
     },
@@ -40,6 +45,7 @@ fn program<'a>(alloc: Global, version: &'a str) -> Result<Command<'a>, AllocErro
         .subcommand_required(true)
         .subcommand(run(alloc)?)?
         .subcommand(format(alloc)?)?
+        .subcommand(live(alloc)?)?
         .subcommand(show(alloc)?)
 }
 
@@ -51,6 +57,11 @@ fn asked_by<'a>(matches: &ArgMatches<'a>) -> Asked<'a> {
             ports: number(format, "ports"),
             slots: number(format, "slots"),
             force: format.get_flag("force"),
+        },
+        Some(("live", live)) => Asked::Live {
+            image: text(live, "IMAGE"),
+            script: text(live, "SCRIPT"),
+            receipts: live.get_flag("receipts"),
         },
         Some(("show", show)) => Asked::Show {
             image: text(show, "IMAGE"),
@@ -75,13 +86,10 @@ Examples, each with what it prints beside it:
   examples/failing_disk.toml           a disk call fails";
 
 fn run<'a>(alloc: Global) -> Result<Command<'a>, AllocError> {
-    let script = Arg::new(alloc, "SCRIPT")
-        .required(true)
-        .help("The path of a script in TOML");
     Command::new(alloc, "run")
         .about("Runs a script on a disk in memory, and prints its trace and the recovered state")
         .after_help(EXAMPLES)
-        .arg(script)
+        .arg(script(alloc))
 }
 
 fn format<'a>(alloc: Global) -> Result<Command<'a>, AllocError> {
@@ -98,6 +106,31 @@ fn format<'a>(alloc: Global) -> Result<Command<'a>, AllocError> {
         .arg(force)
 }
 
+// What is told behind the options of `live`.
+const LIVE_NOTES: &str = "\
+The script's devices are at the ports, and each port that has steps has a client in a thread of its own.
+Its steps are those of clients alone: configure and clear.
+
+Ctrl-C and a kill are a power stop: nothing that has its receipt is lost. The image is locked meanwhile.
+
+An example, with what it prints beside it, on an image of 2 ports and 4 slots:
+  examples/live.toml                   a sensor is backed up beside two clients";
+
+fn live<'a>(alloc: Global) -> Result<Command<'a>, AllocError> {
+    let receipts = Arg::new(alloc, "receipts")
+        .long("receipts")
+        .action(ArgAction::SetTrue)
+        .help("Writes a line on standard error for each receipt, as it comes");
+    Command::new(alloc, "live")
+        .about(
+            "Runs a master on an image file, and prints how many receipts there are and the recovered state",
+        )
+        .after_help(LIVE_NOTES)
+        .arg(image(alloc))?
+        .arg(script(alloc))?
+        .arg(receipts)
+}
+
 fn show<'a>(alloc: Global) -> Result<Command<'a>, AllocError> {
     Command::new(alloc, "show")
         .about("Recovers the state on an image file, and prints it")
@@ -109,6 +142,13 @@ fn image<'a>(alloc: Global) -> Arg<'a> {
     Arg::new(alloc, "IMAGE")
         .required(true)
         .help("The path of an image file")
+}
+
+// The path of a script.
+fn script<'a>(alloc: Global) -> Arg<'a> {
+    Arg::new(alloc, "SCRIPT")
+        .required(true)
+        .help("The path of a script in TOML")
 }
 
 // An option with a whole number, 0 to 65,535.

@@ -1,0 +1,18 @@
+//! Files that are locked for as long as they are open.
+
+use std::fs::{File, TryLockError};
+
+/// A file that can be locked against every other open of it, also in another process.
+pub trait LockFile {
+    /// Locks the file until it is closed, or its process ends.
+    ///
+    /// # Errors
+    /// `WouldBlock` where the file is locked already; `Error` where the system cannot lock it.
+    fn try_lock(&self) -> Result<(), TryLockError>;
+}
+
+impl LockFile for File {
+    fn try_lock(&self) -> Result<(), TryLockError> {
+        File::try_lock(self)
+    }
+}

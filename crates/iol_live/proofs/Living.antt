@@ -1,0 +1,110 @@
+-- What a master leaves is the state after its commands, behind what was there, and it can be recovered.
+use Rattle.std.proofs.Common.{◌≡◌, ◌∙◌, ℕ, ◌+◌, List, length, Result, Ok, Err, sym, ap}
+use Rattle.std.specs.Prelude.{IsTrue}
+use Rattle.iol_types.specs.Command.{CommandValue}
+use Rattle.iol_types.specs.State.{State, after}
+use Rattle.iol_disk.proofs.Images.{reads-is_image}
+use Rattle.iol_disk.specs.Content.{reads}
+use Rattle.iol_disk.specs.Disk.{Disk}
+use Rattle.iol_script.specs.declared.device.Device.{Device}
+use Rattle.iol_front.specs.Fronts.{Start}
+use Rattle.iol_journal.specs.Journals.{JournalView}
+use Rattle.iol_journal.specs.Kept.{EachMeans, IsKept}
+use Rattle.iol_journal.specs.Meaning.{Cause, Meaning, unformatted, damaged, standing_in}
+use Rattle.iol_journal.specs.Reading.{Shows}
+use Rattle.iol_journal.specs.Underway.{IsAtRest}
+use Rattle.iol_commands.specs.Images.{TellsWhy}
+use Rattle.iol_commands.specs.Recovered.{TellsState, recovered_text}
+use Rattle.iol_commands.specs.declared.fault.Fault.{Fault}
+use Rattle.iol_commands.specs.declared.fault.Fault.TheVariants.{NotFormatted, AlreadyFormatted, TooSmall, Damaged, Disk as OfDisk, Memory}
+use Rattle.iol_commands.specs.declared.fault.Fault.TheVariants.{Words, File, InUse, Thread, Call, Fit, Script, Geometry}
+use Rattle.iol_master.specs.Endings.{IsWhole}
+use Rattle.iol_live.specs.Lived.{IsAfterWhatIsThere, IsLiveCause, IsRunCause, TellsReceipts, lived_text}
+
+pub ok_same : {A B : Type 0} (x y : A) → ◌≡◌ {A = Result A B} (Ok x) (Ok y) → x ≡ y
+ok_same x y same = cc
+
+-- on an honest disk each image of which means a number and a state, these are what is told
+tells_what_is_meant : (d : Disk) (number : ℕ) (state : State) (text : List ℕ) → IsTrue d.honest → EachMeans d number state
+    → TellsState d text → text ≡ recovered_text number state
+tells_what_is_meant d number state text honest means tells =
+    let meant = (means honest (reads d.content) (reads-is_image d.content)).1 in
+    let same : Ok (record { number = tells.0; state = tells.1 }) ≡ Ok (record { number = number; state = state }) =
+    sym (tells.2 honest) ∙ meant in
+    let m : record { number = tells.0; state = tells.1 } ≡ record { number = number; state = state } = ok_same _ _ same in
+    tells.3 ∙ ap (λ (m : Meaning). recovered_text m.number m.state) m
+
+-- the text of what a master left
+pub left_behind : {D : Type 0} (disk : D → Disk) (start : Start) (first last : JournalView D) (published : List CommandValue)
+    (receipts : ℕ) (told text : List ℕ) → ((d : D) → IsTrue (disk d).honest)
+    → IsAtRest (disk first.disk) first.standing first.idle
+    → start ≡ record { number = first.standing.number; state = first.standing.state }
+    → IsWhole disk start first last published → TellsState (disk last.disk) told → text ≡ lived_text receipts told
+    → IsAfterWhatIsThere receipts first.standing text
+left_behind disk start first last published receipts told text honest rest same whole tells is =
+    let number : last.standing.number ≡ first.standing.number + length published = whole.behind.number
+    ∙ ap (λ (s : Start). s.number + length published) same in
+    let state : last.standing.state ≡ after first.standing.state published = whole.behind.state
+    ∙ ap (λ (s : Start). after s.state published) same in
+    let tells_last = tells_what_is_meant (disk last.disk) last.standing.number last.standing.state told (honest last.disk)
+    (whole.images rest) tells in
+    let told_is : told ≡ recovered_text (first.standing.number + length published) (after first.standing.state published) = tells_last
+    ∙ (ap (λ (n : ℕ). recovered_text n last.standing.state) number
+    ∙ ap (λ (s : State). recovered_text (first.standing.number + length published) s) state) in
+    (published, is ∙ ap (lived_text receipts) told_is)
+
+-- what is met of a disk on which a journal stands is a disk call or memory that failed
+met : {Y : Type 0} (read : Result Y Cause) (y : Y) (fault : Fault) → TellsWhy read fault → read ≡ Ok y → IsRunCause fault
+met read y NotFormatted tells is = let wrong : ◌≡◌ {A = Result _ Cause} (Err unformatted) (Ok y) = sym tells ∙ is in absurd cc
+met read y (Damaged sector) tells is = let wrong : ◌≡◌ {A = Result _ Cause} (Err (damaged sector)) (Ok y) = sym tells ∙ is in absurd cc
+met read y OfDisk tells is = tt
+met read y Memory tells is = tt
+met read y AlreadyFormatted tells is = absurd tells
+met read y TooSmall tells is = absurd tells
+met read y Words tells is = absurd tells
+met read y (File path) tells is = absurd tells
+met read y InUse tells is = absurd tells
+met read y Thread tells is = absurd tells
+met read y Call tells is = absurd tells
+met read y Fit tells is = absurd tells
+met read y Script tells is = absurd tells
+met read y Geometry tells is = absurd tells
+
+-- why the disk that a master left is not recovered
+pub left_cause : {D : Type 0} (disk : D → Disk) (start : Start) (first last : JournalView D) (published : List CommandValue) (fault : Fault)
+    → ((d : D) → IsTrue (disk d).honest) → IsAtRest (disk first.disk) first.standing first.idle → IsWhole disk start first last published
+    → Shows (disk last.disk) (λ image. TellsWhy (standing_in (disk last.disk).sectors image) fault) → IsRunCause fault
+unfolding IsKept
+left_cause disk start first last published fault honest rest whole tells =
+    let d = disk last.disk in
+    let kept = (whole.images rest (honest last.disk) (reads d.content) (reads-is_image d.content)).0 in
+    met (standing_in d.sectors (reads d.content)) kept.0 fault (tells (honest last.disk)) kept.2.stands
+
+-- what is told of any disk is some number and state
+pub receipts_told : (d : Disk) (receipts : ℕ) (told text : List ℕ) → TellsState d told → text ≡ lived_text receipts told
+    → TellsReceipts receipts text
+receipts_told d receipts told text tells is = (tells.0, tells.1, is ∙ ap (lived_text receipts) tells.3)
+
+-- why a run prints nothing is why nothing is printed
+pub as_live_cause : (d : Disk) (devices : List Device) (fault : Fault) → IsRunCause fault → IsLiveCause d devices fault
+as_live_cause d devices NotFormatted is = is
+as_live_cause d devices (Damaged sector) is = is
+as_live_cause d devices OfDisk is = is
+as_live_cause d devices Memory is = is
+as_live_cause d devices AlreadyFormatted is = is
+as_live_cause d devices TooSmall is = is
+as_live_cause d devices Words is = is
+as_live_cause d devices (File path) is = is
+as_live_cause d devices InUse is = is
+as_live_cause d devices Thread is = is
+as_live_cause d devices Call is = is
+as_live_cause d devices Fit is = absurd is
+as_live_cause d devices Script is = is
+as_live_cause d devices Geometry is = is
+
+-- why a disk is not recovered on which a journal stands
+pub recovery_cause : (d : Disk) (devices : List Device) (fault : Fault) → IsTrue d.honest → IsKept d.sectors (reads d.content)
+    → Shows d (λ image. TellsWhy (standing_in d.sectors image) fault) → IsLiveCause d devices fault
+unfolding IsKept
+recovery_cause d devices fault honest kept tells =
+    as_live_cause d devices fault (met (standing_in d.sectors (reads d.content)) kept.0 fault (tells honest) kept.2.stands)

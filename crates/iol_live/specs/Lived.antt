@@ -1,0 +1,65 @@
+-- What is printed of a running master, and why nothing is.
+use Rattle.std.specs.Prelude.{◌≡◌, ◌⊎◌, Some, None, ℕ, ◌+◌, nat_le, Bool, true, false, List, ◌++◌, length, codes, Ok}
+use Rattle.std.specs.Fmt.{decimal}
+use Rattle.std.specs.List.{list_all}
+use Rattle.iol_types.specs.Command.{CommandValue}
+use Rattle.iol_types.specs.State.{State, after}
+use Rattle.iol_disk.specs.Disk.{Disk}
+use Rattle.iol_journal.specs.Meaning.{Standing, standing_in}
+use Rattle.iol_journal.specs.Reading.{Shows}
+use Rattle.iol_commands.specs.Fault.{status_of}
+use Rattle.iol_commands.specs.Recovered.{recovered_text}
+use Rattle.iol_commands.specs.declared.fault.Fault.{Fault}
+use Rattle.iol_commands.specs.declared.fault.Fault.TheVariants.{Fit, Thread, Call, Disk as OfDisk, Memory, Script}
+use Rattle.iol_script.specs.LiveScript.{SaidLive, live_in}
+use Rattle.iol_script.specs.Script.{IsText}
+use Rattle.iol_script.specs.declared.device.Device.{Device}
+
+-- what is printed: how many receipts there are, and the lines of the state that is recovered (format, Texts)
+abbrev pub lived_text : ℕ → List ℕ → List ℕ
+lived_text receipts state = codes "receipts " ++ (decimal receipts ++ (codes "\n" ++ state))
+
+-- a text tells so many receipts, and the state after some commands behind what was there (format, Texts)
+abbrev pub IsAfterWhatIsThere : ℕ → Standing → List ℕ → Type 0
+IsAfterWhatIsThere receipts there text =
+    (commands : List CommandValue)
+    × (text ≡ lived_text receipts (recovered_text (there.number + length commands) (after there.state commands)))
+
+-- each device of a script is at one of so many ports (format, Scripts)
+abbrev pub fits : ℕ → List Device → Bool
+fits ports devices = list_all (λ (device : Device). nat_le device.port ports) devices
+
+-- the devices of a script fit the image, or not: they are at the ports that an honest disk has (format, Scripts)
+abbrev pub Fits : Disk → List Device → Bool → Type 0
+Fits disk devices answer =
+    Shows disk (λ image. (there : Standing) → standing_in disk.sectors image ≡ Ok there → fits (length there.state) devices ≡ answer)
+
+-- why a run that has begun prints nothing: a thread could not start, a client has no receipt, or a disk call or memory failed
+-- (format, Texts)
+abbrev pub IsRunCause : Fault → Type 0
+IsRunCause Thread = Unit {0}
+IsRunCause Call = Unit {0}
+IsRunCause OfDisk = Unit {0}
+IsRunCause Memory = Unit {0}
+IsRunCause fault = ⊥
+
+-- why nothing is printed of a disk on which a journal stands: a device is at a port that is not there, or the run prints nothing
+-- (format, Texts)
+abbrev pub IsLiveCause : Disk → List Device → Fault → Type 0
+IsLiveCause disk devices Fit = Fits disk devices false
+IsLiveCause disk devices fault = IsRunCause fault
+
+-- a text tells so many receipts, and some number and state (format, Texts)
+abbrev pub TellsReceipts : ℕ → List ℕ → Type 0
+TellsReceipts receipts text = (number : ℕ) × (state : State) × (text ≡ lived_text receipts (recovered_text number state))
+
+-- a text tells a receipt for each step of a script, and what was recovered behind them (format, Texts)
+pub record TellsRun (script text : List ℕ) : Type 0 where
+  pub said : SaidLive
+  pub valid : IsText script
+  pub script_is : live_in script ≡ Some said
+  pub told : TellsReceipts (length said.changes) text
+
+-- why nothing is printed: the script is not valid, or it is not to blame (format, Texts)
+abbrev pub IsScriptCause : List ℕ → Fault → Type 0
+IsScriptCause script fault = ((fault ≡ Script) × (IsText script → live_in script ≡ None)) ⊎ (status_of fault ≡ 1)

@@ -1,0 +1,195 @@
+//! The clients of a script: one for each port that is asked for something, each in a thread of its own.
+ghost use Rattle.std.specs.Prelude.{◌≡◌, IfErr};
+ghost use Rattle.iol_commands.specs.Fault.{status_of};
+ghost use Rattle.iol_live.specs.Lived.{IsRunCause};
+
+use crate::telling::{Telling, Told};
+use crossbeam_channel::{Receiver, Sender};
+use iol_commands::Fault;
+use iol_disk::SectorDisk;
+use iol_front::Name;
+use iol_master::{Client, Master};
+use iol_types::{Change, PORTS, PortId};
+use std::alloc::{AllocError, Global};
+use std::io::Write;
+use std::sync::Wait;
+use std::thread;
+use std::thread::{JoinHandle, Threads};
+
+// How many receipts may wait until they are told.
+const ROOM: usize = 64;
+
+// The clients that were started: each brings back whether all that it asked for was granted.
+type Asking = Vec<JoinHandle<bool>>;
+
+// Asks a master for changes, those of each port one after another, and tells each receipt as it comes. There is one for each
+// change.
+//
+// # Errors
+// `Memory`, `Thread` where a client's thread was not made, and `Call` where a change has no receipt, once all clients have
+// ended.
+pub(crate) fn ask_all<
+    D: SectorDisk + Drop + Send + 'static,
+    F: Name + 'static,
+    E: Write,
+    R: Threads + Wait + Copy + Send + 'static,
+>(
+    rt: &R,
+    alloc: Global,
+    master: &mut Master<D, F>,
+    changes: &[Change],
+    telling: Telling,
+    err: &mut E,
+) -> Result<(), Fault<'static>>
+    ensures same { master.new ≡ master.old }
+    ensures silent { telling ≡ Telling.Nothing → err.new ≡ err.old }
+    ensures cause { IfErr result IsRunCause }
+    ensures status { IfErr result (λ fault. status_of fault ≡ 1) }
+{
+    let (told, heard) = crossbeam_channel::bounded(alloc, ROOM)?;
+    let mut clients = Vec::with_capacity(alloc, usize::from(PORTS))?;
+    let started = start_clients(rt, alloc, master, changes, told, &mut clients);
+    let count = hear(rt, &heard, telling, err);
+    let granted = join_all(rt, clients);
+    started?;
+    if granted && count == changes.len() {
+        Ok(())
+    } else {
+        Err(Fault::Call)
+    }
+}
+
+// Starts a client for each port that is asked for something, port 1 first. The clients alone tell receipts then.
+//
+// # Errors
+// `Memory`, or `Thread`; those that were started go on.
+fn start_clients<
+    D: SectorDisk + Drop + Send + 'static,
+    F: Name + 'static,
+    R: Threads + Wait + Copy + Send + 'static,
+>(
+    rt: &R,
+    alloc: Global,
+    master: &mut Master<D, F>,
+    changes: &[Change],
+    told: Sender<Told, Global>,
+    clients: &mut Asking,
+) -> Result<(), Fault<'static>>
+    ensures same { master.new ≡ master.old }
+    ensures cause { IfErr result IsRunCause }
+    ensures status { IfErr result (λ fault. status_of fault ≡ 1) }
+{
+    for number in 1..=PORTS {
+        let asked = changes_of(alloc, changes, number)?;
+        if !asked.is_empty() {
+            let told = told.clone()?;
+            clients.push(start_client(rt, master, asked, told)?)?;
+        }
+    }
+    Ok(())
+}
+
+// The changes that are asked of the port with this number, in their order.
+fn changes_of(alloc: Global, changes: &[Change], number: u8) -> Result<Vec<Change>, AllocError> {
+    let mut asked = Vec::new(alloc);
+    for change in changes {
+        if port_of(*change).number() == number {
+            asked.push(*change)?;
+        }
+    }
+    Ok(asked)
+}
+
+fn port_of(change: Change) -> PortId {
+    match change {
+        Change::Configure { port, .. } | Change::Clear { port } => port,
+    }
+}
+
+// Starts a client that asks for these changes.
+//
+// # Errors
+// `Memory`, or `Thread`.
+fn start_client<
+    D: SectorDisk + Drop + Send + 'static,
+    F: Name + 'static,
+    R: Threads + Wait + Copy + Send + 'static,
+>(
+    rt: &R,
+    master: &mut Master<D, F>,
+    asked: Vec<Change>,
+    told: Sender<Told, Global>,
+) -> Result<JoinHandle<bool>, Fault<'static>>
+    ensures same { master.new ≡ master.old }
+    ensures cause { IfErr result IsRunCause }
+    ensures status { IfErr result (λ fault. status_of fault ≡ 1) }
+{
+    let client = master.client()?;
+    let rt = *rt;
+    match thread::spawn(&rt, move || ask(&rt, client, &asked, &told)) {
+        Ok(started) => Ok(started),
+        Err(_) => Err(Fault::Thread),
+    }
+}
+
+// Asks for changes, one after another, and tells each receipt. Whether each was granted.
+fn ask<F: Name, R: Wait>(
+    rt: &R,
+    mut client: Client<F>,
+    asked: &[Change],
+    told: &Sender<Told, Global>,
+) -> bool {
+    for change in asked {
+        let Some(number) = number_of(rt, &mut client, *change) else {
+            return false;
+        };
+        if !tell(rt, told, port_of(*change), number) {
+            return false;
+        }
+    }
+    true
+}
+
+// Tells a receipt, and says whether it is heard.
+fn tell<R: Wait>(rt: &R, told: &Sender<Told, Global>, port: PortId, number: u64) -> bool {
+    told.send(rt, Told { port, number }).is_ok()
+}
+
+// The number under which a change is durable, where the client gets its receipt.
+fn number_of<F: Name, R: Wait>(rt: &R, client: &mut Client<F>, change: Change) -> Option<u64> {
+    let answer = match change {
+        Change::Configure { port, config } => client.configure(rt, port, config),
+        Change::Clear { port } => client.clear(rt, port),
+    };
+    match answer {
+        Ok(receipt) => Some(receipt.number),
+        Err(_) => None,
+    }
+}
+
+// Tells each receipt as it comes, until all clients have ended, and says how many there were.
+fn hear<E: Write, R: Wait>(
+    rt: &R,
+    heard: &Receiver<Told, Global>,
+    telling: Telling,
+    err: &mut E,
+) -> usize
+    ensures { telling ≡ Telling.Nothing → err.new ≡ err.old }
+{
+    let mut count = 0usize;
+    for told in heard.iter(rt) {
+        count = count.saturating_add(1);
+        telling.tell(err, told, count);
+    }
+    telling.end(err, count);
+    count
+}
+
+// Waits until these clients have ended. Whether each was granted all that it asked for.
+fn join_all<R: Threads>(rt: &R, clients: Asking) -> bool {
+    let mut all = true;
+    for client in clients {
+        all &= client.join(rt);
+    }
+    all
+}

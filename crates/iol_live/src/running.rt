@@ -1,0 +1,141 @@
+//! A running master on a disk, and what is printed of it.
+ghost use Rattle.std.specs.Prelude.{◌≡◌, true, List, ℕ, [], vec_len, All, IfErr, IfOk, OnOk, IsTrue, Ok, string_bytes};
+ghost use Rattle.iol_disk.specs.Content.{reads};
+ghost use Rattle.iol_journal.specs.Kept.{IsKept};
+ghost use Rattle.iol_journal.specs.Meaning.{Standing, standing_in};
+ghost use Rattle.iol_journal.specs.Reading.{Shows};
+ghost use Rattle.iol_journal.specs.Underway.{IsAtRest};
+ghost use Rattle.iol_commands.specs.Devices.{MayVisit};
+ghost use Rattle.iol_commands.specs.Fault.{status_of};
+ghost use Rattle.iol_commands.specs.Images.{TellsWhy};
+ghost use Rattle.iol_commands.specs.Recovered.{TellsState};
+ghost use Rattle.iol_live.specs.Lived.{Fits, IsAfterWhatIsThere, IsLiveCause, IsRunCause, TellsReceipts, fits, lived_text};
+
+use crate::asking::ask_all;
+use crate::telling::Telling;
+use iol_commands::{Fault, links_of, recover, text_of_disk};
+use iol_disk::SectorDisk;
+use iol_front::{Front, Name};
+use iol_journal::Journal;
+use iol_master::{Ending, Master, StartFault};
+use iol_script::{Device, LiveScript};
+use iol_types::MasterState;
+use std::alloc::Global;
+use std::io::Write;
+use std::marker::Brand;
+use std::sync::Wait;
+use std::thread::Threads;
+
+/// Runs a master on a disk, with the devices of a script at its ports and a client for each port that the script asks for
+/// something; what is printed once all clients have their receipts, the master has ended, and the disk is recovered anew.
+///
+/// # Errors
+/// Why the disk is not recovered; `Fit` where a device is at a port that is not there; `Thread`; `Disk` where a disk call
+/// fails; `Call` where a client has no receipt; and `Memory`. What has a receipt is on the disk also then.
+pub fn live_on_disk<
+    D: SectorDisk + Drop + Send + 'static,
+    E: Write,
+    R: Threads + Wait + Copy + Send + 'static,
+>(
+    rt: &R,
+    alloc: Global,
+    disk: D,
+    script: &LiveScript,
+    telling: Telling,
+    err: &mut E,
+) -> Result<String, Fault<'static>>
+    requires devices { All MayVisit script.now.devices.items }
+    // On a disk that reads as it was written, and on which a journal stands: what is printed is the state after some commands,
+    // behind what was there.
+    ensures lived { ((d : D) → IsTrue (D.disk d).honest) → IsKept (D.disk disk).sectors (reads (D.disk disk).content)
+        → (there : Standing) → standing_in (D.disk disk).sectors (reads (D.disk disk).content) ≡ Ok there
+        → IfOk result (λ text. IsAfterWhatIsThere (vec_len script.now.changes) there (string_bytes text)) }
+    // On any disk it is as many receipts as the script has steps, and a state.
+    ensures text { IfOk result (λ text. TellsReceipts (vec_len script.now.changes) (string_bytes text)) }
+    ensures fits { OnOk result (Fits (D.disk disk) script.now.devices.items true) }
+    ensures silent { telling ≡ Telling.Nothing → err.new ≡ err.old }
+    // On such a disk nothing else is a cause.
+    ensures cause { ((d : D) → IsTrue (D.disk d).honest) → IsKept (D.disk disk).sectors (reads (D.disk disk).content)
+        → IfErr result (IsLiveCause (D.disk disk) script.now.devices.items) }
+    ensures status { IfErr result (λ fault. status_of fault ≡ 1) }
+{
+    let (journal, state) = recover(alloc, disk)?;
+    if !fits(&script.devices, state.ports()) {
+        return Err(Fault::Fit);
+    }
+    let front = Front::new(alloc, journal.number(), &state)?;
+    live_behind::<D, Brand, E, R>(rt, alloc, front, journal, state, script, telling, err)
+}
+
+// Whether each device is at one of so many ports.
+fn fits(devices: &[Device], ports: u8) -> bool
+    ensures { result ≡ fits ports devices.now }
+{
+    devices.iter().all(|device| device.port.number() <= ports)
+}
+
+// Runs a master over a journal that was just recovered, under the name of a front that starts with it.
+fn live_behind<
+    D: SectorDisk + Drop + Send + 'static,
+    F: Name + 'static,
+    E: Write,
+    R: Threads + Wait + Copy + Send + 'static,
+>(
+    rt: &R,
+    alloc: Global,
+    front: Front,
+    journal: Journal<D>,
+    state: MasterState,
+    script: &LiveScript,
+    telling: Telling,
+    err: &mut E,
+) -> Result<String, Fault<'static>>
+    requires devices { All MayVisit script.now.devices.items }
+    requires name { front ≡ F.front }
+    requires start { front.start ≡ record { number = journal.standing.number; state = journal.standing.state } }
+    requires state { state ≡ journal.standing.state }
+    requires history { journal.history
+        ≡ record { first = journal.standing.number; start = journal.standing.state; commands = [] } }
+    ensures lived { ((d : D) → IsTrue (D.disk d).honest) → IsAtRest (D.disk journal.disk) journal.standing journal.idle
+        → IfOk result (λ text. IsAfterWhatIsThere (vec_len script.now.changes) journal.standing (string_bytes text)) }
+    ensures text { IfOk result (λ text. TellsReceipts (vec_len script.now.changes) (string_bytes text)) }
+    ensures silent { telling ≡ Telling.Nothing → err.new ≡ err.old }
+    ensures cause { ((d : D) → IsTrue (D.disk d).honest) → IsAtRest (D.disk journal.disk) journal.standing journal.idle
+        → IfErr result IsRunCause }
+    ensures status { IfErr result (λ fault. status_of fault ≡ 1) }
+{
+    let links = links_of(alloc, &script.devices, state.ports())?;
+    let publisher = front.publisher::<F>();
+    let mut master = match Master::start(rt, alloc, journal, state, publisher, links) {
+        Ok(master) => master,
+        Err(StartFault::Ports(_)) => unreachable!(),
+        Err(StartFault::Memory(_)) => return Err(Fault::Memory),
+        Err(StartFault::Thread(_)) => return Err(Fault::Thread),
+    };
+    let asked = ask_all(rt, alloc, &mut master, &script.changes, telling, err);
+    match master.shutdown(rt) {
+        Ending::Closed(journal, _) => {
+            asked?;
+            text_of(alloc, journal.disk(), script.changes.len())
+        }
+        Ending::Faulted(_, _) => Err(Fault::Disk),
+    }
+}
+
+// What is printed of a disk behind so many receipts.
+//
+// # Errors
+// Why the disk is not recovered, or `Memory`.
+fn text_of<D: SectorDisk + Drop>(
+    alloc: Global,
+    disk: D,
+    receipts: usize,
+) -> Result<String, Fault<'static>>
+    ensures text { IfOk result (λ text. (state : List ℕ) × TellsState (D.disk disk) state
+        × (string_bytes text ≡ lived_text receipts state)) }
+    ensures cause { IfErr result (λ fault. Shows (D.disk disk) (λ image. TellsWhy (standing_in (D.disk disk).sectors image) fault)) }
+    ensures status { IfErr result (λ fault. status_of fault ≡ 1) }
+{
+    let state = text_of_disk(alloc, disk)?;
+    Ok(format!(in alloc; "receipts {receipts}\n{state}")?)
+}

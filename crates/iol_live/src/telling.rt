@@ -1,0 +1,55 @@
+//! What is told of receipts while a master runs.
+ghost use Rattle.std.specs.Prelude.{◌≡◌};
+
+use iol_types::PortId;
+use std::io::{self, Write};
+
+/// What is written to standard error while a master runs (docs/FORMATS.md, "Texts").
+#[derive(Clone, Copy, Debug, PartialEq, Eq)]
+pub enum Telling {
+    /// Nothing.
+    Nothing,
+    /// A line for each receipt, as it comes.
+    Receipts,
+    /// On one line that is written anew, how many receipts there are so far.
+    Progress,
+}
+
+/// A receipt, as its client tells it.
+#[derive(Clone, Copy, Debug)]
+pub(crate) struct Told {
+    pub(crate) port: PortId,
+    pub(crate) number: u64,
+}
+
+impl Telling {
+    // Tells a receipt, with which there are so many. A writing that fails changes nothing of the run.
+    pub(crate) fn tell<E: Write>(self, err: &mut E, told: Told, count: usize)
+        ensures { self ≡ Telling.Nothing → err.new ≡ err.old }
+    {
+        let _ = match self {
+            Telling::Nothing => Ok(()),
+            Telling::Receipts => write_receipt(err, told),
+            Telling::Progress => write_progress(err, count),
+        };
+    }
+
+    // Ends what is told of so many receipts: a line that was written anew is left.
+    pub(crate) fn end<E: Write>(self, err: &mut E, count: usize)
+        ensures { self ≡ Telling.Nothing → err.new ≡ err.old }
+    {
+        if self == Telling::Progress && 0 < count {
+            let _ = err.write_all(b"\n");
+        }
+    }
+}
+
+fn write_receipt<E: Write>(err: &mut E, told: Told) -> io::Result<()> {
+    writeln!(err, "port {} receipt {}", told.port.number(), told.number)?;
+    err.flush()
+}
+
+fn write_progress<E: Write>(err: &mut E, count: usize) -> io::Result<()> {
+    write!(err, "\rreceipts {count}")?;
+    err.flush()
+}

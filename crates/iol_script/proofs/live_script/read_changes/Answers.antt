@@ -1,0 +1,17 @@
+use Rattle.std.proofs.Common.{◌≡◌, Some, None, refl, rules}
+use Rattle.toml.proofs.Views.{items_view-drop}
+use Rattle.iol_script.proofs.InOrder.{appended_in_order}
+use Rattle.iol_script.proofs.live_script.read_changes.Goals as goal
+
+pub returns-in_err-change-clause-not_valid : goal.returns-in_err-change-clause-not_valid
+returns-in_err-change-clause-not_valid c =
+    let next = items_view-drop c.args.values.now c.loop-value.value-index c.value-item.result c.loop-value-test.true in
+    let none : c.read_change.result ≡ None = search rules in
+    rw (c.loop-value.invariant, next, ← c.value-item.is, ← c.read_change.ensures, none) (λ _. refl)
+
+pub loop-value-preserved : goal.loop-value-preserved
+loop-value-preserved c =
+    let next = items_view-drop c.args.values.now c.loop-value.value-index c.value-item.result c.loop-value-test.true in
+    let some : c.read_change.result ≡ Some c.in_ok-change.change = search rules in
+    rw (c.loop-value.invariant, next, ← c.value-item.is, ← c.read_change.ensures, some, c.in_ok-push.ensures.items)
+    (appended_in_order c.loop-value.changes.items c.in_ok-change.change _)

@@ -1,0 +1,94 @@
+//! A script for a master that runs in threads.
+ghost use Rattle.std.specs.Prelude.{◌≡◌, None, Some, IfOk};
+ghost use Rattle.toml.specs.View.{view, items_view, table_view};
+ghost use Rattle.iol_script.specs.LiveScript.{change_by, change_of, changes_of};
+
+use crate::device::Device;
+use crate::devices::read_devices;
+use crate::script::{ScriptFault, TOP_KEYS};
+use crate::step::Step;
+use crate::table::{has_only_keys, values_at};
+use crate::text::read_table;
+use iol_types::Change;
+use std::alloc::Global;
+use toml::{Table, Value};
+
+/// What a script says to a master that runs in threads: the devices at its ports, and what its clients ask for.
+///
+/// The image says how many ports there are, a port's worker makes its steps, and the flusher its own. So the steps are
+/// those of clients alone, and of `ports`, `slots` and `fail` nothing is read.
+#[derive(Drop)]
+pub struct LiveScript {
+    /// The simulated devices, in order.
+    pub devices: Vec<Device>,
+    /// What is asked for, in order.
+    pub changes: Vec<Change>,
+}
+
+impl LiveScript {
+    ghost use Rattle.std.specs.Prelude.{None, Some, IfOk, OnOk};
+    ghost use Rattle.toml.specs.View.{table_view};
+    ghost use Rattle.iol_script.specs.LiveScript.{live_by, live_in, live_of};
+    ghost use Rattle.iol_script.specs.Script.{IsText};
+
+    /// The script in a text of at most 65,536 octets: TOML with the keys of a script, each of whose steps is a client's.
+    ///
+    /// # Errors
+    /// `NotValid` where the text is no such script; `Memory` where reading a text is out of memory.
+    pub fn read(alloc: Global, text: &[u8]) -> Result<LiveScript, ScriptFault>
+        ensures text { OnOk result (IsText text.now) }
+        ensures script { IfOk result (λ script. live_in text.now ≡ Some (live_of script)) }
+        ensures not_valid { result ≡ Err ScriptFault.NotValid → IsText text.now → live_in text.now ≡ None }
+        ensures memory { result ≡ Err ScriptFault.Memory → IsText text.now }
+    {
+        let table = read_table(alloc, text)?;
+        LiveScript::from_table(alloc, &table)
+    }
+
+    fn from_table(alloc: Global, table: &Table) -> Result<LiveScript, ScriptFault>
+        ensures script { IfOk result (λ script. live_by (table_view table.now) ≡ Some (live_of script)) }
+        ensures not_valid { result ≡ Err ScriptFault.NotValid → live_by (table_view table.now) ≡ None }
+    {
+        if !has_only_keys(table, &TOP_KEYS) {
+            return Err(ScriptFault::NotValid);
+        }
+        let devices = values_at(table, "device").ok_or(ScriptFault::NotValid)?;
+        let devices = read_devices(alloc, devices)?;
+        let values = values_at(table, "step").ok_or(ScriptFault::NotValid)?;
+        let changes = read_changes(alloc, values)?;
+        Ok(LiveScript { devices, changes })
+    }
+}
+
+// What the values of steps ask for, in their order.
+//
+// # Errors
+// `NotValid` where a value says no step of a client; `Memory` where it is out of memory.
+fn read_changes(alloc: Global, values: &[Value]) -> Result<Vec<Change>, ScriptFault>
+    ensures changes { IfOk result (λ changes. changes_of (items_view values.now) ≡ Some changes.items) }
+    ensures not_valid { result ≡ Err ScriptFault.NotValid → changes_of (items_view values.now) ≡ None }
+{
+    let mut changes = Vec::with_capacity(alloc, values.len())?;
+    for value in values {
+        let change = read_change(value).ok_or(ScriptFault::NotValid)?;
+        changes.push(change)?;
+    }
+    Ok(changes)
+}
+
+// What the value of a step asks for, where the step is a client's.
+fn read_change(value: &Value) -> Option<Change>
+    ensures { result ≡ change_of (view value.now) }
+{
+    change_by(Step::read(value)?)
+}
+
+fn change_by(step: Step) -> Option<Change>
+    ensures { result ≡ change_by step }
+{
+    match step {
+        Step::Configure { port, config } => Some(Change::Configure { port, config }),
+        Step::Clear { port } => Some(Change::Clear { port }),
+        _ => None,
+    }
+}

@@ -1,0 +1,110 @@
+//! `iol_two_clients`, an example: two clients of one master, in threads of their own, and what a third reads behind their receipts.
+//!
+//! A disk in memory is formatted for two ports, and a master started over it, at whose ports no device is. Each client configures a
+//! port and brings back its receipt. The third meets both receipts, so what it reads is no older than what the two asked for.
+#![tactic(auto)]
+
+mod clients;
+
+ghost use Rattle.std.specs.Prelude.{◌≡◌, []};
+ghost use Rattle.iol_flush.specs.Stages.{HasHistory};
+
+use anyhow::bail;
+use clients::{Granted, configuring, read_behind};
+use iol_disk::MemoryDisk;
+use iol_front::{Front, Name};
+use iol_journal::{Geometry, Journal, format};
+use iol_master::{Client, Ending, Master};
+use iol_sim::SimLink;
+use iol_types::MasterState;
+use std::alloc::Global;
+use std::io::Write;
+use std::marker::Brand;
+use std::sync::Wait;
+use std::thread::Threads;
+
+const PORTS: u16 = 2;
+
+// A disk with an empty journal of two ports.
+fn formatted(alloc: Global) -> anyhow::Result<MemoryDisk> {
+    let Some(geometry) = Geometry::new(PORTS, 4) else {
+        bail!("no geometry")
+    };
+    let mut disk = MemoryDisk::new(alloc, geometry.sectors())?;
+    format(alloc, &mut disk, geometry)?;
+    Ok(disk)
+}
+
+// Links of two ports, at which no device ever is.
+fn unplugged(alloc: Global) -> anyhow::Result<Vec<SimLink>> {
+    let mut links = Vec::new(alloc);
+    for _port in 0..PORTS {
+        links.push(SimLink::new(Vec::new(alloc)))?;
+    }
+    Ok(links)
+}
+
+// A master of these two ports runs, until its clients have their receipts and a third has read behind them.
+fn play<F: Name + 'static, R: Threads + Wait + Copy + Send + 'static, W: Write>(
+    rt: &R,
+    alloc: Global,
+    front: Front,
+    journal: Journal<MemoryDisk>,
+    state: MasterState,
+    out: &mut W,
+) -> anyhow::Result<()>
+    requires name { front ≡ F.front }
+    requires state { state ≡ front.start.state }
+    requires history { HasHistory front.start [] journal.history }
+{
+    let links = unplugged(alloc)?;
+    let publisher = front.publisher::<F>();
+    let Ok(mut master) = Master::start(rt, alloc, journal, state, publisher, links) else {
+        bail!("no master")
+    };
+    let read = ask::<F, R, W>(rt, &mut master, out);
+    match master.shutdown(rt) {
+        Ending::Closed(journal, _) => writeln!(out, "closed behind {} commands", journal.number())?,
+        Ending::Faulted(_, _) => bail!("the disk failed"),
+    }
+    read
+}
+
+// Two clients configure a port each, at once, and a third reads both ports behind their receipts.
+fn ask<F: Name + 'static, R: Threads + Wait + Copy + Send + 'static, W: Write>(
+    rt: &R,
+    master: &mut Master<MemoryDisk, F>,
+    out: &mut W,
+) -> anyhow::Result<()> {
+    let first = configuring(rt, master.client()?, 1)?;
+    let second = configuring(rt, master.client()?, 2)?;
+    let (Some(mut first), Some(mut second)) = (first.join(rt), second.join(rt)) else {
+        bail!("a client without a receipt")
+    };
+    let mut third = master.client()?;
+    tell(rt, &mut third, &mut first, out)?;
+    tell(rt, &mut third, &mut second, out)
+}
+
+// Tells what a client reads of the port of a receipt, once it has met that.
+fn tell<F: Name, R: Wait, W: Write>(
+    rt: &R,
+    client: &mut Client<F>,
+    granted: &mut Granted<F>,
+    out: &mut W,
+) -> anyhow::Result<()> {
+    let port = granted.port();
+    let view = read_behind(rt, client, granted, port)?;
+    let (number, revision) = (port.number(), view.port.revision());
+    writeln!(out, "port {number} has revision {revision}")?;
+    Ok(())
+}
+
+fn main(rt: HostRuntime) -> anyhow::Result<()> {
+    let (journal, state) = match Journal::recover(rt.alloc(), formatted(rt.alloc())?) {
+        Ok(found) => found,
+        Err(_) => bail!("no recovery"),
+    };
+    let front = Front::new(rt.alloc(), journal.number(), &state)?;
+    play::<Brand, _, _>(&rt, rt.alloc(), front, journal, state, &mut rt.stdout())
+}
