@@ -11,6 +11,8 @@ use Rattle.iol_commands.specs.Fault.{status_of}
 use Rattle.iol_commands.specs.Recovered.{recovered_text}
 use Rattle.iol_commands.specs.declared.fault.Fault.{Fault}
 use Rattle.iol_commands.specs.declared.fault.Fault.TheVariants.{Fit, Thread, Call, Disk as OfDisk, Memory, Script}
+use Rattle.iol_master.specs.declared.ending.StartFault.{StartFault}
+use Rattle.iol_master.specs.declared.ending.StartFault.TheVariants as start
 use Rattle.iol_script.specs.LiveScript.{SaidLive, live_in}
 use Rattle.iol_script.specs.Script.{IsText}
 use Rattle.iol_script.specs.declared.device.Device.{Device}
@@ -42,6 +44,18 @@ IsRunCause Call = Unit {0}
 IsRunCause OfDisk = Unit {0}
 IsRunCause Memory = Unit {0}
 IsRunCause fault = ⊥
+
+-- a master did not start, and not for want of a link for each port (own)
+abbrev pub HasLinks : {D : Type 0} → StartFault D → Type 0
+HasLinks (start.Ports disk) = ⊥
+HasLinks (start.Memory disk) = Unit {0}
+HasLinks (start.Thread disk) = Unit {0}
+
+-- what is told of a master that does not start (format, Texts)
+abbrev pub IsStartCause : {D : Type 0} → StartFault D → Fault → Type 0
+IsStartCause (start.Memory disk) Memory = Unit {0}
+IsStartCause (start.Thread disk) Thread = Unit {0}
+IsStartCause start_fault fault = ⊥
 
 -- why nothing is printed of a disk on which a journal stands: a device is at a port that is not there, or the run prints nothing
 -- (format, Texts)

@@ -1,6 +1,7 @@
 //! The clients of a script: one for each port that is asked for something, each in a thread of its own.
-ghost use Rattle.std.specs.Prelude.{◌≡◌, IfErr};
+ghost use Rattle.std.specs.Prelude.{◌≡◌, IfErr, IfOk};
 ghost use Rattle.iol_commands.specs.Fault.{status_of};
+ghost use Rattle.iol_live.specs.Asked.{changes_of, port_of};
 ghost use Rattle.iol_live.specs.Lived.{IsRunCause};
 
 use crate::telling::{Telling, Told};
@@ -90,7 +91,9 @@ fn start_clients<
 }
 
 // The changes that are asked of the port with this number, in their order.
-fn changes_of(alloc: Global, changes: &[Change], number: u8) -> Result<Vec<Change>, AllocError> {
+fn changes_of(alloc: Global, changes: &[Change], number: u8) -> Result<Vec<Change>, AllocError>
+    ensures { IfOk result (λ asked. asked.items ≡ changes_of number changes.now) }
+{
     let mut asked = Vec::new(alloc);
     for change in changes {
         if port_of(*change).number() == number {
@@ -100,7 +103,9 @@ fn changes_of(alloc: Global, changes: &[Change], number: u8) -> Result<Vec<Chang
     Ok(asked)
 }
 
-fn port_of(change: Change) -> PortId {
+fn port_of(change: Change) -> PortId
+    ensures { result ≡ port_of change }
+{
     match change {
         Change::Configure { port, .. } | Change::Clear { port } => port,
     }

@@ -5,11 +5,13 @@
 //! recovered anew, and what it holds is printed.
 //!
 //! Modules in reading order: `telling`, what is told of a receipt as it comes; `asking`, the clients; `running`, the master on
-//! any disk; `command`, the command over writers. What is printed is defined in `specs/Lived.antt`.
+//! any disk; `command`, the command over writers; `examples`, what is printed, worked out. What is printed is defined in
+//! `specs/Lived.antt`, and what is asked of each port in `specs/Asked.antt`.
 #![tactic(auto)]
 
 mod asking;
 mod command;
+pub mod examples;
 mod running;
 mod telling;
 

@@ -9,7 +9,7 @@ ghost use Rattle.iol_commands.specs.Devices.{MayVisit};
 ghost use Rattle.iol_commands.specs.Fault.{status_of};
 ghost use Rattle.iol_commands.specs.Images.{TellsWhy};
 ghost use Rattle.iol_commands.specs.Recovered.{TellsState};
-ghost use Rattle.iol_live.specs.Lived.{Fits, IsAfterWhatIsThere, IsLiveCause, IsRunCause, TellsReceipts, fits, lived_text};
+ghost use Rattle.iol_live.specs.Lived.{Fits, IsAfterWhatIsThere, IsLiveCause, HasLinks, IsRunCause, IsStartCause, TellsReceipts, fits, lived_text};
 
 use crate::asking::ask_all;
 use crate::telling::Telling;
@@ -108,9 +108,7 @@ fn live_behind<
     let publisher = front.publisher::<F>();
     let mut master = match Master::start(rt, alloc, journal, state, publisher, links) {
         Ok(master) => master,
-        Err(StartFault::Ports(_)) => unreachable!(),
-        Err(StartFault::Memory(_)) => return Err(Fault::Memory),
-        Err(StartFault::Thread(_)) => return Err(Fault::Thread),
+        Err(fault) => return Err(of_start(&fault)),
     };
     let asked = ask_all(rt, alloc, &mut master, &script.changes, telling, err);
     match master.shutdown(rt) {
@@ -119,6 +117,18 @@ fn live_behind<
             text_of(alloc, journal.disk(), script.changes.len())
         }
         Ending::Faulted(_, _) => Err(Fault::Disk),
+    }
+}
+
+// Why a master does not start that has a link for each port.
+fn of_start<D: SectorDisk>(fault: &StartFault<D>) -> Fault<'static>
+    requires links { HasLinks fault.now }
+    ensures cause { IsStartCause fault.now result }
+{
+    match fault {
+        StartFault::Ports(_) => unreachable!(),
+        StartFault::Memory(_) => Fault::Memory,
+        StartFault::Thread(_) => Fault::Thread,
     }
 }
 

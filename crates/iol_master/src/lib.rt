@@ -7,7 +7,8 @@
 //!
 //! One lock guards the core, and each time it is held one call of the core is made; a call of the disk or of a link is made without
 //! it. What is decided is decided in `iol_core`, `iol_port` and `iol_flush`, by the same calls that a run on one thread makes
-//! (`iol_run`). Threads and waiting stand in this crate alone. A run on one thread is offered here too: [`run_schedule`].
+//! (`iol_run`). Of all that a master stands on, this crate alone has threads and waits. A run on one thread is offered here too:
+//! [`run_schedule`].
 //!
 //! Modules in reading order: `caller`, who waits and what is told; `guarded`, what the lock guards; `client`; `flushing` and
 //! `working`, the two kinds of thread; `ending`, how a master ends; `master`, which starts and ends them.

@@ -144,6 +144,18 @@ fn a_file_that_is_open_is_in_use(rt: HostRuntime) {
     free(&rt, path);
 }
 
+#[test]
+fn a_new_file_is_locked_before_it_is_written(rt: HostRuntime) {
+    let path = "image_file_test_lock.img";
+    free(&rt, path);
+    let trouble = Trouble::failing(FileCall::Lock, 0, ErrorKind::Other);
+    let fault = fault_of_create(&TrialFiles::new(&rt, &trouble), path, 3);
+    assert!(rt; fault == Some(ImageFault::Open), "it is not locked");
+    let found = fs::metadata(&rt, path).expect(&rt, "a file");
+    assert!(rt; found.len() == 0, "{} octets are written", found.len());
+    free(&rt, path);
+}
+
 // What fails behind how many calls of its kind, and the faults of the making of a file of 65 sectors, and of its opening.
 const WRITE: Option<ImageFault> = Some(ImageFault::Disk(DiskFault::Write));
 

@@ -1,0 +1,24 @@
+//! What is printed of a running master, worked out by the check: a text that is wrong in a definition and in the code alike is
+//! refused here.
+ghost use Rattle.std.specs.Prelude.{◌≡◌, true, false, [], ◌∷◌, codes};
+ghost use Rattle.iol_commands.specs.Recovered.{recovered_text};
+ghost use Rattle.iol_types.specs.declared.command.Change.TheVariants.{Clear};
+ghost use Rattle.iol_live.specs.Asked.{changes_of};
+ghost use Rattle.iol_live.specs.Lived.{fits, lived_text};
+ghost use Rattle.iol_script.specs.declared.device.Device.{Device};
+
+/// How many receipts there are stands above the state.
+pub fn receipts()
+    ensures { lived_text 3 (recovered_text 4 []) ≡ codes "receipts 3\nrecovered 4\n" }
+{}
+
+/// A device fits at the last port, and behind it not.
+pub fn last_ports()
+    ensures last { (device : Device) → device.port ≡ 2 → fits 2 (device ∷ []) ≡ true }
+    ensures behind { (device : Device) → device.port ≡ 3 → fits 2 (device ∷ []) ≡ false }
+{}
+
+/// A port is asked for what is its own, in order.
+pub fn of_a_port()
+    ensures { changes_of 2 (Clear 2 ∷ Clear 1 ∷ Clear 2 ∷ []) ≡ Clear 2 ∷ Clear 2 ∷ [] }
+{}
