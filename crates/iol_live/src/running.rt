@@ -9,7 +9,8 @@ ghost use Rattle.iol_commands.specs.Devices.{MayVisit};
 ghost use Rattle.iol_commands.specs.Fault.{status_of};
 ghost use Rattle.iol_commands.specs.Images.{TellsWhy};
 ghost use Rattle.iol_commands.specs.Recovered.{TellsState};
-ghost use Rattle.iol_live.specs.Lived.{Fits, IsAfterWhatIsThere, IsLiveCause, HasLinks, IsRunCause, IsStartCause, TellsReceipts, fits, lived_text};
+ghost use Rattle.iol_live.specs.Lived.{Fits, HasLinks, IsAfterWhatIsThere, IsLiveCause, IsRunCause, IsStartCause, TellsReceipts};
+ghost use Rattle.iol_live.specs.Lived.{fits, lived_text};
 
 use crate::asking::ask_all;
 use crate::telling::Telling;
