@@ -1,5 +1,5 @@
 -- What a master leaves is the state after its commands, behind what was there, and it can be recovered.
-use Rattle.std.proofs.Common.{◌≡◌, ◌∙◌, ℕ, ◌+◌, List, length, Result, Ok, Err, sym, ap}
+use Rattle.std.proofs.Common.{◌≡◌, ◌∙◌, ℕ, ◌+◌, List, length, Result, Ok, Err, inr, sym, ap, subst}
 use Rattle.std.specs.Prelude.{IsTrue}
 use Rattle.iol_types.specs.Command.{CommandValue}
 use Rattle.iol_types.specs.State.{State, after}
@@ -33,6 +33,11 @@ tells_what_is_meant d number state text honest means tells =
     sym (tells.2 honest) ∙ meant in
     let m : record { number = tells.0; state = tells.1 } ≡ record { number = number; state = state } = ok_same _ _ same in
     tells.3 ∙ ap (λ (m : Meaning). recovered_text m.number m.state) m
+
+-- a master that is the one a journal was handed to ends as that journal does
+pub since : {D : Type 0} (disk : D → Disk) (start : Start) (first master last : JournalView D) (published : List CommandValue)
+    → master ≡ first → IsWhole disk start master last published → IsWhole disk start first last published
+since disk start first master last published same whole = subst (λ j. IsWhole disk start j last published) same whole
 
 -- the text of what a master left
 pub left_behind : {D : Type 0} (disk : D → Disk) (start : Start) (first last : JournalView D) (published : List CommandValue)
@@ -85,26 +90,9 @@ pub receipts_told : (d : Disk) (receipts : ℕ) (told text : List ℕ) → Tells
     → TellsReceipts receipts text
 receipts_told d receipts told text tells is = (tells.0, tells.1, is ∙ ap (lived_text receipts) tells.3)
 
--- why a run prints nothing is why nothing is printed
-pub as_live_cause : (d : Disk) (devices : List Device) (fault : Fault) → IsRunCause fault → IsLiveCause d devices fault
-as_live_cause d devices NotFormatted is = is
-as_live_cause d devices (Damaged sector) is = is
-as_live_cause d devices OfDisk is = is
-as_live_cause d devices Memory is = is
-as_live_cause d devices AlreadyFormatted is = is
-as_live_cause d devices TooSmall is = is
-as_live_cause d devices Words is = is
-as_live_cause d devices (File path) is = is
-as_live_cause d devices InUse is = is
-as_live_cause d devices Thread is = is
-as_live_cause d devices Call is = is
-as_live_cause d devices Fit is = absurd is
-as_live_cause d devices Script is = is
-as_live_cause d devices Geometry is = is
-
 -- why a disk is not recovered on which a journal stands
 pub recovery_cause : (d : Disk) (devices : List Device) (fault : Fault) → IsTrue d.honest → IsKept d.sectors (reads d.content)
     → Shows d (λ image. TellsWhy (standing_in d.sectors image) fault) → IsLiveCause d devices fault
 unfolding IsKept
 recovery_cause d devices fault honest kept tells =
-    as_live_cause d devices fault (met (standing_in d.sectors (reads d.content)) kept.0 fault (tells honest) kept.2.stands)
+    inr (met (standing_in d.sectors (reads d.content)) kept.0 fault (tells honest) kept.2.stands)

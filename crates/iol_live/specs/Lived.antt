@@ -60,8 +60,7 @@ IsStartCause start_fault fault = ⊥
 -- why nothing is printed of a disk on which a journal stands: a device is at a port that is not there, or the run prints nothing
 -- (format, Texts)
 abbrev pub IsLiveCause : Disk → List Device → Fault → Type 0
-IsLiveCause disk devices Fit = Fits disk devices false
-IsLiveCause disk devices fault = IsRunCause fault
+IsLiveCause disk devices fault = ((fault ≡ Fit) × Fits disk devices false) ⊎ IsRunCause fault
 
 -- a text tells so many receipts, and some number and state (format, Texts)
 abbrev pub TellsReceipts : ℕ → List ℕ → Type 0
@@ -77,3 +76,10 @@ pub record TellsRun (script text : List ℕ) : Type 0 where
 -- why nothing is printed: the script is not valid, or it is not to blame (format, Texts)
 abbrev pub IsScriptCause : List ℕ → Fault → Type 0
 IsScriptCause script fault = ((fault ≡ Script) × (IsText script → live_in script ≡ None)) ⊎ (status_of fault ≡ 1)
+
+-- nothing is printed: a fault is why, with this status, and nothing is written to the output; or the script is valid, and writing the
+-- output failed (format, Texts)
+abbrev pub IsSilent : {O : Type 0} → List ℕ → ℕ → O → O → Type 0
+IsSilent script status out written =
+    ((fault : Fault) × IsScriptCause script fault × (status ≡ status_of fault) × (written ≡ out))
+    ⊎ ((status ≡ 1) × IsText script)

@@ -3,7 +3,7 @@ ghost use Rattle.std.specs.Prelude.{◌≡◌, ◌≤◌, ℕ, List, IfErr, IfOk
 ghost use Rattle.std.specs.Io.KnownBytes.{Appends};
 ghost use Rattle.iol_script.specs.LiveScript.{live_in};
 ghost use Rattle.iol_script.specs.Script.{IsText};
-ghost use Rattle.iol_live.specs.Lived.{IsScriptCause, TellsRun};
+ghost use Rattle.iol_live.specs.Lived.{IsScriptCause, IsSilent, TellsRun};
 
 use crate::running::live_on_disk;
 use crate::telling::Telling;
@@ -33,6 +33,8 @@ pub fn live_image<
     ensures not_valid { result ≡ 2 → IsText script.now → live_in script.now ≡ None }
     ensures untouched { result ≡ 2 → out.new ≡ out.old }
     ensures printed { result ≡ 0 → (text : List ℕ) × TellsRun script.now text × Appends (W.contents out.old) (W.contents out.new) text }
+    // Else a fault is why, and nothing is written to `out`; or writing to `out` failed.
+    ensures silent { (result ≡ 0 → ⊥) → IsSilent script.now result out.old out.new }
     ensures quiet { telling ≡ Telling.Nothing → result ≡ 0 → err.new ≡ err.old }
 {
     match text_of_live(rt, path, script, telling, err) {

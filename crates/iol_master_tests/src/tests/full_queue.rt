@@ -4,6 +4,7 @@ ghost use Rattle.std.specs.Prelude.{◌≡◌};
 
 use super::held::{HeldDisk, Hold, new_hold};
 use super::scene::{Found, add, client_of, closed, formatted, port, unplugged};
+use super::signal::Signal;
 use iol_core::SubmitFault;
 use iol_disk::MemoryDisk;
 use iol_front::Name;
@@ -25,12 +26,12 @@ const LONG: u32 = 100_000_000;
 fn clear_if_room<F: Name, R: Wait + Abort>(
     rt: &R,
     mut client: Client<F>,
-    hold: &Hold,
+    refused: &Signal,
 ) -> Option<u64> {
     match client.clear(rt, port(1)) {
         Ok(receipt) => Some(receipt.number),
         Err(CallFault::Submit(SubmitFault::QueueFull)) => {
-            hold.gave_up.give();
+            refused.give();
             None
         }
         Err(_) => panic!(rt; "a receipt"),
@@ -41,12 +42,12 @@ fn clear_if_room<F: Name, R: Wait + Abort>(
 fn clearing<F: Name + 'static, R: Threads + Wait + Abort + Copy + Send + 'static>(
     rt: &R,
     master: &mut Master<HeldDisk<MemoryDisk>, F>,
-    hold: &Arc<Hold, Global>,
+    refused: &Arc<Signal, Global>,
 ) -> JoinHandle<Option<u64>> {
     let client = client_of(rt, master);
-    let hold = Arc::try_clone(hold).expect(rt, "memory");
+    let refused = Arc::try_clone(refused).expect(rt, "memory");
     let rt = *rt;
-    let Ok(child) = thread::spawn(&rt, move || clear_if_room(&rt, client, &hold)) else {
+    let Ok(child) = thread::spawn(&rt, move || clear_if_room(&rt, client, &refused)) else {
         panic!(rt; "a thread")
     };
     child
@@ -55,14 +56,16 @@ fn clearing<F: Name + 'static, R: Threads + Wait + Abort + Copy + Send + 'static
 #[test]
 fn one_client_more_than_there_is_room_is_refused(rt: HostRuntime) {
     let alloc = rt.alloc();
-    let disks = new_hold(&rt, alloc, LONG);
-    let clients = new_hold(&rt, alloc, LONG);
+    let hold = new_hold(&rt, alloc, LONG);
+    let Ok(refused) = Arc::new(alloc, Signal::new()) else {
+        panic!(rt; "memory")
+    };
     let disk = HeldDisk {
         disk: formatted(&rt, alloc, 1),
-        hold: Arc::try_clone(&disks).expect(&rt, "memory"),
+        hold: Arc::try_clone(&hold).expect(&rt, "memory"),
     };
     let found = Found::on(&rt, alloc, disk);
-    fill_queue::<Brand, _>(&rt, alloc, found, &disks, &clients);
+    fill_queue::<Brand, _>(&rt, alloc, found, &hold, &refused);
 }
 
 // The first command is being written when the others come; so one of these is the 65th.
@@ -70,20 +73,20 @@ fn fill_queue<F: Name + 'static, R: Threads + Wait + Abort + Copy + Send + 'stat
     rt: &R,
     alloc: Global,
     found: Found<HeldDisk<MemoryDisk>>,
-    disks: &Arc<Hold, Global>,
-    clients: &Arc<Hold, Global>,
+    hold: &Hold,
+    refused: &Arc<Signal, Global>,
 )
     requires { found ≡ F.front }
 {
     let mut master = found.start::<F, _, _>(rt, alloc, unplugged(rt, alloc, 1));
-    let first = clearing(rt, &mut master, clients);
-    assert!(rt; disks.begun.wait_for(LONG), "a write");
+    let first = clearing(rt, &mut master, refused);
+    assert!(rt; hold.begun.wait_for(LONG), "a write");
     let mut others = Vec::new(alloc);
     for _client in 0..ROOM {
-        add(rt, &mut others, clearing(rt, &mut master, clients));
+        add(rt, &mut others, clearing(rt, &mut master, refused));
     }
-    assert!(rt; clients.gave_up.wait_for(LONG), "one is refused");
-    disks.released.give();
+    assert!(rt; refused.wait_for(LONG), "one is refused");
+    hold.released.give();
     assert!(rt; first.join(rt) == Some(1));
     let granted = join_all(rt, others);
     assert!(rt; granted == ROOM - 1, "{granted} of {ROOM} are granted");

@@ -1,14 +1,12 @@
 use Rattle.std.proofs.Common.{◌≡◌, ◌∙◌, ℕ, List, IfOk, string_bytes, vec_len, sym, ap, subst}
 use Rattle.std.proofs.lemmas.Result.{IfErr-weaker, IfOk-weaker}
 use Rattle.iol_front.specs.Fronts.{FrontId, Start}
-use Rattle.iol_journal.specs.Journals.{JournalView}
 use Rattle.iol_journal.specs.Meaning.{standing_in}
 use Rattle.iol_journal.specs.Reading.{Shows}
 use Rattle.iol_commands.specs.Images.{TellsWhy}
 use Rattle.iol_commands.specs.Recovered.{TellsState}
-use Rattle.iol_master.specs.Endings.{IsWhole}
 use Rattle.iol_live.specs.Lived.{IsAfterWhatIsThere, IsRunCause, TellsReceipts, lived_text}
-use Rattle.iol_live.proofs.Living.{left_behind, left_cause, receipts_told}
+use Rattle.iol_live.proofs.Living.{left_behind, left_cause, receipts_told, since}
 use Rattle.iol_live.proofs.running.live_behind.Goals as goal
 
 pub returns-in-Closed-clause-lived : goal.returns-in-Closed-clause-lived
@@ -20,9 +18,8 @@ returns-in-Closed-clause-lived g c =
     let receipts = vec_len c.args.script.now.changes in
     let from : start ≡ record { number = first.standing.number; state = first.standing.state } =
     ap (λ (f : FrontId). f.start) (sym c.requires.name) ∙ c.requires.start in
-    let whole : IsWhole disk start first last c.in-Closed.field-1 =
-    subst (λ (j : JournalView g.row.D.Denot). IsWhole disk start j last c.in-Closed.field-1)
-    (c.ask_all-asked.ensures.same ∙ c.in-Ok.ensures.started) c.in-Closed.ensures in
+    let whole = since disk start first _ last c.in-Closed.field-1 (c.ask_all-asked.ensures.same ∙ c.in-Ok.ensures.started)
+    c.in-Closed.ensures in
     λ honest rest.
     IfOk-weaker c.text_of.result _ (λ text. IsAfterWhatIsThere receipts first.standing (string_bytes text))
     (λ text told.
@@ -44,9 +41,8 @@ returns-in-Closed-clause-cause g c =
     let start = g.F.Name.front.start in
     let first = c.args.journal in
     let last = c.in-Closed.journal in
-    let whole : IsWhole disk start first last c.in-Closed.field-1 =
-    subst (λ (j : JournalView g.row.D.Denot). IsWhole disk start j last c.in-Closed.field-1)
-    (c.ask_all-asked.ensures.same ∙ c.in-Ok.ensures.started) c.in-Closed.ensures in
+    let whole = since disk start first _ last c.in-Closed.field-1 (c.ask_all-asked.ensures.same ∙ c.in-Ok.ensures.started)
+    c.in-Closed.ensures in
     λ honest rest.
     IfErr-weaker c.text_of.result _ IsRunCause
     (λ fault tells.

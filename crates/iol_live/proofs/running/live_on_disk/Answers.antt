@@ -1,10 +1,10 @@
-use Rattle.std.proofs.Common.{◌≡◌, ◌∙◌, IfErr, IfOk, string_bytes, vec_len, sym, subst, rules}
+use Rattle.std.proofs.Common.{◌≡◌, ◌∙◌, IfErr, IfOk, inr, string_bytes, vec_len, sym, subst, rules}
 use Rattle.std.proofs.lemmas.Result.{IfErr-weaker}
 use Rattle.iol_commands.specs.Images.{TellsWhy}
 use Rattle.iol_journal.specs.Meaning.{Standing, standing_in}
 use Rattle.iol_journal.specs.Reading.{Shows}
 use Rattle.iol_live.specs.Lived.{IsAfterWhatIsThere, IsLiveCause}
-use Rattle.iol_live.proofs.Living.{as_live_cause, ok_same, recovery_cause}
+use Rattle.iol_live.proofs.Living.{ok_same, recovery_cause}
 use Rattle.iol_live.proofs.running.live_on_disk.Goals as goal
 
 pub returns-in_err-journal-clause-cause : goal.returns-in_err-journal-clause-cause
@@ -30,5 +30,5 @@ returns-clause-cause g c =
     let d = g.D.SectorDisk.disk c.args.disk in
     let devices = c.args.script.now.devices.items in
     λ honest kept.
-    IfErr-weaker c.live_behind.result _ (IsLiveCause d devices) (λ fault is. as_live_cause d devices fault is)
+    IfErr-weaker c.live_behind.result _ (IsLiveCause d devices) (λ fault is. inr is)
     (c.live_behind.ensures.cause honest (c.in_ok-journal.ensures.at_rest (λ h. kept)))
