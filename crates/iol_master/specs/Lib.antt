@@ -4,3 +4,4 @@ pub mod Faults
 pub mod Served
 pub mod Since
 pub mod Endings
+pub mod Wakes

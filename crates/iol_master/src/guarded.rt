@@ -15,6 +15,7 @@ ghost use Rattle.iol_core.specs.declared.stop.StopCause.TheVariants.{Closed, Dis
 ghost use Rattle.iol_port.specs.Calls.{IsReplyTo, MayBeMade, Replies, call_of};
 ghost use Rattle.iol_port.specs.Ending.{ended};
 ghost use Rattle.iol_master.specs.Callers.{AreCallersOf, asked};
+ghost use Rattle.iol_master.specs.Wakes.{AreWoken};
 ghost use Rattle.iol_master.specs.declared.guarded.Phase.TheVariants as phase;
 
 use crate::caller::{Caller, Notice};
@@ -189,11 +190,10 @@ impl<F: Name> Guarded<F> {
     pub(crate) fn end_ports(&mut self)
         ensures core { (self.new.core ≡ self.old.core) × (self.new.callers ≡ self.old.callers) }
         ensures phase { self.new.phase ≡ phase.Ending }
+        ensures woken { AreWoken self.old.wakes self.new.wakes }
     {
         self.phase = Phase::Ending;
-        for wakes in &mut self.wakes {
-            *wakes = wakes.wrapping_add(1);
-        }
+        wake_all(&mut self.wakes);
     }
 
     // No more is taken; what waits is still written.
@@ -234,6 +234,15 @@ fn wake(phase: Phase, wakes: &mut [u64], port: PortId) {
     }
     if let Some(wakes) = wakes.get_mut(port.place()) {
         *wakes = wakes.wrapping_add(1);
+    }
+}
+
+// Wakes each port.
+fn wake_all(wakes: &mut [u64])
+    ensures { AreWoken wakes.old wakes.new }
+{
+    for count in wakes.iter_mut() {
+        *count = count.wrapping_add(1);
     }
 }
 

@@ -3,4 +3,3 @@
 mod batches;
 mod commands;
 mod late;
-mod scene;

@@ -13,4 +13,6 @@ mod front;
 #[cfg(test)]
 mod record;
 #[cfg(test)]
+mod scene;
+#[cfg(test)]
 mod types;

@@ -39,14 +39,24 @@ pub(crate) fn read_words<'a>(
 
 // The program, with this behind its name where the words ask for its version.
 fn program<'a>(alloc: Global, version: &'a str) -> Result<Command<'a>, AllocError> {
+    titled(alloc, version).subcommands(commands(alloc)?)
+}
+
+// The program without its commands, one of which has to be named.
+fn titled<'a>(alloc: Global, version: &'a str) -> Command<'a> {
     Command::new(alloc, "iolmaster")
         .about("The data storage of an IO-Link master")
         .version(version)
         .subcommand_required(true)
-        .subcommand(run(alloc)?)?
-        .subcommand(format(alloc)?)?
-        .subcommand(live(alloc)?)?
-        .subcommand(show(alloc)?)
+}
+
+// The commands that words can name.
+fn commands<'a>(alloc: Global) -> Result<Vec<Command<'a>>, AllocError> {
+    let mut commands = Vec::new(alloc);
+    for command in [run(alloc), format(alloc), live(alloc), show(alloc)] {
+        commands.push(command?)?;
+    }
+    Ok(commands)
 }
 
 // The command that matched words ask for.
@@ -86,24 +96,23 @@ Examples, each with what it prints beside it:
   examples/failing_disk.toml           a disk call fails";
 
 fn run<'a>(alloc: Global) -> Result<Command<'a>, AllocError> {
-    Command::new(alloc, "run")
-        .about("Runs a script on a disk in memory, and prints its trace and the recovered state")
-        .after_help(EXAMPLES)
-        .arg(script(alloc))
+    let about = "Runs a script on a disk in memory, and prints its trace and the recovered state";
+    command(alloc, "run", about, EXAMPLES).arg(script(alloc))
 }
 
+// What is told behind the options of `format`.
+const FORMAT_NOTES: &str =
+    "A file that is there and holds no journal is overwritten, whatever it holds.";
+
 fn format<'a>(alloc: Global) -> Result<Command<'a>, AllocError> {
-    let force = Arg::new(alloc, "force")
-        .long("force")
-        .action(ArgAction::SetTrue)
-        .help("Erases a journal that is there");
-    Command::new(alloc, "format")
-        .about("Formats an image file, which is made if there is none")
-        .after_help("A file that is there and holds no journal is overwritten, whatever it holds.")
-        .arg(image(alloc))?
-        .arg(count(alloc, "ports").help("How many ports the master has, 1 to 32"))?
-        .arg(count(alloc, "slots").help("How many batches each area holds, 1 to 256"))?
-        .arg(force)
+    let about = "Formats an image file, which is made if there is none";
+    let words = [
+        image(alloc),
+        count(alloc, "ports", "How many ports the master has, 1 to 32"),
+        count(alloc, "slots", "How many batches each area holds, 1 to 256"),
+        flag(alloc, "force", "Erases a journal that is there"),
+    ];
+    command(alloc, "format", about, FORMAT_NOTES).args(Vec::from_array(alloc, words)?)
 }
 
 // What is told behind the options of `live`.
@@ -117,18 +126,15 @@ An example, with what it prints beside it, on an image of 2 ports and 4 slots:
   examples/live.toml                   a sensor is backed up beside two clients";
 
 fn live<'a>(alloc: Global) -> Result<Command<'a>, AllocError> {
-    let receipts = Arg::new(alloc, "receipts")
-        .long("receipts")
-        .action(ArgAction::SetTrue)
-        .help("Writes a line on standard error for each receipt, as it comes");
-    Command::new(alloc, "live")
-        .about(
-            "Runs a master on an image file, and prints how many receipts there are and the recovered state",
-        )
-        .after_help(LIVE_NOTES)
-        .arg(image(alloc))?
-        .arg(script(alloc))?
-        .arg(receipts)
+    let about =
+        "Runs a master on an image file, and prints how many receipts there are and the recovered state";
+    let receipts = "Writes a line on standard error for each receipt, as it comes";
+    let words = [
+        image(alloc),
+        script(alloc),
+        flag(alloc, "receipts", receipts),
+    ];
+    command(alloc, "live", about, LIVE_NOTES).args(Vec::from_array(alloc, words)?)
 }
 
 fn show<'a>(alloc: Global) -> Result<Command<'a>, AllocError> {
@@ -137,27 +143,42 @@ fn show<'a>(alloc: Global) -> Result<Command<'a>, AllocError> {
         .arg(image(alloc))
 }
 
+// A command, with what is told of it before its options and behind them.
+fn command<'a>(alloc: Global, name: &'a str, about: &'a str, notes: &'a str) -> Command<'a> {
+    Command::new(alloc, name).about(about).after_help(notes)
+}
+
 // The path of an image file.
 fn image<'a>(alloc: Global) -> Arg<'a> {
-    Arg::new(alloc, "IMAGE")
-        .required(true)
-        .help("The path of an image file")
+    word(alloc, "IMAGE", "The path of an image file")
 }
 
 // The path of a script.
 fn script<'a>(alloc: Global) -> Arg<'a> {
-    Arg::new(alloc, "SCRIPT")
-        .required(true)
-        .help("The path of a script in TOML")
+    word(alloc, "SCRIPT", "The path of a script in TOML")
+}
+
+// A word without which the words are refused.
+fn word<'a>(alloc: Global, name: &'a str, help: &'a str) -> Arg<'a> {
+    Arg::new(alloc, name).required(true).help(help)
+}
+
+// An option that is there or not.
+fn flag<'a>(alloc: Global, name: &'a str, help: &'a str) -> Arg<'a> {
+    Arg::new(alloc, name)
+        .long(name)
+        .action(ArgAction::SetTrue)
+        .help(help)
 }
 
 // An option with a whole number, 0 to 65,535.
-fn count<'a>(alloc: Global, name: &'a str) -> Arg<'a> {
+fn count<'a>(alloc: Global, name: &'a str, help: &'a str) -> Arg<'a> {
     Arg::new(alloc, name)
         .long(name)
         .required(true)
         .value_name("N")
         .value_parser(value_parser!(u16))
+        .help(help)
 }
 
 // The value of an argument without which clap refuses the words.

@@ -1,9 +1,9 @@
 //! Batches: how many commands one has, and which one is acknowledged.
 
 ghost use Rattle.std.specs.Prelude.{◌≡◌};
-ghost use Rattle.iol_store_tests.specs.declared.core_calls.scene.TheConstants.{VENDOR, DEVICE};
+ghost use Rattle.iol_store_tests.specs.declared.scene.TheConstants.{VENDOR, DEVICE};
 
-use super::scene::{
+use crate::scene::{
     DEVICE, VENDOR, clear, configure, core_of, device, empty_journal, port, publish, set,
 };
 use iol_core::{AckFault, Core, FinishFault};

@@ -2,7 +2,7 @@
 
 ghost use Rattle.std.specs.Prelude.{◌≡◌};
 
-use super::scene::{clear, configure, core_of, port};
+use crate::scene::{clear, configure, core_of, port};
 use iol_core::{StopCause, SubmitFault, TicketState};
 use iol_front::{Front, Name};
 use iol_journal::{LAST_NUMBER, MOST_RECORD_OCTETS};

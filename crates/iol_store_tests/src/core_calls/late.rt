@@ -3,7 +3,7 @@
 ghost use Rattle.std.specs.Prelude.{◌≡◌, ◌≤◌};
 
 use super::batches::upload;
-use super::scene::{
+use crate::scene::{
     CHECKSUM, DEVICE, VENDOR, clear, config, configure, core_of, device, port, set,
 };
 use iol_core::{Core, DownloadBegun};

@@ -3,7 +3,7 @@
 ghost use Rattle.std.specs.Prelude.{◌≡◌, ◌+◌, ◌≤◌, [], length};
 ghost use Rattle.iol_types.specs.Numbers.{IsPortNumber, IsDeviceNumber};
 ghost use Rattle.iol_journal.specs.Journals.{with_batch};
-ghost use Rattle.iol_store_tests.specs.declared.core_calls.scene.TheConstants.{VENDOR, DEVICE};
+ghost use Rattle.iol_store_tests.specs.declared.scene.TheConstants.{VENDOR, DEVICE};
 
 use iol_core::Core;
 use iol_disk::MemoryDisk;

@@ -1,0 +1,5 @@
+use Rattle.std.proofs.Common.{rules}
+use Rattle.iol_run.proofs.core_on_disk.CoreOnDisk.turn.Goals as goal
+
+pub returns-in-Batch-clause-turn : goal.returns-in-Batch-clause-turn
+returns-in-Batch-clause-turn g c = search rules
