@@ -33,7 +33,7 @@ pub fn live_image<
     ensures not_valid { result ≡ 2 → IsText script.now → live_in script.now ≡ None }
     ensures untouched { result ≡ 2 → out.new ≡ out.old }
     ensures printed { result ≡ 0 → (text : List ℕ) × TellsRun script.now text × Appends (W.contents out.old) (W.contents out.new) text }
-    // Else a fault is why, and nothing is written to `out`; or writing to `out` failed.
+    // Else a fault is why, and nothing is written to `out`; or the status is 1, as where writing to `out` failed.
     ensures silent { (result ≡ 0 → ⊥) → IsSilent script.now result out.old out.new }
     ensures quiet { telling ≡ Telling.Nothing → result ≡ 0 → err.new ≡ err.old }
 {
