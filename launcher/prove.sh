@@ -47,11 +47,56 @@ named_by() {
     done
 }
 
+# The crates of the program, that first behind which the longest row of proofs waits.
+in_order() {
+    awk -v wanted="$(crates_of "$main" | tr '\n' ' ')" '
+        BEGIN { count = split(wanted, order, " ") }
+        NR == FNR { seconds[$1] = $3; next }
+        { sub(/#.*/, ""); colon = index($0, ":") }
+        colon { split(substr($0, 1, colon - 1), words, " "); named[words[1]] = substr($0, colon + 1) }
+        END {
+            for (at = 1; at <= count; at++) row[order[at]] = own(order[at])
+            # A row may grow in each round, and none is longer than there are crates.
+            for (round = 1; round <= count; round++)
+                for (at = 1; at <= count; at++) {
+                    number = split(named[order[at]], below, " ")
+                    for (next_one = 1; next_one <= number; next_one++) {
+                        longer = row[order[at]] + own(below[next_one])
+                        if (longer > row[below[next_one]]) row[below[next_one]] = longer
+                    }
+                }
+            for (at = 1; at <= count; at++) print row[order[at]], order[at]
+        }
+        function own(crate) { return crate in seconds ? seconds[crate] : 150 }' \
+        "$top/launcher/measured.txt" "$top/crates.txt" | sort -rn | sed 's/.* //'
+}
+
+# Where a crate is proved: a folder of its own, with what it stands on. `rt` lets one command at a time into a crate and those
+# below it, so in one folder two crates that stand on a third would wait for one another.
+room_of() {
+    echo "$out/rooms/$1"
+}
+
+# Lays out a crate's room: its sources, and those of what it stands on, each with its built library. All are links; what an
+# earlier proof of the crate kept stays.
+make_room() {
+    room=$(room_of "$1")
+    mkdir -p "$room/crates/$1/out" || return
+    find "$room" "$room/crates" "$room/crates/$1" -mindepth 1 -maxdepth 1 \
+        ! -path "$room/crates" ! -path "$room/crates/$1" ! -path "$room/crates/$1/out" -exec rm -rf {} +
+    cp "$top/crates.txt" "$room/" || return
+    for named in $(crates_of "$1"); do
+        mkdir -p "$room/crates/$named/out" &&
+            find "$top/crates/$named" -mindepth 1 -maxdepth 1 ! -name out -exec cp -al {} "$room/crates/$named/" \; || return
+        [ "$named" = "$1" ] || cp -al "$(room_of "$named")/crates/$named/out/rlib" "$room/crates/$named/out/" || return
+    done
+}
+
 # Proves and builds a crate; `built/CRATE` then holds the status, which is 0 where it worked.
 build_crate() {
     crate=$1
     if [ "$crate" = "$main" ]; then set -- run -- --help; else set -- lib; fi
-    (cd "$top/crates/$crate" && exec rt "$@") </dev/null >"$out/build.$crate.log" 2>&1 &
+    (make_room "$crate" && cd "$(room_of "$crate")/crates/$crate" && exec rt "$@") </dev/null >"$out/build.$crate.log" 2>&1 &
     child=$!
     trap 'kill "$child" 2>/dev/null; exit 1' HUP INT TERM
     wait "$child"
@@ -72,7 +117,7 @@ has_all_it_names() {
     done
 }
 
-# Starts the next crate that waits for no other; fails where there is none now.
+# Starts the first crate that waits for no other; fails where there is none now.
 start_next() {
     for crate in $waiting; do
         if has_all_it_names "$crate"; then
@@ -108,7 +153,7 @@ stop_workers() {
 }
 
 build_crates() {
-    crates=$(wanted_crates | tr '\n' ' ')
+    crates=$(in_order | tr '\n' ' ')
     waiting=$crates
     count=$(echo "$crates" | wc -w)
     number=0
@@ -138,7 +183,7 @@ build_crates() {
 say_what_it_takes() {
     say "proving and building the program from its sources: about $usual_minutes minutes on two processors, $usual_gigabytes GB of disk."
     free=$(df -Pk "$top" | awk 'NR == 2 { print $4 }')
-    there=$(du -sk "$top"/crates/*/out 2>/dev/null | awk '{ all += $1 } END { print all + 0 }')
+    there=$(du -sk "$out/rooms" 2>/dev/null | awk '{ print $1 + 0 }')
     if [ "$((free + there))" -lt "$((usual_gigabytes * 1000000))" ]; then
         say "only $((free / 1000000)) GB of disk are free, which may not be enough."
     fi
@@ -151,7 +196,7 @@ build() {
         say "a source has changed meanwhile, so the program is not kept."
         return 1
     fi
-    keep "$sum"
+    keep "$(room_of "$main")/crates/$main/out" "$sum"
 }
 
 # Proves and builds the program where that is not done. A second start waits for the first: the system lets go of the lock

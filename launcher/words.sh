@@ -26,12 +26,13 @@ is_number() {
 ask_for_image() {
     case ${1-} in format | show | live) command=$1 ;; *) return 1 ;; esac
     shift
-    options=yes paths=0 ports=0 slots=0 forces=0 receipts=0
+    options=yes paths=0 ports=0 slots=0 forces=0 receipts=0 jsons=0
     while [ $# -gt 0 ]; do
         case $options,$command,$1 in
             yes,*,--) options=no ;;
             yes,format,--force) forces=$((forces + 1)) ;;
             yes,live,--receipts) receipts=$((receipts + 1)) ;;
+            yes,show,--json) jsons=$((jsons + 1)) ;;
             yes,format,--ports) is_number "${2-}" && shift && ports=$((ports + 1)) || return 1 ;;
             yes,format,--slots) is_number "${2-}" && shift && slots=$((slots + 1)) || return 1 ;;
             yes,format,--ports=*) is_number "${1#*=}" && ports=$((ports + 1)) || return 1 ;;
@@ -41,8 +42,8 @@ ask_for_image() {
         esac
         shift
     done
-    case $command,$paths,$ports,$slots,$forces,$receipts in
-        show,1,0,0,0,0 | format,1,1,1,[01],0 | live,2,0,0,0,[01]) ;;
+    case $command,$paths,$ports,$slots,$forces,$receipts,$jsons in
+        show,1,0,0,0,0,[01] | format,1,1,1,[01],0,0 | live,2,0,0,0,[01],0) ;;
         *) return 1 ;;
     esac
 }

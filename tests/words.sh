@@ -43,3 +43,8 @@ within_sectors() {
 within_kilobytes() {
     (export MALLOC_ARENA_MAX=1 && ulimit -v "$1" && shift && iolmaster "$@")
 }
+
+# What `iolmaster show` prints, made of what it prints as JSON by another reader.
+lines_of_json() {
+    "${TESTS:?}/json_lines"
+}

@@ -3,6 +3,7 @@ use Rattle.std.specs.Prelude.{◌≡◌, ◌⊎◌, List, ℕ, true, IsSomeAnd}
 use Rattle.iol_script.specs.Script.{Said, IsText, said_in, fits_ports}
 use Rattle.iol_commands.specs.Fault.{status_of}
 use Rattle.iol_commands.specs.Geometry.{HasGeometry}
+use Rattle.iol_commands.specs.Played.{TellsRun}
 use Rattle.iol_commands.specs.declared.fault.Fault.{Fault}
 use Rattle.iol_commands.specs.declared.fault.Fault.TheVariants.{Words, Script, Geometry, Memory}
 
@@ -25,9 +26,9 @@ IsCause text Memory = IsText text
 IsCause text Words = ⊥
 IsCause text fault = CanRun text
 
--- a text is not run, or its run is not printed: a fault is why, with this status, and nothing is written to the output; or writing
--- the output failed, and nothing is told beside it (format, Texts)
+-- a text is not run, or its run is not printed: a fault is why, with this status, and nothing is written to the output; or there was
+-- a run to print, writing the output failed, and nothing is told beside it (format, Texts)
 abbrev pub IsSilent : {O E : Type 0} → List ℕ → ℕ → O → O → E → E → Type 0
 IsSilent text status out written err told =
     ((fault : Fault) × IsCause text fault × (status ≡ status_of fault) × (written ≡ out))
-    ⊎ ((status ≡ 1) × CanRun text × (told ≡ err))
+    ⊎ ((status ≡ 1) × CanRun text × ((printed : List ℕ) × TellsRun text printed) × (told ≡ err))

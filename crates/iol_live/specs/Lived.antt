@@ -77,9 +77,9 @@ pub record TellsRun (script text : List ℕ) : Type 0 where
 abbrev pub IsScriptCause : List ℕ → Fault → Type 0
 IsScriptCause script fault = ((fault ≡ Script) × (IsText script → live_in script ≡ None)) ⊎ (status_of fault ≡ 1)
 
--- a status that is not 0 has a reason: a fault is why, with this status, and nothing is written to the output; or the status is 1,
--- and the script is a text, as where writing the output failed (format, Texts)
+-- a status that is not 0 has a reason: a fault is why, with this status, and nothing is written to the output; or the status is 1, and
+-- a run of the script was to be printed, as where writing the output failed (format, Texts)
 abbrev pub IsSilent : {O : Type 0} → List ℕ → ℕ → O → O → Type 0
 IsSilent script status out written =
     ((fault : Fault) × IsScriptCause script fault × (status ≡ status_of fault) × (written ≡ out))
-    ⊎ ((status ≡ 1) × IsText script)
+    ⊎ ((status ≡ 1) × ((printed : List ℕ) × TellsRun script printed))

@@ -1,7 +1,7 @@
 //! What the lock guards: the core, who waits for which of its commands, and what wakes the ports.
 
 ghost use Rattle.std.specs.Prelude.{◌≡◌, ◌++◌, ◌≤◌, [], ◌∷◌, drop, length, map, replicate, take, true, IfErr, IfOk, OnErr, OnOk};
-ghost use Rattle.std.specs.Prelude.{None, Some, slice_get};
+ghost use Rattle.std.specs.Prelude.{None, Some, ◌-◌, slice_get, slice_index};
 ghost use Rattle.std.specs.VecDeque.{deque_capacity};
 ghost use mathlib.Core.List.{IsPrefix};
 ghost use Rattle.iol_types.specs.Command.{command_of};
@@ -15,7 +15,7 @@ ghost use Rattle.iol_core.specs.declared.stop.StopCause.TheVariants.{Closed, Dis
 ghost use Rattle.iol_port.specs.Calls.{IsReplyTo, MayBeMade, Replies, call_of};
 ghost use Rattle.iol_port.specs.Ending.{ended};
 ghost use Rattle.iol_master.specs.Callers.{AreCallersOf, asked};
-ghost use Rattle.iol_master.specs.Wakes.{AreWoken};
+ghost use Rattle.iol_master.specs.Wakes.{AreWoken, port_of, woken};
 ghost use Rattle.iol_master.specs.declared.guarded.Phase.TheVariants as phase;
 
 use crate::caller::{Caller, Notice};
@@ -97,6 +97,7 @@ impl<F: Name> Guarded<F> {
     pub(crate) fn submit(&mut self, caller: Caller<F>) -> Result<u64, SubmitFault>
         ensures submit { IsSubmit self.old.core (command_of caller.change) self.new.core result }
         ensures waits { IfOk result (λ _. self.new.callers ≡ self.old.callers ++ Some caller.change ∷ []) }
+        ensures woken { IfOk result (λ _. self.new.wakes ≡ woken self.old.phase (port_of caller.change) self.old.wakes) }
         ensures refused { OnErr result (self.new ≡ self.old) }
         ensures phase { self.new.phase ≡ self.old.phase }
     {
@@ -219,7 +220,9 @@ impl<F: Name> Guarded<F> {
     }
 
     // How often a port was woken; 0 for one that is not there.
-    pub(crate) fn wakes(&self, port: PortId) -> u64 {
+    pub(crate) fn wakes(&self, port: PortId) -> u64
+        ensures { result ≡ slice_index self.now.wakes (port - 1) }
+    {
         match self.wakes.get(port.place()) {
             Some(wakes) => *wakes,
             None => 0,
@@ -228,12 +231,15 @@ impl<F: Name> Guarded<F> {
 }
 
 // Wakes a port while ports are served.
-fn wake(phase: Phase, wakes: &mut [u64], port: PortId) {
+fn wake(phase: Phase, wakes: &mut [u64], port: PortId)
+    ensures { wakes.new ≡ woken phase port wakes.old }
+{
     if phase != Phase::Running {
         return;
     }
-    if let Some(wakes) = wakes.get_mut(port.place()) {
-        *wakes = wakes.wrapping_add(1);
+    let place = port.place();
+    if place < wakes.len() {
+        wakes[place] = wakes[place].wrapping_add(1);
     }
 }
 
@@ -247,7 +253,9 @@ fn wake_all(wakes: &mut [u64])
 }
 
 // The port that a change is for.
-fn port_of(change: &Change) -> PortId {
+fn port_of(change: &Change) -> PortId
+    ensures { result ≡ port_of change.now }
+{
     match change {
         Change::Configure { port, .. } | Change::Clear { port } => *port,
     }

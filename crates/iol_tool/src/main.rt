@@ -1,8 +1,8 @@
-//! `iolmaster`, the program: the commands of `iol_words` over its words, standard output and standard error.
+//! `iolmaster`, the program: the commands of `iol_program` over its words, standard output and standard error.
 #![tactic(auto)]
 
 use iol_live::Telling;
-use iol_words::run_program;
+use iol_program::run_program;
 use std::io::IsTerminal;
 use std::process::ExitCode;
 

@@ -1,14 +1,12 @@
-//! The words of `iolmaster`: what the command line asks for, and the command that is carried out for it.
+//! The words of the command line of `iolmaster`: what they ask for.
 //!
-//! In come the words of the program; out comes the exit status, with what the command writes to two writers. The commands
-//! themselves are those of `iol_commands` and `iol_live`.
+//! In come the words of the program; out comes the command that they name, with what they say of it, or what is shown in
+//! its place: the help, the version, or why the words are wrong. Nothing is carried out here.
 //!
-//! Modules in reading order: `words` reads what the command line asks for, `version` has what `--version` prints, and
-//! `arguments` carries the command out.
+//! It is one module, `words`. What words ask for is tested, by the cases of the program: the words of `clap` are not repeated
+//! in a contract.
 #![tactic(auto)]
 
-mod arguments;
-mod version;
 mod words;
 
-pub use arguments::{run_program, run_words};
+pub use words::{Asked, Unasked, read_words};

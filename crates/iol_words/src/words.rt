@@ -1,34 +1,76 @@
 //! What the words of the command line ask for.
 
+use clap::error::ErrorKind;
 use clap::{Arg, ArgAction, ArgMatches, Command, Error, value_parser};
 use std::alloc::{AllocError, Global};
 
-// A command, with what its words say.
-pub(crate) enum Asked<'a> {
+/// A command, with what its words say.
+#[derive(Clone, Copy)]
+pub enum Asked<'a> {
+    /// The script at a path is run on a disk in memory.
     Run {
         script: &'a str,
     },
+    /// The image file at a path is formatted, also where a journal is there if that is forced.
     Format {
         image: &'a str,
         ports: u16,
         slots: u16,
         force: bool,
     },
+    /// A master runs on the image file at a path, with the script's devices and clients; each receipt may be told.
     Live {
         image: &'a str,
         script: &'a str,
         receipts: bool,
     },
+    /// The state on the image file at a path is shown, perhaps as JSON.
     Show {
         image: &'a str,
+        json: bool,
     },
 }
 
-// The command that these words name, the first of which is the name of the program.
-//
-// # Errors
-// What is wrong with the words, or the help or version that they ask for.
-pub(crate) fn read_words<'a>(
+/// What stands in place of a command.
+#[derive(Drop)]
+pub enum Unasked {
+    /// The help or the version, which the words ask for.
+    Shown(String),
+    /// Why the words are wrong.
+    Wrong(String),
+    /// Memory ran out.
+    Memory,
+}
+
+/// The command that these words name, the first of which is the name of the program. `version` is shown behind that name
+/// where the words ask for the version.
+///
+/// # Errors
+/// What is wrong with the words, or the help or version that they ask for; `Memory` where there is none.
+pub fn read_words<'a>(
+    alloc: Global,
+    words: &'a [String],
+    version: &'a str,
+) -> Result<Asked<'a>, Unasked> {
+    match matched_words(alloc, words, version) {
+        Ok(asked) => Ok(asked),
+        Err(error) => Err(unasked_by(alloc, &error)),
+    }
+}
+
+// What clap answers in place of a command.
+fn unasked_by(alloc: Global, error: &Error) -> Unasked {
+    if error.kind() == ErrorKind::OutOfMemory {
+        return Unasked::Memory;
+    }
+    match error.to_string(alloc) {
+        Ok(text) if error.use_stderr() => Unasked::Wrong(text),
+        Ok(text) => Unasked::Shown(text),
+        Err(_) => Unasked::Memory,
+    }
+}
+
+fn matched_words<'a>(
     alloc: Global,
     words: &'a [String],
     version: &'a str,
@@ -75,6 +117,7 @@ fn asked_by<'a>(matches: &ArgMatches<'a>) -> Asked<'a> {
         },
         Some(("show", show)) => Asked::Show {
             image: text(show, "IMAGE"),
+            json: show.get_flag("json"),
         },
         Some((_, run)) => Asked::Run {
             script: text(run, "SCRIPT"),
@@ -138,9 +181,11 @@ fn live<'a>(alloc: Global) -> Result<Command<'a>, AllocError> {
 }
 
 fn show<'a>(alloc: Global) -> Result<Command<'a>, AllocError> {
+    let json = "Prints one JSON object in place of lines";
+    let words = [image(alloc), flag(alloc, "json", json)];
     Command::new(alloc, "show")
         .about("Recovers the state on an image file, and prints it")
-        .arg(image(alloc))
+        .args(Vec::from_array(alloc, words)?)
 }
 
 // A command, with what is told of it before its options and behind them.

@@ -1,18 +1,16 @@
-//! The words of the command line.
+//! The command that the words of the command line name, carried out.
 
 ghost use Rattle.std.specs.Prelude.{◌≤◌};
 
+use crate::script_file::{is_memory, read_script};
 use crate::version::version_text;
-use crate::words::{Asked, read_words};
-use clap::Error;
-use clap::error::ErrorKind;
 use iol_commands::{Fault, format_image, print, report, run_text, show_image};
 use iol_disk::LockFile;
 use iol_live::{Telling, live_image};
-use iol_script::SCRIPT_OCTETS;
-use std::alloc::Global;
-use std::fs::{File, OpenFile};
-use std::io::{self, Read, Write};
+use iol_view::json_image;
+use iol_words::{Asked, Unasked, read_words};
+use std::fs::OpenFile;
+use std::io::Write;
 use std::os::unix::fs::FileExt;
 use std::rt::{Env, Files};
 use std::sync::Wait;
@@ -57,7 +55,7 @@ pub fn run_words<
     };
     match read_words(rt.alloc(), words, version.as_str()) {
         Ok(asked) => carry_out(rt, asked, telling, out, err),
-        Err(error) => answer(rt.alloc(), &error, out, err),
+        Err(unasked) => answer(&unasked, out, err),
     }
 }
 
@@ -85,25 +83,21 @@ fn carry_out<
             let telling = if receipts { Telling::Receipts } else { telling };
             live_file(rt, image, script, telling, out, err)
         }
-        Asked::Show { image } => show_image(rt, image, out, err),
+        Asked::Show { image, json } => show_file(rt, image, json, out, err),
     }
 }
 
-// Shows what clap answers in place of a command: why the words are wrong, the help, or the version.
-fn answer<W: Write, E: Write>(alloc: Global, error: &Error, out: &mut W, err: &mut E) -> u8
+// Shows what stands in place of a command: the help or the version, or why the words are wrong.
+fn answer<W: Write, E: Write>(unasked: &Unasked, out: &mut W, err: &mut E) -> u8
     ensures { result ≤ 2 }
 {
-    if error.kind() == ErrorKind::OutOfMemory {
-        return report(err, &Fault::Memory);
-    }
-    let Ok(text) = error.to_string(alloc) else {
-        return report(err, &Fault::Memory);
-    };
-    if error.use_stderr() {
-        let _ = err.write_all(text.as_bytes());
-        2
-    } else {
-        print(out, text.as_bytes())
+    match unasked {
+        Unasked::Shown(text) => print(out, text.as_bytes()),
+        Unasked::Wrong(text) => {
+            let _ = err.write_all(text.as_bytes());
+            2
+        }
+        Unasked::Memory => report(err, &Fault::Memory),
     }
 }
 
@@ -121,6 +115,21 @@ fn run_file<R: Files + AllocGlobal, W: Write, E: Write>(
     }
 }
 
+fn show_file<
+    F: FileExt + OpenFile + LockFile + Drop,
+    R: Files<File = F> + AllocGlobal,
+    W: Write,
+    E: Write,
+>(rt: &R, image: &str, json: bool, out: &mut W, err: &mut E) -> u8
+    ensures { result ≤ 2 }
+{
+    if json {
+        json_image(rt, image, out, err)
+    } else {
+        show_image(rt, image, out, err)
+    }
+}
+
 fn live_file<
     F: FileExt + OpenFile + LockFile + Drop + Send + 'static,
     R: Files<File = F> + AllocGlobal + Threads + Wait + Copy + Send + 'static,
@@ -133,23 +142,4 @@ fn live_file<
         Ok(script) => live_image(rt, image, script.as_slice(), telling, out, err),
         Err(fault) => report(err, &fault),
     }
-}
-
-// The octets of a file: all, or as many as a script may have and one more.
-fn read_script<'a, R: Files + AllocGlobal>(rt: &R, path: &'a str) -> Result<Vec<u8>, Fault<'a>> {
-    let mut octets = Vec::new(rt.alloc());
-    match read_file(rt, path, &mut octets) {
-        Ok(_) => Ok(octets),
-        Err(error) if is_memory(&error) => Err(Fault::Memory),
-        Err(_) => Err(Fault::File { path }),
-    }
-}
-
-fn read_file<R: Files>(rt: &R, path: &str, octets: &mut Vec<u8>) -> io::Result<usize> {
-    let file = File::open(rt, path)?;
-    file.take(SCRIPT_OCTETS as u64 + 1).read_to_end(octets)
-}
-
-fn is_memory(error: &io::Error) -> bool {
-    error.kind() == io::ErrorKind::OutOfMemory
 }

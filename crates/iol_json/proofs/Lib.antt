@@ -1,0 +1,2 @@
+mod InOrder
+mod Depth

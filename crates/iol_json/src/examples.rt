@@ -1,0 +1,32 @@
+//! States as JSON, worked out: the prover computes each of these.
+
+ghost use Rattle.std.specs.Prelude.{◌≡◌, [], ◌∷◌, ◌++◌, codes, Some};
+ghost use Rattle.serde_json.specs.Data.{string, object, member, no_members};
+ghost use Rattle.serde_json.specs.Read.{read};
+ghost use Rattle.iol_types.specs.Examples.{example_config, example_port, port_of};
+ghost use Rattle.iol_types.specs.declared.port_state.TheConstants.{LAST_REVISION};
+ghost use Rattle.iol_json.specs.Json.{whole, entry_data, state_data};
+
+/// A text that reads as a state of two ports: one with a stored set, and one without.
+pub fn a_state()
+    ensures { read (codes "{\"recovered\": 4, \"ports\": [{\"port\": 1, \"revision\": 1, "
+        ++ codes "\"configuration\": {\"mode\": 1, \"validation\": 3, \"vendor\": 500, \"device\": 43981}, \"set\": "
+        ++ codes "{\"checksum\": 591, \"octets\": 11, "
+        ++ codes "\"under\": {\"mode\": 1, \"validation\": 3, \"vendor\": 500, \"device\": 43981}, "
+        ++ codes "\"entries\": [{\"index\": 64, \"subindex\": 0, \"data\": \"0A64\"}, "
+        ++ codes "{\"index\": 65, \"subindex\": 1, \"data\": \"7F\"}]}}, "
+        ++ codes "{\"port\": 2, \"revision\": 7, "
+        ++ codes "\"configuration\": {\"mode\": 1, \"validation\": 3, \"vendor\": 500, \"device\": 43981}, \"set\": null}]}")
+        ≡ Some (state_data 4 (example_port ∷ port_of example_config 7 ∷ [])) }
+{}
+
+/// A parameter without octets has an empty text, and the last revision stands whole.
+pub fn ends_of_ranges()
+    ensures no_octets { entry_data (record { index = 0x12AB; subindex = 0xFF }, [])
+        ≡ object (member (codes "data") (string [])
+        (member (codes "index") (whole 4779) (member (codes "subindex") (whole 255) no_members))) }
+    ensures digits { entry_data (record { index = 1; subindex = 0 }, 0x00 ∷ 0x09 ∷ 0xAF ∷ 0xFF ∷ [])
+        ≡ object (member (codes "data") (string (codes "0009AFFF"))
+        (member (codes "index") (whole 1) (member (codes "subindex") (whole 0) no_members))) }
+    ensures last_revision { read (codes "18446744073709551615") ≡ Some (whole LAST_REVISION) }
+{}

@@ -1,0 +1,25 @@
+//! A state as JSON, and its text.
+ghost use Rattle.std.specs.Prelude.{◌≡◌, IfOk, Some, string_bytes};
+ghost use Rattle.serde_json.specs.Read.{read};
+ghost use Rattle.serde_json.specs.View.{view};
+ghost use Rattle.iol_json.specs.Json.{state_data};
+
+use crate::ports::ports_of;
+use iol_types::MasterState;
+use serde_json::{Value, json};
+use std::alloc::{AllocError, Global};
+
+/// A state after so many commands, with each of its ports (docs/FORMATS.md, "JSON").
+pub fn json_of(alloc: Global, number: u64, state: &MasterState) -> Result<Value, AllocError>
+    ensures { IfOk result (λ value. view value ≡ state_data number state.now) }
+{
+    let ports = ports_of(alloc, state)?;
+    json!(in alloc; {"ports": ports, "recovered": number})
+}
+
+/// The text of a state after so many commands: one object, laid out in lines, with no line's end behind it.
+pub fn json_text(alloc: Global, number: u64, state: &MasterState) -> Result<String, AllocError>
+    ensures { IfOk result (λ text. read (string_bytes text) ≡ Some (state_data number state.now)) }
+{
+    json_of(alloc, number, state)?.to_string_pretty(alloc)
+}

@@ -1,0 +1,33 @@
+//! The file of a script.
+
+use iol_commands::Fault;
+use iol_script::SCRIPT_OCTETS;
+use std::fs::File;
+use std::io::{self, Read};
+use std::rt::Files;
+
+// The octets of a file: all, or as many as a script may have and one more.
+//
+// # Errors
+// `File` where it cannot be opened or read; `Memory` where there is none for its octets.
+pub(crate) fn read_script<'a, R: Files + AllocGlobal>(
+    rt: &R,
+    path: &'a str,
+) -> Result<Vec<u8>, Fault<'a>> {
+    let mut octets = Vec::new(rt.alloc());
+    match read_file(rt, path, &mut octets) {
+        Ok(_) => Ok(octets),
+        Err(error) if is_memory(&error) => Err(Fault::Memory),
+        Err(_) => Err(Fault::File { path }),
+    }
+}
+
+fn read_file<R: Files>(rt: &R, path: &str, octets: &mut Vec<u8>) -> io::Result<usize> {
+    let file = File::open(rt, path)?;
+    file.take(SCRIPT_OCTETS as u64 + 1).read_to_end(octets)
+}
+
+// Whether memory ran out.
+pub(crate) fn is_memory(error: &io::Error) -> bool {
+    error.kind() == io::ErrorKind::OutOfMemory
+}

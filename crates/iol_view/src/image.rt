@@ -1,0 +1,62 @@
+//! The state on an image file, shown as JSON.
+ghost use Rattle.std.specs.Prelude.{◌≡◌, ◌≤◌, ◌⊎◌, IfErr, IfOk, ℕ, List, Some, string_bytes};
+ghost use Rattle.std.specs.Io.KnownBytes.{Appends};
+ghost use Rattle.iol_journal.specs.Meaning.{standing_in};
+ghost use Rattle.iol_journal.specs.Reading.{Shows};
+ghost use Rattle.iol_types.specs.State.{State};
+ghost use Rattle.iol_commands.specs.Fault.{status_of};
+ghost use Rattle.iol_commands.specs.Images.{TellsWhy};
+ghost use Rattle.iol_view.specs.Json.{IsSomeState, TellsStateAsJson};
+
+use iol_commands::{Fault, Shown, opened, print, report, show_disk};
+use iol_disk::{LockFile, SectorDisk};
+use iol_json::json_text;
+use std::alloc::Global;
+use std::fs::OpenFile;
+use std::io::Write;
+use std::os::unix::fs::FileExt;
+use std::rt::Files;
+
+/// Recovers the state on the image file at `path`, and returns the exit status: 0 once the state is written to `out` as one
+/// JSON object, and else 1. Where the recovery fails, a line on `err` says why, and nothing is written to `out`. Where
+/// writing to `out` fails, nothing is written to `err`.
+pub fn json_image<
+    F: FileExt + OpenFile + LockFile + Drop,
+    R: Files<File = F> + AllocGlobal,
+    W: Write,
+    E: Write,
+>(rt: &R, path: &str, out: &mut W, err: &mut E) -> u8
+    ensures statuses { result ≤ 1 }
+    ensures one_writer { (out.new ≡ out.old) ⊎ (err.new ≡ err.old) }
+    ensures quiet { result ≡ 0 → err.new ≡ err.old }
+    ensures printed { result ≡ 0 → (text : List ℕ) × IsSomeState text × Appends (W.contents out.old) (W.contents out.new) text }
+{
+    match text_of_image(rt, path) {
+        Ok(text) => print(out, text.as_bytes()),
+        Err(fault) => report(err, &fault),
+    }
+}
+
+// What is printed of the state on an image file.
+fn text_of_image<'a, F: FileExt + OpenFile + LockFile + Drop, R: Files<File = F> + AllocGlobal>(
+    rt: &R,
+    path: &'a str,
+) -> Result<String, Fault<'a>>
+    ensures text { IfOk result (λ text. IsSomeState (string_bytes text)) }
+    ensures status { IfErr result (λ fault. status_of fault ≡ 1) }
+{
+    json_of_disk(rt.alloc(), opened(rt, path)?)
+}
+
+/// What is printed of the state on a disk, or why nothing is: as for `show_disk`, or `Memory` for the text.
+pub fn json_of_disk<D: SectorDisk + Drop>(alloc: Global, disk: D) -> Result<String, Fault<'static>>
+    ensures text { IfOk result (λ text. TellsStateAsJson (D.disk disk) (string_bytes text)) }
+    ensures cause { IfErr result (λ fault. Shows (D.disk disk) (λ image. TellsWhy (standing_in (D.disk disk).sectors image) fault)) }
+    ensures status { IfErr result (λ fault. status_of fault ≡ 1) }
+{
+    let Shown { recovered, disk: _ } = show_disk(alloc, disk);
+    let recovered = recovered?;
+    let mut text = json_text(alloc, recovered.number, &recovered.state)?;
+    text.push('\n')?;
+    Ok(text)
+}
