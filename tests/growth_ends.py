@@ -242,9 +242,13 @@ def formatted(program):
 
 
 def written(program):
-    """An image file with a journal of one command: a Configure of port 1, the first batch."""
+    """An image file with a journal of two commands, the first batch: a Configure of port 1, and the Store of its set."""
     image = bytearray(formatted(program))
-    body = "00 00 00 00 00 00 00 01  00 00 00 00 00 00 00 01  00 01  00 00 00 0A  01 01 01 03 01 F4 00 00 AB CD"
+    head = bytes.fromhex("00 00 00 00 00 00 00 01  00 00 00 00 00 00 00 01  00 02  00 00 00 2B")
+    configure = bytes.fromhex("01 01 01 03 01 F4 00 00 AB CD")
+    store = bytes.fromhex("03 01  00 00 00 00 00 00 00 01  01 F4  00 00 AB CD  00 00 02 4F  00 02")
+    entries = bytes.fromhex("00 40 00 02 0A 64  00 41 01 01 7F")
+    body = head + configure + store + entries
     image[512 * 22 : 512 * 22 + 8] = bytes.fromhex("A55A" * 4)
-    image[512 * 23 : 512 * 23 + 32] = bytes.fromhex(body)
+    image[512 * 23 : 512 * 23 + len(body)] = body
     return bytes(image)
