@@ -77,19 +77,27 @@ room_of() {
     echo "$out/rooms/$1"
 }
 
-# Lays out a crate's room: its sources, and those of what it stands on, each with its built library. All are links; what an
-# earlier proof of the crate kept stays.
+# Lays out a crate's room: its sources, and those of what it stands on, each with its built library, by links. What an earlier
+# proof of the crate kept moves in.
 make_room() {
     room=$(room_of "$1")
-    mkdir -p "$room/crates/$1/out" || return
-    find "$room" "$room/crates" "$room/crates/$1" -mindepth 1 -maxdepth 1 \
-        ! -path "$room/crates" ! -path "$room/crates/$1" ! -path "$room/crates/$1/out" -exec rm -rf {} +
-    cp "$top/crates.txt" "$room/" || return
+    give_back "$1"
+    mkdir -p "$room/crates" && cp "$top/crates.txt" "$room/" || return
     for named in $(crates_of "$1"); do
         mkdir -p "$room/crates/$named/out" &&
             find "$top/crates/$named" -mindepth 1 -maxdepth 1 ! -name out -exec cp -al {} "$room/crates/$named/" \; || return
-        [ "$named" = "$1" ] || cp -al "$(room_of "$named")/crates/$named/out/rlib" "$room/crates/$named/out/" || return
+        [ "$named" = "$1" ] || cp -al "$top/crates/$named/out/rlib" "$room/crates/$named/out/" || return
     done
+    [ ! -d "$top/crates/$1/out/incremental" ] || mv "$top/crates/$1/out/incremental" "$room/crates/$1/out/"
+}
+
+# Moves what was made and kept in a crate's room to the crate, and removes the room: `rt ci` refuses sources that lie in `out/`.
+give_back() {
+    room=$(room_of "$1")
+    for made in "$room/crates/$1/out"/*; do
+        [ -e "$made" ] && mkdir -p "$top/crates/$1/out" && rm -rf "$top/crates/$1/out/${made##*/}" && mv "$made" "$top/crates/$1/out/"
+    done
+    rm -rf "$room"
 }
 
 # Proves and builds a crate; `built/CRATE` then holds the status, which is 0 where it worked.
@@ -98,9 +106,11 @@ build_crate() {
     if [ "$crate" = "$main" ]; then set -- run -- --help; else set -- lib; fi
     (make_room "$crate" && cd "$(room_of "$crate")/crates/$crate" && exec rt "$@") </dev/null >"$out/build.$crate.log" 2>&1 &
     child=$!
-    trap 'kill "$child" 2>/dev/null; exit 1' HUP INT TERM
+    trap 'kill "$child" 2>/dev/null; wait "$child"; give_back "$crate"; exit 1' HUP INT TERM
     wait "$child"
-    echo "$?" >"$out/built/$crate.new" && mv "$out/built/$crate.new" "$out/built/$crate"
+    status=$?
+    give_back "$crate"
+    echo "$status" >"$out/built/$crate.new" && mv "$out/built/$crate.new" "$out/built/$crate"
 }
 
 ended() {
@@ -123,7 +133,7 @@ start_next() {
         if has_all_it_names "$crate"; then
             number=$((number + 1))
             say "crate $number of $count: $crate"
-            build_crate "$crate" 9>&- &
+            (exec 9>&-; build_crate "$crate") &
             workers="$workers $!"
             running="$running $crate"
             waiting=$(echo " $waiting " | sed "s/ $crate / /")
@@ -183,7 +193,7 @@ build_crates() {
 say_what_it_takes() {
     say "proving and building the program from its sources: about $usual_minutes minutes on two processors, $usual_gigabytes GB of disk."
     free=$(df -Pk "$top" | awk 'NR == 2 { print $4 }')
-    there=$(du -sk "$out/rooms" 2>/dev/null | awk '{ print $1 + 0 }')
+    there=$(du -sk "$top"/crates/*/out 2>/dev/null | awk '{ all += $1 } END { print all + 0 }')
     if [ "$((free + there))" -lt "$((usual_gigabytes * 1000000))" ]; then
         say "only $((free / 1000000)) GB of disk are free, which may not be enough."
     fi
@@ -196,7 +206,7 @@ build() {
         say "a source has changed meanwhile, so the program is not kept."
         return 1
     fi
-    keep "$(room_of "$main")/crates/$main/out" "$sum"
+    keep "$sum"
 }
 
 # Proves and builds the program where that is not done. A second start waits for the first: the system lets go of the lock
