@@ -10,7 +10,5 @@
 #![tactic(auto)]
 
 mod store;
-#[cfg(test)]
-mod tests;
 
 pub use store::{CreateFault, WriteFault, create, open, write};

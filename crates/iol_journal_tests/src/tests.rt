@@ -3,6 +3,7 @@ ghost use Rattle.iol_types.specs.Numbers.{IsPortNumber};
 mod batches;
 mod checkpoints;
 mod erasing;
+mod example;
 mod failing;
 mod faults;
 mod growths;

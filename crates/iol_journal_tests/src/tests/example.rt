@@ -1,34 +1,19 @@
-//! A store on a disk in memory, with power stops, a disk call that fails, and a command that is refused.
+//! The example's store on a disk in memory, with power stops, a disk call that fails, and a command that is refused.
 
-use crate::{WriteFault, create, open, write};
+use super::{PICKS, blank, configure, revision, two_ports_four_slots};
 use iol_disk::{DiskFault, FaultDisk, MemoryDisk, Pick};
-use iol_journal::{BeginCause, Geometry, Journal};
-use iol_types::{Command, DeviceId, PortConfig, PortId, PortMode, Validation};
+use iol_example::{WriteFault, create, open, write};
+use iol_journal::{BeginCause, Journal};
 use std::alloc::Global;
 use std::process::Abort;
 
-const PICKS: [Pick; 4] = [Pick::Old, Pick::New, Pick::Zero, Pick::Pattern];
-
 // A new store of two ports and four slots.
 fn new_store<R: Abort>(rt: &R, alloc: Global) -> Journal<MemoryDisk> {
-    let geometry = Geometry::new(2, 4).expect(rt, "a geometry");
-    let disk = MemoryDisk::new(alloc, geometry.sectors()).expect(rt, "memory");
+    let geometry = two_ports_four_slots();
+    let disk = blank(rt, alloc, geometry.sectors());
     match create(alloc, disk, geometry) {
         Ok(journal) => journal,
         Err(_) => panic!(rt; "a disk is formatted and recovered"),
-    }
-}
-
-// A Configure of this port.
-fn configure<R: Abort>(rt: &R, port: u8) -> Command {
-    Command::Configure {
-        port: PortId::new(port).expect(rt, "a port"),
-        config: PortConfig {
-            mode: PortMode::IolManual,
-            validation: Validation::BackupAndRestore,
-            vendor: 500,
-            device: DeviceId::new(43981).expect(rt, "a DeviceID"),
-        },
     }
 }
 
@@ -38,7 +23,7 @@ fn configured<R: Abort>(
     alloc: Global,
     journal: Journal<MemoryDisk>,
 ) -> Journal<MemoryDisk> {
-    match write(alloc, journal, configure(rt, 1)) {
+    match write(alloc, journal, configure(1)) {
         Ok(journal) => journal,
         Err(_) => panic!(rt; "a command is written"),
     }
@@ -57,9 +42,8 @@ fn store_of<R: Abort>(rt: &R, alloc: Global, configures: usize) -> Journal<Memor
 fn expect_found<R: Abort>(rt: &R, alloc: Global, disk: MemoryDisk, number: u64) {
     match open(alloc, disk) {
         Ok((journal, state)) => {
-            let port = PortId::new(1).and_then(|port| state.port(port));
-            let revision = port.map(|port| port.revision());
-            assert!(rt; journal.number() == number && revision == Some(number));
+            assert!(rt; journal.number() == number);
+            assert!(rt; revision(&state, 1) == Some(number));
         }
         Err(_) => panic!(rt; "the disk is recovered"),
     }
@@ -84,7 +68,7 @@ fn left_by_a_fault<R: Abort>(
     let Ok((journal, _)) = open(alloc, disk) else {
         panic!(rt; "a recovery writes nothing")
     };
-    match write(alloc, journal, configure(rt, 1)) {
+    match write(alloc, journal, configure(1)) {
         Err(WriteFault::Failed(disk, DiskFault::Write)) => disk.disk(),
         _ => panic!(rt; "a write fails"),
     }
@@ -120,7 +104,7 @@ fn a_command_that_is_refused_leaves_the_store_as_it_was(rt: HostRuntime) {
     let Err(WriteFault::Refused(journal, BeginCause::Misfit)) = write(
         rt.alloc(),
         journal,
-        configure(&rt, 3),
+        configure(3),
     ) else {
         panic!(rt; "there is no port 3")
     };
