@@ -221,7 +221,7 @@ class Schedule(Subject):
 
 
 class Image(Subject):
-    """A format or a show of an image file of two ports and four slots."""
+    """A format, a show or a map of an image file of two ports and four slots."""
 
     def end(self, said):
         if said.told == self.whole.told and said.image == self.whole.image:
@@ -230,7 +230,7 @@ class Image(Subject):
             return None
         if said.image == self.files.get("a.img"):
             return "out of memory, the file as it was"
-        if self.words[1] == "show":
+        if self.words[1] in ("show", "map"):
             return None
         shown = dataclasses.replace(self, words=[self.words[0], "show", "a.img"], files={"a.img": said.image}).whole.told
         return {NOT_FORMATTED: "out of memory, not formatted", (EMPTY, "", 0): "out of memory, an empty journal"}.get(shown)

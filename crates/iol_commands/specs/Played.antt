@@ -42,15 +42,13 @@ abbrev pub FailsAsSaid : Option FailingCall → FaultDisk MemoryDisk → Type 0
 FailsAsSaid None disk = due_of disk ≡ due_at None
 FailsAsSaid (Some call) disk = (kind_of disk ≡ call.kind) × (due_of disk ≡ due_at (Some call))
 
--- the run that a script asks for: of its tasks, all of them, over an empty journal of its ports and slots, with its devices at the ports
--- and its disk call failing (format, Scripts)
-pub record IsRunOf (said : Said) (geometry : Geometry) (given : FaultDisk MemoryDisk) (trace : Trace (FaultDisk MemoryDisk) Sim) : Type 0
-  where
-    pub empty : EachIsEmptyJournal (run_disk given) geometry
-    pub fails : FailsAsSaid said.fail given
-    pub headline : IsHeadline run_disk (λ (link : Sim). link.connection) SimStep given (links_of geometry.ports said.devices)
-        (tasks_of said.steps) trace
-    pub whole : trace.ended ≡ Whole
+-- the run that a script asks for: of its tasks, all of them, over an empty journal of its ports and slots, with its devices at the
+-- ports (format, Scripts)
+pub record IsRunOf {D : Type 0} (disk : D → Disk) (said : Said) (geometry : Geometry) (given : D) (trace : Trace D Sim) : Type 0 where
+  pub empty : EachIsEmptyJournal (disk given) geometry
+  pub headline : IsHeadline disk (λ (link : Sim). link.connection) SimStep given (links_of geometry.ports said.devices)
+      (tasks_of said.steps) trace
+  pub whole : trace.ended ≡ Whole
 
 -- the power was stopped as a script says: what it left is an image of the disk, and means this number and state (format, Scripts)
 pub record IsStoppedAs (keep : Pick) (last : MemoryDisk) (number : ℕ) (state : State) : Type 0 where
@@ -67,13 +65,15 @@ pub record HoldsAcknowledged (ports : ℕ) (events : List Stamp) (number : ℕ) 
   pub reaches : acked 0 events ≤ number
   pub state_is : state ≡ after (empty_state ports) (take number (accepted events))
 
--- a script was played: its run was made, its power was stopped, and what was recovered holds all that was acknowledged (own)
+-- a script was played: its run was made, with its disk call failing, its power was stopped, and what was recovered holds all that
+-- was acknowledged (own)
 pub record IsPlayed (said : Said) (report : Report) : Type 0 where
   pub geometry : Geometry
   pub given : FaultDisk MemoryDisk
   pub trace : Trace (FaultDisk MemoryDisk) Sim
   pub numbers : IsSaidGeometry said geometry
-  pub run : IsRunOf said geometry given trace
+  pub fails : FailsAsSaid said.fail given
+  pub run : IsRunOf run_disk said geometry given trace
   pub events : report.events ≡ trace.events
   pub stopped : IsStoppedAs said.keep (inner trace.disk) report.recovered.number report.recovered.state
   pub holds : HoldsAcknowledged geometry.ports (told_in trace) report.recovered.number report.recovered.state

@@ -1,14 +1,16 @@
 //! The program's commands, over a writer for their output and one for their faults.
-ghost use Rattle.std.specs.Prelude.{◌≡◌, ◌≤◌, ◌⊎◌, ℕ, List, IfErr, IfOk, OnOk, string_bytes};
+ghost use Rattle.std.specs.Prelude.{◌≡◌, ◌≤◌, ◌⊎◌, ℕ, List, All, IfErr, IfOk, OnOk, Some, string_bytes};
 ghost use Rattle.std.specs.Io.KnownBytes.{Appends};
+ghost use Rattle.iol_script.specs.Script.{said_in, said_of};
+ghost use Rattle.iol_commands.specs.Devices.{MayVisit};
 ghost use Rattle.iol_commands.specs.Fault.{status_of, fault_line};
-ghost use Rattle.iol_commands.specs.Played.{TellsRun};
+ghost use Rattle.iol_commands.specs.Played.{IsSaidGeometry, TellsRun};
 ghost use Rattle.iol_commands.specs.Runs.{CanRun, IsCause, IsSilent};
 
 use crate::fault::Fault;
 use crate::geometry::geometry_of;
 use crate::run::run;
-use iol_disk::MemoryDisk;
+use iol_journal::Geometry;
 use iol_script::Script;
 use std::alloc::Global;
 use std::io::{self, Write};
@@ -36,10 +38,23 @@ pub fn run_text<W: Write, E: Write>(alloc: Global, script: &[u8], out: &mut W, e
     }
 }
 
-// What a run prints. The text is judged first, then whether its ports are there, then its numbers; then it is run.
-fn text_of_run(alloc: Global, text: &[u8]) -> Result<String, Fault<'static>>
+/// A script that can be run, and the geometry of its numbers.
+#[derive(Drop)]
+pub struct Playable {
+    pub script: Script,
+    pub geometry: Geometry,
+}
+
+/// The script that a text is, and its geometry. The text is judged first, then whether its ports are there, then its
+/// numbers.
+///
+/// # Errors
+/// `Script`, `Geometry` or `Memory`.
+pub fn read_playable(alloc: Global, text: &[u8]) -> Result<Playable, Fault<'static>>
+    ensures said { IfOk result (λ playable. said_in text.now ≡ Some (said_of playable.script)) }
+    ensures numbers { IfOk result (λ playable. IsSaidGeometry (said_of playable.script) playable.geometry) }
+    ensures devices { IfOk result (λ playable. All MayVisit playable.script.devices.items) }
     ensures ran { OnOk result (CanRun text.now) }
-    ensures printed { IfOk result (λ printed. TellsRun text.now (string_bytes printed)) }
     ensures cause { IfErr result (IsCause text.now) }
 {
     let script = Script::read(alloc, text)?;
@@ -47,8 +62,17 @@ fn text_of_run(alloc: Global, text: &[u8]) -> Result<String, Fault<'static>>
         return Err(Fault::Script);
     }
     let geometry = geometry_of(script.ports, script.slots).ok_or(Fault::Geometry)?;
-    let disk = MemoryDisk::new(alloc, geometry.sectors())?;
-    let report = run(alloc, disk, geometry, &script)?;
+    Ok(Playable { script, geometry })
+}
+
+// What a run prints.
+fn text_of_run(alloc: Global, text: &[u8]) -> Result<String, Fault<'static>>
+    ensures ran { OnOk result (CanRun text.now) }
+    ensures printed { IfOk result (λ printed. TellsRun text.now (string_bytes printed)) }
+    ensures cause { IfErr result (IsCause text.now) }
+{
+    let ready = read_playable(alloc, text)?;
+    let report = run(alloc, ready.geometry, &ready.script)?;
     Ok(report.to_string(alloc)?)
 }
 

@@ -5,6 +5,7 @@ ghost use Rattle.iol_run.specs.Events.{event_of};
 ghost use Rattle.iol_commands.specs.Lines.{octets_line, event_text};
 
 use crate::names::refusal_name;
+use crate::octets::Spaced;
 use crate::status_text::StatusText;
 use iol_run::Event;
 use iol_types::PortId;
@@ -47,9 +48,5 @@ fn write_octets<W: fmt::Write>(
 ) -> fmt::Result
     ensures { WritesOnOk W.write_str_gives f.old result (octets_line port sign.now octets.now) f.new }
 {
-    write!(f, "port {} {sign}", port.number())?;
-    for octet in octets {
-        write!(f, " {octet:02X}")?;
-    }
-    f.write_str("\n")
+    writeln!(f, "port {} {sign}{}", port.number(), Spaced(octets))
 }

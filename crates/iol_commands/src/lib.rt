@@ -11,7 +11,7 @@
 //! - `disk` has the disk of a run, `recovery` the journal on it, `devices` the devices at the ports, `steps` the steps of
 //!   a script, and `run` runs it.
 //! - `image` formats and shows the disk of an image file.
-//! - `trace_text`, `event_text`, `status_text` and `names` have the lines of a trace, `state_text` and `entry_text` those of a
+//! - `trace_text`, `event_text`, `octets`, `status_text` and `names` have the lines of a trace, `state_text` and `entry_text` those of a
 //!   recovered state, and `fault` why a command fails.
 //! - `commands` and `image_commands` are the commands over writers.
 //! - `examples` has words and lines of a trace and of a state, worked out.
@@ -32,6 +32,7 @@ mod geometry;
 mod image;
 mod image_commands;
 mod names;
+mod octets;
 mod recovery;
 mod run;
 mod state_text;
@@ -39,11 +40,16 @@ mod status_text;
 mod steps;
 mod trace_text;
 
-pub use commands::{print, report, run_text};
+pub use commands::{Playable, print, read_playable, report, run_text};
 pub use devices::links_of;
 pub use fault::Fault;
 pub use geometry::geometry_of;
 pub use image::{Shown, format_disk, opened, show_disk, text_of_disk};
 pub use image_commands::{format_image, show_image};
+pub use names::refusal_name;
+pub use octets::Spaced;
 pub use recovery::recover;
+pub use run::{empty_disk, make_run, stop};
 pub use state_text::Recovered;
+pub use status_text::StatusText;
+pub use trace_text::{is_said_loss, lost_port};

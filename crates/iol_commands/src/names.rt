@@ -10,8 +10,8 @@ use iol_ident::IdentFault;
 use iol_port::PortFault;
 use iol_types::CommandFault;
 
-// What the trace calls a refusal.
-pub(crate) fn refusal_name(fault: SubmitFault) -> &'static str
+/// What the trace calls a refusal.
+pub fn refusal_name(fault: SubmitFault) -> &'static str
     ensures { result.now ≡ refusal_name (refusal_of fault) }
 {
     match fault {

@@ -1,5 +1,5 @@
 //! The run of a script on one thread, over a disk that is empty at first.
-ghost use Rattle.std.specs.Prelude.{◌≡◌, All, IfOk, IfErr};
+ghost use Rattle.std.specs.Prelude.{◌≡◌, All, IfOk, IfErr, IsTrue};
 ghost use Rattle.iol_journal.specs.Formatting.{EachIsEmptyJournal};
 ghost use Rattle.iol_script.specs.Script.{said_of};
 ghost use Rattle.iol_commands.specs.Devices.{MayVisit};
@@ -12,11 +12,11 @@ use crate::fault::Fault;
 use crate::recovery::recover;
 use crate::state_text::Recovered;
 use crate::steps::tasks_of;
-use iol_disk::{FaultDisk, MemoryDisk, Pick};
+use iol_disk::{FaultDisk, MemoryDisk, Pick, SectorDisk};
 use iol_headline::run_schedule;
 use iol_journal::Geometry;
 use iol_run::{Ended, RunFault, Stamped, Trace};
-use iol_script::Script;
+use iol_script::{FailingCall, Script};
 use iol_sim::SimLink;
 use std::alloc::Global;
 
@@ -31,10 +31,9 @@ pub(crate) struct Report {
 // script says so, a disk call fails between the recovery that follows the format and the stop.
 //
 // # Errors
-// `Memory`, `Disk`, `TooSmall` or `AlreadyFormatted`, where it is first met.
+// As `empty_disk`, `make_run` and `stop`.
 pub(crate) fn run(
     alloc: Global,
-    mut disk: MemoryDisk,
     geometry: Geometry,
     script: &Script,
 ) -> Result<Report, Fault<'static>>
@@ -43,28 +42,45 @@ pub(crate) fn run(
     ensures played { IfOk result (IsPlayed (said_of script.now)) }
     ensures status { IfErr result (λ fault. status_of fault ≡ 1) }
 {
-    iol_journal::format(alloc, &mut disk, geometry)?;
-    let given = failing(disk, script.fail);
+    let given = empty_disk(alloc, geometry, script.fail)?;
     let trace = make_run(alloc, given, geometry, script)?;
     let Trace { events, disk, .. } = trace;
     let recovered = stop(alloc, disk.disk(), script.keep)?;
     Ok(Report { events, recovered })
 }
 
-// Makes the run that a script asks for, over a disk with an empty journal.
-//
-// # Errors
-// `Memory`, or `Disk` where a call of the recovery fails.
-fn make_run(
+/// A disk in memory, formatted for this geometry, of which the call fails that a script names, if it names one.
+///
+/// # Errors
+/// `Memory`, `Disk`, `TooSmall` or `AlreadyFormatted`, where it is first met.
+pub fn empty_disk(
     alloc: Global,
-    disk: FaultDisk<MemoryDisk>,
+    geometry: Geometry,
+    fail: Option<FailingCall>,
+) -> Result<FaultDisk<MemoryDisk>, Fault<'static>>
+    ensures empty { IfOk result (λ disk. EachIsEmptyJournal (run_disk disk) geometry) }
+    ensures fails { IfOk result (FailsAsSaid fail) }
+    ensures status { IfErr result (λ fault. status_of fault ≡ 1) }
+{
+    let mut disk = MemoryDisk::new(alloc, geometry.sectors())?;
+    iol_journal::format(alloc, &mut disk, geometry)?;
+    Ok(failing(disk, fail))
+}
+
+/// Makes the run that a script asks for, over a disk with an empty journal.
+///
+/// # Errors
+/// `Memory`, or `Disk` where a call of the recovery fails.
+pub fn make_run<D: SectorDisk + Drop>(
+    alloc: Global,
+    disk: D,
     geometry: Geometry,
     script: &Script,
-) -> Result<Trace<FaultDisk<MemoryDisk>, SimLink>, Fault<'static>>
+) -> Result<Trace<D, SimLink>, Fault<'static>>
     requires devices { All MayVisit script.now.devices.items }
-    requires empty { EachIsEmptyJournal (run_disk disk) geometry }
-    requires fails { FailsAsSaid script.now.fail disk }
-    ensures run { IfOk result (IsRunOf (said_of script.now) geometry disk) }
+    requires honest { IsTrue (D.disk disk).honest }
+    requires empty { EachIsEmptyJournal (D.disk disk) geometry }
+    ensures run { IfOk result (IsRunOf D.disk (said_of script.now) geometry disk) }
     ensures status { IfErr result (λ fault. status_of fault ≡ 1) }
 {
     let links = links_of(alloc, &script.devices, geometry.ports())?;
@@ -80,11 +96,11 @@ fn make_run(
     }
 }
 
-// Stops the power of a disk, and recovers what the stop leaves.
-//
-// # Errors
-// Why the disk is not recovered.
-fn stop(alloc: Global, disk: MemoryDisk, keep: Pick) -> Result<Recovered, Fault<'static>>
+/// Stops the power of a disk, and recovers what the stop leaves.
+///
+/// # Errors
+/// Why the disk is not recovered.
+pub fn stop(alloc: Global, disk: MemoryDisk, keep: Pick) -> Result<Recovered, Fault<'static>>
     ensures stopped { IfOk result (λ recovered. IsStoppedAs keep disk recovered.number recovered.state) }
     ensures status { IfErr result (λ fault. status_of fault ≡ 1) }
 {

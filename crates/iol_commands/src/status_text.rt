@@ -4,9 +4,9 @@ use crate::names::{failure_name, mismatch_name};
 use iol_port::{PortFault, PortStatus};
 use std::fmt;
 
-// The status of a port, in words.
+/// The status of a port, in the words of a trace.
 #[derive(Drop)]
-pub(crate) struct StatusText(pub(crate) PortStatus);
+pub struct StatusText(pub PortStatus);
 
 impl fmt::Display for StatusText {
     ghost use Rattle.std.specs.Prelude.{Some};

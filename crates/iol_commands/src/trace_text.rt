@@ -50,8 +50,8 @@ fn write_lines<W: fmt::Write>(
     }
 }
 
-// The port that this event has lost the device of, if it is such an event.
-fn lost_port(event: &Event) -> Option<PortId>
+/// The port that this event has lost the device of, if it is such an event.
+pub fn lost_port(event: &Event) -> Option<PortId>
     ensures { result ≡ lost_in (event_of event.now) }
 {
     match event {
@@ -60,8 +60,8 @@ fn lost_port(event: &Event) -> Option<PortId>
     }
 }
 
-// Whether this is the status of a port whose loss was said right before.
-fn is_said_loss(event: &Event, lost: Option<PortId>) -> bool
+/// Whether this is the status of a port whose loss was said right before.
+pub fn is_said_loss(event: &Event, lost: Option<PortId>) -> bool
     ensures { result ≡ is_said (event_of event.now) lost }
 {
     match event {

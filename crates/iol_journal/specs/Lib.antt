@@ -30,3 +30,4 @@ pub mod Replay
 pub mod Orders
 pub mod Examples
 pub mod Plain
+pub mod Survey

@@ -55,6 +55,13 @@ impl Head {
             && self.octets as usize <= MOST_RECORD_OCTETS
             && first + u64::from(self.count) <= LAST_NUMBER + 1
     }
+
+    /// How many sectors of the body it and its records take, as it says: 1 to 16 where it is that of a batch.
+    pub fn sectors(self) -> usize
+        ensures { result ≡ sectors_reached (BODY_HEAD_OCTETS + self.octets) }
+    {
+        (BODY_HEAD_OCTETS + self.octets as usize).div_ceil(SECTOR_OCTETS)
+    }
 }
 
 // The records of commands, one behind the other.

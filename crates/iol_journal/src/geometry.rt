@@ -12,13 +12,13 @@ pub(crate) const MOST_PORTS: u16 = 32;
 pub(crate) const MOST_SLOTS: u16 = 256;
 // The sectors of a port's record.
 pub(crate) const PORT_SECTORS: usize = 9;
-// The sectors of a slot's body.
-pub(crate) const BODY_SECTORS: usize = 16;
+/// The sectors of a slot's body.
+pub const BODY_SECTORS: usize = 16;
 
-// The sector that says the geometry.
-pub(crate) const GEOMETRY: usize = 0;
-// The gate of the disk.
-pub(crate) const DISK_GATE: usize = 1;
+/// The sector that says the geometry.
+pub const GEOMETRY: usize = 0;
+/// The gate of the disk.
+pub const DISK_GATE: usize = 1;
 // What the geometry's sector begins with: the letters IOLS, and the version of the layout.
 pub(crate) const GEOMETRY_MARK: [u8; 5] = [0x49, 0x4F, 0x4C, 0x53, 0x01];
 
@@ -61,9 +61,9 @@ impl Geometry {
         })
     }
 
-    // The geometry that its sector says, if it is one.
+    /// The geometry that its sector says, or `None` where the sector says none.
     #[tactic(auto, unfolding(crate::specs::Geometry::geometry_of))]
-    pub(crate) fn read(octets: &[u8; SECTOR_OCTETS]) -> Option<Geometry>
+    pub fn read(octets: &[u8; SECTOR_OCTETS]) -> Option<Geometry>
         ensures { result ≡ geometry_of octets.now }
     {
         if octets.starts_with(&GEOMETRY_MARK)
@@ -115,8 +115,8 @@ impl Geometry {
         self.layout().sectors()
     }
 
-    // Where everything stands on its disk.
-    pub(crate) fn layout(self) -> Layout
+    /// Where everything stands on its disk.
+    pub fn layout(self) -> Layout
         ensures { result ≡ layout_of self }
     {
         Layout::of(self)

@@ -5,11 +5,11 @@ use crate::geometry::{BODY_SECTORS, Geometry, PORT_SECTORS};
 use iol_slots::Slot;
 use std::marker::Model;
 
-// Where everything stands on the disk of a geometry (docs/FORMATS.md, "Disk layout").
-//
-// All places are asked of it, so that another layout of an area's sectors is another value of this type.
+/// Where everything stands on the disk of a geometry (docs/FORMATS.md, "Disk layout").
+///
+/// All places are asked of it, so that another layout of an area's sectors is another value of this type.
 #[derive(Clone, Copy)]
-pub(crate) struct Layout {
+pub struct Layout {
     geometry: Geometry,
 }
 
@@ -40,24 +40,24 @@ impl Layout {
         Layout { geometry }
     }
 
-    // How many ports there are.
-    pub(crate) fn ports(self) -> u8
+    /// How many ports there are, 1 to 32.
+    pub fn ports(self) -> u8
         ensures value { result ≡ self.ports }
         ensures bound { result ≤ 32 }
     {
         self.geometry.ports()
     }
 
-    // How many slots each area has.
-    pub(crate) fn slots(self) -> usize
+    /// How many slots each area has, 1 to 256.
+    pub fn slots(self) -> usize
         ensures value { result ≡ self.slots }
         ensures some { 1 ≤ result }
     {
         self.geometry.slots()
     }
 
-    // How many sectors a port's record has.
-    pub(crate) fn port_sectors(self) -> usize
+    /// How many sectors a port's record has.
+    pub fn port_sectors(self) -> usize
         ensures value { result ≡ self.port_sectors }
         ensures some { 1 ≤ result }
         ensures bound { result ≤ 9 }
@@ -84,8 +84,8 @@ impl Layout {
             + (1 + BODY_SECTORS) * self.geometry.slots()
     }
 
-    // The gate of an area.
-    pub(crate) fn gate(self, area: Area) -> usize
+    /// The gate of an area, which is the area's first sector.
+    pub fn gate(self, area: Area) -> usize
         ensures at { result ≡ gate_at self area }
         ensures bound { result < 10000 }
     {
@@ -103,8 +103,8 @@ impl Layout {
         self.gate(area) + 1
     }
 
-    // The first sector of a port's record; ports are counted from 0.
-    pub(crate) fn port(self, area: Area, port: usize) -> usize
+    /// The first sector of a port's record; ports are counted from 0.
+    pub fn port(self, area: Area, port: usize) -> usize
         requires { port < self.ports }
         ensures some_sector { 1 ≤ self.port_sectors }
         ensures at { result ≡ port_at self area port }

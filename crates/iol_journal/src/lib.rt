@@ -10,10 +10,11 @@
 //! Modules in reading order: where things stand (`area`, `geometry`, `layout`, `header`, `place`), what stands there
 //! (`numbers`, `batch`, `body`, `records`, `area_plan`), reading it (`cause`, `reading`, `opening`, `snapshot`, `replay`,
 //! `recovery`), and writing it (`formatting`, `erasing`, `history`, `journal`, `phase`, `calls`, `writing`, `stage`,
-//! `stage_calls`, `checkpointing`); then `laws` and `runs`, for proofs of other crates, `examples`, facts with values
-//! of the layout, and `plain`, a slow reading of an image to compare a recovery with. What an image of a disk means is said
-//! in `specs/Meaning.antt`, what a run of batches and checkpoints keeps in `specs/Runs.antt`. [`Area`], [`Head`], [`Header`],
-//! [`History`], [`Idle`], [`InUse`], [`Phase`] and [`Stage`] are what contracts show of a journal.
+//! `stage_calls`, `checkpointing`); then `survey`, places and readers for a map of a disk, `laws` and `runs`, for proofs of
+//! other crates, `examples`, facts with values of the layout, and `plain`, a slow reading of an image to compare a recovery
+//! with. What an image of a disk means is said in `specs/Meaning.antt`, what a run of batches and checkpoints keeps in
+//! `specs/Runs.antt`. [`Area`], [`Head`], [`Header`], [`History`], [`Idle`], [`InUse`], [`Phase`] and [`Stage`] are what
+//! contracts show of a journal.
 #![tactic(auto)]
 
 mod area;
@@ -46,6 +47,7 @@ mod sector;
 mod snapshot;
 mod stage;
 mod stage_calls;
+pub mod survey;
 mod writing;
 
 pub use area::Area;

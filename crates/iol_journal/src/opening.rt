@@ -77,8 +77,11 @@ pub(crate) fn find_areas<D: SectorDisk>(disk: &mut D, layout: Layout) -> Result<
     Ok(Areas { in_use, other })
 }
 
-// Reads both gates, and then the headers of the open areas.
-fn read_open_headers<D: SectorDisk>(
+/// Reads both gates, and then the headers of the open areas: that of A, and that of B.
+///
+/// # Errors
+/// `Read` where the disk fails.
+pub fn read_open_headers<D: SectorDisk>(
     disk: &mut D,
     layout: Layout,
 ) -> Result<(Option<Header>, Option<Header>), DiskFault>
@@ -95,7 +98,15 @@ fn read_open_headers<D: SectorDisk>(
     Ok((a, b))
 }
 
-fn read_header<D: SectorDisk>(disk: &mut D, layout: Layout, area: Area) -> Result<Header, DiskFault>
+/// Reads the header of an area, whether its gate is open or closed.
+///
+/// # Errors
+/// `Read` where the disk fails.
+pub fn read_header<D: SectorDisk>(
+    disk: &mut D,
+    layout: Layout,
+    area: Area,
+) -> Result<Header, DiskFault>
     requires { total layout ≤ (D.disk disk.old).sectors }
     ensures read { IfOk result (λ header. Shows (D.disk disk.old) (λ image. header ≡ header_of (image (header_at layout area)))) }
     ensures same { Same (D.disk disk.old) (D.disk disk.new) }
@@ -124,8 +135,12 @@ fn read_if<D: SectorDisk>(
     }
 }
 
-// Of the open areas the one with the greatest epoch.
-pub(crate) fn greatest_of(
+/// Of the open areas, of which these are the headers, the one that is in use: that with the greatest epoch.
+///
+/// # Errors
+/// `Damaged`, as "Recovery" of docs/FORMATS.md has it, where no area is open, both have one epoch, or the header of the
+/// one with the greatest is out of its bounds.
+pub fn greatest_of(
     layout: Layout,
     a: Option<Header>,
     b: Option<Header>,

@@ -12,8 +12,11 @@ use crate::geometry::DISK_GATE;
 use iol_disk::{DiskFault, SECTOR_OCTETS, SectorDisk};
 use iol_slots::Slot;
 
-// The octets of a sector.
-pub(crate) fn read_sector<D: SectorDisk>(
+/// The octets of a sector.
+///
+/// # Errors
+/// `Read` where the disk fails.
+pub fn read_sector<D: SectorDisk>(
     disk: &mut D,
     sector: usize,
 ) -> Result<[u8; SECTOR_OCTETS], DiskFault>
@@ -39,8 +42,11 @@ pub(crate) fn gate(sector: usize) -> Slot
     }
 }
 
-// Whether the gate of the disk is there, and open.
-pub(crate) fn is_formatted<D: SectorDisk>(disk: &mut D) -> Result<bool, DiskFault>
+/// Whether the gate of the disk is there, and open.
+///
+/// # Errors
+/// `Read` where the disk fails.
+pub fn is_formatted<D: SectorDisk>(disk: &mut D) -> Result<bool, DiskFault>
     ensures read { IfOk result (λ answer. Shows (D.disk disk.old) (λ image. answer ≡ is_formatted (D.disk disk.old).sectors image)) }
     ensures there { IfOk result (λ answer. answer ≡ true → DISK_GATE < (D.disk disk.old).sectors) }
     ensures same { Same (D.disk disk.old) (D.disk disk.new) }

@@ -17,8 +17,13 @@ use iol_record::{RecordFault, decode_port};
 use iol_types::{MasterState, PortId, PortState};
 use std::alloc::Global;
 
-// The port whose record begins in a sector: of its sectors as many are read as the record reaches.
-fn read_port<D: SectorDisk>(
+/// The port whose record begins in a sector: of its sectors as many are read as the record reaches, and `octets` then has
+/// those that were read.
+///
+/// # Errors
+/// `Damaged` with the first sector, where its sectors hold no record of a port; `Disk` of `Read` where the disk fails;
+/// `Memory` where it is out of memory.
+pub fn read_port<D: SectorDisk>(
     alloc: Global,
     disk: &mut D,
     sector: usize,

@@ -30,6 +30,8 @@ pub struct CoreOnDisk<D: SectorDisk, F: Name> {
     flusher: Flusher<D, F>,
     // published, and not yet acknowledged
     committed: Option<Committed<F>>,
+    // the disk calls of the flusher so far; contracts do not see them
+    calls: usize,
 }
 
 impl<D: SectorDisk, F: Name> Model for CoreOnDisk<D, F> {
@@ -116,6 +118,7 @@ impl<D: SectorDisk, F: Name> CoreOnDisk<D, F> {
                 core,
                 flusher: Flusher::new(journal, publisher),
                 committed: None,
+                calls: 0,
             }),
             Err(_) => Err(journal.disk()),
         }
@@ -130,6 +133,7 @@ impl<D: SectorDisk, F: Name> CoreOnDisk<D, F> {
             core,
             flusher,
             committed: _,
+            calls: _,
         } = self;
         let disk = match flusher.end() {
             FlushEnd::Closed(journal, _publisher) => journal.disk(),
@@ -160,6 +164,11 @@ impl<D: SectorDisk, F: Name> CoreOnDisk<D, F> {
         ensures run { KeepsRunning D.disk F.front.start self.old self.new }
     {
         call.make(&mut self.core)
+    }
+
+    // How many disk calls its flusher has made, up to 2^64 - 1.
+    pub(crate) fn calls(&self) -> usize {
+        self.calls
     }
 
     // The core is in step with its flusher: no code runs, but a caller's proof learns it.
@@ -236,8 +245,12 @@ impl<D: SectorDisk, F: Name> CoreOnDisk<D, F> {
         ensures run { KeepsRunning D.disk F.front.start self.old self.new }
     {
         match self.flusher.disk_step() {
-            Ok(()) => Turn::silent(Turned::Made),
+            Ok(()) => {
+                self.calls = self.calls.saturating_add(1);
+                Turn::silent(Turned::Made)
+            }
             Err(FlushFault::Disk(_)) => {
+                self.calls = self.calls.saturating_add(1);
                 self.core.stop(StopCause::DiskFailed);
                 Turn::telling(Event::DiskFailed)
             }

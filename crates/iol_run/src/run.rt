@@ -27,10 +27,13 @@ use std::marker::Model;
 pub struct Stamped {
     pub event: Event,
     pub moment: Moment,
+    /// How many disk calls the flusher had made by then, those of the event's own step among them. It counts up to
+    /// 2^64 - 1, and no clause speaks of it.
+    pub calls: usize,
 }
 
 // A run keeps all that it tells.
-const _: () = prove!(size_of::<Stamped>() <= 32);
+const _: () = prove!(size_of::<Stamped>() <= 40);
 
 /// A run between its steps. A contract sees the record `RunView` of `specs/Runs.antt`.
 pub struct Run<D: SectorDisk, L: DeviceLink, F: Name> {
@@ -66,7 +69,12 @@ fn note<D: SectorDisk, F: Name>(
 {
     if let Some(event) = event {
         let moment = Moment::of(master);
-        events.push_reserved(Stamped { event, moment });
+        let calls = master.calls();
+        events.push_reserved(Stamped {
+            event,
+            moment,
+            calls,
+        });
     }
 }
 

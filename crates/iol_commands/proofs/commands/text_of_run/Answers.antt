@@ -1,11 +1,7 @@
 use Rattle.std.proofs.Common.{Option, IsSomeAnd, sym, subst, rules}
 use Rattle.iol_script.specs.Script.{Said}
-use Rattle.iol_commands.proofs.SaidDevices.{may_visit}
 use Rattle.iol_commands.specs.Played.{IsPlayed}
 use Rattle.iol_commands.proofs.commands.text_of_run.Goals as goal
-
-pub run-requires-clause-devices : goal.run-requires-clause-devices
-run-requires-clause-devices c = may_visit c.args.text.now c.in_ok-script.script c.in_ok-script.ensures.script
 
 -- the text is that of the report of the run that was played
 pub returns-clause-printed : goal.returns-clause-printed
@@ -14,7 +10,7 @@ returns-clause-printed c =
     record {
       report = report;
       played =
-          subst (λ (o : Option Said). IsSomeAnd o (λ said. IsPlayed said report)) (sym c.in_ok-script.ensures.script)
+          subst (λ (o : Option Said). IsSomeAnd o (λ said. IsPlayed said report)) (sym c.in_ok-ready.ensures.said)
           c.in_ok-report.ensures.played;
       text_is = search rules;
     }

@@ -6,7 +6,7 @@ use Rattle.iol_disk.specs.FaultDisk.{inner}
 use Rattle.iol_journal.specs.Meaning.{meaning}
 use Rattle.iol_script.specs.Script.{said_of}
 use Rattle.iol_commands.proofs.Playing.{holds}
-use Rattle.iol_commands.specs.Played.{IsStoppedAs}
+use Rattle.iol_commands.specs.Played.{IsStoppedAs, run_disk}
 use Rattle.iol_commands.proofs.run.run.Goals as goal
 
 pub returns-clause-played : goal.returns-clause-played
@@ -20,13 +20,14 @@ returns-clause-played c =
     let image = reads (as_disk stopped.stopped).content in
     record {
       geometry = c.args.geometry;
-      given = c.failing-given.result;
+      given = c.in_ok-given.given;
       trace = trace;
       numbers = c.requires.numbers;
+      fails = c.in_ok-given.ensures.fails;
       run = c.in_ok-trace.ensures.run;
       events = refl;
       stopped = stopped;
       holds =
-          holds said c.args.geometry c.failing-given.result trace image number state c.in_ok-trace.ensures.run stopped.left
+          holds run_disk said c.args.geometry c.in_ok-given.given trace image number state refl refl c.in_ok-trace.ensures.run stopped.left
           (subst (λ (n : ℕ). meaning n image ≡ Ok (record { number = number; state = state })) stopped.power.sectors stopped.means);
     }

@@ -4,13 +4,13 @@ use Rattle.std.proofs.lemmas.Grind.{put_two}
 use Rattle.iol_commands.specs.Lines.{spaced}
 use Rattle.iol_commands.proofs.Hexadecimal.{hex_hole}
 use Rattle.iol_commands.proofs.OctetLines.{spaced_next}
-use Rattle.iol_commands.proofs.event_text.write_octets.Goals as goal
+use Rattle.iol_commands.proofs.octets.write_octets.Goals as goal
 
 pub loop-octet-preserved : goal.loop-octet-preserved
 loop-octet-preserved g c = λ plain.
     let i = c.loop-octet.octet-index in
     let octets = c.args.octets.now in
     let within : i < length octets = search rules in
-    put_two g.W.Write.write_str_gives c.write.new.self c.loop-octet.f c.write-in-loop-octet.new.self (spaced (take i octets))
+    put_two g.W.Write.write_str_gives c.args.f.now c.loop-octet.f c.write.new.self (spaced (take i octets))
     (codes " " ++ hex_hole 2 (get_or octets i 0)) (spaced (take (i + 1) octets)) (c.loop-octet.invariant plain) (search rules)
     (spaced_next octets i within (search rules))

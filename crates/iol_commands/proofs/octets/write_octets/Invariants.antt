@@ -1,7 +1,7 @@
 use Rattle.std.proofs.Common.{take}
 use Rattle.std.specs.Fmt.{HasWritten, IsPlainFormatter}
 use Rattle.iol_commands.specs.Lines.{spaced}
-use Rattle.iol_commands.proofs.event_text.write_octets.Given as goal
+use Rattle.iol_commands.proofs.octets.write_octets.Given as goal
 
 -- the octets so far
 abbrev pub invariant-loop-octet : goal.invariant-loop-octet

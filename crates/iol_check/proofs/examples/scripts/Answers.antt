@@ -1,0 +1,7 @@
+use Rattle.std.proofs.Common.{refl}
+use Rattle.std.specs.Fmt.{digits}
+use Rattle.iol_check.proofs.examples.scripts.Goals as goal
+
+pub returns : goal.returns
+unfolding digits
+returns c = record { least = refl; example = refl; full = refl }

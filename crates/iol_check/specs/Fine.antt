@@ -1,0 +1,30 @@
+-- What is printed of a script that can be run.
+use Rattle.std.specs.Prelude.{◌≡◌, ◌==◌, ℕ, ℤ, pos, negsuc, if◌then◌else◌, List, ◌++◌, length, codes, Some}
+use Rattle.std.specs.Fmt.{decimal}
+use Rattle.iol_script.specs.Script.{Said, said_in}
+
+-- how many a whole number counts, which is none where it is below 0 (own)
+abbrev pub count_of : ℤ → ℕ
+count_of (pos n) = n
+count_of (negsuc n) = 0
+
+-- a count with its word, which has an s unless one is counted (format, Check)
+abbrev pub counted : List ℕ → ℕ → List ℕ
+counted word count = if count == 1 then codes "1 " ++ word else decimal count ++ (codes " " ++ (word ++ codes "s"))
+
+-- the line of so many ports, slots, devices, and steps before the stop (format, Check)
+abbrev pub counts_line : ℕ → ℕ → ℕ → ℕ → List ℕ
+counts_line ports slots devices steps =
+    codes "fine: " ++ (counted (codes "port") ports ++ (codes ", " ++ (counted (codes "slot") slots
+    ++ (codes ", " ++ (counted (codes "device") devices ++ (codes ", " ++ (counted (codes "step") steps ++ codes "\n")))))))
+
+-- the line of a script that can be run (format, Check)
+abbrev pub fine_line : Said → List ℕ
+fine_line said = counts_line (count_of said.ports) (count_of said.slots) (length said.devices) (length said.steps)
+
+-- what is printed is the line of what a text says, with notes behind it (format, Check)
+pub record TellsFine (text printed : List ℕ) : Type 0 where
+  pub said : Said
+  pub says : said_in text ≡ Some said
+  pub notes : List ℕ
+  pub tells : printed ≡ fine_line said ++ notes

@@ -1,0 +1,43 @@
+//! What is answered of a text.
+ghost use Rattle.std.specs.Prelude.{◌≡◌, IfOk, Some, string_bytes};
+ghost use Rattle.iol_script.specs.Script.{said_in, said_of};
+ghost use Rattle.iol_check.specs.Answer.{IsAnswer};
+ghost use Rattle.iol_check.specs.Fine.{TellsFine};
+
+use crate::fine::fine_line;
+use crate::mistakes::mistakes_of;
+use crate::notes::notes_of;
+use crate::valid::runnable;
+use iol_script::{Script, ScriptFault};
+use std::alloc::{AllocError, Global};
+
+// What is printed of a text.
+#[derive(Drop)]
+pub enum Answer {
+    // It can be run: its line, and notes.
+    Fine(String),
+    // It cannot: a line for each mistake.
+    Mistakes(String),
+}
+
+// The answer to a text.
+pub(crate) fn answer_to(alloc: Global, text: &[u8]) -> Result<Answer, AllocError>
+    ensures { IfOk result (IsAnswer text.now) }
+{
+    match runnable(alloc, text) {
+        Ok(script) => Ok(Answer::Fine(fine_text(alloc, text, &script)?)),
+        Err(ScriptFault::NotValid) => Ok(Answer::Mistakes(mistakes_of(alloc, text)?)),
+        Err(ScriptFault::Memory) => Err(AllocError),
+    }
+}
+
+// The line of the script that a text says, and the notes on it.
+fn fine_text(alloc: Global, text: &[u8], script: &Script) -> Result<String, AllocError>
+    requires { said_in text.now ≡ Some (said_of script.now) }
+    ensures { IfOk result (λ printed. TellsFine text.now (string_bytes printed)) }
+{
+    let mut printed = fine_line(alloc, script)?;
+    let notes = notes_of(alloc, text, script)?;
+    printed.push_str(notes.as_str())?;
+    Ok(printed)
+}

@@ -1,0 +1,52 @@
+//! Lines and columns of a text.
+
+use std::fmt;
+
+// Where something stands in a text: its line and its column, both from 1. A column counts characters.
+#[derive(Clone, Copy)]
+pub(crate) struct Place {
+    line: usize,
+    column: usize,
+}
+
+impl Place {
+    // The place of the octet of this number, from 0. A byte order mark in front of the text is no character.
+    pub(crate) fn at(text: &[u8], number: usize) -> Place {
+        let mut place = Place { line: 1, column: 1 };
+        for octet in without_mark(text.get(..number).unwrap_or(text)) {
+            place = place.behind(*octet);
+        }
+        place
+    }
+
+    // The place behind an octet that stands here.
+    fn behind(self, octet: u8) -> Place {
+        if octet == b'\n' {
+            Place {
+                line: self.line.saturating_add(1),
+                column: 1,
+            }
+        } else if octet & 0xC0 == 0x80 {
+            self
+        } else {
+            Place {
+                line: self.line,
+                column: self.column.saturating_add(1),
+            }
+        }
+    }
+}
+
+fn without_mark(text: &[u8]) -> &[u8] {
+    match text {
+        [0xEF, 0xBB, 0xBF, others @ ..] => others,
+        _ => text,
+    }
+}
+
+impl fmt::Display for Place {
+    fn fmt<W: fmt::Write>(&self, f: &mut fmt::Formatter<W>) -> fmt::Result {
+        let (line, column) = (self.line, self.column);
+        write!(f, "line {line}, column {column}")
+    }
+}

@@ -1,0 +1,191 @@
+//! Which keys a table of a script may have, and what may stand at each (docs/FORMATS.md, "Scripts").
+//!
+//! These words are shown, and no value is judged by them: that is for `trial`.
+
+use crate::keys::Key;
+
+// What a table is; of a step, which one.
+#[derive(Clone, Copy, PartialEq, Eq)]
+pub(crate) enum Kind {
+    Script,
+    Device,
+    Configure,
+    Clear,
+    Port,
+    Flush,
+    Drain,
+    Stop,
+}
+
+// What may stand at a key, in words.
+#[derive(Clone, Copy)]
+pub(crate) enum May {
+    Words(&'static str),
+    // The number of one of the script's ports.
+    OfPorts,
+}
+
+// A key of a table.
+#[derive(Clone, Copy)]
+pub(crate) struct Rule {
+    // A value that is right, where the key has to be there.
+    pub(crate) needed: Option<&'static str>,
+    pub(crate) may: May,
+}
+
+impl Kind {
+    // The step that a word at `do` names.
+    pub(crate) fn of_step(word: &str) -> Option<Kind> {
+        match word {
+            "configure" => Some(Kind::Configure),
+            "clear" => Some(Kind::Clear),
+            "port" => Some(Kind::Port),
+            "flush" => Some(Kind::Flush),
+            "drain" => Some(Kind::Drain),
+            "stop" => Some(Kind::Stop),
+            _ => None,
+        }
+    }
+
+    // The rule of a key in such a table, if it may have that key.
+    pub(crate) fn rule(self, key: Key) -> Option<Rule> {
+        match self {
+            Kind::Script => of_script(key),
+            Kind::Device => of_device(key),
+            Kind::Configure => of_configure(key),
+            Kind::Clear => of_clear(key),
+            Kind::Port => of_port_step(key),
+            Kind::Flush => of_flush(key),
+            Kind::Drain => of_drain(key),
+            Kind::Stop => of_stop(key),
+        }
+    }
+
+    // A value that is right at a key which such a table has to have.
+    pub(crate) fn right_value(self, key: Key) -> Option<&'static str> {
+        self.rule(key)?.needed
+    }
+
+    // Whether such a table may have a key; where it is no known step, whether any step may.
+    pub(crate) fn has(kind: Option<Kind>, key: Key) -> bool {
+        match kind {
+            Some(kind) => kind.rule(key).is_some(),
+            None => {
+                of_configure(key).is_some() || of_port_step(key).is_some() || of_stop(key).is_some()
+            }
+        }
+    }
+}
+
+// What may stand at `do`.
+pub(crate) const STEPS: &str =
+    "\"configure\", \"clear\", \"port\", \"flush\", \"drain\" or \"stop\"";
+
+const VENDOR: &str = "0 to 65,535";
+
+const DEVICE: &str = "0 to 16,777,215";
+
+const TIMES: &str = "1 to 10,000";
+
+const TRUTH: &str = "true or false";
+
+const CALLS: &str = "0 to 9,223,372,036,854,775,807";
+
+fn of_script(key: Key) -> Option<Rule> {
+    match key {
+        Key::Ports => needed("1", "1 to 32"),
+        Key::Slots => needed("1", "1 to 256"),
+        Key::Fail => free("\"read n\", \"write n\" or \"sync n\", n from 1 to 1,000,000"),
+        Key::Device => free("tables [[device]]"),
+        Key::Step => free("tables [[step]]"),
+        _ => None,
+    }
+}
+
+fn of_device(key: Key) -> Option<Rule> {
+    match key {
+        Key::Port => needed_port(),
+        Key::Vendor => needed("0", VENDOR),
+        Key::Device => needed("0", DEVICE),
+        Key::Revision => free("0 to 255"),
+        Key::Isdu | Key::Flag | Key::Locked => free(TRUTH),
+        Key::Keys => free("pairs [Index, Subindex]"),
+        Key::Values => free("texts of hexadecimal digits"),
+        Key::Answers | Key::Event => free(CALLS),
+        _ => None,
+    }
+}
+
+fn of_configure(key: Key) -> Option<Rule> {
+    match key {
+        Key::Do => needed("\"configure\"", STEPS),
+        Key::Port => needed("1", "1 to 32"),
+        Key::Mode | Key::Validation => needed("0", "0 to 4"),
+        Key::Vendor => needed("0", VENDOR),
+        Key::Device => needed("0", DEVICE),
+        _ => None,
+    }
+}
+
+fn of_clear(key: Key) -> Option<Rule> {
+    match key {
+        Key::Do => needed("\"clear\"", STEPS),
+        Key::Port => needed("1", "1 to 32"),
+        _ => None,
+    }
+}
+
+fn of_port_step(key: Key) -> Option<Rule> {
+    match key {
+        Key::Do => needed("\"port\"", STEPS),
+        Key::Port => needed_port(),
+        Key::Times => free(TIMES),
+        _ => None,
+    }
+}
+
+fn of_flush(key: Key) -> Option<Rule> {
+    match key {
+        Key::Do => needed("\"flush\"", STEPS),
+        Key::Times => free(TIMES),
+        _ => None,
+    }
+}
+
+fn of_drain(key: Key) -> Option<Rule> {
+    match key {
+        Key::Do => needed("\"drain\"", STEPS),
+        _ => None,
+    }
+}
+
+fn of_stop(key: Key) -> Option<Rule> {
+    match key {
+        Key::Do => needed("\"stop\"", STEPS),
+        Key::Keep => needed("\"old\"", "\"old\", \"new\", \"zero\" or \"pattern\""),
+        _ => None,
+    }
+}
+
+// A key that has to be there, with a value that is right, and what may stand there.
+fn needed(right: &'static str, words: &'static str) -> Option<Rule> {
+    Some(Rule {
+        needed: Some(right),
+        may: May::Words(words),
+    })
+}
+
+fn needed_port() -> Option<Rule> {
+    Some(Rule {
+        needed: Some("1"),
+        may: May::OfPorts,
+    })
+}
+
+// A key that may be missing, with what may stand there.
+fn free(words: &'static str) -> Option<Rule> {
+    Some(Rule {
+        needed: None,
+        may: May::Words(words),
+    })
+}

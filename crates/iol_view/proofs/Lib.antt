@@ -1,0 +1,3 @@
+pub mod ToldLines
+pub mod ReadRequests
+pub mod ChangedOctets

@@ -1,0 +1,131 @@
+//! An image file's sectors as a map: as text, and as a picture.
+ghost use Rattle.std.specs.Prelude.{◌≡◌, ◌≤◌, ◌⊎◌, IfErr, IfOk, ℕ, List, string_bytes};
+ghost use Rattle.std.specs.Io.KnownBytes.{Appends};
+ghost use Rattle.iol_commands.specs.Fault.{status_of};
+ghost use Rattle.iol_view.specs.Map.{IsSomeMap, TellsMap, mapped_text};
+
+use crate::map_disk::{Mapped, map_disk};
+use crate::map_drawing::Drawing;
+use iol_commands::{Fault, opened, print, report};
+use iol_disk::{LockFile, SectorDisk};
+use std::alloc::{AllocError, Global};
+use std::fs::{File, OpenFile};
+use std::io::{self, Write};
+use std::os::unix::fs::FileExt;
+use std::rt::Files;
+
+/// Writes a map of the image file at `path` to `out` (docs/FORMATS.md, "Maps"), and returns the exit status: 0 once that is
+/// done, whatever the file holds, and else 1. Nothing is written to the file.
+///
+/// Where the file cannot be opened, is in use or cannot be read, or memory runs out, a line on `err` says so, and nothing is
+/// written to `out`. Where writing to `out` fails, nothing is written to `err`.
+pub fn map_image<
+    F: FileExt + OpenFile + LockFile + Drop,
+    R: Files<File = F> + AllocGlobal,
+    W: Write,
+    E: Write,
+>(rt: &R, path: &str, out: &mut W, err: &mut E) -> u8
+    ensures statuses { result ≤ 1 }
+    ensures one_writer { (out.new ≡ out.old) ⊎ (err.new ≡ err.old) }
+    ensures quiet { result ≡ 0 → err.new ≡ err.old }
+    ensures printed { result ≡ 0 → (text : List ℕ) × IsSomeMap text × Appends (W.contents out.old) (W.contents out.new) text }
+{
+    match text_of_map(rt, path) {
+        Ok(map) => print(out, map.as_bytes()),
+        Err(fault) => report(err, &fault),
+    }
+}
+
+/// Draws the map of the image file at `path` in SVG into the file at `picture`, which is made if there is none, writes a line
+/// to `out`, and returns the exit status: 0 once that is done, and else 1. Nothing is written to the image file, which is not
+/// the picture under another name either.
+///
+/// Faults are those of [`map_image`], or that the picture cannot be opened, made or written, or is in use.
+pub fn draw_map<
+    F: FileExt + OpenFile + LockFile + Drop,
+    R: Files<File = F> + AllocGlobal,
+    W: Write,
+    E: Write,
+>(rt: &R, path: &str, picture: &str, out: &mut W, err: &mut E) -> u8
+    ensures statuses { result ≤ 1 }
+    ensures one_writer { (out.new ≡ out.old) ⊎ (err.new ≡ err.old) }
+    ensures quiet { result ≡ 0 → err.new ≡ err.old }
+    ensures printed { result ≡ 0 → (sectors : ℕ) × Appends (W.contents out.old) (W.contents out.new) (mapped_text sectors) }
+{
+    match draw(rt, path, picture) {
+        Ok(line) => print(out, line.as_bytes()),
+        Err(fault) => report(err, &fault),
+    }
+}
+
+// What is printed of a map of the image file at this path.
+fn text_of_map<'a, F: FileExt + OpenFile + LockFile + Drop, R: Files<File = F> + AllocGlobal>(
+    rt: &R,
+    path: &'a str,
+) -> Result<String, Fault<'a>>
+    ensures text { IfOk result (λ text. IsSomeMap (string_bytes text)) }
+    ensures status { IfErr result (λ fault. status_of fault ≡ 1) }
+{
+    map_of_disk(rt.alloc(), opened(rt, path)?)
+}
+
+/// The map of a disk as text, or why there is none: `Disk` or `Memory`.
+pub fn map_of_disk<D: SectorDisk + Drop>(alloc: Global, disk: D) -> Result<String, Fault<'static>>
+    ensures text { IfOk result (λ text. TellsMap (D.disk disk) (string_bytes text)) }
+    ensures status { IfErr result (λ fault. status_of fault ≡ 1) }
+{
+    let Mapped { map, disk: _ } = map_disk(alloc, disk);
+    let map = map?;
+    let text = map.to_string(alloc)?;
+    Ok(text)
+}
+
+// Draws the map of the image file at `path` into the file at `picture`; what is printed of that.
+fn draw<'a, F: FileExt + OpenFile + LockFile + Drop, R: Files<File = F> + AllocGlobal>(
+    rt: &R,
+    path: &'a str,
+    picture: &'a str,
+) -> Result<String, Fault<'a>>
+    ensures text { IfOk result (λ text. (sectors : ℕ) × (string_bytes text ≡ mapped_text sectors)) }
+    ensures status { IfErr result (λ fault. status_of fault ≡ 1) }
+{
+    let alloc = rt.alloc();
+    // The image stays open and locked while the picture is written.
+    let Mapped { map, disk: _open } = map_disk(alloc, opened(rt, path)?);
+    let map = map?;
+    let drawing = Drawing { map: &map }.to_string(alloc)?;
+    write_picture(rt, picture, drawing.as_str())?;
+    Ok(mapped(alloc, map.sectors)?)
+}
+
+// What is printed of a picture.
+fn mapped(alloc: Global, sectors: usize) -> Result<String, AllocError>
+    ensures { IfOk result (λ text. string_bytes text ≡ mapped_text sectors) }
+{
+    format!(in alloc; "mapped {sectors} sectors\n")
+}
+
+fn write_picture<'a, F: FileExt + OpenFile + LockFile + Drop, R: Files<File = F>>(
+    rt: &R,
+    picture: &'a str,
+    text: &str,
+) -> Result<(), Fault<'a>>
+    ensures { IfErr result (λ fault. status_of fault ≡ 1) }
+{
+    match write_file(rt, picture, text) {
+        Ok(()) => Ok(()),
+        Err(_) => Err(Fault::File { path: picture }),
+    }
+}
+
+// Makes the text all that a file holds. It is emptied only once it is locked, so that no image that is in use is.
+fn write_file<F: FileExt + OpenFile + LockFile + Drop, R: Files<File = F>>(
+    rt: &R,
+    path: &str,
+    text: &str,
+) -> io::Result<()> {
+    let file = File::options().write(true).create(true).open(rt, path)?;
+    file.try_lock()?;
+    file.set_len(0)?;
+    file.write_all_at(text.as_bytes(), 0)
+}

@@ -1,0 +1,70 @@
+//! What a recovery of a disk comes to.
+ghost use Rattle.std.specs.Prelude.{◌≡◌, IfOk, IfErr};
+ghost use Rattle.iol_disk.specs.Content.{IsImage};
+ghost use Rattle.iol_disk.specs.Moments.{LeavesOnly};
+ghost use Rattle.iol_commands.specs.Fault.{status_of};
+ghost use Rattle.iol_view.specs.Map.{TellsOutcome, damaged_in};
+
+use iol_commands::{Fault, Shown, show_disk};
+use iol_disk::SectorDisk;
+use std::alloc::Global;
+
+// What a recovery of a disk comes to.
+#[derive(Clone, Copy)]
+pub(crate) enum Outcome {
+    // The state after so many commands.
+    Recovered { number: u64 },
+    // The disk is not formatted.
+    NotFormatted,
+    // The first sector that is damaged, in the order of reading.
+    Damaged { sector: usize },
+}
+
+impl Outcome {
+    // The sector that is damaged, if one is.
+    pub(crate) fn damaged(self) -> Option<usize>
+        ensures { result ≡ damaged_in self }
+    {
+        match self {
+            Outcome::Damaged { sector } => Some(sector),
+            Outcome::Recovered { .. } | Outcome::NotFormatted => None,
+        }
+    }
+}
+
+// What a recovery of a disk comes to, and the disk behind it.
+#[derive(Drop)]
+pub(crate) struct Looked<D: SectorDisk> {
+    pub outcome: Result<Outcome, Fault<'static>>,
+    pub disk: D,
+}
+
+// Recovers a disk. Where that fails for the disk or for memory, `Disk` or `Memory` says so.
+pub(crate) fn look<D: SectorDisk>(alloc: Global, disk: D) -> Looked<D>
+    ensures told { IfOk result.outcome (TellsOutcome (D.disk disk)) }
+    // It leaves only what was there: each image is one of those before.
+    ensures any_moment { LeavesOnly (D.disk disk) (D.disk result.disk) (IsImage (D.disk disk).content) }
+    ensures status { IfErr result.outcome (λ fault. status_of fault ≡ 1) }
+{
+    let Shown { recovered, disk } = show_disk(alloc, disk);
+    match recovered {
+        Ok(found) => Looked {
+            outcome: Ok(Outcome::Recovered {
+                number: found.number,
+            }),
+            disk,
+        },
+        Err(Fault::NotFormatted) => Looked {
+            outcome: Ok(Outcome::NotFormatted),
+            disk,
+        },
+        Err(Fault::Damaged { sector }) => Looked {
+            outcome: Ok(Outcome::Damaged { sector }),
+            disk,
+        },
+        Err(fault) => Looked {
+            outcome: Err(fault),
+            disk,
+        },
+    }
+}

@@ -1,0 +1,174 @@
+//! The lines of a map, read off a disk part by part. None of it writes to the disk.
+ghost use Rattle.std.specs.Prelude.{◌≡◌, ◌≤◌, IfOk};
+ghost use Rattle.iol_disk.specs.Disk.{Same};
+
+use crate::map_areas::add_areas;
+use crate::map_lines::{Cells, Gate, Line, Lines, Part, Span};
+use iol_disk::{SECTOR_OCTETS, SectorDisk};
+use iol_journal::survey::{DISK_GATE, GEOMETRY, is_formatted, read_sector};
+use iol_journal::{Geometry, RecoverCause};
+use std::alloc::{AllocError, Global};
+use std::fmt;
+
+// How many octets say a geometry.
+const GEOMETRY_OCTETS: usize = 10;
+
+// The lines of a disk, of which a recovery finds this sector damaged, if it finds one.
+pub(crate) fn lines_of<D: SectorDisk>(
+    alloc: Global,
+    disk: &mut D,
+    damaged: Option<usize>,
+) -> Result<Vec<Line>, RecoverCause>
+    ensures { Same (D.disk disk.old) (D.disk disk.new) }
+{
+    let mut lines = Lines::new(alloc, damaged);
+    let geometry = add_geometry(alloc, disk, &mut lines)?;
+    add_disk_gate(alloc, disk, &mut lines)?;
+    let mapped = add_journal(alloc, disk, geometry, &mut lines)?;
+    add_rest(alloc, disk.sectors(), mapped, &mut lines)?;
+    Ok(lines.lines)
+}
+
+// Adds the line of the geometry's sector, where that is there, and tells the geometry that it says.
+fn add_geometry<D: SectorDisk>(
+    alloc: Global,
+    disk: &mut D,
+    lines: &mut Lines,
+) -> Result<Option<Geometry>, RecoverCause>
+    ensures { Same (D.disk disk.old) (D.disk disk.new) }
+{
+    let sectors = disk.sectors();
+    if sectors <= GEOMETRY {
+        return Ok(None);
+    }
+    let octets = read_sector(disk, GEOMETRY)?;
+    let geometry = Geometry::read(&octets);
+    let text = geometry_text(alloc, &octets, &geometry, sectors)?;
+    lines.add(alone(GEOMETRY, None, text))?;
+    Ok(geometry)
+}
+
+// Adds the line of the gate of the disk, where that is there.
+fn add_disk_gate<D: SectorDisk>(
+    alloc: Global,
+    disk: &mut D,
+    lines: &mut Lines,
+) -> Result<(), RecoverCause>
+    ensures { Same (D.disk disk.old) (D.disk disk.new) }
+{
+    let is_open = is_formatted(disk)?;
+    if disk.sectors() <= DISK_GATE {
+        return Ok(());
+    }
+    let gate = if is_open { Gate::Open } else { Gate::Closed };
+    let text = String::from_str(alloc, disk_gate_text(gate))?;
+    lines.add(alone(DISK_GATE, Some(gate), text))?;
+    Ok(())
+}
+
+fn disk_gate_text(gate: Gate) -> &'static str {
+    match gate {
+        Gate::Open => "gate of the disk, open",
+        Gate::Closed => "gate of the disk, closed",
+    }
+}
+
+// Adds the lines of the areas, where the disk has the sectors that the geometry takes, and tells the first sector behind
+// what has its lines.
+fn add_journal<D: SectorDisk>(
+    alloc: Global,
+    disk: &mut D,
+    geometry: Option<Geometry>,
+    lines: &mut Lines,
+) -> Result<usize, RecoverCause>
+    ensures { Same (D.disk disk.old) (D.disk disk.new) }
+{
+    let sectors = disk.sectors();
+    match geometry {
+        Some(geometry) if geometry.sectors() <= sectors => {
+            add_areas(alloc, disk, geometry.layout(), lines)?;
+            Ok(geometry.sectors())
+        }
+        _ => Ok(DISK_GATE + 1),
+    }
+}
+
+// Adds the line of the sectors behind what has its lines, where there are any.
+fn add_rest(
+    alloc: Global,
+    sectors: usize,
+    mapped: usize,
+    lines: &mut Lines,
+) -> Result<(), RecoverCause> {
+    if sectors <= mapped {
+        return Ok(());
+    }
+    let text = String::from_str(alloc, "not read")?;
+    lines.add(Line {
+        part: Part::Alone,
+        numbers: Span::one(0),
+        sectors: Span::counted(mapped, sectors - mapped),
+        cells: Cells {
+            gate: None,
+            used: 0,
+            unused: 1,
+        },
+        text,
+        damaged: false,
+    })?;
+    Ok(())
+}
+
+// The line of one sector that belongs to no area, which is this gate or is used.
+fn alone(sector: usize, gate: Option<Gate>, text: String) -> Line {
+    let used = match gate {
+        Some(_) => 0,
+        None => 1,
+    };
+    Line {
+        part: Part::Alone,
+        numbers: Span::one(0),
+        sectors: Span::one(sector),
+        cells: Cells {
+            gate,
+            used,
+            unused: 0,
+        },
+        text,
+        damaged: false,
+    }
+}
+
+// What is said of the geometry's sector, on a disk of so many sectors.
+fn geometry_text(
+    alloc: Global,
+    octets: &[u8; SECTOR_OCTETS],
+    geometry: &Option<Geometry>,
+    there: usize,
+) -> Result<String, AllocError> {
+    let Some(geometry) = geometry else {
+        return Octets(&octets[..GEOMETRY_OCTETS]).to_string(alloc);
+    };
+    let (ports, slots) = (geometry.ports(), geometry.slots());
+    let sectors = geometry.sectors();
+    let lack = if there < sectors {
+        ", more than there are"
+    } else {
+        ""
+    };
+    format!(in alloc; "geometry, ports {ports}, slots {slots}, sectors {sectors}{lack}")
+}
+
+// Octets that say no geometry.
+#[derive(Drop)]
+struct Octets<'a>(&'a [u8]);
+
+impl fmt::Display for Octets<'_> {
+    fn fmt<W: fmt::Write>(&self, f: &mut fmt::Formatter<W>) -> fmt::Result {
+        f.write_str("no geometry:")?;
+        for octet in self.0 {
+            write!(f, " {octet:02X}")?;
+        }
+        Ok(())
+    }
+}
