@@ -62,7 +62,7 @@ try_script() {
         printf 'error: cannot open %s\n' "$1" >&2
         return 1
     fi
-    try --data "script.toml=$room/script.toml" -- run script.toml
+    try --data "script.toml=$room/script.toml" -- $asked script.toml
 }
 
 # Answers by a trial: a script by its octets, and all other words as they stand.
@@ -71,7 +71,7 @@ answer_by_trial() {
     child=
     trap '[ -z "$child" ] || { kill "$child" && wait "$child"; } 2>/dev/null; rm -rf "$room"' EXIT
     trap 'exit "$no_trial"' HUP INT TERM
-    if ask_for_run "$@"; then
+    if ask_for_script "$@"; then
         try_script "$script"
     else
         try -- "$@"

@@ -5,14 +5,22 @@ are_text() {
     printf '%s\n' "$@" | iconv -f UTF-8 -t UTF-8 >/dev/null 2>&1
 }
 
-# Whether the words are those of a run of one script; `script` is then its path.
-ask_for_run() {
-    [ "${1-}" = run ] && shift || return 1
-    options=yes
-    [ "${1-}" != -- ] || { options=no; shift; }
-    [ $# -eq 1 ] || return 1
-    script=$1
-    case $options$script in yes-?*) return 1 ;; esac
+# Whether the words are those of a run or a check of one script; `asked` is then the command with its option, and `script` the
+# path.
+ask_for_script() {
+    case ${1-} in run | check) asked=$1 ;; *) return 1 ;; esac
+    shift
+    options=yes paths=0
+    while [ $# -gt 0 ]; do
+        case $options,$asked,$1 in
+            yes,*,--) options=no ;;
+            yes,run,--explain) asked="run --explain" ;;
+            yes,*,-?*) return 1 ;;
+            *) script=$1 paths=$((paths + 1)) ;;
+        esac
+        shift
+    done
+    [ "$paths" -eq 1 ]
 }
 
 # Whether a word is a number as the program reads them, 0 to 65,535.
@@ -22,9 +30,9 @@ is_number() {
     [ "$digits" -le 65535 ] 2>/dev/null
 }
 
-# Whether the words are a whole `format`, `show` or `live`, which works on a file and so wants the proved program.
+# Whether the words are a whole `format`, `show`, `map` or `live`, which works on a file and so wants the proved program.
 ask_for_image() {
-    case ${1-} in format | show | live) command=$1 ;; *) return 1 ;; esac
+    case ${1-} in format | show | map | live) command=$1 ;; *) return 1 ;; esac
     shift
     options=yes paths=0 ports=0 slots=0 forces=0 receipts=0 jsons=0
     while [ $# -gt 0 ]; do
@@ -43,7 +51,7 @@ ask_for_image() {
         shift
     done
     case $command,$paths,$ports,$slots,$forces,$receipts,$jsons in
-        show,1,0,0,0,0,[01] | format,1,1,1,[01],0,0 | live,2,0,0,0,[01],0) ;;
+        show,1,0,0,0,0,[01] | map,[12],0,0,0,0,0 | format,1,1,1,[01],0,0 | live,2,0,0,0,[01],0) ;;
         *) return 1 ;;
     esac
 }

@@ -4,11 +4,12 @@ ghost use Rattle.std.specs.Prelude.{◌≤◌};
 
 use crate::script_file::{is_memory, read_script};
 use crate::version::version_text;
+use iol_check::check_text;
 use iol_commands::{Fault, format_image, print, report, run_text, show_image};
 use iol_disk::LockFile;
 use iol_live::{Telling, live_image};
-use iol_view::json_image;
-use iol_words::{Asked, Unasked, read_words};
+use iol_view::{draw_map, explain_text, json_image, map_image};
+use iol_words::{Asked, OnScript, Unasked, read_words};
 use std::fs::OpenFile;
 use std::io::Write;
 use std::os::unix::fs::FileExt;
@@ -68,7 +69,7 @@ fn carry_out<
     ensures { result ≤ 2 }
 {
     match asked {
-        Asked::Run { script } => run_file(rt, script, out, err),
+        Asked::Script { path, what } => answer_script(rt, path, what, out, err),
         Asked::Format {
             image,
             ports,
@@ -84,6 +85,14 @@ fn carry_out<
             live_file(rt, image, script, telling, out, err)
         }
         Asked::Show { image, json } => show_file(rt, image, json, out, err),
+        Asked::Map {
+            image,
+            picture: Some(picture),
+        } => draw_map(rt, image, picture, out, err),
+        Asked::Map {
+            image,
+            picture: None,
+        } => map_image(rt, image, out, err),
     }
 }
 
@@ -101,17 +110,23 @@ fn answer<W: Write, E: Write>(unasked: &Unasked, out: &mut W, err: &mut E) -> u8
     }
 }
 
-fn run_file<R: Files + AllocGlobal, W: Write, E: Write>(
+fn answer_script<R: Files + AllocGlobal, W: Write, E: Write>(
     rt: &R,
     path: &str,
+    what: OnScript,
     out: &mut W,
     err: &mut E,
 ) -> u8
     ensures { result ≤ 2 }
 {
-    match read_script(rt, path) {
-        Ok(script) => run_text(rt.alloc(), script.as_slice(), out, err),
-        Err(fault) => report(err, &fault),
+    let script = match read_script(rt, path) {
+        Ok(script) => script,
+        Err(fault) => return report(err, &fault),
+    };
+    match what {
+        OnScript::Run => run_text(rt.alloc(), script.as_slice(), out, err),
+        OnScript::Explain => explain_text(rt.alloc(), script.as_slice(), out, err),
+        OnScript::Check => check_text(rt.alloc(), script.as_slice(), out, err),
     }
 }
 

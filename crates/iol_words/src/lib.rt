@@ -9,4 +9,4 @@
 
 mod words;
 
-pub use words::{Asked, Unasked, read_words};
+pub use words::{Asked, OnScript, Unasked, read_words};

@@ -4,12 +4,24 @@ use clap::error::ErrorKind;
 use clap::{Arg, ArgAction, ArgMatches, Command, Error, value_parser};
 use std::alloc::{AllocError, Global};
 
+/// What is done with a script.
+#[derive(Clone, Copy)]
+pub enum OnScript {
+    /// It is run on a disk in memory.
+    Run,
+    /// It is run so, and each line is followed by what it says in words.
+    Explain,
+    /// What is wrong in it is told, and where.
+    Check,
+}
+
 /// A command, with what its words say.
 #[derive(Clone, Copy)]
 pub enum Asked<'a> {
-    /// The script at a path is run on a disk in memory.
-    Run {
-        script: &'a str,
+    /// Something is done with the script at a path.
+    Script {
+        path: &'a str,
+        what: OnScript,
     },
     /// The image file at a path is formatted, also where a journal is there if that is forced.
     Format {
@@ -28,6 +40,11 @@ pub enum Asked<'a> {
     Show {
         image: &'a str,
         json: bool,
+    },
+    /// The sectors of the image file at a path are mapped, perhaps as a picture in another file.
+    Map {
+        image: &'a str,
+        picture: Option<&'a str>,
     },
 }
 
@@ -95,7 +112,14 @@ fn titled<'a>(alloc: Global, version: &'a str) -> Command<'a> {
 // The commands that words can name.
 fn commands<'a>(alloc: Global) -> Result<Vec<Command<'a>>, AllocError> {
     let mut commands = Vec::new(alloc);
-    for command in [run(alloc), format(alloc), live(alloc), show(alloc)] {
+    for command in [
+        run(alloc),
+        check(alloc),
+        format(alloc),
+        live(alloc),
+        show(alloc),
+        map(alloc),
+    ] {
         commands.push(command?)?;
     }
     Ok(commands)
@@ -119,11 +143,25 @@ fn asked_by<'a>(matches: &ArgMatches<'a>) -> Asked<'a> {
             image: text(show, "IMAGE"),
             json: show.get_flag("json"),
         },
-        Some((_, run)) => Asked::Run {
-            script: text(run, "SCRIPT"),
+        Some(("map", map)) => Asked::Map {
+            image: text(map, "IMAGE"),
+            picture: map.get_str("PICTURE"),
         },
+        Some(("check", check)) => on_script(check, OnScript::Check),
+        Some((_, run)) if run.get_flag("explain") => on_script(run, OnScript::Explain),
+        Some((_, run)) => on_script(run, OnScript::Run),
         // clap refuses words without a command.
-        None => Asked::Run { script: "" },
+        None => Asked::Script {
+            path: "",
+            what: OnScript::Run,
+        },
+    }
+}
+
+fn on_script<'a>(matches: &ArgMatches<'a>, what: OnScript) -> Asked<'a> {
+    Asked::Script {
+        path: text(matches, "SCRIPT"),
+        what,
     }
 }
 
@@ -140,7 +178,15 @@ Examples, each with what it prints beside it:
 
 fn run<'a>(alloc: Global) -> Result<Command<'a>, AllocError> {
     let about = "Runs a script on a disk in memory, and prints its trace and the recovered state";
-    command(alloc, "run", about, EXAMPLES).arg(script(alloc))
+    let explain = "Says in words what each line says, and tells the calls of the disk";
+    let words = [script(alloc), flag(alloc, "explain", explain)];
+    command(alloc, "run", about, EXAMPLES).args(Vec::from_array(alloc, words)?)
+}
+
+fn check<'a>(alloc: Global) -> Result<Command<'a>, AllocError> {
+    Command::new(alloc, "check")
+        .about("Tells whether a script can be run, or each mistake in it and where it stands")
+        .arg(script(alloc))
 }
 
 // What is told behind the options of `format`.
@@ -185,6 +231,14 @@ fn show<'a>(alloc: Global) -> Result<Command<'a>, AllocError> {
     let words = [image(alloc), flag(alloc, "json", json)];
     Command::new(alloc, "show")
         .about("Recovers the state on an image file, and prints it")
+        .args(Vec::from_array(alloc, words)?)
+}
+
+fn map<'a>(alloc: Global) -> Result<Command<'a>, AllocError> {
+    let picture = "The path of an SVG file for a picture, in place of lines";
+    let words = [image(alloc), Arg::new(alloc, "PICTURE").help(picture)];
+    Command::new(alloc, "map")
+        .about("Tells what stands in the sectors of an image file, and what is wrong there")
         .args(Vec::from_array(alloc, words)?)
 }
 
