@@ -71,6 +71,11 @@ in_order() {
         "$top/launcher/measured.txt" "$top/crates.txt" | sort -rn | sed 's/.* //'
 }
 
+# The line of a crate in crates.txt.
+line_of() {
+    awk -v name="$1" '{ line = $0; sub(/#.*/, ""); sub(/:.*/, "") } $1 == name { print line }' "$top/crates.txt"
+}
+
 # Where a crate is proved: a folder of its own, with what it stands on. `rt` lets one command at a time into a crate and those
 # below it, so in one folder two crates that stand on a third would wait for one another.
 room_of() {
@@ -82,8 +87,10 @@ room_of() {
 make_room() {
     room=$(room_of "$1")
     give_back "$1"
-    mkdir -p "$room/crates" && cp "$top/crates.txt" "$room/" || return
+    mkdir -p "$room/crates" || return
     for named in $(crates_of "$1"); do
+        # `rt` wants the folder of each crate that is listed, so that no other is.
+        line_of "$named" >>"$room/crates.txt" || return
         mkdir -p "$room/crates/$named/out" &&
             find "$top/crates/$named" -mindepth 1 -maxdepth 1 ! -name out -exec cp -al {} "$room/crates/$named/" \; || return
         [ "$named" = "$1" ] || cp -al "$top/crates/$named/out/rlib" "$room/crates/$named/out/" || return

@@ -30,9 +30,9 @@ is_number() {
     [ "$digits" -le 65535 ] 2>/dev/null
 }
 
-# Whether the words are a whole `format`, `show`, `map` or `live`, which works on a file and so wants the proved program.
-ask_for_image() {
-    case ${1-} in format | show | map | live) command=$1 ;; *) return 1 ;; esac
+# Whether the words are a whole `draw`, `format`, `show`, `map` or `live`, which works on a file and so wants the proved program.
+ask_for_file() {
+    case ${1-} in draw | format | show | map | live) command=$1 ;; *) return 1 ;; esac
     shift
     options=yes paths=0 ports=0 slots=0 forces=0 receipts=0 jsons=0
     while [ $# -gt 0 ]; do
@@ -51,7 +51,7 @@ ask_for_image() {
         shift
     done
     case $command,$paths,$ports,$slots,$forces,$receipts,$jsons in
-        show,1,0,0,0,0,[01] | map,[12],0,0,0,0,0 | format,1,1,1,[01],0,0 | live,2,0,0,0,[01],0) ;;
+        show,1,0,0,0,0,[01] | map,[12],0,0,0,0,0 | draw,2,0,0,0,0,0 | format,1,1,1,[01],0,0 | live,2,0,0,0,[01],0) ;;
         *) return 1 ;;
     esac
 }

@@ -236,6 +236,18 @@ class Image(Subject):
         return {NOT_FORMATTED: "out of memory, not formatted", (EMPTY, "", 0): "out of memory, an empty journal"}.get(shown)
 
 
+class Picture(Subject):
+    """The run of a script, drawn into a file that is named as an image is. What a run may come to is for `Script`."""
+
+    def end(self, said):
+        if said.told == self.whole.told and said.image == self.whole.image:
+            return "whole"
+        if said.told in (MEMORY, DISK):
+            return "out of memory, no picture" if said.image is None else None
+        is_drawn = said.told[1:] == ("", 0) and re.fullmatch(r"drawn \d+ events\n", said.told[0])
+        return "picture of a shorter run" if is_drawn and said.image.endswith(b"</svg>\n") else None
+
+
 def formatted(program):
     """An image file with an empty journal of two ports and four slots."""
     return Image("", [program, "format", "a.img", "--ports", "2", "--slots", "4"], {}).whole.image

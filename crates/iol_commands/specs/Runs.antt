@@ -26,9 +26,13 @@ IsCause text Memory = IsText text
 IsCause text Words = ⊥
 IsCause text fault = CanRun text
 
--- a text is not run, or its run is not printed: a fault is why, with this status, and nothing is written to the output; or there was
--- a run to print, writing the output failed, and nothing is told beside it (format, Texts)
-abbrev pub IsSilent : {O E : Type 0} → List ℕ → ℕ → O → O → E → E → Type 0
-IsSilent text status out written err told =
+-- a text is not run, or its run is not printed in the way that is asked for: a fault is why, with this status, and nothing is
+-- written to the output; or there was something to print, writing the output failed, and nothing is told beside it (format, Texts)
+abbrev pub IsSilentOver : {O E : Type 0} → (List ℕ → List ℕ → Type 0) → List ℕ → ℕ → O → O → E → E → Type 0
+IsSilentOver Tells text status out written err told =
     ((fault : Fault) × IsCause text fault × (status ≡ status_of fault) × (written ≡ out))
-    ⊎ ((status ≡ 1) × CanRun text × ((printed : List ℕ) × TellsRun text printed) × (told ≡ err))
+    ⊎ ((status ≡ 1) × CanRun text × ((printed : List ℕ) × Tells text printed) × (told ≡ err))
+
+-- a text is not run, or its run is not printed as lines (format, Texts)
+abbrev pub IsSilent : {O E : Type 0} → List ℕ → ℕ → O → O → E → E → Type 0
+IsSilent text status out written err told = IsSilentOver TellsRun text status out written err told

@@ -13,7 +13,7 @@
 //! - `image` formats and shows the disk of an image file.
 //! - `trace_text`, `event_text`, `octets`, `status_text` and `names` have the lines of a trace, `state_text` and `entry_text` those of a
 //!   recovered state, and `fault` why a command fails.
-//! - `commands` and `image_commands` are the commands over writers.
+//! - `commands` and `image_commands` are the commands over writers, and `picture` writes the file of a picture.
 //! - `examples` has words and lines of a trace and of a state, worked out.
 //!
 //! Which texts can be run is defined in `specs/Runs.antt`, what the steps of a script are in `specs/Steps.antt`, the words
@@ -33,6 +33,7 @@ mod image;
 mod image_commands;
 mod names;
 mod octets;
+mod picture;
 mod recovery;
 mod run;
 mod state_text;
@@ -48,6 +49,7 @@ pub use image::{Shown, format_disk, opened, show_disk, text_of_disk};
 pub use image_commands::{format_image, show_image};
 pub use names::refusal_name;
 pub use octets::Spaced;
+pub use picture::write_picture;
 pub use recovery::recover;
 pub use run::{empty_disk, make_run, stop};
 pub use state_text::Recovered;

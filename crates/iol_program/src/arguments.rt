@@ -7,8 +7,10 @@ use crate::version::version_text;
 use iol_check::check_text;
 use iol_commands::{Fault, format_image, print, report, run_text, show_image};
 use iol_disk::LockFile;
+use iol_draw::draw_text;
+use iol_explain::explain_text;
 use iol_live::{Telling, live_image};
-use iol_view::{draw_map, explain_text, json_image, map_image};
+use iol_view::{draw_map, json_image, map_image};
 use iol_words::{Asked, OnScript, Unasked, read_words};
 use std::fs::OpenFile;
 use std::io::Write;
@@ -70,6 +72,7 @@ fn carry_out<
 {
     match asked {
         Asked::Script { path, what } => answer_script(rt, path, what, out, err),
+        Asked::Draw { script, picture } => draw_file(rt, script, picture, out, err),
         Asked::Format {
             image,
             ports,
@@ -127,6 +130,20 @@ fn answer_script<R: Files + AllocGlobal, W: Write, E: Write>(
         OnScript::Run => run_text(rt.alloc(), script.as_slice(), out, err),
         OnScript::Explain => explain_text(rt.alloc(), script.as_slice(), out, err),
         OnScript::Check => check_text(rt.alloc(), script.as_slice(), out, err),
+    }
+}
+
+fn draw_file<
+    F: FileExt + OpenFile + LockFile + Drop,
+    R: Files<File = F> + AllocGlobal,
+    W: Write,
+    E: Write,
+>(rt: &R, path: &str, picture: &str, out: &mut W, err: &mut E) -> u8
+    ensures { result ≤ 2 }
+{
+    match read_script(rt, path) {
+        Ok(script) => draw_text(rt, script.as_slice(), picture, out, err),
+        Err(fault) => report(err, &fault),
     }
 }
 

@@ -6,11 +6,11 @@ ghost use Rattle.iol_view.specs.Map.{IsSomeMap, TellsMap, mapped_text};
 
 use crate::map_disk::{Mapped, map_disk};
 use crate::map_drawing::Drawing;
-use iol_commands::{Fault, opened, print, report};
+use iol_commands::{Fault, opened, print, report, write_picture};
 use iol_disk::{LockFile, SectorDisk};
 use std::alloc::{AllocError, Global};
-use std::fs::{File, OpenFile};
-use std::io::{self, Write};
+use std::fs::OpenFile;
+use std::io::Write;
 use std::os::unix::fs::FileExt;
 use std::rt::Files;
 
@@ -103,29 +103,4 @@ fn mapped(alloc: Global, sectors: usize) -> Result<String, AllocError>
     ensures { IfOk result (λ text. string_bytes text ≡ mapped_text sectors) }
 {
     format!(in alloc; "mapped {sectors} sectors\n")
-}
-
-fn write_picture<'a, F: FileExt + OpenFile + LockFile + Drop, R: Files<File = F>>(
-    rt: &R,
-    picture: &'a str,
-    text: &str,
-) -> Result<(), Fault<'a>>
-    ensures { IfErr result (λ fault. status_of fault ≡ 1) }
-{
-    match write_file(rt, picture, text) {
-        Ok(()) => Ok(()),
-        Err(_) => Err(Fault::File { path: picture }),
-    }
-}
-
-// Makes the text all that a file holds. It is emptied only once it is locked, so that no image that is in use is.
-fn write_file<F: FileExt + OpenFile + LockFile + Drop, R: Files<File = F>>(
-    rt: &R,
-    path: &str,
-    text: &str,
-) -> io::Result<()> {
-    let file = File::options().write(true).create(true).open(rt, path)?;
-    file.try_lock()?;
-    file.set_len(0)?;
-    file.write_all_at(text.as_bytes(), 0)
 }

@@ -23,6 +23,11 @@ pub enum Asked<'a> {
         path: &'a str,
         what: OnScript,
     },
+    /// The run of the script at a path is drawn into another file.
+    Draw {
+        script: &'a str,
+        picture: &'a str,
+    },
     /// The image file at a path is formatted, also where a journal is there if that is forced.
     Format {
         image: &'a str,
@@ -115,6 +120,7 @@ fn commands<'a>(alloc: Global) -> Result<Vec<Command<'a>>, AllocError> {
     for command in [
         run(alloc),
         check(alloc),
+        draw(alloc),
         format(alloc),
         live(alloc),
         show(alloc),
@@ -148,6 +154,10 @@ fn asked_by<'a>(matches: &ArgMatches<'a>) -> Asked<'a> {
             picture: map.get_str("PICTURE"),
         },
         Some(("check", check)) => on_script(check, OnScript::Check),
+        Some(("draw", draw)) => Asked::Draw {
+            script: text(draw, "SCRIPT"),
+            picture: text(draw, "PICTURE"),
+        },
         Some((_, run)) if run.get_flag("explain") => on_script(run, OnScript::Explain),
         Some((_, run)) => on_script(run, OnScript::Run),
         // clap refuses words without a command.
@@ -187,6 +197,14 @@ fn check<'a>(alloc: Global) -> Result<Command<'a>, AllocError> {
     Command::new(alloc, "check")
         .about("Tells whether a script can be run, or each mistake in it and where it stands")
         .arg(script(alloc))
+}
+
+fn draw<'a>(alloc: Global) -> Result<Command<'a>, AllocError> {
+    let picture = "The path of an SVG file for the picture";
+    let words = [script(alloc), word(alloc, "PICTURE", picture)];
+    Command::new(alloc, "draw")
+        .about("Runs a script on a disk in memory, and draws what happens and what the stop leaves")
+        .args(Vec::from_array(alloc, words)?)
 }
 
 // What is told behind the options of `format`.

@@ -1,0 +1,80 @@
+//! The command that draws the run of a script.
+ghost use Rattle.std.specs.Prelude.{◌≡◌, ◌≤◌, ◌⊎◌, ℕ, List, IfErr, IfOk, OnOk, string_bytes};
+ghost use Rattle.std.specs.Io.KnownBytes.{Appends};
+ghost use Rattle.iol_commands.specs.Runs.{CanRun, IsCause, IsSilentOver};
+ghost use Rattle.iol_draw.specs.Drawn.{TellsDrawn, drawn_text};
+
+use crate::marks::marks_of;
+use crate::numbers::numbers_of;
+use crate::picture::Picture;
+use crate::unsynced::unsynced_spans;
+use iol_commands::{Fault, print, read_playable, report, write_picture};
+use iol_disk::LockFile;
+use iol_explain::explained_run;
+use std::alloc::{AllocError, Global};
+use std::fs::OpenFile;
+use std::io::Write;
+use std::os::unix::fs::FileExt;
+use std::rt::Files;
+
+/// Draws the run of a script in SVG into the file at `picture`, which is made if there is none, writes a line to `out`
+/// (docs/FORMATS.md, "Pictures of runs"), and returns the exit status: 0 once that is done; 2 where the script or its
+/// geometry is not valid, and else 1.
+///
+/// Where the run fails, or the picture cannot be opened, made or written, or is in use, a line on `err` says why, and nothing
+/// is written to `out`. Where writing to `out` fails, nothing is written to `err`.
+pub fn draw_text<
+    F: FileExt + OpenFile + LockFile + Drop,
+    R: Files<File = F> + AllocGlobal,
+    W: Write,
+    E: Write,
+>(rt: &R, script: &[u8], picture: &str, out: &mut W, err: &mut E) -> u8
+    ensures statuses { result ≤ 2 }
+    ensures one_writer { (out.new ≡ out.old) ⊎ (err.new ≡ err.old) }
+    ensures ran { result ≡ 0 → CanRun script.now }
+    ensures quiet { result ≡ 0 → err.new ≡ err.old }
+    ensures not_valid { result ≡ 2 → CanRun script.now → ⊥ }
+    ensures untouched { result ≡ 2 → out.new ≡ out.old }
+    ensures printed { result ≡ 0
+        → (text : List ℕ) × TellsDrawn script.now text × Appends (W.contents out.old) (W.contents out.new) text }
+    // Else a fault is why, and nothing is written to `out`; or writing to `out` failed.
+    ensures silent { (result ≡ 0 → ⊥) → IsSilentOver TellsDrawn script.now result out.old out.new err.old err.new }
+{
+    match draw(rt, script, picture) {
+        Ok(line) => print(out, line.as_bytes()),
+        Err(fault) => report(err, &fault),
+    }
+}
+
+// Draws the run of a script into the file at `picture`; what is printed of that.
+fn draw<'a, F: FileExt + OpenFile + LockFile + Drop, R: Files<File = F> + AllocGlobal>(
+    rt: &R,
+    script: &[u8],
+    picture: &'a str,
+) -> Result<String, Fault<'a>>
+    ensures ran { OnOk result (CanRun script.now) }
+    ensures printed { IfOk result (λ text. TellsDrawn script.now (string_bytes text)) }
+    ensures cause { IfErr result (IsCause script.now) }
+{
+    let alloc = rt.alloc();
+    let ready = read_playable(alloc, script)?;
+    let explained = explained_run(alloc, ready.geometry, &ready.script)?;
+    let events = explained.events.len();
+    let drawing = Picture {
+        geometry: ready.geometry,
+        keep: ready.script.keep,
+        numbers: numbers_of(alloc, ready.geometry, &ready.script)?,
+        unsynced: unsynced_spans(alloc, &explained)?,
+        marks: marks_of(alloc, &explained)?,
+    };
+    let text = drawing.to_string(alloc)?;
+    write_picture(rt, picture, text.as_str())?;
+    Ok(drawn(alloc, events)?)
+}
+
+// What is printed of a picture of so many events.
+fn drawn(alloc: Global, events: usize) -> Result<String, AllocError>
+    ensures { IfOk result (λ text. string_bytes text ≡ drawn_text events) }
+{
+    format!(in alloc; "drawn {events} events\n")
+}

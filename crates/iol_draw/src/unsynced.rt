@@ -1,0 +1,88 @@
+//! Which sectors were written and not synced when the power stops.
+
+use iol_explain::{Explained, Place, ToldCall, calls_between, calls_of_run, place_of};
+use iol_run::{Event, Stamped};
+use std::alloc::{AllocError, Global};
+
+// Sectors that follow one another, and what stands in each.
+#[derive(Clone, Copy)]
+pub(crate) struct Span {
+    pub place: Place,
+    pub first: usize,
+    pub last: usize,
+}
+
+impl Span {
+    // Whether this sector is among them.
+    fn has(&self, sector: usize) -> bool {
+        self.first <= sector && sector <= self.last
+    }
+
+    // Whether a sector of this place is the next one of the same record or body.
+    fn reaches(&self, place: Place, sector: usize) -> bool {
+        let is_same = match (self.place, place) {
+            (Place::Record(_, port), Place::Record(_, next)) => port == next,
+            (Place::Body(_, slot), Place::Body(_, next)) => slot == next,
+            _ => false,
+        };
+        is_same && self.last.checked_add(1) == Some(sector)
+    }
+}
+
+// The sectors that were written behind the last sync that was made, in the order of their writes, each once.
+pub(crate) fn unsynced_spans(alloc: Global, run: &Explained) -> Result<Vec<Span>, AllocError> {
+    let mut spans = Vec::new(alloc);
+    let calls = calls_of_run(&run.calls);
+    let from = unsynced_from(calls, &run.events);
+    for call in calls_between(calls, from, calls.len()) {
+        if let ToldCall::Write { sector, .. } = *call {
+            add_sector(&mut spans, place_of(run.geometry, sector), sector)?;
+        }
+    }
+    Ok(spans)
+}
+
+// How many calls there are up to the last sync that was made. A sync that failed is the last call of its disk.
+fn unsynced_from(calls: &[ToldCall], events: &[Stamped]) -> usize {
+    let made = if has_failed(events) {
+        calls.len().saturating_sub(1)
+    } else {
+        calls.len()
+    };
+    let mut from = 0;
+    for at in 0..made {
+        if matches!(calls[at], ToldCall::Sync) {
+            from = at + 1;
+        }
+    }
+    from
+}
+
+// Whether a disk call has failed.
+fn has_failed(events: &[Stamped]) -> bool {
+    let mut failed = false;
+    for stamped in events {
+        failed = failed || matches!(stamped.event, Event::DiskFailed);
+    }
+    failed
+}
+
+// Adds a sector to the spans that end at it, or as a span of its own.
+fn add_sector(spans: &mut Vec<Span>, place: Place, sector: usize) -> Result<(), AllocError> {
+    for span in spans.iter_mut() {
+        if span.has(sector) {
+            return Ok(());
+        }
+        if span.reaches(place, sector) {
+            span.last = sector;
+            return Ok(());
+        }
+    }
+    let span = Span {
+        place,
+        first: sector,
+        last: sector,
+    };
+    spans.push(span)?;
+    Ok(())
+}

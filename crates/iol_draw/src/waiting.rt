@@ -1,0 +1,48 @@
+//! The commands that wait for the disk.
+
+use crate::mark::Mark;
+use std::alloc::{AllocError, Global};
+
+// The commands that were accepted, with their columns, and how many of them are acknowledged.
+#[derive(Drop)]
+pub(crate) struct Waiting {
+    accepted: Vec<(u64, usize)>,
+    acknowledged: usize,
+}
+
+impl Waiting {
+    pub(crate) fn new(alloc: Global) -> Waiting {
+        Waiting {
+            accepted: Vec::new(alloc),
+            acknowledged: 0,
+        }
+    }
+
+    // A command was accepted under this number.
+    pub(crate) fn accept(&mut self, number: u64, column: usize) -> Result<(), AllocError> {
+        self.accepted.push((number, column))?;
+        Ok(())
+    }
+
+    // All commands up to this number were acknowledged: a mark of each that waited.
+    pub(crate) fn acknowledge(
+        &mut self,
+        number: u64,
+        column: usize,
+        marks: &mut Vec<Mark>,
+    ) -> Result<(), AllocError> {
+        for at in self.acknowledged..self.accepted.len() {
+            let (waiting, accepted) = self.accepted[at];
+            if number < waiting {
+                return Ok(());
+            }
+            marks.push(Mark::Durable {
+                number: waiting,
+                accepted,
+                column,
+            })?;
+            self.acknowledged = at + 1;
+        }
+        Ok(())
+    }
+}

@@ -1,0 +1,14 @@
+use Rattle.std.proofs.Common.{◌≡◌, take}
+use Rattle.std.specs.Fmt.{HasWritten, IsPlainFormatter}
+use Rattle.iol_explain.specs.Explained.{told_lines, telling_after}
+use Rattle.iol_explain.specs.Telling.{first}
+use Rattle.iol_explain.proofs.explained.write_lines.Given as goal
+
+-- the lines of the events so far, and what they told
+abbrev pub invariant-loop-stamped : goal.invariant-loop-stamped
+invariant-loop-stamped g l =
+    let events = take l.stamped-index l.events in record {
+      text : IsPlainFormatter l.initial.f
+          → HasWritten g.W.Write.write_str_gives l.initial.f (told_lines l.geometry l.calls first events) l.f;
+      telling : l.telling ≡ telling_after first events;
+    }

@@ -1,0 +1,159 @@
+//! The lines of an event, with its words (docs/FORMATS.md, "Explained runs").
+ghost use Rattle.std.specs.Fmt.{WritesOnOk};
+ghost use Rattle.iol_port.specs.Telling.{status_told};
+ghost use Rattle.iol_run.specs.Events.{event_of};
+ghost use Rattle.iol_explain.specs.EventLines.{acknowledged_line, event_lines, exchange_lines, loss_line};
+ghost use Rattle.iol_explain.specs.EventLines.{page_line, request_line, status_line};
+
+use crate::answer_words::AnswerWords;
+use crate::known::Known;
+use crate::page_words::PageWords;
+use crate::refusal_words::refusal_words;
+use crate::request_words::RequestWords;
+use crate::status_words::StatusWords;
+use iol_commands::{Spaced, StatusText, refusal_name};
+use iol_ident::PAGE_OCTETS;
+use iol_port::PortStatus;
+use iol_run::Event;
+use iol_types::PortId;
+use std::alloc::Global;
+use std::fmt;
+
+// The lines of an event, by what is known of its port.
+pub(crate) fn write_event<W: fmt::Write>(
+    f: &mut fmt::Formatter<W>,
+    alloc: Global,
+    event: &Event,
+    known: Known,
+) -> fmt::Result
+    ensures { WritesOnOk W.write_str_gives f.old result (event_lines known (event_of event.now)) f.new }
+{
+    match event {
+        Event::Accepted { number, .. } => writeln!(f, "accepted {number}  # waits for the disk"),
+        Event::Refused(fault) => {
+            let (name, words) = (refusal_name(*fault), refusal_words(*fault));
+            writeln!(f, "refused {name}  # {words}")
+        }
+        Event::Page { port, octets, .. } => write_page(f, *port, octets),
+        Event::Exchange { port, octets, .. } => write_exchange(
+            f,
+            alloc,
+            *port,
+            octets.request.as_slice(),
+            octets.answer.as_slice(),
+        ),
+        Event::Lost { port, octets, .. } => match octets {
+            Some(octets) => {
+                write_request(f, *port, octets.request.as_slice())?;
+                write_loss(f, *port)
+            }
+            None => write_loss(f, *port),
+        },
+        Event::Attended { .. } => Ok(()),
+        Event::Status { port, status } => write_status(f, *port, *status, known),
+        Event::Acknowledged { number } => write_acknowledged(f, *number),
+        Event::DiskFailed => f.write_str(
+            "disk failed  # the disk call before this line failed: nothing more is written\n",
+        ),
+    }
+}
+
+// The line of an acknowledgement.
+fn write_acknowledged<W: fmt::Write>(f: &mut fmt::Formatter<W>, number: u64) -> fmt::Result
+    ensures { WritesOnOk W.write_str_gives f.old result (acknowledged_line number) f.new }
+{
+    writeln!(f, "acknowledged {number}  # {}", Durable(number))
+}
+
+// That all commands up to a number are durable.
+#[derive(Clone, Copy)]
+struct Durable(u64);
+
+impl fmt::Display for Durable {
+    ghost use Rattle.std.specs.Prelude.{Some};
+    ghost use Rattle.iol_explain.specs.EventLines.{durable_words};
+
+    ghost output = { λ words. Some (durable_words words.0) };
+
+    fn fmt<W: fmt::Write>(&self, f: &mut fmt::Formatter<W>) -> fmt::Result {
+        let number = self.0;
+        write!(f, "all commands up to {number} are durable")
+    }
+}
+
+// The line of a status.
+fn write_status<W: fmt::Write>(
+    f: &mut fmt::Formatter<W>,
+    port: PortId,
+    status: PortStatus,
+    known: Known,
+) -> fmt::Result
+    ensures { WritesOnOk W.write_str_gives f.old result (status_line known port (status_told status)) f.new }
+{
+    let words = StatusWords { status, known };
+    writeln!(
+        f,
+        "port {} {}  # {words}",
+        port.number(),
+        StatusText(status)
+    )
+}
+
+// The line of a page.
+fn write_page<W: fmt::Write>(
+    f: &mut fmt::Formatter<W>,
+    port: PortId,
+    octets: &[u8; PAGE_OCTETS],
+) -> fmt::Result
+    ensures { WritesOnOk W.write_str_gives f.old result (page_line port octets.now) f.new }
+{
+    let words = PageWords(octets);
+    writeln!(
+        f,
+        "port {} page{}  # {words}",
+        port.number(),
+        Spaced(octets)
+    )
+}
+
+// The line of a loss.
+fn write_loss<W: fmt::Write>(f: &mut fmt::Formatter<W>, port: PortId) -> fmt::Result
+    ensures { WritesOnOk W.write_str_gives f.old result (loss_line port) f.new }
+{
+    writeln!(
+        f,
+        "port {} lost  # no device answers: check the cable, and connect a device",
+        port.number()
+    )
+}
+
+// The lines of an exchange.
+fn write_exchange<W: fmt::Write>(
+    f: &mut fmt::Formatter<W>,
+    alloc: Global,
+    port: PortId,
+    request: &[u8],
+    answer: &[u8],
+) -> fmt::Result
+    ensures { WritesOnOk W.write_str_gives f.old result (exchange_lines port request.now answer.now) f.new }
+{
+    let words = AnswerWords {
+        alloc,
+        request,
+        answer,
+    };
+    write_request(f, port, request)?;
+    writeln!(f, "port {} <{}  # {words}", port.number(), Spaced(answer))
+}
+
+// The line of a request.
+fn write_request<W: fmt::Write>(
+    f: &mut fmt::Formatter<W>,
+    port: PortId,
+    request: &[u8],
+) -> fmt::Result
+    ensures { WritesOnOk W.write_str_gives f.old result (request_line port request.now) f.new }
+{
+    let words = RequestWords(request);
+    writeln!(f, "port {} >{}  # {words}", port.number(), Spaced(request))
+}

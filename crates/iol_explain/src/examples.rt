@@ -1,0 +1,342 @@
+//! Words and lines of explained runs, worked out by the check: a text that is wrong in a definition and in the code alike is
+//! refused here.
+ghost use Rattle.std.specs.Prelude.{◌≡◌, [], ◌∷◌, ◌++◌, map, replicate, codes, true, false, Some, None};
+ghost use Rattle.iol_types.specs.Command.{Clear};
+ghost use Rattle.iol_types.specs.declared.command.CommandFault.TheVariants as fault;
+ghost use Rattle.iol_ident.specs.Page.{page_of};
+ghost use Rattle.iol_ident.specs.declared.validation.IdentFault.TheVariants as ident;
+ghost use Rattle.iol_isdu.specs.Reading.{answer_of, request_of};
+ghost use Rattle.iol_trace.specs.Events as event;
+ghost use Rattle.iol_trace.specs.Statuses as trace;
+ghost use Rattle.iol_explain.specs.Answers.{answer_words};
+ghost use Rattle.iol_explain.specs.DiskLines.{call_line};
+ghost use Rattle.iol_explain.specs.ErrorTypes.{error_name};
+ghost use Rattle.iol_explain.specs.EventLines.{event_lines};
+ghost use Rattle.iol_explain.specs.Failures.{failure_text, mismatch_words};
+ghost use Rattle.iol_explain.specs.Known.{blank};
+ghost use Rattle.iol_explain.specs.Pages.{page_words};
+ghost use Rattle.iol_explain.specs.Places.{place_at, place_text};
+ghost use Rattle.iol_explain.specs.Refusals.{refusal_words};
+ghost use Rattle.iol_explain.specs.Requests.{asked_by, request_words};
+ghost use Rattle.iol_explain.specs.Rows.{row_of, row_words};
+ghost use Rattle.iol_explain.specs.Statuses.{status_words};
+ghost use Rattle.iol_explain.specs.Values.{value_words};
+
+use crate::object::Object;
+use crate::row::Row;
+use crate::told_disk::ToldCall;
+use iol_dsindex::State;
+use iol_types::Validation;
+
+/// Requests to read what stands at the Data Storage object, and parameters.
+pub fn reads()
+    ensures state_property { request_words (request_of (0xA4 ∷ 0x03 ∷ 0x02 ∷ 0xA5 ∷ []))
+        ≡ codes "reads Index 3, Subindex 2: State_Property" }
+    ensures size { request_words (request_of (0xA4 ∷ 0x03 ∷ 0x03 ∷ 0xA4 ∷ [])) ≡ codes "reads Index 3, Subindex 3: Data_Storage_Size" }
+    ensures checksum { request_words (request_of (0xA4 ∷ 0x03 ∷ 0x04 ∷ 0xA3 ∷ []))
+        ≡ codes "reads Index 3, Subindex 4: Parameter_Checksum" }
+    ensures index_list { request_words (request_of (0xA4 ∷ 0x03 ∷ 0x05 ∷ 0xA2 ∷ [])) ≡ codes "reads Index 3, Subindex 5: Index_List" }
+    ensures unnamed { request_words (request_of (0xA4 ∷ 0x03 ∷ 0x09 ∷ 0xAE ∷ [])) ≡ codes "reads Index 3, Subindex 9" }
+    ensures parameter { request_words (request_of (0x93 ∷ 0x40 ∷ 0xD3 ∷ [])) ≡ codes "reads parameter 0040.00" }
+    ensures long_index { request_words (request_of (0xB5 ∷ 0x12 ∷ 0x34 ∷ 0x05 ∷ 0x96 ∷ [])) ≡ codes "reads parameter 1234.05" }
+{}
+
+/// Commands to the Data Storage of a device, and octets that are none.
+pub fn commands()
+    ensures upload_start { request_words (request_of (0x25 ∷ 0x03 ∷ 0x01 ∷ 0x01 ∷ 0x26 ∷ []))
+        ≡ codes "writes Index 3, Subindex 1: DS_Command DS_UploadStart" }
+    ensures upload_end { request_words (request_of (0x25 ∷ 0x03 ∷ 0x01 ∷ 0x02 ∷ 0x25 ∷ []))
+        ≡ codes "writes Index 3, Subindex 1: DS_Command DS_UploadEnd" }
+    ensures download_start { request_words (request_of (0x25 ∷ 0x03 ∷ 0x01 ∷ 0x03 ∷ 0x24 ∷ []))
+        ≡ codes "writes Index 3, Subindex 1: DS_Command DS_DownloadStart" }
+    ensures download_end { request_words (request_of (0x25 ∷ 0x03 ∷ 0x01 ∷ 0x04 ∷ 0x23 ∷ []))
+        ≡ codes "writes Index 3, Subindex 1: DS_Command DS_DownloadEnd" }
+    ensures break_off { request_words (request_of (0x25 ∷ 0x03 ∷ 0x01 ∷ 0x05 ∷ 0x22 ∷ []))
+        ≡ codes "writes Index 3, Subindex 1: DS_Command DS_Break" }
+    ensures none { request_words (request_of (0x25 ∷ 0x03 ∷ 0x01 ∷ 0x06 ∷ 0x21 ∷ []))
+        ≡ codes "writes Index 3, Subindex 1: DS_Command, no command: 06" }
+    ensures no_octet { request_words (request_of (0x24 ∷ 0x03 ∷ 0x01 ∷ 0x26 ∷ []))
+        ≡ codes "writes Index 3, Subindex 1: DS_Command, no command: no octet" }
+    ensures two_octets { request_words (request_of (0x26 ∷ 0x03 ∷ 0x01 ∷ 0x01 ∷ 0x02 ∷ 0x27 ∷ []))
+        ≡ codes "writes Index 3, Subindex 1: DS_Command, no command: 01 02" }
+{}
+
+/// Requests to write parameters, and what is not written.
+pub fn writes()
+    ensures parameter { request_words (request_of (0x15 ∷ 0x40 ∷ 0x0A ∷ 0x64 ∷ 0x3B ∷ [])) ≡ codes "writes parameter 0040.00: 0A 64" }
+    ensures no_octet { request_words (request_of (0x13 ∷ 0x40 ∷ 0x53 ∷ [])) ≡ codes "writes parameter 0040.00: no octet" }
+    ensures state_property { request_words (request_of (0x25 ∷ 0x03 ∷ 0x02 ∷ 0x80 ∷ 0xA4 ∷ []))
+        ≡ codes "writes Index 3, Subindex 2: State_Property: 80" }
+{}
+
+/// Octets that are no request: the check that they fail.
+pub fn malformed_requests()
+    ensures empty { request_words (request_of []) ≡ codes "malformed, Empty: there is no octet" }
+    ensures reserved { request_words (request_of (0x90 ∷ 0x40 ∷ 0xD0 ∷ []))
+        ≡ codes "malformed, Reserved: the first octets have a reserved I-Service, Length or ExtLength" }
+    ensures service { request_words (request_of (0xD2 ∷ 0xD2 ∷ []))
+        ≡ codes "malformed, WrongService: the first octet has a service that is not to come here" }
+    ensures length { request_words (request_of (0x94 ∷ 0x40 ∷ 0xD4 ∷ []))
+        ≡ codes "malformed, Length: there are not as many octets as are stated, or as the service carries" }
+    ensures check { request_words (request_of (0x93 ∷ 0x40 ∷ 0xD2 ∷ []))
+        ≡ codes "malformed, Check: the last octet, CHKPDU, does not make the XOR of all octets 00" }
+{}
+
+/// Answers to what was asked.
+pub fn answers()
+    ensures state_property { answer_words (asked_by (request_of (0xA4 ∷ 0x03 ∷ 0x02 ∷ 0xA5 ∷ []))) (answer_of (0xD3 ∷ 0x80 ∷ 0x53 ∷ []))
+        ≡ codes "State_Property: DS_UPLOAD_FLAG set, state inactive" }
+    ensures size { answer_words (asked_by (request_of (0xA4 ∷ 0x03 ∷ 0x03 ∷ 0xA4 ∷ [])))
+        (answer_of (0xD6 ∷ 0x00 ∷ 0x00 ∷ 0x00 ∷ 0x0B ∷ 0xDD ∷ []))
+        ≡ codes "Data_Storage_Size: 11 octets" }
+    ensures checksum { answer_words (asked_by (request_of (0xA4 ∷ 0x03 ∷ 0x04 ∷ 0xA3 ∷ [])))
+        (answer_of (0xD6 ∷ 0x00 ∷ 0x00 ∷ 0x02 ∷ 0x4F ∷ 0x9B ∷ []))
+        ≡ codes "Parameter_Checksum: 0000024F" }
+    ensures index_list { answer_words (asked_by (request_of (0xA4 ∷ 0x03 ∷ 0x05 ∷ 0xA2 ∷ [])))
+        (answer_of (0xDA ∷ 0x00 ∷ 0x40 ∷ 0x00 ∷ 0x00 ∷ 0x41 ∷ 0x01 ∷ 0x00 ∷ 0x00 ∷ 0xDA ∷ []))
+        ≡ codes "Index_List: 0040.00, 0041.01, end" }
+    ensures parameter { answer_words (asked_by (request_of (0x93 ∷ 0x40 ∷ 0xD3 ∷ []))) (answer_of (0xD4 ∷ 0x0A ∷ 0x64 ∷ 0xBA ∷ []))
+        ≡ codes "parameter 0040.00: 0A 64" }
+    ensures written { answer_words (asked_by (request_of (0x25 ∷ 0x03 ∷ 0x01 ∷ 0x01 ∷ 0x26 ∷ []))) (answer_of (0x52 ∷ 0x52 ∷ []))
+        ≡ codes "written" }
+    ensures read_refused { answer_words (asked_by (request_of (0x93 ∷ 0x40 ∷ 0xD3 ∷ []))) (answer_of (0xC4 ∷ 0x80 ∷ 0x11 ∷ 0x55 ∷ []))
+        ≡ codes "refused: ErrorCode 80 11, Index not available" }
+    ensures write_refused { answer_words (asked_by (request_of (0x15 ∷ 0x40 ∷ 0x0A ∷ 0x64 ∷ 0x3B ∷ [])))
+        (answer_of (0x44 ∷ 0x80 ∷ 0x33 ∷ 0xF7 ∷ []))
+        ≡ codes "refused: ErrorCode 80 33, parameter length overrun" }
+    ensures busy { answer_words (asked_by (request_of (0x93 ∷ 0x40 ∷ 0xD3 ∷ []))) (answer_of (0x01 ∷ []))
+        ≡ codes "Device busy: the device has no answer yet" }
+{}
+
+/// Answers to something else than was asked, and octets that are no answer.
+pub fn other_answers()
+    ensures written { answer_words (asked_by (request_of (0x93 ∷ 0x40 ∷ 0xD3 ∷ []))) (answer_of (0x52 ∷ 0x52 ∷ []))
+        ≡ codes "an answer to something else than was asked" }
+    ensures write_refused { answer_words (asked_by (request_of (0x93 ∷ 0x40 ∷ 0xD3 ∷ []))) (answer_of (0x44 ∷ 0x80 ∷ 0x11 ∷ 0xD5 ∷ []))
+        ≡ codes "an answer to something else than was asked" }
+    ensures read { answer_words (asked_by (request_of (0x25 ∷ 0x03 ∷ 0x01 ∷ 0x01 ∷ 0x26 ∷ [])))
+        (answer_of (0xD4 ∷ 0x0A ∷ 0x64 ∷ 0xBA ∷ []))
+        ≡ codes "an answer to something else than was asked" }
+    ensures read_refused { answer_words (asked_by (request_of (0x25 ∷ 0x03 ∷ 0x01 ∷ 0x01 ∷ 0x26 ∷ [])))
+        (answer_of (0xC4 ∷ 0x80 ∷ 0x11 ∷ 0x55 ∷ []))
+        ≡ codes "an answer to something else than was asked" }
+    ensures empty { answer_words (asked_by (request_of (0x93 ∷ 0x40 ∷ 0xD3 ∷ []))) (answer_of [])
+        ≡ codes "malformed, Empty: there is no octet" }
+    ensures service { answer_words (asked_by (request_of (0x93 ∷ 0x40 ∷ 0xD3 ∷ []))) (answer_of (0x93 ∷ 0x40 ∷ 0xD3 ∷ []))
+        ≡ codes "malformed, WrongService: the first octet has a service that is not to come here" }
+    ensures check { answer_words (asked_by (request_of (0x93 ∷ 0x40 ∷ 0xD3 ∷ []))) (answer_of (0xD4 ∷ 0x0A ∷ 0x64 ∷ 0xBB ∷ []))
+        ≡ codes "malformed, Check: the last octet, CHKPDU, does not make the XOR of all octets 00" }
+{}
+
+/// What is read at the Data Storage object, of each state, and with another count of octets.
+pub fn values()
+    ensures upload { value_words Object.StateProperty (0x02 ∷ []) ≡ codes "State_Property: DS_UPLOAD_FLAG clear, state upload" }
+    ensures download { value_words Object.StateProperty (0x04 ∷ []) ≡ codes "State_Property: DS_UPLOAD_FLAG clear, state download" }
+    ensures locked { value_words Object.StateProperty (0x86 ∷ [])
+        ≡ codes "State_Property: DS_UPLOAD_FLAG set, state Data Storage locked" }
+    ensures property_of_two { value_words Object.StateProperty (0x80 ∷ 0x00 ∷ []) ≡ codes "State_Property, not one octet: 80 00" }
+    ensures size_of_none { value_words Object.Size [] ≡ codes "Data_Storage_Size, not four octets: no octet" }
+    ensures checksum_of_three { value_words Object.Checksum (0x00 ∷ 0x02 ∷ 0x4F ∷ [])
+        ≡ codes "Parameter_Checksum, not four octets: 00 02 4F" }
+    ensures command { value_words Object.Command (0x05 ∷ []) ≡ codes "DS_Command: 05" }
+    ensures unnamed { value_words (Object.Unnamed 9) (0x01 ∷ []) ≡ codes "Subindex 9: 01" }
+{}
+
+/// Lists with no key, with a further list, and octets that are none.
+pub fn lists()
+    ensures no_key { value_words Object.IndexList (0x00 ∷ 0x00 ∷ []) ≡ codes "Index_List: end" }
+    ensures further_list { value_words Object.IndexList (0x00 ∷ 0x40 ∷ 0x00 ∷ 0x12 ∷ 0x00 ∷ [])
+        ≡ codes "Index_List: 0040.00, next list at Index 1200" }
+    ensures broken_off { value_words Object.IndexList (0x00 ∷ 0x40 ∷ 0x00 ∷ 0x00 ∷ []) ≡ codes "Index_List: it breaks off" }
+    ensures reserved { value_words Object.IndexList (0x00 ∷ 0x03 ∷ 0x01 ∷ 0x00 ∷ 0x00 ∷ [])
+        ≡ codes "Index_List: it names a reserved Index" }
+{}
+
+/// The ErrorTypes that the standard names, one that it leaves to vendors, and others.
+pub fn error_types()
+    ensures named { map (λ additional. error_name 0x80 additional) (0x00 ∷ 0x11 ∷ 0x12 ∷ 0x20 ∷ 0x21 ∷ 0x22 ∷ 0x23 ∷ 0x30
+        ∷ 0x31 ∷ 0x32 ∷ 0x33 ∷ 0x34 ∷ 0x35 ∷ 0x36 ∷ 0x40 ∷ 0x41 ∷ 0x82 ∷ [])
+        ≡ codes ", device application error"
+        ∷ codes ", Index not available"
+        ∷ codes ", Subindex not available"
+        ∷ codes ", service temporarily not available"
+        ∷ codes ", service temporarily not available, local control"
+        ∷ codes ", service temporarily not available, device control"
+        ∷ codes ", access denied"
+        ∷ codes ", parameter value out of range"
+        ∷ codes ", parameter value above limit"
+        ∷ codes ", parameter value below limit"
+        ∷ codes ", parameter length overrun"
+        ∷ codes ", parameter length underrun"
+        ∷ codes ", function not available"
+        ∷ codes ", function temporarily not available"
+        ∷ codes ", invalid parameter set"
+        ∷ codes ", inconsistent parameter set"
+        ∷ codes ", application not ready" ∷ [] }
+    ensures of_a_vendor { error_name 0x81 0x05 ≡ codes ", vendor specific" }
+    ensures others { (error_name 0x80 0x37 ≡ []) × (error_name 0x10 0x00 ≡ []) }
+{}
+
+/// Pages of a device that knows ISDUs, and of one that does not.
+pub fn pages()
+    ensures known { page_words (page_of (0x00 ∷ 0x00 ∷ 0x17 ∷ 0x01 ∷ 0x11 ∷ 0x00 ∷ 0x00 ∷ 0x01 ∷ 0xF4 ∷ 0x00 ∷ 0xAB ∷ 0xCD
+        ∷ 0x00 ∷ 0x00 ∷ 0x00 ∷ 0x00 ∷ []))
+        ≡ codes "VendorID 01F4, DeviceID 00ABCD, RevisionID 11, ISDUs supported" }
+    ensures unknown { page_words (page_of (0x00 ∷ 0x00 ∷ 0x17 ∷ 0x00 ∷ 0x10 ∷ 0x00 ∷ 0x00 ∷ 0xFF ∷ 0xFF ∷ 0xFF ∷ 0xFF ∷ 0xFF
+        ∷ 0x00 ∷ 0x00 ∷ 0x00 ∷ 0x00 ∷ []))
+        ≡ codes "VendorID FFFF, DeviceID FFFFFF, RevisionID 10, ISDUs not supported" }
+{}
+
+/// Why a command is refused, and what to do.
+pub fn refusals()
+    ensures of_a_command { map (λ cause. refusal_words (trace.Command cause)) (fault.UnknownPort ∷ fault.RevisionSpent
+        ∷ fault.NotAllowed ∷ fault.StaleRevision ∷ fault.WrongDevice ∷ [])
+        ≡ codes "the master has no port of this number: name one that it has"
+        ∷ codes "the port has had its last revision: format a new disk"
+        ∷ codes "the port is not IOL_MANUAL with validation 03: configure it so"
+        ∷ codes "the port was configured meanwhile: nothing is to be done, the port begins again"
+        ∷ codes "the port is configured for another device: configure it for this one" ∷ [] }
+    ensures of_the_core { map (refusal_words) (trace.Stopped ∷ trace.QueueFull ∷ trace.Exhausted ∷ [])
+        ≡ codes "a disk call has failed, and nothing more is taken: replace the disk, and start the master anew"
+        ∷ codes "64 commands wait for the disk: ask again once some are acknowledged"
+        ∷ codes "no command number is left: format a new disk" ∷ [] }
+{}
+
+/// Why a device is not the one that its port wants, and what to do.
+pub fn mismatches()
+    ensures { map (mismatch_words) (ident.Vendor ∷ ident.Device ∷ ident.Revision ∷ ident.NoIsdu ∷ [])
+        ≡ codes "another VendorID than is configured: connect the configured device, or configure this one"
+        ∷ codes "another DeviceID than is configured: connect the configured device, or configure this one"
+        ∷ codes "a RevisionID below 11, V1.1: connect a device of V1.1, or configure validation 00 or 01"
+        ∷ codes "the device supports no ISDUs: connect one that does, or configure validation 00 to 02" ∷ [] }
+{}
+
+/// Why a port has failed, and what to do.
+pub fn failures()
+    ensures refused { failure_text (trace.Refused 0x80 0x23)
+        ≡ codes "the device refused a request, ErrorCode 80 23, access denied: see its manual, and connect it again" }
+    ensures of_a_transfer { map (failure_text) (trace.Unexpected ∷ trace.Size ∷ trace.List ∷ trace.Busy ∷ trace.Memory ∷ [])
+        ≡ codes "the device answered something else than was asked: check the device, and connect it again"
+        ∷ codes "the device's set counts over 4,096 octets: configure the port with validation 00 to 02"
+        ∷ codes "the device's Index_List cannot be followed: check the device's Data Storage, and connect it again"
+        ∷ codes "the device was busy sixteen times in a row: wait until it is idle, and connect it again"
+        ∷ codes "out of memory: give the master more, and connect the device again" ∷ [] }
+    ensures of_an_isdu { map (failure_text) (trace.Empty ∷ trace.Reserved ∷ trace.WrongService ∷ trace.Length ∷ trace.Check ∷ [])
+        ≡ codes "the answer has no octet, or no set is stored: check the cable, and connect the device again"
+        ∷ codes "the answer has a reserved I-Service or length: check the cable, and connect the device again"
+        ∷ codes "the answer is of another service: check the cable, and connect the device again"
+        ∷ codes "the answer has a wrong count of octets: check the cable, and connect the device again"
+        ∷ codes "the answer has a wrong CHKPDU: check the cable, and connect the device again" ∷ [] }
+    ensures of_the_core { map (failure_text) (trace.Stopped ∷ trace.NotAllowed ∷ trace.WrongDevice ∷ trace.Taken ∷ trace.Same
+        ∷ trace.Exhausted ∷ [])
+        ≡ codes "a disk call has failed, and nothing more is stored: replace the disk, and start the master anew"
+        ∷ codes "the port keeps no set, or was configured meanwhile: configure IOL_MANUAL with validation 03 or 04"
+        ∷ codes "the port or its set is for another device: configure the port for this one"
+        ∷ codes "a transfer of the port is not yet done: connect the device again later"
+        ∷ codes "the device has the stored set already: connect it again"
+        ∷ codes "no command number is left: format a new disk" ∷ [] }
+{}
+
+/// The statuses of a port whose decision is not known.
+pub fn statuses()
+    ensures { map (status_words None) (trace.Off ∷ trace.Lost ∷ trace.Starting ∷ trace.Ready ∷ trace.ReadyLocked
+        ∷ trace.ReadyEmpty ∷ trace.Uploading ∷ trace.Storing ∷ trace.Downloading ∷ [])
+        ≡ codes "the port is not IOL_MANUAL: no device is looked after"
+        ∷ codes "no device answers: check the cable, and connect a device"
+        ∷ codes "the port looks at its device"
+        ∷ codes "the transfer is done: device and stored set are the same"
+        ∷ codes "the device's Data Storage is locked: nothing is done"
+        ∷ codes "no set is stored: nothing is done"
+        ∷ codes "the device's parameters are read and stored"
+        ∷ codes "the device's parameters are read: the set waits for the disk"
+        ∷ codes "the stored set is written to the device" ∷ [] }
+{}
+
+/// Each line of the table of decisions, and its words.
+pub fn rows()
+    ensures not_kept { map (λ validation. row_of validation State.Locked true 1 (Some 2)) (Validation.NoCheck
+        ∷ Validation.TypeCompatibleV10 ∷ Validation.TypeCompatibleV11 ∷ [])
+        ≡ replicate 3 Row.NotKept }
+    ensures locked { map (λ validation. row_of validation State.Locked true 1 None) (Validation.BackupAndRestore
+        ∷ Validation.Restore ∷ [])
+        ≡ replicate 2 Row.Locked }
+    ensures backup_and_restore { row_of Validation.BackupAndRestore State.Inactive false 1 None
+        ∷ row_of Validation.BackupAndRestore State.Upload true 1 (Some 1)
+        ∷ row_of Validation.BackupAndRestore State.Inactive false 1 (Some 1)
+        ∷ row_of Validation.BackupAndRestore State.Download false 1 (Some 2)
+        ∷ [] ≡ Row.NothingStored ∷ Row.FlagSet ∷ Row.SameSet ∷ Row.OtherSet ∷ [] }
+    ensures restore { row_of Validation.Restore State.Inactive true 1 None ∷ row_of Validation.Restore State.Inactive true 1 (Some 1)
+        ∷ row_of Validation.Restore State.Inactive true 1 (Some 2) ∷ []
+        ≡ Row.NothingToRestore ∷ Row.SameRestored ∷ Row.OtherRestored ∷ [] }
+    ensures words { map (row_words) (Row.NotKept ∷ Row.Locked ∷ Row.NothingStored ∷ Row.FlagSet ∷ Row.SameSet ∷ Row.OtherSet
+        ∷ Row.NothingToRestore ∷ Row.SameRestored ∷ Row.OtherRestored ∷ [])
+        ≡ codes "validation 00 to 02: nothing is done"
+        ∷ codes "validation 03 or 04, the device's Data Storage is locked: nothing is done"
+        ∷ codes "validation 03, no set is stored: the device's parameters are read and stored"
+        ∷ codes "validation 03, a set is stored, DS_UPLOAD_FLAG is set: the device's parameters are read and stored"
+        ∷ codes "validation 03, DS_UPLOAD_FLAG is clear, Parameter_Checksum is that of the set: nothing is done"
+        ∷ codes "validation 03, DS_UPLOAD_FLAG is clear, Parameter_Checksum is another: the set is written to the device"
+        ∷ codes "validation 04, no set is stored: nothing is done"
+        ∷ codes "validation 04, Parameter_Checksum is that of the set: nothing is done"
+        ∷ codes "validation 04, Parameter_Checksum is another: the set is written to the device" ∷ [] }
+{}
+
+/// What stands in the sectors of a disk with 2 ports and 4 slots.
+pub fn places()
+    ensures area_a { map (λ sector. place_text (place_at (record { ports = 2; slots = 4 }) sector)) (0 ∷ 1 ∷ 2 ∷ 3 ∷ 4 ∷ 12
+        ∷ 13 ∷ 21 ∷ 22 ∷ 23 ∷ 38 ∷ 39 ∷ 89 ∷ [])
+        ≡ codes "geometry"
+        ∷ codes "gate of the disk"
+        ∷ codes "gate of area A"
+        ∷ codes "header of area A"
+        ∷ codes "record of port 1 in area A"
+        ∷ codes "record of port 1 in area A"
+        ∷ codes "record of port 2 in area A"
+        ∷ codes "record of port 2 in area A"
+        ∷ codes "gate of slot 1 in area A"
+        ∷ codes "body of slot 1 in area A"
+        ∷ codes "body of slot 1 in area A"
+        ∷ codes "gate of slot 2 in area A"
+        ∷ codes "body of slot 4 in area A" ∷ [] }
+    ensures area_b { map (λ sector. place_text (place_at (record { ports = 2; slots = 4 }) sector)) (90 ∷ 91 ∷ 92 ∷ 109 ∷ 110
+        ∷ 177 ∷ 178 ∷ [])
+        ≡ codes "gate of area B"
+        ∷ codes "header of area B"
+        ∷ codes "record of port 1 in area B"
+        ∷ codes "record of port 2 in area B"
+        ∷ codes "gate of slot 1 in area B"
+        ∷ codes "body of slot 4 in area B"
+        ∷ codes "behind the journal" ∷ [] }
+{}
+
+/// The lines of disk calls.
+pub fn disk_calls()
+    ensures open { call_line (record { ports = 2; slots = 4 }) (ToldCall.Write 22 true)
+        ≡ codes "disk write sector 22, gate of slot 1 in area A, open\n" }
+    ensures closed { call_line (record { ports = 2; slots = 4 }) (ToldCall.Write 90 false)
+        ≡ codes "disk write sector 90, gate of area B, closed\n" }
+    ensures body { call_line (record { ports = 2; slots = 4 }) (ToldCall.Write 23 true)
+        ≡ codes "disk write sector 23, body of slot 1 in area A\n" }
+    ensures sync { call_line (record { ports = 2; slots = 4 }) ToldCall.Sync ≡ codes "disk sync\n" }
+{}
+
+/// The lines of single events.
+pub fn events()
+    ensures accepted { event_lines blank (event.Accepted 1 (Clear 2)) ≡ codes "accepted 1  # waits for the disk\n" }
+    ensures refused { event_lines blank (event.Refused trace.QueueFull)
+        ≡ codes "refused QueueFull  # 64 commands wait for the disk: ask again once some are acknowledged\n" }
+    ensures page { event_lines blank (event.Page 1 0 (0x00 ∷ 0x00 ∷ 0x17 ∷ 0x01 ∷ 0x11 ∷ 0x00 ∷ 0x00 ∷ 0x01 ∷ 0xF4 ∷ 0x00
+        ∷ 0xAB ∷ 0xCD ∷ 0x00 ∷ 0x00 ∷ 0x00 ∷ 0x00 ∷ []))
+        ≡ codes "port 1 page 00 00 17 01 11 00 00 01 F4 00 AB CD 00 00 00 00"
+        ++ codes "  # VendorID 01F4, DeviceID 00ABCD, RevisionID 11, ISDUs supported\n" }
+    ensures exchange { event_lines blank (event.Exchange 1 0 (0xA4 ∷ 0x03 ∷ 0x02 ∷ 0xA5 ∷ []) (0xD3 ∷ 0x80 ∷ 0x53 ∷ []))
+        ≡ codes "port 1 > A4 03 02 A5  # reads Index 3, Subindex 2: State_Property\n"
+        ++ codes "port 1 < D3 80 53  # State_Property: DS_UPLOAD_FLAG set, state inactive\n" }
+    ensures lost_at_a_request { event_lines blank (event.Lost 32 4 (Some (0x93 ∷ 0x40 ∷ 0xD3 ∷ [])))
+        ≡ codes "port 32 > 93 40 D3  # reads parameter 0040.00\n"
+        ++ codes "port 32 lost  # no device answers: check the cable, and connect a device\n" }
+    ensures status { event_lines blank (event.Changed 1 trace.Ready) ≡ codes "port 1 ready  # validation 00 to 02: nothing is done\n" }
+    ensures acknowledged { event_lines blank (event.Acknowledged 12) ≡ codes "acknowledged 12  # all commands up to 12 are durable\n" }
+    ensures failed { event_lines blank event.DiskFailed
+        ≡ codes "disk failed  # the disk call before this line failed: nothing more is written\n" }
+{}

@@ -1,0 +1,89 @@
+//! The run of a script, explained in words.
+ghost use Rattle.std.specs.Prelude.{◌≡◌, ◌≤◌, ◌⊎◌, ℕ, List, All, IfErr, IfOk, OnOk, string_bytes};
+ghost use Rattle.std.specs.Io.KnownBytes.{Appends};
+ghost use Rattle.iol_script.specs.Script.{said_of};
+ghost use Rattle.iol_commands.specs.Devices.{MayVisit};
+ghost use Rattle.iol_commands.specs.Fault.{status_of};
+ghost use Rattle.iol_commands.specs.Played.{IsSaidGeometry};
+ghost use Rattle.iol_commands.specs.Runs.{CanRun, IsCause, IsSilentOver};
+ghost use Rattle.iol_explain.specs.Played.{ExplainsRun, IsExplained};
+
+use crate::explained::Explained;
+use crate::told_disk::{ToldDisk, ToldEnd};
+use iol_commands::{Fault, empty_disk, make_run, print, read_playable, report, stop};
+use iol_journal::Geometry;
+use iol_run::Trace;
+use iol_script::Script;
+use std::alloc::Global;
+use std::io::Write;
+
+/// Runs a script on a disk in memory, and returns the exit status: 0 once its trace and the recovered state are written
+/// to `out`, each line of the trace with what it says in words, and the disk calls between them (docs/FORMATS.md,
+/// "Explained runs"); 2 where the script or its geometry is not valid, and else 1.
+///
+/// Where the run fails, a line on `err` says why, as `iol_commands::run_text` says it, and nothing is written to `out`.
+/// Where writing to `out` fails, nothing is written to `err`.
+pub fn explain_text<W: Write, E: Write>(
+    alloc: Global,
+    script: &[u8],
+    out: &mut W,
+    err: &mut E,
+) -> u8
+    ensures statuses { result ≤ 2 }
+    ensures one_writer { (out.new ≡ out.old) ⊎ (err.new ≡ err.old) }
+    ensures ran { result ≡ 0 → CanRun script.now }
+    ensures quiet { result ≡ 0 → err.new ≡ err.old }
+    ensures not_valid { result ≡ 2 → CanRun script.now → ⊥ }
+    ensures untouched { result ≡ 2 → out.new ≡ out.old }
+    // What is written explains a run that was played: of the script, with what was recovered behind its stop.
+    ensures printed { result ≡ 0
+        → (text : List ℕ) × ExplainsRun script.now text × Appends (W.contents out.old) (W.contents out.new) text }
+    // Else a fault is why, and nothing is written to `out`; or writing to `out` failed.
+    ensures silent { (result ≡ 0 → ⊥) → IsSilentOver ExplainsRun script.now result out.old out.new err.old err.new }
+{
+    match text_of_explained(alloc, script) {
+        Ok(text) => print(out, text.as_bytes()),
+        Err(fault) => report(err, &fault),
+    }
+}
+
+// What an explained run prints.
+fn text_of_explained(alloc: Global, text: &[u8]) -> Result<String, Fault<'static>>
+    ensures ran { OnOk result (CanRun text.now) }
+    ensures printed { IfOk result (λ printed. ExplainsRun text.now (string_bytes printed)) }
+    ensures cause { IfErr result (IsCause text.now) }
+{
+    let ready = read_playable(alloc, text)?;
+    let explained = explained_run(alloc, ready.geometry, &ready.script)?;
+    Ok(explained.to_string(alloc)?)
+}
+
+/// Runs a script on a disk whose calls are told, and recovers what the script's stop leaves of it.
+///
+/// # Errors
+/// As `empty_disk`, `make_run` and `stop` of `iol_commands`; `Memory` where a call of the disk is missing.
+pub fn explained_run(
+    alloc: Global,
+    geometry: Geometry,
+    script: &Script,
+) -> Result<Explained, Fault<'static>>
+    requires devices { All MayVisit script.now.devices.items }
+    requires numbers { IsSaidGeometry (said_of script.now) geometry }
+    ensures played { IfOk result (IsExplained (said_of script.now)) }
+    ensures status { IfErr result (λ fault. status_of fault ≡ 1) }
+{
+    let empty = empty_disk(alloc, geometry, script.fail)?;
+    let given = ToldDisk::new(alloc, empty);
+    let trace = make_run(alloc, given, geometry, script)?;
+    let Trace { events, disk, .. } = trace;
+    let end = disk.end()?;
+    let ToldEnd { disk, calls } = end;
+    let recovered = stop(alloc, disk.disk(), script.keep)?;
+    Ok(Explained {
+        alloc,
+        geometry,
+        calls,
+        events,
+        recovered,
+    })
+}

@@ -1,0 +1,93 @@
+//! A run that is explained: its lines with their words, and between them those of disk calls.
+ghost use Rattle.std.specs.Fmt.{WritesOnOk};
+ghost use Rattle.iol_run.specs.Events.{event_of};
+ghost use Rattle.iol_explain.specs.Explained.{run_lines, told_text, unsaid_lines};
+
+use crate::disk_lines::{calls_between, calls_of_run, write_calls};
+use crate::event_lines::write_event;
+use crate::telling::Telling;
+use crate::told_disk::ToldCall;
+use iol_commands::{Recovered, is_said_loss};
+use iol_journal::Geometry;
+use iol_run::Stamped;
+use std::alloc::Global;
+use std::fmt;
+
+/// The events of a run, the calls of its disk from the recovery on, and what was recovered behind its stop.
+#[derive(Drop)]
+pub struct Explained {
+    pub alloc: Global,
+    pub geometry: Geometry,
+    pub calls: Vec<ToldCall>,
+    pub events: Vec<Stamped>,
+    pub recovered: Recovered,
+}
+
+impl fmt::Display for Explained {
+    ghost use Rattle.std.specs.Prelude.{Some};
+    ghost use Rattle.iol_explain.specs.Explained.{explained_text};
+
+    ghost output = { λ run. Some (explained_text run.geometry run.calls.items run.events.items run.recovered.number run.recovered.state) };
+
+    fn fmt<W: fmt::Write>(&self, f: &mut fmt::Formatter<W>) -> fmt::Result {
+        let calls = calls_of_run(&self.calls);
+        write_lines(f, self.alloc, self.geometry, calls, &self.events)?;
+        write!(
+            f,
+            "stopped  # the power stops, and what it leaves of the disk is recovered\n{}",
+            self.recovered
+        )
+    }
+}
+
+// The lines of events and of disk calls: a call stands before the event of its step.
+fn write_lines<W: fmt::Write>(
+    f: &mut fmt::Formatter<W>,
+    alloc: Global,
+    geometry: Geometry,
+    calls: &[ToldCall],
+    events: &[Stamped],
+) -> fmt::Result
+    ensures { WritesOnOk W.write_str_gives f.old result (run_lines geometry calls.now events.now) f.new }
+{
+    let mut telling = Telling::first();
+    for stamped in events {
+        write_told(f, alloc, geometry, calls, &telling, stamped)?;
+        telling.tell(stamped);
+    }
+    let behind = calls_between(calls, telling.calls, calls.len());
+    write_calls(f, geometry, behind)
+}
+
+// The lines of an event behind what was told, and of the disk calls before it.
+fn write_told<W: fmt::Write>(
+    f: &mut fmt::Formatter<W>,
+    alloc: Global,
+    geometry: Geometry,
+    calls: &[ToldCall],
+    telling: &Telling,
+    stamped: &Stamped,
+) -> fmt::Result
+    ensures { WritesOnOk W.write_str_gives f.old result (told_text geometry calls.now telling.now stamped.now) f.new }
+{
+    let since = calls_between(calls, telling.calls, stamped.calls);
+    write_calls(f, geometry, since)?;
+    write_unsaid(f, alloc, telling, stamped)
+}
+
+// The lines of an event, but for a loss that was said right before.
+fn write_unsaid<W: fmt::Write>(
+    f: &mut fmt::Formatter<W>,
+    alloc: Global,
+    telling: &Telling,
+    stamped: &Stamped,
+) -> fmt::Result
+    ensures { WritesOnOk W.write_str_gives f.old result (unsaid_lines telling.now (event_of stamped.now.event)) f.new }
+{
+    if is_said_loss(&stamped.event, telling.lost) {
+        Ok(())
+    } else {
+        let known = telling.known_for(&stamped.event);
+        write_event(f, alloc, &stamped.event, known)
+    }
+}

@@ -1,0 +1,131 @@
+//! What was told of a port, by which its decision is explained.
+ghost use Rattle.std.specs.Prelude.{◌≡◌};
+ghost use Rattle.iol_isdu.specs.Reading.{answer_of, request_of};
+ghost use Rattle.iol_core.specs.Telling.{work_told};
+ghost use Rattle.iol_port.specs.Telling.{status_told};
+ghost use Rattle.iol_explain.specs.Known.{blank, attended, heard, read_known, row_known, started};
+ghost use Rattle.iol_explain.specs.Requests.{asked_by};
+
+use crate::answer_words::answer_in;
+use crate::object::Object;
+use crate::octets::{four_octets, one_octet};
+use crate::request_words::{Asked, asked_by};
+use crate::row::{Row, row_of};
+use iol_core::Work;
+use iol_dsindex::StateProperty;
+use iol_isdu::Answer;
+use iol_port::PortStatus;
+use iol_types::Validation;
+
+// What was told of a port so far: its work, and what it has read of its device since it began to look at it.
+#[derive(Clone, Copy)]
+pub(crate) struct Known {
+    validation: Validation,
+    // the checksum of the set that is stored
+    stored: Option<u32>,
+    property: Option<u8>,
+    checksum: Option<u32>,
+}
+
+impl Known {
+    // Nothing was told.
+    pub(crate) fn blank() -> Known
+        ensures { result ≡ blank }
+    {
+        Known {
+            validation: Validation::NoCheck,
+            stored: None,
+            property: None,
+            checksum: None,
+        }
+    }
+
+    // The port was told its work.
+    pub(crate) fn attended(self, work: &Work) -> Known
+        ensures { result ≡ attended self (work_told work.now) }
+    {
+        Known {
+            validation: work.config.validation,
+            stored: work.checksum,
+            property: self.property,
+            checksum: self.checksum,
+        }
+    }
+
+    // The port has sent these octets, and its device has answered those.
+    pub(crate) fn heard(self, request: &[u8], answer: &[u8]) -> Known
+        ensures { result ≡ heard self (asked_by (request_of request.now)) (answer_of answer.now) }
+    {
+        match answer_in(answer) {
+            Ok(Answer::ReadOk(octets)) => self.read(asked_by(request), octets.as_slice()),
+            _ => self,
+        }
+    }
+
+    // These octets were read where that was asked.
+    fn read(self, asked: Asked, octets: &[u8]) -> Known
+        ensures { result ≡ read_known self asked octets.now }
+    {
+        match asked {
+            Asked::Read(Object::StateProperty) => Known {
+                validation: self.validation,
+                stored: self.stored,
+                property: one_octet(octets),
+                checksum: self.checksum,
+            },
+            Asked::Read(Object::Checksum) => Known {
+                validation: self.validation,
+                stored: self.stored,
+                property: self.property,
+                checksum: four_octets(octets),
+            },
+            _ => self,
+        }
+    }
+
+    // The status of the port has changed: what was read of a device counts up to the transfer that it leads to.
+    pub(crate) fn started(self, status: PortStatus) -> Known
+        ensures { result ≡ started self (status_told status) }
+    {
+        match status {
+            PortStatus::Starting
+            | PortStatus::Lost
+            | PortStatus::Uploading
+            | PortStatus::Downloading => self.unread(),
+            _ => self,
+        }
+    }
+
+    // Nothing was read of a device.
+    fn unread(self) -> Known
+        ensures { result ≡ record self { property = blank.property; checksum = blank.checksum } }
+    {
+        Known {
+            validation: self.validation,
+            stored: self.stored,
+            property: None,
+            checksum: None,
+        }
+    }
+
+    // The line by which the port decides, where what it goes by is known.
+    pub(crate) fn row(self) -> Option<Row>
+        ensures { result ≡ row_known self }
+    {
+        if !matches!(
+            self.validation,
+            Validation::BackupAndRestore | Validation::Restore
+        ) {
+            return Some(Row::NotKept);
+        }
+        match (self.property, self.checksum) {
+            (Some(octet), Some(checksum)) => {
+                let property = StateProperty::read(octet);
+                let state = property.state();
+                let flag = property.flag();
+                Some(row_of(self.validation, state, flag, checksum, self.stored))
+            }
+            _ => None,
+        }
+    }
+}

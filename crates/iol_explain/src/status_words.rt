@@ -1,0 +1,69 @@
+//! The words for the status of a port (docs/FORMATS.md, "Explained runs").
+ghost use Rattle.std.specs.Prelude.{◌≡◌};
+ghost use Rattle.iol_port.specs.Telling.{status_told};
+ghost use Rattle.iol_explain.specs.Statuses.{decided_words, settled_words};
+
+use crate::failure_words::{FailureWords, mismatch_words};
+use crate::known::Known;
+use crate::row::{Row, row_words};
+use iol_port::PortStatus;
+use std::fmt;
+
+// The status of a port in words, by what is known of it.
+#[derive(Clone, Copy)]
+pub(crate) struct StatusWords {
+    pub(crate) status: PortStatus,
+    pub(crate) known: Known,
+}
+
+impl fmt::Display for StatusWords {
+    ghost use Rattle.std.specs.Prelude.{Some};
+    ghost use Rattle.iol_port.specs.Telling.{status_told};
+    ghost use Rattle.iol_explain.specs.Known.{row_known};
+    ghost use Rattle.iol_explain.specs.Statuses.{status_words};
+
+    ghost output = { λ words. Some (status_words (row_known words.known) (status_told words.status)) };
+
+    fn fmt<W: fmt::Write>(&self, f: &mut fmt::Formatter<W>) -> fmt::Result {
+        let row = self.known.row();
+        match self.status {
+            PortStatus::Mismatch(fault) => f.write_str(mismatch_words(fault)),
+            PortStatus::Failed(fault) => write!(f, "{}", FailureWords(fault)),
+            status => f.write_str(settled_words(row, status)),
+        }
+    }
+}
+
+// The words for a status that is no mismatch and no failure.
+fn settled_words(row: Option<Row>, status: PortStatus) -> &'static str
+    ensures { result.now ≡ settled_words row (status_told status) }
+{
+    match status {
+        PortStatus::Off => "the port is not IOL_MANUAL: no device is looked after",
+        PortStatus::Lost => "no device answers: check the cable, and connect a device",
+        PortStatus::Starting => "the port looks at its device",
+        PortStatus::Ready => decided_words(
+            row,
+            "the transfer is done: device and stored set are the same",
+        ),
+        PortStatus::ReadyLocked => decided_words(
+            row,
+            "the device's Data Storage is locked: nothing is done",
+        ),
+        PortStatus::ReadyEmpty => decided_words(row, "no set is stored: nothing is done"),
+        PortStatus::Uploading => decided_words(row, "the device's parameters are read and stored"),
+        PortStatus::Storing => "the device's parameters are read: the set waits for the disk",
+        PortStatus::Downloading => decided_words(row, "the stored set is written to the device"),
+        PortStatus::Mismatch(_) | PortStatus::Failed(_) => "",
+    }
+}
+
+// The words for a status that a decision led to: its line of the table, where that is known.
+fn decided_words(row: Option<Row>, other: &'static str) -> &'static str
+    ensures { result.now ≡ decided_words row other.now }
+{
+    match row {
+        Some(row) => row_words(row),
+        None => other,
+    }
+}
