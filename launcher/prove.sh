@@ -107,10 +107,11 @@ give_back() {
     rm -rf "$room"
 }
 
-# Proves and builds a crate; `built/CRATE` then holds the status, which is 0 where it worked.
+# Proves and builds a crate with so many jobs; `built/CRATE` then holds the status, which is 0 where it worked. What other crates
+# load of it are its statements alone, which are read sooner than its proofs.
 build_crate() {
     crate=$1
-    if [ "$crate" = "$main" ]; then set -- run -- --help; else set -- lib; fi
+    if [ "$crate" = "$main" ]; then set -- run -- --help; else set -- lib --jobs "$2" --statements; fi
     (make_room "$crate" && cd "$(room_of "$crate")/crates/$crate" && exec rt "$@") </dev/null >"$out/build.$crate.log" 2>&1 &
     child=$!
     trap 'kill "$child" 2>/dev/null; wait "$child"; give_back "$crate"; exit 1' HUP INT TERM
@@ -134,20 +135,26 @@ has_all_it_names() {
     done
 }
 
-# Starts the first crate that waits for no other; fails where there is none now.
-start_next() {
+# The crates that wait for no other.
+ready() {
     for crate in $waiting; do
-        if has_all_it_names "$crate"; then
-            number=$((number + 1))
-            say "crate $number of $count: $crate"
-            (exec 9>&-; build_crate "$crate") &
-            workers="$workers $!"
-            running="$running $crate"
-            waiting=$(echo " $waiting " | sed "s/ $crate / /")
-            return 0
-        fi
+        if has_all_it_names "$crate"; then echo "$crate"; fi
     done
-    return 1
+}
+
+# Starts the first crate that waits for no other; fails where there is none now. A crate beside which nothing else can be proved
+# gets both processors.
+start_next() {
+    set -- $(ready)
+    [ $# -gt 0 ] || return 1
+    jobs=1
+    [ $# -gt 1 ] || [ -n "$running" ] || jobs=$at_once
+    number=$((number + 1))
+    say "crate $number of $count: $1"
+    (exec 9>&-; build_crate "$1" "$jobs") &
+    workers="$workers $!"
+    running="$running $1"
+    waiting=$(echo " $waiting " | sed "s/ $1 / /")
 }
 
 # Drops the crates that have ended from those that run; fails where one was not built.
