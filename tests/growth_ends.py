@@ -169,6 +169,13 @@ class Script(Subject):
         return {recovered(out) for out in [*says, self.whole_out]}
 
 
+class Check(Subject):
+    """A check of a script, which says all or that memory ran out."""
+
+    def end(self, said):
+        return "whole" if said.told == self.whole.told else "out of memory" if said.told == MEMORY else None
+
+
 class Schedule(Subject):
     """A run of `iol_growths` with one schedule."""
 

@@ -290,7 +290,8 @@ fn ports_in(alloc: Global, text: &str, entries: &[Entry]) -> Result<i64, AllocEr
 // What stands at `ports`.
 fn ports_value(entries: &[Entry]) -> Part {
     for entry in entries {
-        if entry.role == Role::Script && entry.key == Some(Key::Ports) {
+        let is_ports = entry.role == Role::Script && entry.key == Some(Key::Ports);
+        if is_ports && entry.form == Form::Value {
             return entry.value;
         }
     }

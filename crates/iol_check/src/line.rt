@@ -65,7 +65,11 @@ pub(crate) fn write_cut(lines: &mut String, text: &str) -> Result<(), AllocError
             return lines.push_str("..");
         }
         left = left.saturating_sub(1);
-        let shown = if character < ' ' { ' ' } else { character };
+        let shown = if character.is_control() {
+            ' '
+        } else {
+            character
+        };
         lines.push(shown)?;
     }
     Ok(())

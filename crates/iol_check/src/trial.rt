@@ -1,4 +1,6 @@
 //! Whether a value may stand at a key: a script that is right but for it can be run, or cannot.
+ghost use Rattle.std.specs.Prelude.{◌≡◌, Ok, true, false};
+ghost use Rattle.iol_commands.specs.Runs.{CanRun};
 
 use crate::keys::{KEYS, Key};
 use crate::rules::Kind;
@@ -43,7 +45,11 @@ pub(crate) fn are_parameters(alloc: Global, keys: &str, values: &str) -> Result<
     can_be_run(alloc, script.as_str())
 }
 
-fn can_be_run(alloc: Global, script: &str) -> Result<bool, AllocError> {
+// Whether a script can be run.
+fn can_be_run(alloc: Global, script: &str) -> Result<bool, AllocError>
+    ensures may { result ≡ Ok true → CanRun script.now }
+    ensures may_not { result ≡ Ok false → CanRun script.now → ⊥ }
+{
     match runnable(alloc, script.as_bytes()) {
         Ok(_) => Ok(true),
         Err(ScriptFault::NotValid) => Ok(false),

@@ -9,17 +9,18 @@ ghost use Rattle.iol_isdu.specs.Reading.{answer_of, request_of};
 ghost use Rattle.iol_trace.specs.Events as event;
 ghost use Rattle.iol_trace.specs.Statuses as trace;
 ghost use Rattle.iol_explain.specs.Answers.{answer_words};
-ghost use Rattle.iol_explain.specs.DiskLines.{call_line};
+ghost use Rattle.iol_explain.specs.DiskLines.{between, call_line, of_run};
 ghost use Rattle.iol_explain.specs.ErrorTypes.{error_name};
 ghost use Rattle.iol_explain.specs.EventLines.{event_lines};
 ghost use Rattle.iol_explain.specs.Failures.{failure_text, mismatch_words};
-ghost use Rattle.iol_explain.specs.Known.{blank};
+ghost use Rattle.iol_explain.specs.Known.{blank, started};
 ghost use Rattle.iol_explain.specs.Pages.{page_words};
 ghost use Rattle.iol_explain.specs.Places.{place_at, place_text};
 ghost use Rattle.iol_explain.specs.Refusals.{refusal_words};
 ghost use Rattle.iol_explain.specs.Requests.{asked_by, request_words};
 ghost use Rattle.iol_explain.specs.Rows.{row_of, row_words};
 ghost use Rattle.iol_explain.specs.Statuses.{status_words};
+ghost use Rattle.iol_explain.specs.Telling.{known_after, known_at, ports_after};
 ghost use Rattle.iol_explain.specs.Values.{value_words};
 
 use crate::object::Object;
@@ -261,10 +262,11 @@ pub fn rows()
         ∷ Validation.Restore ∷ [])
         ≡ replicate 2 Row.Locked }
     ensures backup_and_restore { row_of Validation.BackupAndRestore State.Inactive false 1 None
+        ∷ row_of Validation.BackupAndRestore State.Inactive true 1 None
         ∷ row_of Validation.BackupAndRestore State.Upload true 1 (Some 1)
         ∷ row_of Validation.BackupAndRestore State.Inactive false 1 (Some 1)
         ∷ row_of Validation.BackupAndRestore State.Download false 1 (Some 2)
-        ∷ [] ≡ Row.NothingStored ∷ Row.FlagSet ∷ Row.SameSet ∷ Row.OtherSet ∷ [] }
+        ∷ [] ≡ Row.NothingStored ∷ Row.NothingStored ∷ Row.FlagSet ∷ Row.SameSet ∷ Row.OtherSet ∷ [] }
     ensures restore { row_of Validation.Restore State.Inactive true 1 None ∷ row_of Validation.Restore State.Inactive true 1 (Some 1)
         ∷ row_of Validation.Restore State.Inactive true 1 (Some 2) ∷ []
         ≡ Row.NothingToRestore ∷ Row.SameRestored ∷ Row.OtherRestored ∷ [] }
@@ -318,6 +320,25 @@ pub fn disk_calls()
     ensures body { call_line (record { ports = 2; slots = 4 }) (ToldCall.Write 23 true)
         ≡ codes "disk write sector 23, body of slot 1 in area A\n" }
     ensures sync { call_line (record { ports = 2; slots = 4 }) ToldCall.Sync ≡ codes "disk sync\n" }
+{}
+
+/// The calls of a run: those behind the first sync, which is that of the recovery.
+pub fn calls()
+    ensures of_run { of_run (ToldCall.Sync ∷ ToldCall.Write 23 false ∷ ToldCall.Sync ∷ []) ≡ ToldCall.Write 23 false ∷ ToldCall.Sync ∷ [] }
+    ensures between { between (ToldCall.Sync ∷ ToldCall.Write 23 false ∷ ToldCall.Sync ∷ []) 1 2 ≡ ToldCall.Write 23 false ∷ [] }
+{}
+
+/// What is known of ports: what one port reads is known of that port alone, up to its next look at a device, its loss, or a
+/// transfer.
+pub fn knowledge()
+    ensures read { known_after blank (event.Exchange 17 0 (0xA4 ∷ 0x03 ∷ 0x02 ∷ 0xA5 ∷ []) (0xD3 ∷ 0x80 ∷ 0x53 ∷ []))
+        ≡ record blank { property = Some 0x80 } }
+    ensures its_own { map (known_at (ports_after (replicate 33 blank)
+        (event.Exchange 17 0 (0xA4 ∷ 0x03 ∷ 0x02 ∷ 0xA5 ∷ []) (0xD3 ∷ 0x80 ∷ 0x53 ∷ [])))) (1 ∷ 17 ∷ 32 ∷ [])
+        ≡ blank ∷ record blank { property = Some 0x80 } ∷ blank ∷ [] }
+    ensures forgotten { map (started (record blank { property = Some 0x80; checksum = Some 7 }))
+        (trace.Starting ∷ trace.Lost ∷ trace.Uploading ∷ trace.Downloading ∷ []) ≡ replicate 4 blank }
+    ensures kept { started (record blank { property = Some 0x80 }) trace.Ready ≡ record blank { property = Some 0x80 } }
 {}
 
 /// The lines of single events.

@@ -1,5 +1,5 @@
 -- The text of a map of a disk.
-use Rattle.std.specs.Prelude.{◌≡◌, ℕ, ◌+◌, ◌-◌, ◌==◌, nat_le, Bool, true, false, ◌&&◌, if◌then◌else◌, List, [], ◌++◌, codes}
+use Rattle.std.specs.Prelude.{◌≡◌, ◌⊎◌, Result, ℕ, ◌+◌, ◌-◌, ◌==◌, nat_le, Bool, true, false, ◌&&◌, if◌then◌else◌, List, [], ◌++◌, codes}
 use Rattle.std.specs.Prelude.{string_bytes, Option, Some, None, Ok, Err}
 use Rattle.std.specs.List.{flat_map}
 use Rattle.std.specs.Fmt.{decimal}
@@ -10,9 +10,13 @@ use Rattle.iol_journal.specs.Reading.{Shows}
 use Rattle.iol_journal.specs.declared.area.Area.{Area}
 use Rattle.iol_journal.specs.declared.area.Area.TheVariants.{A, B}
 use Rattle.iol_journal.specs.declared.body.Head.{Head}
+use Rattle.iol_journal.specs.declared.cause.RecoverCause.{RecoverCause}
+use Rattle.iol_journal.specs.declared.cause.RecoverCause.TheVariants as reading
 use Rattle.iol_journal.specs.declared.header.Header.{Header}
 use Rattle.iol_journal.specs.declared.header.TheConstants.{LAST_NUMBER}
 use Rattle.iol_journal.specs.declared.opening.InUse.{InUse}
+use Rattle.iol_commands.specs.declared.fault.Fault.{Fault}
+use Rattle.iol_commands.specs.declared.fault.Fault.TheVariants as fault
 use Rattle.iol_view.specs.declared.map_front.Standing.{Standing}
 use Rattle.iol_view.specs.declared.map_front.Standing.TheVariants as stands
 use Rattle.iol_view.specs.declared.map_lines.Line.{Line}
@@ -31,6 +35,16 @@ TellsOutcome disk (ending.Recovered number) =
     (state : State) × Shows disk (λ image. meaning disk.sectors image ≡ Ok (record { number = number; state = state }))
 TellsOutcome disk ending.NotFormatted = Shows disk (λ image. standing_in disk.sectors image ≡ Err unformatted)
 TellsOutcome disk (ending.Damaged sector) = Shows disk (λ image. standing_in disk.sectors image ≡ Err (damaged sector))
+
+-- why a disk has no map: a call of it failed, or memory ran out, and never what is on it (format, Maps)
+abbrev pub IsMapCause : Fault → Type 0
+IsMapCause why = (why ≡ fault.Disk) ⊎ (why ≡ fault.Memory)
+
+-- the record that was read of a port: it, or none where its sectors hold none; else why it was not read (format, Maps)
+abbrev pub record_in : {A : Type 0} → Result A RecoverCause → Result (Option A) RecoverCause
+record_in (Ok port) = Ok (Some port)
+record_in (Err (reading.Damaged sector)) = Ok None
+record_in (Err why) = Err why
 
 -- the sector that a recovery finds damaged, if it finds one (format, Maps)
 abbrev pub damaged_in : Outcome → Option ℕ

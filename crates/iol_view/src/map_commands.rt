@@ -2,7 +2,7 @@
 ghost use Rattle.std.specs.Prelude.{◌≡◌, ◌≤◌, ◌⊎◌, IfErr, IfOk, ℕ, List, string_bytes};
 ghost use Rattle.std.specs.Io.KnownBytes.{Appends};
 ghost use Rattle.iol_commands.specs.Fault.{status_of};
-ghost use Rattle.iol_view.specs.Map.{IsSomeMap, TellsMap, mapped_text};
+ghost use Rattle.iol_view.specs.Map.{IsMapCause, IsSomeMap, TellsMap, mapped_text};
 
 use crate::map_disk::{Mapped, map_disk};
 use crate::map_drawing::Drawing;
@@ -72,6 +72,8 @@ fn text_of_map<'a, F: FileExt + OpenFile + LockFile + Drop, R: Files<File = F> +
 /// The map of a disk as text, or why there is none: `Disk` or `Memory`.
 pub fn map_of_disk<D: SectorDisk + Drop>(alloc: Global, disk: D) -> Result<String, Fault<'static>>
     ensures text { IfOk result (λ text. TellsMap (D.disk disk) (string_bytes text)) }
+    // Whatever is on the disk has a map.
+    ensures cause { IfErr result IsMapCause }
     ensures status { IfErr result (λ fault. status_of fault ≡ 1) }
 {
     let Mapped { map, disk: _ } = map_disk(alloc, disk);

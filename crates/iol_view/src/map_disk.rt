@@ -3,13 +3,14 @@ ghost use Rattle.std.specs.Prelude.{◌≡◌, IfErr, IfOk};
 ghost use Rattle.iol_disk.specs.Content.{IsImage};
 ghost use Rattle.iol_disk.specs.Moments.{LeavesOnly};
 ghost use Rattle.iol_commands.specs.Fault.{status_of};
-ghost use Rattle.iol_view.specs.Map.{TellsOutcome};
+ghost use Rattle.iol_view.specs.Map.{IsMapCause, TellsOutcome};
 
 use crate::map_outcome::{Looked, look};
 use crate::map_survey::lines_of;
 use crate::map_text::Map;
 use iol_commands::Fault;
 use iol_disk::SectorDisk;
+use iol_journal::RecoverCause;
 use std::alloc::Global;
 
 // The map of a disk, or why there is none, and the disk.
@@ -25,6 +26,7 @@ pub(crate) fn map_disk<D: SectorDisk>(alloc: Global, disk: D) -> Mapped<D>
     ensures sectors { IfOk result.map (λ map. map.sectors ≡ (D.disk disk).sectors) }
     // Nothing is written: each image is one of those before.
     ensures any_moment { LeavesOnly (D.disk disk) (D.disk result.disk) (IsImage (D.disk disk).content) }
+    ensures cause { IfErr result.map IsMapCause }
     ensures status { IfErr result.map (λ fault. status_of fault ≡ 1) }
 {
     let Looked { outcome, disk } = look(alloc, disk);
@@ -42,7 +44,7 @@ pub(crate) fn map_disk<D: SectorDisk>(alloc: Global, disk: D) -> Mapped<D>
                     disk,
                 },
                 Err(cause) => Mapped {
-                    map: Err(Fault::from(cause)),
+                    map: Err(unread(cause)),
                     disk,
                 },
             }
@@ -51,5 +53,16 @@ pub(crate) fn map_disk<D: SectorDisk>(alloc: Global, disk: D) -> Mapped<D>
             map: Err(fault),
             disk,
         },
+    }
+}
+
+// Why a part of a disk was not read: damage is told in its line, so that nothing but memory is left.
+fn unread(cause: RecoverCause) -> Fault<'static>
+    ensures cause { IsMapCause result }
+    ensures status { status_of result ≡ 1 }
+{
+    match cause {
+        RecoverCause::Disk(_) => Fault::Disk,
+        _ => Fault::Memory,
     }
 }

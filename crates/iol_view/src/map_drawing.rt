@@ -108,7 +108,7 @@ fn write_lines<W: fmt::Write>(f: &mut fmt::Formatter<W>, lines: &[Line]) -> fmt:
 fn write_line<W: fmt::Write>(f: &mut fmt::Formatter<W>, top: usize, line: &Line) -> fmt::Result {
     write!(f, "<g transform='translate(10 {top})'>")?;
     if matches!(line.part, Part::AreaA | Part::AreaB) {
-        f.write_str("<line x1='-3' y1='-6' x2='1000' y2='-6' stroke='black'/>")?;
+        f.write_str("<line x1='-3' y1='-3' x2='1000' y2='-3' stroke='black'/>")?;
     }
     write_cells(f, line.cells)?;
     if line.damaged {

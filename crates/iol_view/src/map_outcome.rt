@@ -3,7 +3,7 @@ ghost use Rattle.std.specs.Prelude.{◌≡◌, IfOk, IfErr};
 ghost use Rattle.iol_disk.specs.Content.{IsImage};
 ghost use Rattle.iol_disk.specs.Moments.{LeavesOnly};
 ghost use Rattle.iol_commands.specs.Fault.{status_of};
-ghost use Rattle.iol_view.specs.Map.{TellsOutcome, damaged_in};
+ghost use Rattle.iol_view.specs.Map.{IsMapCause, TellsOutcome, damaged_in};
 
 use iol_commands::{Fault, Shown, show_disk};
 use iol_disk::SectorDisk;
@@ -44,6 +44,7 @@ pub(crate) fn look<D: SectorDisk>(alloc: Global, disk: D) -> Looked<D>
     ensures told { IfOk result.outcome (TellsOutcome (D.disk disk)) }
     // It leaves only what was there: each image is one of those before.
     ensures any_moment { LeavesOnly (D.disk disk) (D.disk result.disk) (IsImage (D.disk disk).content) }
+    ensures cause { IfErr result.outcome IsMapCause }
     ensures status { IfErr result.outcome (λ fault. status_of fault ≡ 1) }
 {
     let Shown { recovered, disk } = show_disk(alloc, disk);
@@ -62,8 +63,13 @@ pub(crate) fn look<D: SectorDisk>(alloc: Global, disk: D) -> Looked<D>
             outcome: Ok(Outcome::Damaged { sector }),
             disk,
         },
-        Err(fault) => Looked {
-            outcome: Err(fault),
+        Err(Fault::Disk) => Looked {
+            outcome: Err(Fault::Disk),
+            disk,
+        },
+        // A recovery ends with no other fault.
+        Err(_) => Looked {
+            outcome: Err(Fault::Memory),
             disk,
         },
     }

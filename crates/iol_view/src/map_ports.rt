@@ -1,7 +1,8 @@
 //! The records of an area's ports, in a map.
-ghost use Rattle.std.specs.Prelude.{◌≤◌};
+ghost use Rattle.std.specs.Prelude.{◌≡◌, ◌≤◌};
 ghost use Rattle.iol_disk.specs.Disk.{Same};
 ghost use Rattle.iol_journal.specs.Layout.{total};
+ghost use Rattle.iol_view.specs.Map.{record_in};
 
 use crate::map_lines::{Cells, Line, Lines, Part, Span};
 use iol_disk::{SECTOR_OCTETS, SectorDisk};
@@ -39,7 +40,9 @@ pub(crate) fn add_ports<D: SectorDisk>(
 }
 
 // The port that was read, or none where its sectors hold no record.
-fn found(read: Result<PortState, RecoverCause>) -> Result<Option<PortState>, RecoverCause> {
+fn found(read: Result<PortState, RecoverCause>) -> Result<Option<PortState>, RecoverCause>
+    ensures { result ≡ record_in read }
+{
     match read {
         Ok(port) => Ok(Some(port)),
         Err(RecoverCause::Damaged { .. }) => Ok(None),
