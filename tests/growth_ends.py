@@ -169,6 +169,15 @@ class Script(Subject):
         return {recovered(out) for out in [*says, self.whole_out]}
 
 
+class Explained(Script):
+    """A run of `iolmaster run --explain`, of which the lines of the run are looked at."""
+
+    def told_in(self, room, environment):
+        out, errors, status = super().told_in(room, environment)
+        lines = [line.partition("  # ")[0] for line in out.splitlines() if not line.startswith(("disk write ", "disk sync"))]
+        return "".join(f"{line}\n" for line in lines), errors, status
+
+
 class Check(Subject):
     """A check of a script, which says all or that memory ran out."""
 
@@ -249,8 +258,10 @@ class Picture(Subject):
     def end(self, said):
         if said.told == self.whole.told and said.image == self.whole.image:
             return "whole"
-        if said.told in (MEMORY, DISK):
-            return "out of memory, no picture" if said.image is None else None
+        if said.told in (MEMORY, DISK) and said.image is None:
+            return "out of memory, no picture"
+        if said.told == MEMORY and said.image == self.whole.image:
+            return "out of memory behind the picture"
         is_drawn = said.told[1:] == ("", 0) and re.fullmatch(r"drawn \d+ events\n", said.told[0])
         return "picture of a shorter run" if is_drawn and said.image.endswith(b"</svg>\n") else None
 
