@@ -258,10 +258,8 @@ class Picture(Subject):
     def end(self, said):
         if said.told == self.whole.told and said.image == self.whole.image:
             return "whole"
-        if said.told in (MEMORY, DISK) and said.image is None:
-            return "out of memory, no picture"
-        if said.told == MEMORY and said.image == self.whole.image:
-            return "out of memory behind the picture"
+        if said.told in (MEMORY, DISK):
+            return "out of memory, no picture" if said.image is None else None
         is_drawn = said.told[1:] == ("", 0) and re.fullmatch(r"drawn \d+ events\n", said.told[0])
         return "picture of a shorter run" if is_drawn and said.image.endswith(b"</svg>\n") else None
 

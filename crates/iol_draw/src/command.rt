@@ -46,7 +46,7 @@ pub fn draw_text<
     }
 }
 
-// Draws the run of a script into the file at `picture`; what is printed of that.
+// Draws the run of a script into the file at `picture`; what is printed of that. All that takes memory comes before the file.
 fn draw<'a, F: FileExt + OpenFile + LockFile + Drop, R: Files<File = F> + AllocGlobal>(
     rt: &R,
     script: &[u8],
@@ -56,10 +56,29 @@ fn draw<'a, F: FileExt + OpenFile + LockFile + Drop, R: Files<File = F> + AllocG
     ensures printed { IfOk result (λ text. TellsDrawn script.now (string_bytes text)) }
     ensures cause { IfErr result (IsCause script.now) }
 {
-    let alloc = rt.alloc();
+    let Drawn {
+        line,
+        picture: text,
+    } = drawn_run(rt.alloc(), script)?;
+    write_picture(rt, picture, text.as_str())?;
+    Ok(line)
+}
+
+// What is printed of a picture, and the picture.
+#[derive(Drop)]
+struct Drawn {
+    line: String,
+    picture: String,
+}
+
+// The run of a script, drawn.
+fn drawn_run(alloc: Global, script: &[u8]) -> Result<Drawn, Fault<'static>>
+    ensures ran { OnOk result (CanRun script.now) }
+    ensures printed { IfOk result (λ drawn. TellsDrawn script.now (string_bytes drawn.line)) }
+    ensures cause { IfErr result (IsCause script.now) }
+{
     let ready = read_playable(alloc, script)?;
     let explained = explained_run(alloc, ready.geometry, &ready.script)?;
-    let events = explained.events.len();
     let drawing = Picture {
         geometry: ready.geometry,
         keep: ready.script.keep,
@@ -67,13 +86,14 @@ fn draw<'a, F: FileExt + OpenFile + LockFile + Drop, R: Files<File = F> + AllocG
         unsynced: unsynced_spans(alloc, &explained)?,
         marks: marks_of(alloc, &explained)?,
     };
-    let text = drawing.to_string(alloc)?;
-    write_picture(rt, picture, text.as_str())?;
-    Ok(drawn(alloc, events)?)
+    Ok(Drawn {
+        line: line_of(alloc, explained.events.len())?,
+        picture: drawing.to_string(alloc)?,
+    })
 }
 
 // What is printed of a picture of so many events.
-fn drawn(alloc: Global, events: usize) -> Result<String, AllocError>
+fn line_of(alloc: Global, events: usize) -> Result<String, AllocError>
     ensures { IfOk result (λ text. string_bytes text ≡ drawn_text events) }
 {
     format!(in alloc; "drawn {events} events\n")

@@ -1,11 +1,11 @@
 use Rattle.std.proofs.Common.{Option, IsSomeAnd, sym, subst, rules}
 use Rattle.iol_script.specs.Script.{Said}
 use Rattle.iol_explain.specs.Played.{IsExplained}
-use Rattle.iol_draw.proofs.command.draw.Goals as goal
+use Rattle.iol_draw.proofs.command.drawn_run.Goals as goal
 
 -- the line counts the events of the run that was played
 pub returns-clause-printed : goal.returns-clause-printed
-returns-clause-printed g c =
+returns-clause-printed c =
     let explained = c.in_ok-explained.explained in
     record {
       explained = explained;
