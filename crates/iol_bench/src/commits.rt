@@ -1,8 +1,7 @@
 //! Commits of one Configure each and the checkpoints between them, beside the same writes and syncs of a plain file.
 
 use crate::commands::configure;
-use crate::plain::{nanoseconds_since, opened_file, timed_calls};
-use crate::statistics::{Pair, print_medians};
+use crate::plain::{Pair, nanoseconds_since, opened_file, timed_calls};
 use anyhow::{Context, bail};
 use iol_disk::{DiskCall, ImageFile, MemoryDisk, RecordedDisk, SectorDisk};
 use iol_example::{create, open, write};
@@ -21,21 +20,18 @@ const CHECKPOINTS: usize = 10;
 // A commit writes a sector of its body, syncs, writes its gate, and syncs.
 const COMMIT_CALLS: usize = 4;
 
-/// Times rounds of commits and checkpoints, and prints what one of each takes.
+/// Times rounds of commits and checkpoints, and prints for each round what one of either takes.
 pub fn measure_commits(rt: &HostRuntime, folder: &str, rounds: usize) -> anyhow::Result<()> {
     let calls = calls_of_round(rt.alloc())?;
-    let mut commits = Vec::new(rt.alloc());
-    let mut checkpoints = Vec::new(rt.alloc());
-    for _ in 0..rounds {
-        let (commit, checkpoint) = costs_of_round(rt, folder, calls.as_slice())?;
-        commits.push(commit)?;
-        checkpoints.push(checkpoint)?;
-    }
     println!(rt;
         "{rounds} rounds, each of {COMMITS} commits and {CHECKPOINTS} checkpoints: {PORTS} ports, {SLOTS} slots"
     )?;
-    print_medians(rt, "commit", commits.as_slice(), COMMITS as u64)?;
-    print_medians(rt, "checkpoint", checkpoints.as_slice(), CHECKPOINTS as u64)
+    for _ in 0..rounds {
+        let (commits, checkpoints) = costs_of_round(rt, folder, calls.as_slice())?;
+        commits.print(rt, "commit", COMMITS as u64)?;
+        checkpoints.print(rt, "checkpoint", CHECKPOINTS as u64)?;
+    }
+    Ok(())
 }
 
 fn geometry() -> anyhow::Result<Geometry> {

@@ -1,16 +1,15 @@
 //! `iol_bench`, the program of `bench/run`: what durable commits, checkpoints and recoveries of a journal on an image file cost,
 //! beside the same calls of a plain file in the same folder. Without words it says how it is called.
 //!
-//! In come a folder and a number of rounds; out go medians and ratios, a line each. Modules in reading order: `commits` and
-//! `recovery`, the two measurements; `commands`, what is written; `plain`, the calls of a plain file; `statistics`. Nothing is
-//! promised of times.
+//! In come a folder and a number of rounds; out goes a line for each measurement of each round: what was measured, and the
+//! nanoseconds of the journal and of the plain file. Modules in reading order: `commits` and `recovery`, the two measurements;
+//! `commands`, what is written; `plain`, the calls of a plain file. Nothing is promised of times.
 #![tactic(auto)]
 
 mod commands;
 mod commits;
 mod plain;
 mod recovery;
-mod statistics;
 
 use commits::measure_commits;
 use recovery::measure_recovery;

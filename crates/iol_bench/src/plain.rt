@@ -1,10 +1,33 @@
-//! Calls of a plain file: the same sectors as those of a journal, in the same order.
+//! Calls of a plain file: the same sectors as those of a journal, in the same order; and what both took.
 
 use iol_disk::{DiskCall, SECTOR_OCTETS};
 use std::fs::File;
 use std::io;
 use std::os::unix::fs::FileExt;
 use std::time::Instant;
+
+/// What a journal took and what a plain file took, in nanoseconds.
+#[derive(Clone, Copy)]
+pub struct Pair {
+    pub journal: u64,
+    pub plain: u64,
+}
+
+impl Pair {
+    /// Both, with these added.
+    pub fn plus(self, journal: u64, plain: u64) -> Pair {
+        Pair {
+            journal: self.journal.saturating_add(journal),
+            plain: self.plain.saturating_add(plain),
+        }
+    }
+
+    /// Prints what one of so many took.
+    pub fn print(self, rt: &HostRuntime, name: &str, count: u64) -> io::Result<()> {
+        let count = count.max(1);
+        println!(rt; "{name}: {} {}", self.journal / count, self.plain / count)
+    }
+}
 
 /// Opens a file to read and to write.
 pub fn opened_file(rt: &HostRuntime, path: &str) -> io::Result<File> {

@@ -2,8 +2,7 @@
 //! octets, and 256 slots, all used.
 
 use crate::commands::{configure, largest_set};
-use crate::plain::{nanoseconds_since, opened_file, timed_calls};
-use crate::statistics::{Pair, print_medians};
+use crate::plain::{Pair, nanoseconds_since, opened_file, timed_calls};
 use anyhow::{Context, bail};
 use iol_disk::{DiskCall, ImageFile, RecordedDisk, SectorDisk};
 use iol_example::{create, open, write};
@@ -16,31 +15,33 @@ use std::time::Instant;
 
 const SLOTS: u16 = 256;
 
-/// Times recoveries, and prints them beside a plain read of the sectors that a recovery reads, and of all sectors, each a
-/// sector at a time and in order.
+/// Times recoveries, and prints what each takes: beside a plain read of the sectors that a recovery reads, and beside one of
+/// all sectors, each a sector at a time and in order.
 pub fn measure_recovery(rt: &HostRuntime, folder: &str, rounds: usize) -> anyhow::Result<()> {
     let path = format!(in rt.alloc(); "{folder}/iol_bench_largest.img")?;
     let geometry = Geometry::new(u16::from(PORTS), SLOTS).context("no geometry")?;
     let sectors = geometry.sectors();
-    write_largest(
-        rt.alloc(),
-        ImageFile::create(rt, path.as_str(), sectors)?,
-        geometry,
-    )?;
+    let disk = ImageFile::create(rt, path.as_str(), sectors)?;
+    write_largest(rt.alloc(), disk, geometry)?;
     let calls = calls_of_recovery(rt, path.as_str())?;
     println!(rt;
         "recovery of {sectors} sectors: {} disk calls, one of them a sync",
         calls.len()
     )?;
-    let own = timed(rt, path.as_str(), calls.as_slice(), rounds)?;
-    print_medians(rt, "recovery beside its reads", own.as_slice(), 1)?;
+    time(
+        rt,
+        "recovery beside its reads",
+        path.as_str(),
+        &calls,
+        rounds,
+    )?;
     let all = all_sectors(rt.alloc(), sectors)?;
-    let whole = timed(rt, path.as_str(), all.as_slice(), rounds)?;
-    print_medians(
+    time(
         rt,
         "recovery beside a read of the whole file",
-        whole.as_slice(),
-        1,
+        path.as_str(),
+        &all,
+        rounds,
     )?;
     fs::remove_file(rt, path)?;
     Ok(())
@@ -98,15 +99,15 @@ fn all_sectors(alloc: Global, sectors: usize) -> Result<Vec<DiskCall>, AllocErro
     Ok(calls)
 }
 
-// Times so many recoveries, a plain file's calls behind each.
-fn timed(
+// Times so many recoveries, a plain file's calls behind each, and prints what they took.
+fn time(
     rt: &HostRuntime,
+    name: &str,
     path: &str,
     calls: &[DiskCall],
     rounds: usize,
-) -> anyhow::Result<Vec<Pair>> {
+) -> anyhow::Result<()> {
     let file = opened_file(rt, path)?;
-    let mut pairs = Vec::new(rt.alloc());
     for _ in 0..rounds {
         let disk = ImageFile::open(rt, path)?;
         let start = Instant::now(rt)?;
@@ -117,7 +118,7 @@ fn timed(
         }
         drop(found);
         let plain = timed_calls(rt, &file, calls)?;
-        pairs.push(Pair { journal, plain })?;
+        Pair { journal, plain }.print(rt, name, 1)?;
     }
-    Ok(pairs)
+    Ok(())
 }

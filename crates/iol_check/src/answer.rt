@@ -6,9 +6,9 @@ ghost use Rattle.iol_check.specs.Fine.{TellsFine};
 
 use crate::fine::fine_line;
 use crate::mistakes::mistakes_of;
-use crate::notes::notes_of;
-use crate::valid::runnable;
-use iol_script::{Script, ScriptFault};
+use iol_commands::{Fault, read_playable};
+use iol_mistakes::notes_of;
+use iol_script::Script;
 use std::alloc::{AllocError, Global};
 
 // What is printed of a text.
@@ -20,14 +20,15 @@ pub enum Answer {
     Mistakes(String),
 }
 
-// The answer to a text.
+// The answer to a text. Whether it can be run is asked of the call that a run makes.
 pub(crate) fn answer_to(alloc: Global, text: &[u8]) -> Result<Answer, AllocError>
     ensures { IfOk result (IsAnswer text.now) }
 {
-    match runnable(alloc, text) {
-        Ok(script) => Ok(Answer::Fine(fine_text(alloc, text, &script)?)),
-        Err(ScriptFault::NotValid) => Ok(Answer::Mistakes(mistakes_of(alloc, text)?)),
-        Err(ScriptFault::Memory) => Err(AllocError),
+    match read_playable(alloc, text) {
+        Ok(playable) => Ok(Answer::Fine(fine_text(alloc, text, &playable.script)?)),
+        Err(Fault::Script | Fault::Geometry) => Ok(Answer::Mistakes(mistakes_of(alloc, text)?)),
+        // No other fault is one of the text.
+        Err(_) => Err(AllocError),
     }
 }
 

@@ -4,13 +4,11 @@ ghost use Rattle.std.specs.Io.KnownBytes.{Appends};
 ghost use Rattle.iol_commands.specs.Runs.{CanRun, IsCause, IsSilentOver};
 ghost use Rattle.iol_draw.specs.Drawn.{TellsDrawn, drawn_text};
 
-use crate::marks::marks_of;
 use crate::numbers::numbers_of;
-use crate::picture::Picture;
-use crate::unsynced::unsynced_spans;
 use iol_commands::{Fault, print, read_playable, report, write_picture};
 use iol_disk::LockFile;
 use iol_explain::explained_run;
+use iol_picture::picture_of;
 use std::alloc::{AllocError, Global};
 use std::fs::OpenFile;
 use std::io::Write;
@@ -79,16 +77,10 @@ fn drawn_run(alloc: Global, script: &[u8]) -> Result<Drawn, Fault<'static>>
 {
     let ready = read_playable(alloc, script)?;
     let explained = explained_run(alloc, ready.geometry, &ready.script)?;
-    let drawing = Picture {
-        geometry: ready.geometry,
-        keep: ready.script.keep,
-        numbers: numbers_of(alloc, ready.geometry, &ready.script)?,
-        unsynced: unsynced_spans(alloc, &explained)?,
-        marks: marks_of(alloc, &explained)?,
-    };
+    let numbers = numbers_of(alloc, ready.geometry, &ready.script)?;
     Ok(Drawn {
         line: line_of(alloc, explained.events.len())?,
-        picture: drawing.to_string(alloc)?,
+        picture: picture_of(alloc, &explained, ready.script.keep, numbers)?,
     })
 }
 

@@ -4,32 +4,13 @@
 //! the calls of its disk between them.
 //!
 //! Modules in reading order:
-//! - `command` is the command over a file and writers.
-//! - `numbers` finds what is recovered by what a stop keeps, and `unsynced` which sectors no sync has settled.
-//! - `mark` is what a picture shows of a run, `waiting` has the commands that wait for the disk, `marking` the marks of what
-//!   is told one after another, and `marks` those of a whole run.
-//! - `scale` says where a mark stands, and `look` how a status looks.
-//! - `shape` draws a mark, `ports_shape` one of a port, `disk_shape` one of the disk, and `signs` has their signs.
-//! - `stop_text` tells of the stop, `legend` what each sign means, and `picture` puts all together.
+//! - `command` is the command over a file and writers; the picture itself is that of `iol_picture`.
+//! - `numbers` finds what is recovered by what a stop keeps.
 //!
 //! What is printed is defined in `specs/Drawn.antt`.
 #![tactic(auto)]
 
 mod command;
-mod disk_shape;
-mod legend;
-mod look;
-mod mark;
-mod marking;
-mod marks;
 mod numbers;
-mod picture;
-mod ports_shape;
-mod scale;
-mod shape;
-mod signs;
-mod stop_text;
-mod unsynced;
-mod waiting;
 
 pub use command::draw_text;

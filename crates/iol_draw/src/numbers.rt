@@ -8,17 +8,9 @@ ghost use Rattle.iol_commands.specs.Played.{IsSaidGeometry};
 use iol_commands::{Fault, empty_disk, make_run, stop};
 use iol_disk::Pick;
 use iol_journal::Geometry;
+use iol_picture::Numbers;
 use iol_script::Script;
 use std::alloc::Global;
-
-// The number of the last command that is recovered, by what the stop keeps.
-#[derive(Clone, Copy)]
-pub(crate) struct Numbers {
-    pub old: u64,
-    pub new: u64,
-    pub zero: u64,
-    pub pattern: u64,
-}
 
 // What is recovered behind each kind of stop of a script's run, which is made once for each.
 //

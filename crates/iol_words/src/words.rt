@@ -134,38 +134,73 @@ fn commands<'a>(alloc: Global) -> Result<Vec<Command<'a>>, AllocError> {
 // The command that matched words ask for.
 fn asked_by<'a>(matches: &ArgMatches<'a>) -> Asked<'a> {
     match matches.subcommand() {
-        Some(("format", format)) => Asked::Format {
-            image: text(format, "IMAGE"),
-            ports: number(format, "ports"),
-            slots: number(format, "slots"),
-            force: format.get_flag("force"),
-        },
-        Some(("live", live)) => Asked::Live {
-            image: text(live, "IMAGE"),
-            script: text(live, "SCRIPT"),
-            receipts: live.get_flag("receipts"),
-        },
-        Some(("show", show)) => Asked::Show {
-            image: text(show, "IMAGE"),
-            json: show.get_flag("json"),
-        },
-        Some(("map", map)) => Asked::Map {
-            image: text(map, "IMAGE"),
-            picture: map.get_str("PICTURE"),
-        },
-        Some(("check", check)) => on_script(check, OnScript::Check),
-        Some(("draw", draw)) => Asked::Draw {
-            script: text(draw, "SCRIPT"),
-            picture: text(draw, "PICTURE"),
-        },
-        Some((_, run)) if run.get_flag("explain") => on_script(run, OnScript::Explain),
-        Some((_, run)) => on_script(run, OnScript::Run),
+        Some((name, matches)) => asked_of(name, matches),
         // clap refuses words without a command.
         None => Asked::Script {
             path: "",
             what: OnScript::Run,
         },
     }
+}
+
+// The command of this name, with what its words say.
+fn asked_of<'a>(name: &str, matches: &ArgMatches<'a>) -> Asked<'a> {
+    match name {
+        "format" => asked_format(matches),
+        "live" => asked_live(matches),
+        "show" => asked_show(matches),
+        "map" => asked_map(matches),
+        "check" => on_script(matches, OnScript::Check),
+        "draw" => asked_draw(matches),
+        _ => asked_run(matches),
+    }
+}
+
+fn asked_format<'a>(matches: &ArgMatches<'a>) -> Asked<'a> {
+    Asked::Format {
+        image: text(matches, "IMAGE"),
+        ports: number(matches, "ports"),
+        slots: number(matches, "slots"),
+        force: matches.get_flag("force"),
+    }
+}
+
+fn asked_live<'a>(matches: &ArgMatches<'a>) -> Asked<'a> {
+    Asked::Live {
+        image: text(matches, "IMAGE"),
+        script: text(matches, "SCRIPT"),
+        receipts: matches.get_flag("receipts"),
+    }
+}
+
+fn asked_show<'a>(matches: &ArgMatches<'a>) -> Asked<'a> {
+    Asked::Show {
+        image: text(matches, "IMAGE"),
+        json: matches.get_flag("json"),
+    }
+}
+
+fn asked_map<'a>(matches: &ArgMatches<'a>) -> Asked<'a> {
+    Asked::Map {
+        image: text(matches, "IMAGE"),
+        picture: matches.get_str("PICTURE"),
+    }
+}
+
+fn asked_draw<'a>(matches: &ArgMatches<'a>) -> Asked<'a> {
+    Asked::Draw {
+        script: text(matches, "SCRIPT"),
+        picture: text(matches, "PICTURE"),
+    }
+}
+
+fn asked_run<'a>(matches: &ArgMatches<'a>) -> Asked<'a> {
+    let what = if matches.get_flag("explain") {
+        OnScript::Explain
+    } else {
+        OnScript::Run
+    };
+    on_script(matches, what)
 }
 
 fn on_script<'a>(matches: &ArgMatches<'a>, what: OnScript) -> Asked<'a> {
@@ -189,8 +224,8 @@ Examples, each with what it prints beside it:
 fn run<'a>(alloc: Global) -> Result<Command<'a>, AllocError> {
     let about = "Runs a script on a disk in memory, and prints its trace and the recovered state";
     let explain = "Says in words what each line says, and tells the calls of the disk";
-    let words = [script(alloc), flag(alloc, "explain", explain)];
-    command(alloc, "run", about, EXAMPLES).args(Vec::from_array(alloc, words)?)
+    let words = Vec::from_array(alloc, [script(alloc), flag(alloc, "explain", explain)])?;
+    command(alloc, "run", about, EXAMPLES).args(words)
 }
 
 fn check<'a>(alloc: Global) -> Result<Command<'a>, AllocError> {
@@ -201,10 +236,10 @@ fn check<'a>(alloc: Global) -> Result<Command<'a>, AllocError> {
 
 fn draw<'a>(alloc: Global) -> Result<Command<'a>, AllocError> {
     let picture = "The path of an SVG file for the picture";
-    let words = [script(alloc), word(alloc, "PICTURE", picture)];
+    let words = Vec::from_array(alloc, [script(alloc), word(alloc, "PICTURE", picture)])?;
     Command::new(alloc, "draw")
         .about("Runs a script on a disk in memory, and draws what happens and what the stop leaves")
-        .args(Vec::from_array(alloc, words)?)
+        .args(words)
 }
 
 // What is told behind the options of `format`.
@@ -219,7 +254,8 @@ fn format<'a>(alloc: Global) -> Result<Command<'a>, AllocError> {
         count(alloc, "slots", "How many batches each area holds, 1 to 256"),
         flag(alloc, "force", "Erases a journal that is there"),
     ];
-    command(alloc, "format", about, FORMAT_NOTES).args(Vec::from_array(alloc, words)?)
+    let words = Vec::from_array(alloc, words)?;
+    command(alloc, "format", about, FORMAT_NOTES).args(words)
 }
 
 // What is told behind the options of `live`.
@@ -241,23 +277,25 @@ fn live<'a>(alloc: Global) -> Result<Command<'a>, AllocError> {
         script(alloc),
         flag(alloc, "receipts", receipts),
     ];
-    command(alloc, "live", about, LIVE_NOTES).args(Vec::from_array(alloc, words)?)
+    let words = Vec::from_array(alloc, words)?;
+    command(alloc, "live", about, LIVE_NOTES).args(words)
 }
 
 fn show<'a>(alloc: Global) -> Result<Command<'a>, AllocError> {
     let json = "Prints one JSON object in place of lines";
-    let words = [image(alloc), flag(alloc, "json", json)];
+    let words = Vec::from_array(alloc, [image(alloc), flag(alloc, "json", json)])?;
     Command::new(alloc, "show")
         .about("Recovers the state on an image file, and prints it")
-        .args(Vec::from_array(alloc, words)?)
+        .args(words)
 }
 
 fn map<'a>(alloc: Global) -> Result<Command<'a>, AllocError> {
     let picture = "The path of an SVG file for a picture, in place of lines";
     let words = [image(alloc), Arg::new(alloc, "PICTURE").help(picture)];
+    let words = Vec::from_array(alloc, words)?;
     Command::new(alloc, "map")
         .about("Tells what stands in the sectors of an image file, and what is wrong there")
-        .args(Vec::from_array(alloc, words)?)
+        .args(words)
 }
 
 // A command, with what is told of it before its options and behind them.

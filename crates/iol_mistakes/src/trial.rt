@@ -4,8 +4,7 @@ ghost use Rattle.iol_commands.specs.Runs.{CanRun};
 
 use crate::keys::{KEYS, Key};
 use crate::rules::Kind;
-use crate::valid::runnable;
-use iol_script::ScriptFault;
+use iol_commands::{Fault, read_playable};
 use std::alloc::{AllocError, Global};
 
 // What stands before the table of a device or a step that is tried.
@@ -26,10 +25,11 @@ pub(crate) fn is_right(
 // How many ports a script has where this stands at `ports`; nothing where it may not stand there.
 pub(crate) fn ports_by(alloc: Global, value: &str) -> Result<Option<i64>, AllocError> {
     let script = script_with(alloc, 1, Kind::Script, Key::Ports, value)?;
-    match runnable(alloc, script.as_bytes()) {
-        Ok(script) => Ok(Some(script.ports)),
-        Err(ScriptFault::NotValid) => Ok(None),
-        Err(ScriptFault::Memory) => Err(AllocError),
+    match read_playable(alloc, script.as_bytes()) {
+        Ok(playable) => Ok(Some(playable.script.ports)),
+        Err(Fault::Script | Fault::Geometry) => Ok(None),
+        // No other fault is one of the text.
+        Err(_) => Err(AllocError),
     }
 }
 
@@ -50,10 +50,11 @@ fn can_be_run(alloc: Global, script: &str) -> Result<bool, AllocError>
     ensures may { result ≡ Ok true → CanRun script.now }
     ensures may_not { result ≡ Ok false → CanRun script.now → ⊥ }
 {
-    match runnable(alloc, script.as_bytes()) {
+    match read_playable(alloc, script.as_bytes()) {
         Ok(_) => Ok(true),
-        Err(ScriptFault::NotValid) => Ok(false),
-        Err(ScriptFault::Memory) => Err(AllocError),
+        Err(Fault::Script | Fault::Geometry) => Ok(false),
+        // No other fault is one of the text.
+        Err(_) => Err(AllocError),
     }
 }
 

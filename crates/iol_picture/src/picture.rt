@@ -1,16 +1,16 @@
-//! A run as a picture, in SVG (docs/FORMATS.md, "Pictures of runs"). No text of it has a letter that XML writes otherwise.
+//! The picture of a run. No text of it has a letter that XML writes otherwise.
 
 use crate::legend::{HEIGHT, write_legend};
 use crate::mark::Mark;
-use crate::marks::Marks;
-use crate::numbers::Numbers;
+use crate::marks::{Marks, marks_of};
 use crate::scale::{ACCEPTED_TOP, Scale};
 use crate::shape::write_mark;
-use crate::stop_text::{bottom, write_stop};
-use crate::unsynced::Span;
+use crate::stop_text::{Numbers, bottom, write_stop};
+use crate::unsynced::{Span, unsynced_spans};
 use iol_disk::Pick;
-use iol_journal::Geometry;
+use iol_explain::Explained;
 use iol_types::PortId;
+use std::alloc::{AllocError, Global};
 use std::fmt;
 
 // How wide the texts of the stop are at most.
@@ -18,19 +18,37 @@ const STOP_WIDTH: usize = 420;
 // How wide a picture is at least, for its legend.
 const LEAST_WIDTH: usize = 820;
 
+/// The picture of a run in SVG (docs/FORMATS.md, "Pictures of runs"), whose stop keeps this, with the numbers of the last
+/// commands that are recovered behind each kind of stop.
+pub fn picture_of(
+    alloc: Global,
+    run: &Explained,
+    keep: Pick,
+    numbers: Numbers,
+) -> Result<String, AllocError> {
+    let picture = Picture {
+        ports: usize::from(run.geometry.ports()),
+        keep,
+        numbers,
+        unsynced: unsynced_spans(alloc, run)?,
+        marks: marks_of(alloc, run)?,
+    };
+    picture.to_string(alloc)
+}
+
 // What a picture shows: a run's marks, and what its stop leaves.
 #[derive(Drop)]
-pub(crate) struct Picture {
-    pub geometry: Geometry,
-    pub keep: Pick,
-    pub numbers: Numbers,
-    pub unsynced: Vec<Span>,
-    pub marks: Marks,
+struct Picture {
+    ports: usize,
+    keep: Pick,
+    numbers: Numbers,
+    unsynced: Vec<Span>,
+    marks: Marks,
 }
 
 impl Picture {
     fn scale(&self) -> Scale {
-        Scale::of(self.marks.columns, usize::from(self.geometry.ports()))
+        Scale::of(self.marks.columns, self.ports)
     }
 
     // Where the lanes and the texts of the stop end, and the legend begins.

@@ -14,54 +14,47 @@ const NEXT: usize = 330;
 // How high the legend is.
 pub(crate) const HEIGHT: usize = LINE_STEP * (LINES + 1);
 
-// The legend, below this place.
-pub(crate) fn write_legend<W: fmt::Write>(f: &mut fmt::Formatter<W>, top: usize) -> fmt::Result {
-    write_meaning(
-        f,
-        Sign::Accepted,
-        LEFT,
-        line(top, 1),
-        "a command is accepted",
-    )?;
-    write_meaning(
-        f,
-        Sign::Acknowledged,
-        LEFT,
-        line(top, 2),
-        "commands are acknowledged",
-    )?;
-    write_meaning(f, Sign::Refused, LEFT, line(top, 3), "a command is refused")?;
-    write_meaning(f, Sign::Page, LEFT, line(top, 4), "a page is read")?;
-    write_meaning(f, Sign::Exchange, LEFT, line(top, 5), "an exchange")?;
-    write_meaning(f, Sign::Loss, LEFT, line(top, 6), "a device is lost")?;
-    write_meaning(
-        f,
+// A sign, on a line of a column of the legend, and what it means.
+const SIGNS: [(Sign, usize, usize, &str); 10] = [
+    (Sign::Accepted, LEFT, 1, "a command is accepted"),
+    (Sign::Acknowledged, LEFT, 2, "commands are acknowledged"),
+    (Sign::Refused, LEFT, 3, "a command is refused"),
+    (Sign::Page, LEFT, 4, "a page is read"),
+    (Sign::Exchange, LEFT, 5, "an exchange"),
+    (Sign::Loss, LEFT, 6, "a device is lost"),
+    (
         Sign::Write,
         NEXT,
-        line(top, 1),
+        1,
         "a sector is written: above by a batch, below by a checkpoint",
-    )?;
-    write_meaning(f, Sign::Opened, NEXT, line(top, 2), "a gate is opened")?;
-    write_meaning(f, Sign::Closed, NEXT, line(top, 3), "a gate is closed")?;
-    write_meaning(
-        f,
-        Sign::Failed,
-        NEXT,
-        line(top, 4),
-        "a call of the disk fails",
-    )?;
-    write_text(
-        f,
-        NEXT,
-        line(top, 5),
-        "a line through the lane of the disk is a sync",
-    )?;
-    write_text(
-        f,
-        NEXT,
-        line(top, 6),
+    ),
+    (Sign::Opened, NEXT, 2, "a gate is opened"),
+    (Sign::Closed, NEXT, 3, "a gate is closed"),
+    (Sign::Failed, NEXT, 4, "a call of the disk fails"),
+];
+
+// What is told without a sign, on a line of the second column.
+const TEXTS: [(usize, &str); 2] = [
+    (5, "a line through the lane of the disk is a sync"),
+    (
+        6,
         "a line between clients' signs is a command that waits for the disk",
-    )
+    ),
+];
+
+// The legend, below this place.
+pub(crate) fn write_legend<W: fmt::Write>(f: &mut fmt::Formatter<W>, top: usize) -> fmt::Result {
+    for (sign, left, number, meaning) in SIGNS {
+        write_meaning(f, sign, left, line(top, number), meaning)?;
+    }
+    write_texts(f, top)
+}
+
+fn write_texts<W: fmt::Write>(f: &mut fmt::Formatter<W>, top: usize) -> fmt::Result {
+    for (number, text) in TEXTS {
+        write_text(f, NEXT, line(top, number), text)?;
+    }
+    Ok(())
 }
 
 // Where a line of the legend is, from 1 on.

@@ -1,6 +1,5 @@
 //! What is told of the stop behind a run: which sectors are not synced, and what is recovered by what the stop keeps of them.
 
-use crate::numbers::Numbers;
 use crate::scale::LINE_STEP;
 use crate::unsynced::Span;
 use iol_disk::Pick;
@@ -10,6 +9,20 @@ use std::fmt;
 const TOP: usize = 40;
 // The lines before those of sectors.
 const FRONT: usize = 7;
+
+/// The number of the last command that is recovered behind a stop, by what the stop keeps of each sector that no sync has
+/// settled.
+#[derive(Clone, Copy)]
+pub struct Numbers {
+    /// What was durable before.
+    pub old: u64,
+    /// What was written.
+    pub new: u64,
+    /// Zeros.
+    pub zero: u64,
+    /// A pattern.
+    pub pattern: u64,
+}
 
 // How far down the lines reach for so many spans of sectors.
 pub(crate) fn bottom(spans: usize) -> usize {
