@@ -1,38 +1,137 @@
-//! ISDUs read and written beside a plain reader, over whole ranges of octets.
+//! ISDUs read beside a plain reader, over whole ranges of octets. It is made of the standard's tables, and apart from the
+//! crate's own.
 
-use iol_isdu::{read_answer, read_request};
+use arrayvec::ArrayVec;
+use iol_isdu::{IsduFault, read_answer, read_request, write_answer, write_request};
+use std::process::Abort;
 
-mod plain;
+const REQUEST: u8 = 1;
 
-use plain::{octets_of, plain_answer, plain_request};
+const ANSWER: u8 = 2;
 
-#[test]
-fn up_to_two_octets_are_read_as_a_plain_reader_reads_them(rt: HostRuntime) {
-    assert!(rt; read_request(&[]) == plain_request(&[]));
-    for first in 0..=255 {
-        assert!(rt; read_answer(&[first]) == plain_answer(&[first]));
-        assert!(rt; read_request(&[first]) == plain_request(&[first]));
-        for second in 0..=255 {
-            let octets = [first, second];
-            assert!(rt; read_answer(&octets) == plain_answer(&octets));
-            assert!(rt; read_request(&octets) == plain_request(&octets));
-        }
+// By I-Service: of which of both it is, and the least and the most octets that stand between the length and CHKPDU.
+const SERVICES: [(u8, usize, usize); 16] = [
+    (0, 0, 0),
+    (REQUEST, 1, 233),
+    (REQUEST, 2, 234),
+    (REQUEST, 3, 235),
+    (ANSWER, 2, 2),
+    (ANSWER, 0, 0),
+    (0, 0, 0),
+    (0, 0, 0),
+    (0, 0, 0),
+    (REQUEST, 1, 1),
+    (REQUEST, 2, 2),
+    (REQUEST, 3, 3),
+    (ANSWER, 2, 2),
+    (ANSWER, 0, 232),
+    (0, 0, 0),
+    (0, 0, 0),
+];
+
+// What is wrong with octets, read as a request or as an answer.
+fn plain_fault(octets: &[u8], expected: u8) -> Option<IsduFault> {
+    let Some(first) = octets.first() else {
+        return Some(IsduFault::Empty);
+    };
+    if expected == ANSWER && *first == 1 {
+        return if octets.len() > 1 {
+            Some(IsduFault::Length)
+        } else {
+            None
+        };
+    }
+    let code = first >> 4;
+    let length = first & 0x0F;
+    let (service, least, most) = SERVICES[usize::from(code)];
+    let reserved = match (code, length) {
+        (0, _) => length > 1,
+        (_, 0) => true,
+        (_, 1) => service == 0 || matches!(octets.get(1), Some(0..=16 | 239..=255)),
+        _ => service == 0,
+    };
+    if reserved {
+        return Some(IsduFault::Reserved);
+    }
+    if service != expected {
+        return Some(IsduFault::WrongService);
+    }
+    let (header, stated) = match (length, octets.get(1)) {
+        (1, None) => return Some(IsduFault::Length),
+        (1, Some(extended)) => (2, *extended),
+        _ => (1, length),
+    };
+    if octets.len() != usize::from(stated) || octets.len() <= header {
+        return Some(IsduFault::Length);
+    }
+    let carried = octets.len() - 1 - header;
+    if carried < least || most < carried {
+        return Some(IsduFault::Length);
+    }
+    let mut sum = 0;
+    for octet in octets {
+        sum ^= *octet;
+    }
+    if sum == 0 {
+        None
+    } else {
+        Some(IsduFault::Check)
     }
 }
 
+// Octets have the fault that the plain reader finds, or what is read of them is written as they stand.
+fn assert_plain(rt: &impl Abort, octets: &[u8]) {
+    let asked = match read_request(octets) {
+        Ok(request) => {
+            plain_fault(octets, REQUEST).is_none() && write_request(&request).as_slice() == octets
+        }
+        Err(fault) => plain_fault(octets, REQUEST) == Some(fault),
+    };
+    let answered = match read_answer(octets) {
+        Ok(answer) => {
+            plain_fault(octets, ANSWER).is_none() && write_answer(&answer).as_slice() == octets
+        }
+        Err(fault) => plain_fault(octets, ANSWER) == Some(fault),
+    };
+    assert!(rt; asked && answered, "{octets:?}");
+}
+
+// A list of `count` octets that begins with these two, and whose XOR is `wrong`.
+fn octets_of(first: u8, second: u8, count: usize, wrong: u8) -> ArrayVec<u8, 240> {
+    let mut octets = ArrayVec::new();
+    let mut sum = wrong;
+    for place in 0..count {
+        let octet = match place {
+            0 => first,
+            1 => second,
+            _ if count - place == 1 => sum,
+            _ => (place % 251) as u8,
+        };
+        sum ^= octet;
+        let _ = octets.try_push(octet);
+    }
+    octets
+}
+
+// Up to two octets; and at the borders of lengths each first octet, with each length beside the right one.
 #[test]
-fn octets_at_length_borders_are_read_as_a_plain_reader_reads_them(rt: HostRuntime) {
+fn octets_are_read_as_a_plain_reader_reads_them(rt: HostRuntime) {
+    assert_plain(&rt, &[]);
+    for first in 0..=255 {
+        assert_plain(&rt, &[first]);
+        for second in 0..=255 {
+            assert_plain(&rt, &[first, second]);
+        }
+    }
     let borders = [
         12, 13, 14, 15, 16, 17, 18, 231, 232, 233, 234, 235, 236, 237, 238, 239, 240,
     ];
     for count in borders {
-        for header in 0..=255 {
+        for first in 0..=255 {
             for wrong in [0, 1] {
                 for stated in [count - 1, count, count + 1] {
-                    let octets = octets_of(header, stated, usize::from(count), wrong);
-                    let octets = octets.as_slice();
-                    assert!(rt; read_answer(octets) == plain_answer(octets), "{octets:?}");
-                    assert!(rt; read_request(octets) == plain_request(octets), "{octets:?}");
+                    let octets = octets_of(first, stated, usize::from(count), wrong);
+                    assert_plain(&rt, octets.as_slice());
                 }
             }
         }

@@ -1,16 +1,12 @@
-//! Tests of what is spoken with devices, through the doors of its crates: ISDUs, Index_Lists, links, uploads and downloads,
-//! simulated devices and ports.
+//! Tests of what is spoken with devices that no script of the program can try: ISDUs read beside a plain reader, answers that
+//! no simulated device gives, a link of which nothing is said, and the texts of faults.
 #![tactic(auto)]
 
 #[cfg(test)]
-mod dsindex;
+mod answers;
 #[cfg(test)]
 mod isdu;
 #[cfg(test)]
 mod link;
 #[cfg(test)]
-mod port;
-#[cfg(test)]
-mod sim;
-#[cfg(test)]
-mod transfer;
+mod texts;

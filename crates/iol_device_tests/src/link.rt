@@ -1,4 +1,4 @@
-//! A link of which nothing is said, called as a port calls it.
+//! A link of which nothing is said.
 
 use arrayvec::ArrayVec;
 use iol_isdu::ISDU_OCTETS;
@@ -46,30 +46,19 @@ impl DeviceLink for Unplugged {
     }
 }
 
-// The connections after an event was asked for, a page, and an answer.
-fn connections<L: DeviceLink>(link: &mut L) -> [u64; 3] {
+#[test]
+fn each_loss_begins_a_connection_up_to_the_last(rt: HostRuntime) {
+    let mut link = Unplugged {
+        connection: u64::MAX - 2,
+    };
     let _ = link.take_event();
     let silent = link.connection();
     let _ = link.read_page();
     let unread = link.connection();
     let _ = link.exchange(&[0x93, 0x10, 0x83]);
-    [silent, unread, link.connection()]
-}
-
-#[test]
-fn each_loss_begins_a_connection(rt: HostRuntime) {
-    let mut link = Unplugged { connection: 0 };
-    assert!(rt; connections(&mut link) == [0, 1, 2]);
-    let mut link = Unplugged {
-        connection: 18446744073709551614,
-    };
-    assert!(rt;
-        connections(&mut link)
-            == [
-                18446744073709551614,
-                18446744073709551615,
-                18446744073709551615
-            ]
-    );
+    let unanswered = link.connection();
+    let _ = link.read_page();
+    let places = [silent, unread, unanswered, link.connection()];
+    assert!(rt; places == [u64::MAX - 2, u64::MAX - 1, u64::MAX, u64::MAX]);
     runs_join::<Unplugged>();
 }

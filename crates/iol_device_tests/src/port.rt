@@ -1,6 +1,0 @@
-mod driver;
-mod endings;
-mod rows;
-mod scene;
-mod texts;
-mod transfers;
