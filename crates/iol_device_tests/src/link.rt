@@ -49,7 +49,7 @@ impl DeviceLink for Unplugged {
 #[test]
 fn each_loss_begins_a_connection_up_to_the_last(rt: HostRuntime) {
     let mut link = Unplugged {
-        connection: u64::MAX - 2,
+        connection: 18446744073709551613,
     };
     let _ = link.take_event();
     let silent = link.connection();
@@ -59,6 +59,14 @@ fn each_loss_begins_a_connection_up_to_the_last(rt: HostRuntime) {
     let unanswered = link.connection();
     let _ = link.read_page();
     let places = [silent, unread, unanswered, link.connection()];
-    assert!(rt; places == [u64::MAX - 2, u64::MAX - 1, u64::MAX, u64::MAX]);
+    assert!(rt;
+        places
+            == [
+                18446744073709551613,
+                18446744073709551614,
+                18446744073709551615,
+                18446744073709551615
+            ]
+    );
     runs_join::<Unplugged>();
 }
