@@ -46,6 +46,10 @@ const DOWNLOAD_START: &[u8] = &[0x25, 0x03, 0x01, 0x03, 0x24];
 
 const FIRST: &[u8] = &[0x15, 0x40, 0x0A, 0x64, 0x3B];
 
+const SECOND_WRITTEN: &[u8] = &[0x25, 0x41, 0x01, 0x7F, 0x1A];
+
+const DOWNLOAD_END: &[u8] = &[0x25, 0x03, 0x01, 0x04, 0x23];
+
 const BROKEN: &[u8] = &[0x25, 0x03, 0x01, 0x05, 0x22];
 
 const SET_SIZE: &[u8] = &[0xA4, 0x03, 0x03, 0xA4];
@@ -54,9 +58,19 @@ const SET_CHECKSUM: &[u8] = &[0xA4, 0x03, 0x04, 0xA3];
 
 const FIRST_VALUE: &[u8] = &[0x93, 0x40, 0xD3];
 
+const SECOND_VALUE: &[u8] = &[0xA4, 0x41, 0x01, 0xE4];
+
 const INDEX_LIST: &[u8] = &[0xA4, 0x03, 0x05, 0xA2];
 
 const LIST_1200: &[u8] = &[0xB5, 0x12, 0x00, 0x00, 0xA7];
+
+const WANTS_UPLOAD: &[u8] = &[0xD3, 0x80, 0x53];
+
+const WANTS_NONE: &[u8] = &[0xD3, 0x00, 0xD3];
+
+const NO_CHECKSUM: &[u8] = &[0xD6, 0x00, 0x00, 0x00, 0x00, 0xD6];
+
+const TWO_KEYS: &[u8] = &[0xDA, 0x00, 0x40, 0x00, 0x00, 0x41, 0x01, 0x00, 0x00, 0xDA];
 
 const ELEVEN: &[u8] = &[0xD6, 0x00, 0x00, 0x00, 0x0B, 0xDD];
 
@@ -76,26 +90,19 @@ const WRITE_REFUSED: &[u8] = &[0x44, 0x80, 0x11, 0xD5];
 const READ_REFUSED: &[u8] = &[0xC4, 0x80, 0x11, 0x55];
 
 // A device that wants an upload; and one whose parameters are others than the set's.
-const FLAGGED: [Exchange<'static>; 2] = [(1, PROPERTY, &[0xD3, 0x80, 0x53]), CHECKSUM];
+const FLAGGED: [Exchange<'static>; 2] = [(1, PROPERTY, WANTS_UPLOAD), CHECKSUM];
 
-const BLANK: [Exchange<'static>; 2] = [
-    (1, PROPERTY, &[0xD3, 0x00, 0xD3]),
-    (1, SET_CHECKSUM, &[0xD6, 0x00, 0x00, 0x00, 0x00, 0xD6]),
-];
+const BLANK: [Exchange<'static>; 2] = [(1, PROPERTY, WANTS_NONE), (1, SET_CHECKSUM, NO_CHECKSUM)];
 
 const STARTED: Exchange<'static> = (1, UPLOAD_START, DONE);
 
 const SIZE: Exchange<'static> = (1, SET_SIZE, ELEVEN);
 
-const LIST: Exchange<'static> = (
-    1,
-    INDEX_LIST,
-    &[0xDA, 0x00, 0x40, 0x00, 0x00, 0x41, 0x01, 0x00, 0x00, 0xDA],
-);
+const LIST: Exchange<'static> = (1, INDEX_LIST, TWO_KEYS);
 
 const VALUE: Exchange<'static> = (1, FIRST_VALUE, VALUE_READ);
 
-const SECOND: Exchange<'static> = (1, &[0xA4, 0x41, 0x01, 0xE4], &[0xD3, 0x7F, 0xAC]);
+const SECOND: Exchange<'static> = (1, SECOND_VALUE, &[0xD3, 0x7F, 0xAC]);
 
 const CHECKSUM: Exchange<'static> = (1, SET_CHECKSUM, &[0xD6, 0x00, 0x00, 0x02, 0x4F, 0x9B]);
 
@@ -135,7 +142,7 @@ const NO_LIST: PortStatus = PortStatus::Failed(PortFault::List);
 
 const TOO_LARGE: PortStatus = PortStatus::Failed(PortFault::Size);
 
-const ROWS: [Row<'static>; 27] = [
+const ROWS: [Row<'static>; 26] = [
     // the device refuses what it is asked, or answers something else
     (
         READ,
@@ -260,12 +267,6 @@ const ROWS: [Row<'static>; 27] = [
         &UPLOADING,
         STAYS_BUSY,
     ),
-    (
-        READ,
-        &[&FLAGGED, &[(15, UPLOAD_START, BUSY)], &UPLOAD],
-        &UPLOADING,
-        PortStatus::Storing,
-    ),
     // sixteen lists are read, and no more; a key of two lists is read once
     (
         READ,
@@ -383,19 +384,51 @@ const ROWS: [Row<'static>; 27] = [
         &DOWNLOADING,
         STAYS_BUSY,
     ),
+    // a device that is busy fifteen times at each request, which makes 304 of them
     (
         WRITTEN,
         &[
-            &FLAGGED,
-            &UPLOAD,
-            &[ENDED],
-            &BLANK,
             &[
+                (15, PROPERTY, BUSY),
+                (1, PROPERTY, WANTS_UPLOAD),
+                (15, SET_CHECKSUM, BUSY),
+                CHECKSUM,
+                (15, UPLOAD_START, BUSY),
+                STARTED,
+                (15, SET_SIZE, BUSY),
+                SIZE,
+                (15, INDEX_LIST, BUSY),
+                (1, INDEX_LIST, NEXT_1200),
+                (15, LIST_1200, BUSY),
+                (1, LIST_1200, NEXT_1200),
+                (15, LIST_1200, BUSY),
+                (1, LIST_1200, NEXT_1200),
+                (15, LIST_1200, BUSY),
+                (1, LIST_1200, NEXT_1200),
+                (15, LIST_1200, BUSY),
+                (1, LIST_1200, TWO_KEYS),
+                (15, FIRST_VALUE, BUSY),
+                VALUE,
+                (15, SECOND_VALUE, BUSY),
+                SECOND,
+                (15, SET_CHECKSUM, BUSY),
+                CHECKSUM,
+                (15, UPLOAD_END, BUSY),
+                ENDED,
+            ],
+            &[
+                (15, PROPERTY, BUSY),
+                (1, PROPERTY, WANTS_NONE),
+                (15, SET_CHECKSUM, BUSY),
+                (1, SET_CHECKSUM, NO_CHECKSUM),
                 (15, DOWNLOAD_START, BUSY),
                 (1, DOWNLOAD_START, DONE),
+                (15, FIRST, BUSY),
                 (1, FIRST, DONE),
-                (1, &[0x25, 0x41, 0x01, 0x7F, 0x1A], DONE),
-                (1, &[0x25, 0x03, 0x01, 0x04, 0x23], DONE),
+                (15, SECOND_WRITTEN, BUSY),
+                (1, SECOND_WRITTEN, DONE),
+                (15, DOWNLOAD_END, BUSY),
+                (1, DOWNLOAD_END, DONE),
             ],
         ],
         &DOWNLOADING,
@@ -443,7 +476,7 @@ fn assert_row(rt: &impl Abort, alloc: Global, row: &Row<'_>) {
             device: DeviceId::new(0x00ABCD).expect(rt, "a DeviceID"),
         },
     });
-    let steps = Task::Port { port, times: 200 };
+    let steps = Task::Port { port, times: 250 };
     let tasks = [
         configure,
         Task::Drain,
@@ -460,7 +493,7 @@ fn assert_row(rt: &impl Abort, alloc: Global, row: &Row<'_>) {
     format(alloc, &mut disk, geometry).expect(rt, "a format");
     let mut events = Vec::new(alloc);
     events
-        .extend_from_slice(&[0xFF90; 600])
+        .extend_from_slice(&[0xFF90; 750])
         .expect(rt, "events");
     let link = ScriptLink::new(alloc, answers_of(rt, alloc, parts)).expect(rt, "a script");
     let mut links = Vec::new(alloc);
