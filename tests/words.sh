@@ -27,6 +27,11 @@ stops() {
     "${TESTS:?}/stops" "$@"
 }
 
+# Runs iolmaster again and again, and makes another call of its files fail, be interrupted or take less each time.
+file_calls() {
+    "${TESTS:?}/file_calls" "$@"
+}
+
 # Runs iolmaster while another process has a file open and locked.
 while_locked() {
     locked=$1
