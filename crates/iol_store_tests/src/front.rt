@@ -2,7 +2,7 @@
 
 ghost use Rattle.std.specs.Prelude.{◌≡◌, ◌+◌, length};
 
-use crate::scene::{clear, empty_journal, publish};
+use crate::scene::{clear, empty_journal, finish};
 use iol_disk::MemoryDisk;
 use iol_front::{Committed, Front, Name, Publisher};
 use iol_journal::{Batch, Journal};
@@ -24,12 +24,16 @@ fn publish_clear<F: Name, R: Abort>(
     ensures { result.0.standing.number ≡ F.front.start.number + length publisher.new }
 {
     let first = journal.number() + 1;
-    let commands = Vec::from_array(alloc, [clear(1).command()]).expect(rt, "commands");
-    publish(rt, journal, publisher, Batch { first, commands })
+    let commands = Vec::from_array(alloc, [clear()]).expect(rt, "commands");
+    let Ok(writing) = journal.begin(Batch { first, commands }) else {
+        panic!(rt; "a batch that fits")
+    };
+    let (journal, written) = finish(rt, writing);
+    (journal, publisher.publish(written))
 }
 
 #[test]
-fn passes_meet_across_threads(rt: HostRuntime) {
+fn passes_that_lag_meet_at_the_newest_also_across_threads(rt: HostRuntime) {
     let (journal, state) = empty_journal(&rt, rt.alloc());
     let front = Front::new(rt.alloc(), journal.number(), &state).expect(&rt, "memory");
     publish_three::<Brand, _>(&rt, rt.alloc(), front, journal);
@@ -45,7 +49,8 @@ fn publish_three<F: Name + 'static, R: Threads + Wait + Abort + Sync>(
     requires number { front.start.number ≡ journal.standing.number }
 {
     let mut publisher = front.publisher::<F>();
-    let mut here = publisher.pass().expect(rt, "a pass");
+    let mut one = publisher.pass().expect(rt, "a pass");
+    let mut two = publisher.pass().expect(rt, "a pass");
     let mut there = publisher.pass().expect(rt, "a pass");
     let started = thread::spawn(rt, move || {
         there.look();
@@ -55,42 +60,18 @@ fn publish_three<F: Name + 'static, R: Threads + Wait + Abort + Sync>(
         panic!(rt; "a thread")
     };
     let (journal, _) = publish_clear(rt, alloc, journal, &mut publisher);
-    let (journal, _) = publish_clear(rt, alloc, journal, &mut publisher);
-    let (_, mut last) = publish_clear(rt, alloc, journal, &mut publisher);
-    assert!(rt; last.first() == 3 && here.count() == 0);
-    last.show(&mut here);
-    assert!(rt; here.count() == 3);
-    let mut there = child.join(rt);
-    here.meet(&mut there);
-    assert!(rt; there.count() == 3 && here.count() == 3);
-    there.retire();
-}
-
-#[test]
-fn passes_that_lag_behind_meet_at_the_newest(rt: HostRuntime) {
-    let (journal, state) = empty_journal(&rt, rt.alloc());
-    let front = Front::new(rt.alloc(), journal.number(), &state).expect(&rt, "memory");
-    publish_past_two::<Brand, _>(&rt, rt.alloc(), front, journal);
-}
-
-fn publish_past_two<F: Name, R: Abort>(
-    rt: &R,
-    alloc: Global,
-    front: Front,
-    journal: Journal<MemoryDisk>,
-)
-    requires name { front ≡ F.front }
-    requires number { front.start.number ≡ journal.standing.number }
-{
-    let mut publisher = front.publisher::<F>();
-    let mut one = publisher.pass().expect(rt, "a pass");
-    let mut two = publisher.pass().expect(rt, "a pass");
-    let (journal, _) = publish_clear(rt, alloc, journal, &mut publisher);
     assert!(rt; one.count() == 0 && two.count() == 0);
     one.meet(&mut two);
     assert!(rt; one.count() == 1 && two.count() == 1);
-    publish_clear(rt, alloc, journal, &mut publisher);
+    let (journal, _) = publish_clear(rt, alloc, journal, &mut publisher);
     assert!(rt; one.look() == 2 && two.count() == 1);
     two.meet(&mut one);
     assert!(rt; one.count() == 2 && two.count() == 2);
+    let (_, mut last) = publish_clear(rt, alloc, journal, &mut publisher);
+    last.show(&mut one);
+    assert!(rt; last.first() == 3 && one.count() == 3 && two.count() == 2);
+    let mut there = child.join(rt);
+    two.meet(&mut there);
+    assert!(rt; there.count() == 3 && two.count() == 3);
+    there.retire();
 }

@@ -1,0 +1,35 @@
+//! What is read of a core with ample memory.
+
+ghost use Rattle.std.specs.Prelude.{◌≡◌};
+
+use iol_core::Core;
+use iol_front::{Front, Name};
+use iol_record::decode_port;
+use iol_record::examples::PORT_WITH_SET_RECORD;
+use iol_types::{MasterState, PortId};
+use std::alloc::Global;
+use std::marker::Brand;
+use std::process::Abort;
+
+#[test]
+fn a_port_with_a_set_is_viewed_through_a_pass_of_the_core(rt: HostRuntime) {
+    let mut state = MasterState::new(rt.alloc(), 1).expect(&rt, "memory");
+    let (port, _) = decode_port(rt.alloc(), &PORT_WITH_SET_RECORD).expect(&rt, "memory");
+    state.set_port(PortId::new(1).unwrap(), port);
+    let front = Front::new(rt.alloc(), 0, &state).expect(&rt, "memory");
+    view::<Brand, _>(&rt, rt.alloc(), front, state);
+}
+
+fn view<F: Name, R: Abort>(rt: &R, alloc: Global, front: Front, state: MasterState)
+    requires name { front ≡ F.front }
+    requires state { state ≡ front.start.state }
+{
+    let mut publisher = front.publisher::<F>();
+    let own = publisher.pass().expect(rt, "a pass");
+    let mut core = Core::new(alloc, state, own).expect(rt, "a core");
+    let mut pass = core.pass().expect(rt, "memory");
+    let view = core
+        .view(PortId::new(1).unwrap(), &mut pass)
+        .expect(rt, "memory");
+    assert!(rt; view.expect(rt, "a port").port.stored().is_some());
+}
