@@ -18,7 +18,8 @@ fn a_read_of_a_file_that_was_cut_fails_and_the_next_goes_well(rt: HostRuntime) {
     let mut octets = [7; SECTOR_OCTETS];
     assert!(rt; disk.read(1, &mut octets) == Err(DiskFault::Read));
     cut.set_len(1024).expect(&rt, "a file to grow");
-    assert!(rt; disk.read(1, &mut octets).is_ok() && octets == [0; SECTOR_OCTETS]);
+    disk.read(1, &mut octets).expect(&rt, "a sector to read");
+    assert!(rt; octets == [0; SECTOR_OCTETS]);
     assert!(rt; disk.write(0, &octets).is_ok() && disk.sync().is_ok());
     let _ = fs::remove_file(&rt, path);
 }
