@@ -53,3 +53,8 @@ within_kilobytes() {
 lines_of_json() {
     "${TESTS:?}/json_lines"
 }
+
+# Runs iolmaster on an image file that is there, and tells its disk calls, or stops the power or fails a call at each of them.
+disk_calls() {
+    "${TESTS:?}/disk_calls" "$@"
+}

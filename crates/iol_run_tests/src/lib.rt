@@ -1,5 +1,5 @@
-//! Tests of whole runs, through the door of iol_run: what users and makers of masters meet, from the first command to a power
-//! stop at any moment.
+//! Tests of what no run of the program reaches: devices whose answers are wrong, a port without a link, the example's store, and
+//! a recovery beside the journal's plain reader.
 #![tactic(auto)]
 
 #[cfg(test)]

@@ -1,0 +1,109 @@
+//! The example's store on a disk in memory, with power stops, a disk call that fails, and commands that are refused.
+
+use super::scene::{blank, config};
+use iol_disk::{DiskFault, FaultDisk, MemoryDisk, Pick, SECTOR_OCTETS, SectorDisk};
+use iol_example::{WriteFault, create, open, write};
+use iol_journal::{BeginCause, Geometry, Journal};
+use iol_types::{Command, PortId};
+use std::alloc::Global;
+use std::process::Abort;
+
+// A Configure of this port.
+fn configure<R: Abort>(rt: &R, port: u8) -> Command {
+    Command::Configure {
+        port: PortId::new(port).expect(rt, "a port"),
+        config: config(),
+    }
+}
+
+/// A store of two ports and four slots, with so many Configures of port 1.
+pub fn store_of<R: Abort>(rt: &R, alloc: Global, configures: usize) -> Journal<MemoryDisk> {
+    let geometry = Geometry::new(2, 4).unwrap();
+    let Ok(mut journal) = create(alloc, blank(rt, alloc, geometry.sectors()), geometry) else {
+        panic!(rt; "a disk is formatted and recovered")
+    };
+    for _ in 0..configures {
+        journal = match write(alloc, journal, configure(rt, 1)) {
+            Ok(journal) => journal,
+            Err(_) => panic!(rt; "a command is written"),
+        };
+    }
+    journal
+}
+
+// How many commands are found on a disk, and how many configured port 1.
+fn found(alloc: Global, disk: MemoryDisk) -> Option<(u64, u64)> {
+    let (journal, state) = open(alloc, disk).ok()?;
+    Some((journal.number(), state.port(PortId::new(1)?)?.revision()))
+}
+
+// The disk that a write of one Configure more leaves, whose nth write to the disk fails; that with none fails for the 0th.
+fn left_by_a_fault<R: Abort>(rt: &R, alloc: Global, configures: usize, nth: u64) -> MemoryDisk {
+    let disk = store_of(rt, alloc, configures).disk();
+    let Ok((journal, _)) = open(alloc, FaultDisk::new(disk, DiskFault::Write, nth)) else {
+        panic!(rt; "a recovery writes nothing")
+    };
+    match write(alloc, journal, configure(rt, 1)) {
+        Ok(journal) if nth == 0 => journal.disk().disk(),
+        Err(WriteFault::Failed(disk, DiskFault::Write)) => disk.disk(),
+        _ => panic!(rt; "a write fails"),
+    }
+}
+
+// How many Configures there are, which write of one more fails, what the stop keeps, and how many commands are found. Ten
+// leave slots free, so that the body is written first and then the gate; eight leave none, and a checkpoint begins with the
+// gate of the other area.
+const FAULTS: [(usize, u64, Pick, u64); 13] = [
+    (10, 0, Pick::Old, 11),
+    (10, 0, Pick::New, 11),
+    (10, 0, Pick::Zero, 11),
+    (10, 0, Pick::Pattern, 11),
+    (10, 1, Pick::Old, 10),
+    (10, 1, Pick::New, 10),
+    (10, 1, Pick::Zero, 10),
+    (10, 1, Pick::Pattern, 10),
+    (10, 2, Pick::Old, 10),
+    (10, 2, Pick::New, 11),
+    (10, 2, Pick::Zero, 10),
+    (8, 1, Pick::Old, 8),
+    (8, 1, Pick::New, 8),
+];
+
+#[test]
+fn a_write_is_found_after_a_stop_and_one_that_fails_leaves_the_command_or_does_not(
+    rt: HostRuntime,
+) {
+    for (before, nth, pick, number) in FAULTS {
+        let disk = left_by_a_fault(&rt, rt.alloc(), before, nth);
+        assert!(rt; found(rt.alloc(), disk.stop(pick)) == Some((number, number)));
+    }
+}
+
+// Whether a Configure of this port is refused as a misfit, and the store with so many commands comes back.
+fn is_misfit<R: Abort>(
+    rt: &R,
+    alloc: Global,
+    journal: Journal<MemoryDisk>,
+    port: u8,
+    number: u64,
+) -> bool {
+    match write(alloc, journal, configure(rt, port)) {
+        Err(WriteFault::Refused(journal, BeginCause::Misfit)) => journal.number() == number,
+        _ => false,
+    }
+}
+
+#[test]
+fn a_command_that_does_not_fit_is_refused(rt: HostRuntime) {
+    assert!(rt; is_misfit(&rt, rt.alloc(), store_of(&rt, rt.alloc(), 4), 3, 4));
+    // The header of area A: epoch 1, and as base the last number, 2^62.
+    let mut header = [0; SECTOR_OCTETS];
+    header[7] = 1;
+    header[8] = 0x40;
+    let mut disk = store_of(&rt, rt.alloc(), 0).disk();
+    assert!(rt; 3 < disk.sectors() && disk.write(3, &header).is_ok());
+    let Ok((journal, _)) = open(rt.alloc(), disk) else {
+        panic!(rt; "an empty store")
+    };
+    assert!(rt; is_misfit(&rt, rt.alloc(), journal, 1, 1 << 62));
+}
