@@ -202,6 +202,7 @@ fn played<R: Abort>(
     answers: &[(&[u8], usize)],
 ) -> Trace<MemoryDisk, ScriptLink> {
     let script = script_of(rt, alloc, answers);
+    let times = u16::try_from(script.len()).expect(rt, "few answers");
     let port = PortId::new(1).unwrap();
     let change = Change::Configure {
         port,
@@ -212,7 +213,7 @@ fn played<R: Abort>(
         Task::Flush { times: 7 },
         Task::Port {
             port,
-            times: script.len().saturating_add(5) as u16,
+            times: times.saturating_add(5),
         },
     ];
     let link = ScriptLink::new(alloc, script).expect(rt, "a script");
