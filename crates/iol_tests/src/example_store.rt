@@ -1,6 +1,6 @@
 //! The example's store on a disk in memory, with power stops, a disk call that fails, and commands that are refused.
 
-use super::scene::{blank, config};
+use crate::blank::{blank, config};
 use iol_disk::{DiskFault, FaultDisk, MemoryDisk, Pick, SECTOR_OCTETS, SectorDisk};
 use iol_example::{WriteFault, create, open, write};
 use iol_journal::{BeginCause, Geometry, Journal};

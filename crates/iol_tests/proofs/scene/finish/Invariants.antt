@@ -1,6 +1,6 @@
 use Rattle.std.proofs.Common.{◌≡◌, length}
 use Rattle.iol_journal.specs.Journals.{calls_left}
-use Rattle.iol_store_tests.proofs.scene.finish.Given as goal
+use Rattle.iol_tests.proofs.scene.finish.Given as goal
 
 -- the batch stays behind the same commands
 abbrev pub invariant-loop-next : goal.invariant-loop-next

@@ -1,6 +1,6 @@
 //! Images that no journal wrote: a recovery answers what the journal's plain reader does.
 
-use super::store::store_of;
+use crate::example_store::store_of;
 use iol_disk::{MemoryDisk, SECTOR_OCTETS, SectorDisk};
 use iol_journal::{Journal, RecoverCause, plain_meaning};
 use std::alloc::Global;

@@ -1,4 +1,4 @@
-use Rattle.iol_store_tests.proofs.front.passes_that_lag_meet_at_the_newest_also_across_threads.Given as goal
+use Rattle.iol_tests.proofs.front.passes_that_lag_meet_at_the_newest_also_across_threads.Given as goal
 
 -- the front that was just made
 abbrev pub ghosts-publish_three : goal.ghosts-publish_three

@@ -1,4 +1,4 @@
-use Rattle.iol_store_tests.proofs.flush.meet_misfit.Given as goal
+use Rattle.iol_tests.proofs.flush.meet_misfit.Given as goal
 
 -- the front that was just made
 abbrev pub ghosts-expect_misfit : goal.ghosts-expect_misfit

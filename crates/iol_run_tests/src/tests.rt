@@ -1,6 +1,0 @@
-//! Runs and journals, as a caller sees them.
-
-mod hostile;
-mod plain;
-mod scene;
-mod store;

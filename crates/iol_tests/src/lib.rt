@@ -1,0 +1,37 @@
+//! Tests of what no command of the program makes. All else is tried by the cases of `tests`.
+//!
+//! - `answers`: answers that no simulated device gives, and what a port makes of each.
+//! - `isdu`: the codec beside a plain reader of ISDUs. `link`: a link of which nothing is said.
+//! - `plain`: a recovery beside the journal's plain reader. `example_store`: the store of `iol_example`.
+//! - `front`, `core_reads`, `flush`: passes of two threads, a view of a port with a set, batches that do not fit.
+//! - `cut_file`: a file of which a read has failed. `no_link`: a run of a port without a link. `texts`: the texts of faults.
+//!
+//! `blank` and `scene` have what they begin with.
+#![tactic(auto)]
+
+#[cfg(test)]
+mod answers;
+#[cfg(test)]
+mod blank;
+#[cfg(test)]
+mod core_reads;
+#[cfg(test)]
+mod cut_file;
+#[cfg(test)]
+mod example_store;
+#[cfg(test)]
+mod flush;
+#[cfg(test)]
+mod front;
+#[cfg(test)]
+mod isdu;
+#[cfg(test)]
+mod link;
+#[cfg(test)]
+mod no_link;
+#[cfg(test)]
+mod plain;
+#[cfg(test)]
+mod scene;
+#[cfg(test)]
+mod texts;
