@@ -1,24 +1,20 @@
-//! A schedule played on a new disk in memory, and what is found on the disk behind a power stop.
+//! The steps of a script, made on a new disk in memory, and what is found on the disk behind a power stop.
 
-use crate::schedule::Schedule;
-use anyhow::Context;
-use iol_commands::Recovered;
+use iol_commands::{Recovered, links_of, read_playable};
 use iol_disk::{MemoryDisk, Pick};
-use iol_journal::{Geometry, Journal, RecoverFault, format};
-use iol_run::{Event, RunFault, Stamped, Step, Task, run_schedule};
-use iol_types::MasterState;
-use std::alloc::Global;
+use iol_journal::{Journal, RecoverFault, format};
+use iol_run::{Event, RunFault, Stamped, Task, run_schedule};
+use iol_script::Step;
+use iol_types::{Change, MasterState};
+use std::alloc::{AllocError, Global};
 
-/// Plays a schedule, its first steps alone where they are fewer, and prints how it ended and what its disk then holds.
-pub(crate) fn play(rt: &HostRuntime, schedule: Schedule, most: usize) -> anyhow::Result<()> {
-    let steps = schedule.steps(rt.alloc())?;
-    let made = steps.len().min(most);
-    let tasks = once_each(rt.alloc(), &steps[..made])?;
-    let links = schedule.links(rt.alloc())?;
-    let geometry = Geometry::new(2, 4).context("no geometry")?;
-    let mut disk = MemoryDisk::new(rt.alloc(), geometry.sectors())?;
-    println!(rt; "{}", schedule.name())?;
-    if let Err(fault) = format(rt.alloc(), &mut disk, geometry) {
+/// Makes the steps of a script, and prints how they ended and what the disk then holds.
+pub(crate) fn play_schedule(rt: &HostRuntime, script: &[u8]) -> anyhow::Result<()> {
+    let ready = read_playable(rt.alloc(), script)?;
+    let tasks = tasks_of(rt.alloc(), &ready.script.steps)?;
+    let links = links_of(rt.alloc(), &ready.script.devices, ready.geometry.ports())?;
+    let mut disk = MemoryDisk::new(rt.alloc(), ready.geometry.sectors())?;
+    if let Err(fault) = format(rt.alloc(), &mut disk, ready.geometry) {
         println!(rt; "no format {fault:?}")?;
         return show(rt, disk);
     }
@@ -32,11 +28,17 @@ pub(crate) fn play(rt: &HostRuntime, schedule: Schedule, most: usize) -> anyhow:
     }
 }
 
-// A schedule of these steps, each of them once.
-fn once_each(alloc: Global, steps: &[Step]) -> anyhow::Result<Vec<Task>> {
+// The tasks of steps, in their order.
+fn tasks_of(alloc: Global, steps: &[Step]) -> Result<Vec<Task>, AllocError> {
     let mut tasks = Vec::with_capacity(alloc, steps.len())?;
     for step in steps {
-        tasks.push(Task::from(*step))?;
+        tasks.push(match *step {
+            Step::Configure { port, config } => Task::Client(Change::Configure { port, config }),
+            Step::Clear { port } => Task::Client(Change::Clear { port }),
+            Step::Port { port, times } => Task::Port { port, times },
+            Step::Flush { times } => Task::Flush { times },
+            Step::Drain => Task::Drain,
+        })?;
     }
     Ok(tasks)
 }

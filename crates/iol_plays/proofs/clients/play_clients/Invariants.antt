@@ -1,0 +1,5 @@
+use Rattle.iol_plays.proofs.clients.play_clients.Given as goal
+
+-- the front that was just made
+abbrev pub ghosts-play : goal.ghosts-play
+ghosts-play g a = record { front = a.front }

@@ -1,0 +1,143 @@
+//! What a client asks for in a thread of its own, and what it is answered.
+
+use crossbeam_channel::{Receiver, Sender};
+use iol_front::Name;
+use iol_master::{CallFault, Client, ReadFault, Receipt};
+use iol_types::{DeviceId, PortConfig, PortId, PortMode, Validation};
+use std::alloc::Global;
+use std::sync::Wait;
+use std::{fmt, thread};
+
+/// A client, where its answers go, and where its receipts go and others' come from.
+#[derive(Drop)]
+pub(crate) struct Asking<F: Name> {
+    pub(crate) number: usize,
+    pub(crate) client: Client<F>,
+    pub(crate) told: Sender<Told, Global>,
+    pub(crate) granted: Sender<Receipt<F>, Global>,
+    pub(crate) receipts: Receiver<Receipt<F>, Global>,
+}
+
+/// What a client was answered, with the client's number.
+#[derive(Clone, Copy)]
+pub(crate) struct Told {
+    client: usize,
+    answer: Answer,
+}
+
+#[derive(Clone, Copy)]
+enum Answer {
+    Receipt(u64),
+    Met(u64),
+    Read {
+        number: u64,
+        revision: u64,
+        device: u32,
+    },
+    NoReceipt(CallFault),
+    Unread(ReadFault),
+}
+
+impl fmt::Display for Told {
+    fn fmt<W: fmt::Write>(&self, f: &mut fmt::Formatter<W>) -> fmt::Result {
+        write!(f, "{} ", self.client)?;
+        match self.answer {
+            Answer::Receipt(number) => write!(f, "receipt {number}"),
+            Answer::Met(number) => write!(f, "met {number}"),
+            Answer::Read {
+                number,
+                revision,
+                device,
+            } => write!(f, "read {number} revision {revision} device {device}"),
+            Answer::NoReceipt(fault) => write!(f, "{fault}"),
+            Answer::Unread(fault) => write!(f, "{fault}"),
+        }
+    }
+}
+
+impl<F: Name> Asking<F> {
+    /// Makes the calls of a word, one after another.
+    pub(crate) fn ask_all<R: Wait>(mut self, rt: &R, word: &str) {
+        for (place, call) in word.as_bytes().chunks(2).enumerate() {
+            if let [what, digit] = call
+                && let Some(port) = PortId::new(digit.wrapping_sub(b'0'))
+            {
+                self.ask(rt, place, *what, port);
+            }
+        }
+    }
+
+    // Makes one call, at this place of its word.
+    fn ask<R: Wait>(&mut self, rt: &R, place: usize, what: u8, port: PortId) {
+        match what {
+            b'c' => {
+                let answer = self.client.clear(rt, port);
+                self.tell_call(rt, answer);
+            }
+            b'f' => {
+                if let Some(config) = config_for(place) {
+                    let answer = self.client.configure(rt, port, config);
+                    self.tell_call(rt, answer);
+                }
+            }
+            b'm' => self.meet(rt),
+            _ => self.read(rt, port),
+        }
+    }
+
+    fn tell_call<R: Wait>(&mut self, rt: &R, answer: Result<Receipt<F>, CallFault>) {
+        match answer {
+            Ok(receipt) => {
+                self.tell(rt, Answer::Receipt(receipt.number));
+                let _ = self.granted.send(rt, receipt);
+            }
+            Err(fault) => self.tell(rt, Answer::NoReceipt(fault)),
+        }
+    }
+
+    // Waits for another's receipt, and meets it.
+    fn meet<R: Wait>(&mut self, rt: &R) {
+        if let Ok(mut receipt) = self.receipts.recv(rt) {
+            self.client.meet(&mut receipt.pass);
+            self.tell(rt, Answer::Met(receipt.number));
+        }
+    }
+
+    // Reads a port, and again for as long as the answer is behind.
+    fn read<R: Wait>(&mut self, rt: &R, port: PortId) {
+        for _ in rt.forever() {
+            match self.client.read(rt, port) {
+                Ok(view) => {
+                    let read = Answer::Read {
+                        number: view.number,
+                        revision: view.port.revision(),
+                        device: view.port.config().device.number(),
+                    };
+                    return self.tell(rt, read);
+                }
+                Err(fault) => {
+                    self.tell(rt, Answer::Unread(fault));
+                    if fault == ReadFault::UnknownPort {
+                        return;
+                    }
+                }
+            }
+            thread::yield_now();
+        }
+    }
+
+    fn tell<R: Wait>(&mut self, rt: &R, answer: Answer) {
+        let client = self.number;
+        let _ = self.told.send(rt, Told { client, answer });
+    }
+}
+
+// The configuration for the device with this number, whose parameters are kept.
+fn config_for(device: usize) -> Option<PortConfig> {
+    Some(PortConfig {
+        mode: PortMode::IolManual,
+        validation: Validation::BackupAndRestore,
+        vendor: 500,
+        device: DeviceId::new(u32::try_from(device).ok()?)?,
+    })
+}

@@ -1,0 +1,178 @@
+//! A running master on an image, and its clients.
+
+ghost use Rattle.std.specs.Prelude.{◌≡◌, []};
+ghost use Rattle.iol_flush.specs.Stages.{HasHistory};
+
+use crate::asking::{Asking, Told};
+use crate::meeting_link::MeetingLink;
+use anyhow::bail;
+use crossbeam_channel::Receiver;
+use iol_disk::SectorDisk;
+use iol_front::{Front, Name, Pass};
+use iol_journal::Journal;
+use iol_master::{Ending, Master, Receipt, StartFault};
+use iol_sim::SimLink;
+use iol_types::MasterState;
+use std::alloc::Global;
+use std::io::{Input, Write};
+use std::marker::Brand;
+use std::sync::atomic::AtomicU64;
+use std::sync::{Arc, Wait};
+use std::thread;
+use std::thread::{JoinHandle, Threads};
+
+/// Runs a master on a disk with these links and a client for each word. Prints what each is answered, as it comes; where the passes
+/// of all receipts stand, once each has met the one before; and how the master ends.
+pub(crate) fn play_clients<
+    D: SectorDisk + Drop + Send + 'static,
+    R: Threads + Wait + Input + Copy + Send + 'static,
+    W: Write,
+>(
+    rt: &R,
+    alloc: Global,
+    disk: D,
+    links: Vec<MeetingLink<SimLink>>,
+    words: &[String],
+    out: &mut W,
+) -> anyhow::Result<()> {
+    let (journal, state) = match Journal::recover(alloc, disk) {
+        Ok(found) => found,
+        Err(_) => bail!("no recovery"),
+    };
+    let front = Front::new(alloc, journal.number(), &state)?;
+    play::<_, Brand, _, _>(rt, alloc, front, journal, state, links, words, out)
+}
+
+/// So many links, at which no device ever is, and none of which gives a page before so many were asked for.
+pub(crate) fn links_of(
+    alloc: Global,
+    links: u8,
+    pages: u64,
+) -> anyhow::Result<Vec<MeetingLink<SimLink>>> {
+    let asked = Arc::new(alloc, AtomicU64::new(0))?;
+    let mut made = Vec::new(alloc);
+    for _link in 0..links {
+        made.push(MeetingLink {
+            link: SimLink::new(Vec::new(alloc)),
+            asked: Arc::try_clone(&asked)?,
+            pages,
+        })?;
+    }
+    Ok(made)
+}
+
+// A master runs until its clients have ended.
+fn play<
+    D: SectorDisk + Drop + Send + 'static,
+    F: Name + 'static,
+    R: Threads + Wait + Input + Copy + Send + 'static,
+    W: Write,
+>(
+    rt: &R,
+    alloc: Global,
+    front: Front,
+    journal: Journal<D>,
+    state: MasterState,
+    links: Vec<MeetingLink<SimLink>>,
+    words: &[String],
+    out: &mut W,
+) -> anyhow::Result<()>
+    requires name { front ≡ F.front }
+    requires state { state ≡ front.start.state }
+    requires history { HasHistory front.start [] journal.history }
+{
+    let publisher = front.publisher::<F>();
+    let mut master = match Master::start(rt, alloc, journal, state, publisher, links) {
+        Ok(master) => master,
+        Err(StartFault::Ports(_)) => bail!("not one link for each port"),
+        Err(_) => bail!("no master"),
+    };
+    let asked = ask::<D, F, R, W>(rt, alloc, &mut master, words, out);
+    match master.shutdown(rt) {
+        Ending::Closed(journal, _) => writeln!(out, "closed behind {}", journal.number())?,
+        Ending::Faulted(_, fault) => writeln!(out, "{fault}")?,
+    }
+    asked
+}
+
+// Starts a client for each word, and prints what they are answered.
+fn ask<
+    D: SectorDisk + Drop + Send + 'static,
+    F: Name + 'static,
+    R: Threads + Wait + Input + Copy + Send + 'static,
+    W: Write,
+>(
+    rt: &R,
+    alloc: Global,
+    master: &mut Master<D, F>,
+    words: &[String],
+    out: &mut W,
+) -> anyhow::Result<()> {
+    let (told, heard) = crossbeam_channel::unbounded(alloc)?;
+    let (granted, receipts) = crossbeam_channel::unbounded(alloc)?;
+    let mut clients = Vec::new(alloc);
+    for word in words {
+        if word.as_str() == "-" {
+            rt.read_line(&mut String::new(alloc))?;
+        } else {
+            let asking = Asking {
+                number: clients.len().saturating_add(1),
+                client: master.client()?,
+                told: told.clone()?,
+                granted: granted.clone()?,
+                receipts: receipts.clone()?,
+            };
+            clients.push(start(rt, asking, word.clone()?)?)?;
+        }
+    }
+    drop(told);
+    drop(granted);
+    hear(rt, &heard, out)?;
+    for client in clients {
+        client.join(rt);
+    }
+    writeln!(out, "met at {}", meet_all(rt, &receipts))?;
+    Ok(())
+}
+
+// A thread in which a client makes the calls of a word.
+fn start<F: Name + 'static, R: Threads + Wait + Copy + Send + 'static>(
+    rt: &R,
+    asking: Asking<F>,
+    word: String,
+) -> anyhow::Result<JoinHandle<()>> {
+    let rt = *rt;
+    let Ok(started) = thread::spawn(&rt, move || asking.ask_all(&rt, word.as_str())) else {
+        bail!("no thread")
+    };
+    Ok(started)
+}
+
+// Prints each answer as it comes, until all clients have ended.
+fn hear<R: Wait, W: Write>(
+    rt: &R,
+    heard: &Receiver<Told, Global>,
+    out: &mut W,
+) -> anyhow::Result<()> {
+    for told in heard.iter(rt) {
+        writeln!(out, "{told}")?;
+        out.flush()?;
+    }
+    Ok(())
+}
+
+// The count of the last receipt's pass, once each has met the one before; 0 where there is no receipt.
+fn meet_all<F: Name, R: Wait>(rt: &R, receipts: &Receiver<Receipt<F>, Global>) -> u64 {
+    let mut last: Option<Pass<F>> = None;
+    for receipt in receipts.iter(rt) {
+        let mut pass = receipt.pass;
+        if let Some(mut before) = last {
+            pass.meet(&mut before);
+        }
+        last = Some(pass);
+    }
+    match last {
+        Some(pass) => pass.count(),
+        None => 0,
+    }
+}

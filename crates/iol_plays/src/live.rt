@@ -1,0 +1,23 @@
+//! A master in threads on a disk in memory, with the devices of a script and its clients.
+
+use anyhow::Context;
+use iol_commands::{empty_disk, geometry_of};
+use iol_live::{Telling, live_on_disk};
+use iol_script::LiveScript;
+use std::alloc::Global;
+use std::io::Write;
+use std::sync::Wait;
+use std::thread::Threads;
+
+/// Runs a master of two ports and four slots, and says how many receipts there are and the state that is recovered.
+pub(crate) fn text_of_live<R: Threads + Wait + Copy + Send + 'static, E: Write>(
+    rt: &R,
+    alloc: Global,
+    script: &[u8],
+    err: &mut E,
+) -> anyhow::Result<String> {
+    let script = LiveScript::read(alloc, script)?;
+    let geometry = geometry_of(2, 4).context("no geometry")?;
+    let disk = empty_disk(alloc, geometry, None)?;
+    Ok(live_on_disk(rt, alloc, disk, &script, Telling::Nothing, err)?)
+}

@@ -1,0 +1,45 @@
+//! `iol_plays`, a program that tests are made with: it plays what no command of `iolmaster` does.
+//!
+//! - `iol_plays schedule SCRIPT` makes the steps of a script on a disk in memory, also where memory runs out, and prints how they
+//!   ended, what was told of them, and what a recovery with memory finds behind a power stop.
+//! - `iol_plays live SCRIPT` runs a master in threads on a disk in memory, and prints what `iolmaster live` prints of an image.
+//! - `iol_plays clients IMAGE LINKS PAGES CLIENT..` runs a master on an image, and prints what each call of each client is answered.
+//!   It has so many links, which give no page before so many were asked for. A client is a word of calls, two letters each: what
+//!   is asked (`c` for Clear, `f` for Configure, `r` for a read, `m` to meet another's receipt) and of which port. In the place of a
+//!   client, `-` waits for a line of standard input.
+#![tactic(auto)]
+
+mod asking;
+mod clients;
+mod live;
+mod meeting_link;
+mod schedule;
+
+use anyhow::bail;
+use clients::{links_of, play_clients};
+use iol_commands::opened;
+use live::text_of_live;
+use schedule::play_schedule;
+
+fn main(rt: HostRuntime) -> anyhow::Result<()> {
+    let words: Vec<String> = std::env::args(&rt)?.collect(rt.alloc())?;
+    match words.as_slice() {
+        [_, play, path] => {
+            let script = std::fs::read(&rt, path.as_str())?;
+            if play.as_str() == "schedule" {
+                return play_schedule(&rt, &script);
+            }
+            let text = text_of_live(&rt, rt.alloc(), &script, &mut rt.stderr())?;
+            print!(&rt; "{text}")?;
+            Ok(())
+        }
+        [_, _, path, links, pages, clients @ ..] => {
+            let Ok(disk) = opened(&rt, path.as_str()) else {
+                bail!("no image")
+            };
+            let links = links_of(rt.alloc(), links.as_str().parse()?, pages.as_str().parse()?)?;
+            play_clients(&rt, rt.alloc(), disk, links, clients, &mut rt.stdout())
+        }
+        _ => Ok(()),
+    }
+}
