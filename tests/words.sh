@@ -58,3 +58,22 @@ lines_of_json() {
 disk_calls() {
     "${TESTS:?}/disk_calls" "$@"
 }
+
+# Plays what no command of iolmaster does: a schedule, a master in memory, the clients of a master (crates/iol_plays).
+plays() {
+    timeout 40 "${PLAYS:?}" "$@"
+}
+
+# Runs another word, with the calls of its files held, lost or failed as the first word says (tests/hold_calls.c).
+with_held_calls() {
+    (export LD_PRELOAD="${HOLD_CALLS_SHIM:?}" HELD_CALLS="$1" && shift && "$@")
+}
+
+# Waits until a command succeeds, half a minute at most.
+wait_for() {
+    turns=0
+    until "$@" || [ "$turns" -ge 3000 ]; do
+        turns=$((turns + 1))
+        sleep 0.01
+    done
+}
