@@ -20,7 +20,57 @@ DISK = ("", "error: the disk failed\n", 1)
 NOT_FORMATTED = ("", "error: the disk is not formatted\n", 1)
 UNUSED = "port {} revision 0 mode 0 validation 0 vendor 0000 device 000000 set none\n"
 EMPTY = "recovered 0\n" + UNUSED.format(1) + UNUSED.format(2)
-SCHEDULES = ("command", "backup", "replacement", "changes", "checkpoints", "waiting", "largest")
+
+# The steps of schedules.
+TURNS = '[[step]]\ndo = "flush"\ntimes = 32\n'
+CLEAR = '[[step]]\ndo = "clear"\nport = 1\n'
+
+
+def configured(validation=3):
+    """A step that configures port 1 for the sensor."""
+    return f'[[step]]\ndo = "configure"\nport = 1\nmode = 1\nvalidation = {validation}\nvendor = 500\ndevice = 43981\n'
+
+
+def stepped(times):
+    """Steps of port 1."""
+    return f'[[step]]\ndo = "port"\nport = 1\ntimes = {times}\n'
+
+
+def backed_up(reads):
+    """A port that is configured, and the steps in which its sensor's set is read, stored and ended. The turns of the flusher are
+    enough for a batch of the largest set behind a checkpoint, and some to spare, so that one that finds no memory is made up for."""
+    return configured() + TURNS + stepped(reads) + TURNS + stepped(2)
+
+
+def sensor(values, keys, words=""):
+    """A sensor with these parameters."""
+    return f"[[device]]\nport = 1\nvendor = 500\ndevice = 43981\nkeys = {keys}\nvalues = {values}\n{words}"
+
+
+KEYS, LARGEST_KEYS = [[64, 0], [65, 1]], [[index, 0] for index in range(256, 274)]
+
+
+def largest(octet):
+    """The values of the largest set, of this octet alone: they count 4,096."""
+    return [*[octet * 232] * 17, octet * 80]
+
+
+# Scripts of fixed steps on two ports.
+SCHEDULES = {
+    "command": configured() + TURNS,
+    "backup": sensor(["0A64", "7F"], KEYS, "flag = true\n") + backed_up(13),
+    "replacement": sensor(["0A64", "7F"], KEYS, "flag = true\nanswers = 10\n")
+    + sensor(["0000", "00"], KEYS) + backed_up(13) + stepped(15),
+    # Configured again and again, under validations that keep the set and one that does not, and cleared.
+    "changes": sensor(["0A64", "7F"], KEYS, "flag = true\n")
+    + backed_up(13) + configured() + configured(4) + TURNS + configured(2) + CLEAR + TURNS,
+    # More batches than slots.
+    "checkpoints": 10 * (configured() + TURNS),
+    # As many commands as may wait, and one more.
+    "waiting": 65 * configured() + TURNS,
+    "largest": sensor(largest("A7"), LARGEST_KEYS, "flag = true\nanswers = 26\n")
+    + sensor(largest("00"), LARGEST_KEYS) + backed_up(29) + stepped(31),
+}
 
 
 @dataclasses.dataclass
@@ -185,8 +235,11 @@ class Check(Subject):
         return "whole" if said.told == self.whole.told else "out of memory" if said.told == MEMORY else None
 
 
+@dataclasses.dataclass
 class Schedule(Subject):
-    """A run of `iol_growths` with one schedule."""
+    """A run of `iol_plays` with one schedule, which says with all memory what is wanted."""
+
+    wanted: str = ""
 
     def end(self, said):
         if said.told == self.whole.told:
@@ -225,10 +278,18 @@ class Schedule(Subject):
     @functools.cached_property
     def beginnings(self):
         """What is said to no step, the first, the first two, and so on."""
-        says = []
-        while not says or says[-1] != self.whole_out:
-            says.append(dataclasses.replace(self, words=[*self.words, str(len(says))]).whole_out)
-        return says
+        head, *steps = self.files["script.toml"].decode().split("[[step]]\n")
+        made, says = head, []
+        for step in steps:
+            times = re.search(r"^times = (\d+)\n", step, re.M)
+            for _ in range(int(times[1]) if times else 1):
+                says.append(self.says_to(made))
+                made += "[[step]]\n" + re.sub(r"^times = .*\n", "", step, flags=re.M)
+        return [*says, self.says_to(made)]
+
+    def says_to(self, text):
+        """What is said to another script, with all memory."""
+        return dataclasses.replace(self, files={"script.toml": text.encode()}).whole_out
 
     @functools.cached_property
     def states(self):
