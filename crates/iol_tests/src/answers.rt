@@ -443,29 +443,58 @@ fn read(rt: &impl Abort, octets: &[u8]) -> ArrayVec<u8, ISDU_OCTETS> {
     write_answer(&Answer::ReadOk(data))
 }
 
-// The answers of what is said to a device.
-fn answers_of(
-    rt: &impl Abort,
-    alloc: Global,
-    parts: &[&[Exchange<'_>]],
-) -> Vec<ArrayVec<u8, ISDU_OCTETS>> {
-    let mut answers = Vec::new(alloc);
-    for part in parts {
-        for (times, _, answer) in *part {
-            for _ in 0..*times {
-                let mut octets = ArrayVec::new();
-                octets.try_extend_from_slice(answer).expect(rt, "an answer");
-                answers.push(octets).expect(rt, "memory");
-            }
+// What is said to a device, each request as octets, or none where it is not said, and what it answers.
+#[derive(Drop)]
+struct Said {
+    requests: Vec<ArrayVec<u8, ISDU_OCTETS>>,
+    answers: Vec<ArrayVec<u8, ISDU_OCTETS>>,
+}
+
+// Adds these exchanges.
+fn say(rt: &impl Abort, said: &mut Said, part: &[Exchange<'_>]) {
+    for (times, request, answer) in part {
+        for _ in 0..*times {
+            let pushed = said.requests.push(isdu(rt, request));
+            pushed.expect(rt, "memory");
+            let pushed = said.answers.push(isdu(rt, answer));
+            pushed.expect(rt, "memory");
         }
     }
-    answers
+}
+
+fn isdu(rt: &impl Abort, octets: &[u8]) -> ArrayVec<u8, ISDU_OCTETS> {
+    let mut isdu = ArrayVec::new();
+    isdu.try_extend_from_slice(octets).expect(rt, "238 octets");
+    isdu
+}
+
+fn nothing_said(alloc: Global) -> Said {
+    Said {
+        requests: Vec::new(alloc),
+        answers: Vec::new(alloc),
+    }
+}
+
+fn assert_row(rt: &impl Abort, alloc: Global, row: &Row<'_>) {
+    let (count, parts, statuses, last) = *row;
+    let mut said = nothing_said(alloc);
+    for part in parts {
+        say(rt, &mut said, part);
+    }
+    assert_run(rt, alloc, count, said, statuses, last);
 }
 
 // Port 1 is configured, reads its device and tells it so; it is configured again, and writes the set to the device. At each
-// step the device raises an event that is not DS_UPLOAD_REQ.
-fn assert_row(rt: &impl Abort, alloc: Global, row: &Row<'_>) {
-    let (count, parts, statuses, last) = row;
+// step the device raises an event that is not DS_UPLOAD_REQ. So many tasks are made of that.
+fn assert_run(
+    rt: &impl Abort,
+    alloc: Global,
+    count: usize,
+    said: Said,
+    statuses: &[PortStatus],
+    last: PortStatus,
+) {
+    let Said { requests, answers } = said;
     let port = PortId::new(1).expect(rt, "a port");
     let configure = Task::Client(Change::Configure {
         port,
@@ -487,7 +516,7 @@ fn assert_row(rt: &impl Abort, alloc: Global, row: &Row<'_>) {
         Task::Drain,
         steps,
     ];
-    let tasks = tasks.get(..*count).expect(rt, "so many tasks");
+    let tasks = tasks.get(..count).expect(rt, "so many tasks");
     let geometry = Geometry::new(1, 4).expect(rt, "a geometry");
     let mut disk = MemoryDisk::new(alloc, geometry.sectors()).expect(rt, "a disk");
     format(alloc, &mut disk, geometry).expect(rt, "a format");
@@ -495,7 +524,7 @@ fn assert_row(rt: &impl Abort, alloc: Global, row: &Row<'_>) {
     events
         .extend_from_slice(&[0xFF90; 750])
         .expect(rt, "events");
-    let link = ScriptLink::new(alloc, answers_of(rt, alloc, parts)).expect(rt, "a script");
+    let link = ScriptLink::new(alloc, answers).expect(rt, "a script");
     let mut links = Vec::new(alloc);
     let Ok(()) = links.push(link.with_page(PAGE).with_events(events)) else {
         panic!(rt; "memory")
@@ -504,8 +533,8 @@ fn assert_row(rt: &impl Abort, alloc: Global, row: &Row<'_>) {
         panic!(rt; "a run")
     };
     assert!(rt; trace.ended == Ended::Whole && trace.waits == 0);
-    assert_shown(rt, trace.events.as_slice(), statuses, *last);
-    assert_sent(rt, trace.links.first().expect(rt, "a link"), parts);
+    assert_shown(rt, trace.events.as_slice(), statuses, last);
+    assert_sent(rt, trace.links.first().expect(rt, "a link"), &requests);
 }
 
 // A run has shown these statuses, and then this one. A port that failed begins anew behind it.
@@ -525,30 +554,35 @@ fn assert_shown(rt: &impl Abort, events: &[Stamped], statuses: &[PortStatus], la
 }
 
 // A device was asked what is said. At anything else it would have been lost, and not be in the last status.
-fn assert_sent(rt: &impl Abort, link: &ScriptLink, parts: &[&[Exchange<'_>]]) {
+fn assert_sent(rt: &impl Abort, link: &ScriptLink, requests: &[ArrayVec<u8, ISDU_OCTETS>]) {
     let mut sent = link.requests().iter();
-    for part in parts {
-        for (times, request, _) in *part {
-            for _ in 0..*times {
-                let octets = sent.next().expect(rt, "a request").as_slice();
-                assert!(rt; request.is_empty() || octets == *request, "{octets:?}");
-            }
-        }
+    for request in requests {
+        let octets = sent.next().expect(rt, "a request").as_slice();
+        assert!(rt;
+            request.is_empty() || octets == request.as_slice(),
+            "{octets:?}"
+        );
     }
 }
 
-// A device that answers this list, and is asked this behind it, leads to this status.
+// What is said up to a list with these octets.
+fn listed(octets: &[u8]) -> [Exchange<'_>; 3] {
+    [STARTED, SIZE, (1, INDEX_LIST, octets)]
+}
+
+// A device that answers a list, and is asked this behind it, leads to this status.
 fn assert_list(
     rt: &impl Abort,
     alloc: Global,
-    list: &[u8],
+    listed: &[Exchange<'_>],
     behind: &[Exchange<'_>],
     last: PortStatus,
 ) {
-    let octets = read(rt, list);
-    let listed = [STARTED, SIZE, (1, INDEX_LIST, octets.as_slice())];
-    let row: Row<'_> = (READ, &[&FLAGGED, &listed, behind], &UPLOADING, last);
-    assert_row(rt, alloc, &row);
+    let mut said = nothing_said(alloc);
+    say(rt, &mut said, &FLAGGED);
+    say(rt, &mut said, listed);
+    say(rt, &mut said, behind);
+    assert_run(rt, alloc, READ, said, &UPLOADING, last);
 }
 
 #[test]
@@ -562,24 +596,35 @@ fn each_answer_leads_to_its_end(rt: HostRuntime) {
         &RESERVED_ENTRY,
         &RESERVED_NEXT,
     ] {
-        assert_list(&rt, rt.alloc(), list, &[BREAK], NO_LIST);
+        let list = read(&rt, list);
+        assert_list(&rt, rt.alloc(), &listed(&list), &[BREAK], NO_LIST);
     }
     for list in [ONE_KEY.as_slice(), &ONE_KEY_AND_MORE, &NAMED_TWICE] {
+        let list = read(&rt, list);
+        let behind = [VALUE, CHECKSUM];
         assert_list(
             &rt,
             rt.alloc(),
-            list,
-            &[VALUE, CHECKSUM],
+            &listed(&list),
+            &behind,
             PortStatus::Storing,
         );
     }
-    assert_list(&rt, rt.alloc(), &[], &[CHECKSUM], PortStatus::Storing);
-    let further = (1, LIST_1200, NO_DATA);
+    let list = read(&rt, &[]);
     assert_list(
         &rt,
         rt.alloc(),
-        &FURTHER_LIST,
-        &[further, VALUE, CHECKSUM],
+        &listed(&list),
+        &[CHECKSUM],
+        PortStatus::Storing,
+    );
+    let list = read(&rt, &FURTHER_LIST);
+    let behind = [(1, LIST_1200, NO_DATA), VALUE, CHECKSUM];
+    assert_list(
+        &rt,
+        rt.alloc(),
+        &listed(&list),
+        &behind,
         PortStatus::Storing,
     );
 }
@@ -607,7 +652,14 @@ fn the_longest_lists_and_values_are_read(rt: HostRuntime) {
             (76 + count, [].as_slice(), NO_DATA),
             CHECKSUM,
         ];
-        assert_list(&rt, rt.alloc(), &most, &behind, PortStatus::Storing);
+        let list = read(&rt, &most);
+        assert_list(
+            &rt,
+            rt.alloc(),
+            &listed(&list),
+            &behind,
+            PortStatus::Storing,
+        );
     }
     // seventeen keys of 232 octets count 4,012, and 84 are left
     let value = read(&rt, &[0x55; 232]);
@@ -618,7 +670,7 @@ fn the_longest_lists_and_values_are_read(rt: HostRuntime) {
             (1, &[], last.as_slice()),
             BREAK,
         ];
-        let list = keys.get(..54).expect(&rt, "18 keys");
-        assert_list(&rt, rt.alloc(), list, &behind, TOO_LARGE);
+        let list = read(&rt, keys.get(..54).expect(&rt, "18 keys"));
+        assert_list(&rt, rt.alloc(), &listed(&list), &behind, TOO_LARGE);
     }
 }

@@ -17,6 +17,14 @@ fn image_on<R: Abort>(rt: &R, alloc: Global, disk: &mut MemoryDisk) -> Vec<[u8; 
     image
 }
 
+// What a recovery answers, and the disk.
+fn answer<D: SectorDisk + Drop>(alloc: Global, disk: D) -> (Result<u64, RecoverCause>, D) {
+    match Journal::recover(alloc, disk) {
+        Ok((journal, _)) => (Ok(journal.number()), journal.disk()),
+        Err(fault) => (Err(fault.cause), fault.disk),
+    }
+}
+
 // Puts octets into a sector of a disk and of its image. Recovery answers then what the plain program does.
 fn agree<R: Abort>(
     rt: &R,
@@ -30,12 +38,7 @@ fn agree<R: Abort>(
     disk.write(sector, octets).expect(rt, "a write");
     image[sector] = *octets;
     let plain = plain_meaning(alloc, image).expect(rt, "memory");
-    let (found, disk): (Result<u64, RecoverCause>, MemoryDisk) = match Journal::recover(
-        alloc, disk,
-    ) {
-        Ok((journal, _)) => (Ok(journal.number()), journal.disk()),
-        Err(fault) => (Err(fault.cause), fault.disk),
-    };
+    let (found, disk) = answer(alloc, disk);
     let agrees = match plain {
         Ok((number, _)) => found == Ok(number),
         Err(cause) => found == Err(cause),
