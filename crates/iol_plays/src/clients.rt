@@ -89,8 +89,8 @@ fn play<
     };
     let asked = ask::<D, F, R, W>(rt, alloc, &mut master, words, out);
     match master.shutdown(rt) {
-        Ending::Closed(journal, _) => writeln!(out, "closed behind {}", journal.number())?,
-        Ending::Faulted(_, fault) => writeln!(out, "{fault}")?,
+        Ending::Closed(journal, _publisher) => writeln!(out, "closed behind {}", journal.number())?,
+        Ending::Faulted(_disk, fault) => writeln!(out, "{fault}")?,
     }
     asked
 }
