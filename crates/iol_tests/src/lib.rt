@@ -3,6 +3,7 @@
 //! - `answers`: answers that no simulated device gives, and what a port makes of each.
 //! - `isdu`: the codec beside a plain reader of ISDUs. `link`: a link of which nothing is said.
 //! - `plain`: a recovery beside the journal's plain reader. `example_store`: the store of `iol_example`.
+//! - `largest`: the largest record of a command, and batches that do not follow behind others.
 //! - `front`, `core_reads`, `flush`: passes of two threads, a view of a port with a set, batches that do not fit.
 //! - `cut_file`: a file of which a read has failed. `no_link`: a run of a port without a link. `texts`: the texts of faults.
 //!
@@ -25,6 +26,8 @@ mod flush;
 mod front;
 #[cfg(test)]
 mod isdu;
+#[cfg(test)]
+mod largest;
 #[cfg(test)]
 mod link;
 #[cfg(test)]
