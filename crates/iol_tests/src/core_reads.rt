@@ -6,11 +6,15 @@ use iol_core::Core;
 use iol_front::{Front, Name};
 use iol_record::decode_port;
 use iol_record::examples::PORT_WITH_SET_RECORD;
-use iol_types::{MasterState, PortId};
+use iol_types::{Change, MasterState, PortId};
 use std::alloc::Global;
 use std::marker::Brand;
 use std::process::Abort;
 
+// How many commands may wait.
+const QUEUE: usize = 64;
+
+// All commands wait that may, so that the pass is made late.
 #[test]
 fn a_port_with_a_set_is_viewed_through_a_pass_of_the_core(rt: HostRuntime) {
     let mut state = MasterState::new(rt.alloc(), 1).expect(&rt, "memory");
@@ -27,9 +31,11 @@ fn view<F: Name, R: Abort>(rt: &R, alloc: Global, front: Front, state: MasterSta
     let mut publisher = front.publisher::<F>();
     let own = publisher.pass().expect(rt, "a pass");
     let mut core = Core::new(alloc, state, own).expect(rt, "a core");
+    let port = PortId::new(1).unwrap();
+    for _ in 0..QUEUE {
+        assert!(rt; core.submit(Change::Clear { port }).is_ok());
+    }
     let mut pass = core.pass().expect(rt, "memory");
-    let view = core
-        .view(PortId::new(1).unwrap(), &mut pass)
-        .expect(rt, "memory");
+    let view = core.view(port, &mut pass).expect(rt, "memory");
     assert!(rt; view.expect(rt, "a port").port.stored().is_some());
 }

@@ -36,15 +36,11 @@ fn batch<R: Abort>(rt: &R, alloc: Global, first: u64, clears: usize, last: Optio
     let mut commands = Vec::new(alloc);
     for _ in 0..clears {
         let port = PortId::new(1).expect(rt, "a port");
-        commands
-            .push(Command::Clear { port })
-            .expect(rt, "memory");
+        commands.push(Command::Clear { port }).expect(rt, "memory");
     }
     if let Some(last) = last {
         let port = PortId::new(last).expect(rt, "a port");
-        commands
-            .push(Command::Clear { port })
-            .expect(rt, "memory");
+        commands.push(Command::Clear { port }).expect(rt, "memory");
     }
     Batch { first, commands }
 }
