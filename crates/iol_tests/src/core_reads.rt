@@ -2,7 +2,7 @@
 
 ghost use Rattle.std.specs.Prelude.{◌≡◌};
 
-use iol_core::Core;
+use iol_core::{Core, QUEUE_COMMANDS};
 use iol_front::{Front, Name};
 use iol_record::decode_port;
 use iol_record::examples::PORT_WITH_SET_RECORD;
@@ -10,9 +10,6 @@ use iol_types::{Change, MasterState, PortId};
 use std::alloc::Global;
 use std::marker::Brand;
 use std::process::Abort;
-
-// How many commands may wait.
-const QUEUE: usize = 64;
 
 // All commands wait that may, so that the pass is made late.
 #[test]
@@ -32,7 +29,7 @@ fn view<F: Name, R: Abort>(rt: &R, alloc: Global, front: Front, state: MasterSta
     let own = publisher.pass().expect(rt, "a pass");
     let mut core = Core::new(alloc, state, own).expect(rt, "a core");
     let port = PortId::new(1).unwrap();
-    for _ in 0..QUEUE {
+    for _ in 0..QUEUE_COMMANDS {
         assert!(rt; core.submit(Change::Clear { port }).is_ok());
     }
     let mut pass = core.pass().expect(rt, "memory");
