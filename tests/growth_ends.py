@@ -213,9 +213,14 @@ class Script(Subject):
 
     @functools.cached_property
     def states(self):
-        """The states that are recovered behind each step."""
+        """The states that are recovered behind each step; and those where a device is left out, as is one of which no set is
+        stored: the set of the next one may then be."""
         head, *steps = self.text.split("[[step]]\n")
         says = [self.says_to("[[step]]\n".join([head, *steps[:made]])) for made in range(len(steps))]
+        front, *devices = head.split("[[device]]\n")
+        for place in range(len(devices)):
+            fewer = "[[device]]\n".join([front, *devices[:place], *devices[place + 1 :]])
+            says.append(self.says_to("[[step]]\n".join([fewer, *steps])))
         return {recovered(out) for out in [*says, self.whole_out]}
 
 
