@@ -1,6 +1,7 @@
 //! Tests of what no command of the program makes. All else is tried by the cases of `tests`.
 //!
-//! - `answers`: answers that no simulated device gives, and what a port makes of each.
+//! - `answers`: ports whose devices give answers that no simulated device gives. `rows` is a table of these, and of what a
+//!   port makes of each; `exchanges` has what is said in them.
 //! - `isdu`: the codec beside a plain reader of ISDUs. `link`: a link of which nothing is said.
 //! - `plain`: a recovery beside the journal's plain reader. `example_store`: the store of `iol_example`.
 //! - `largest`: the largest record of a command, and batches that do not follow behind others.
@@ -21,6 +22,8 @@ mod cut_file;
 #[cfg(test)]
 mod example_store;
 #[cfg(test)]
+mod exchanges;
+#[cfg(test)]
 mod flush;
 #[cfg(test)]
 mod front;
@@ -34,6 +37,8 @@ mod link;
 mod no_link;
 #[cfg(test)]
 mod plain;
+#[cfg(test)]
+mod rows;
 #[cfg(test)]
 mod scene;
 #[cfg(test)]
