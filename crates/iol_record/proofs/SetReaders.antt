@@ -12,7 +12,8 @@ use Rattle.iol_types.specs.Key.{IsKey}
 use Rattle.iol_types.specs.DataSet.{Entry, AreEntries, SetValue, IsSet, octets_of}
 use Rattle.iol_types.specs.Numbers.{IsDeviceNumber}
 use Rattle.iol_record.specs.declared.records.SetHead.{SetHead}
-use Rattle.iol_record.specs.Record.{entry_octets, set_octets}
+use Rattle.iol_types.specs.Parts.{entry_octets}
+use Rattle.iol_record.specs.Record.{set_octets}
 use Rattle.iol_record.specs.Reading.{Reading, followed, joined, field_at, octets_at, subindex_field, length_field, entry_at, entries_at}
 use Rattle.iol_record.specs.Reading.{set_head_at, set_with, set_at}
 use Rattle.iol_record.proofs.Readers.{Splits, IsReader, field_reads, octets_reads, both_reads, joined_reads, followed_reads, nothing_reads}

@@ -1,36 +1,32 @@
--- Entries spelled one behind the other.
+-- Octets written one behind the other.
 use Rattle.std.proofs.Common.{◌≡◌, ℕ, ◌+◌, ◌<◌, length, arith, zero, suc, List, [], ◌∷◌, ◌++◌, Some, None, slice_get, take, ap, sym, ◌∙◌}
 use Rattle.std.proofs.Common.{add-one, append_assoc}
-use Rattle.std.specs.List.{flat_map}
-use Rattle.std.proofs.lemmas.Grind.{flat_map-append}
+use Rattle.std.specs.List.{concat}
 use Rattle.std.proofs.lemmas.List.{append-nil}
-use Rattle.iol_types.specs.DataSet.{Entry}
-use Rattle.iol_record.specs.Record.{entry_octets}
 
-take-one_more : (entries : List Entry) (place : ℕ) (entry : Entry) → slice_get entries place ≡ Some entry
-    → take (suc place) entries ≡ take place entries ++ entry ∷ []
-take-one_more [] place entry is = absurd cc
-take-one_more (other ∷ entries) zero entry is = let same : other ≡ entry = cc in ap (λ e. e ∷ []) same
-take-one_more (other ∷ entries) (suc place) entry is = ap (λ es. other ∷ es) (take-one_more entries place entry is)
+concat-one_more : (texts : List (List ℕ)) (place : ℕ) (text : List ℕ) → slice_get texts place ≡ Some text
+    → concat (take (suc place) texts) ≡ concat (take place texts) ++ text
+concat-one_more [] place text is = absurd cc
+concat-one_more (other ∷ texts) zero text is = let same : other ≡ text = cc in ap (λ t. t ++ []) same ∙ append-nil text
+concat-one_more (other ∷ texts) (suc place) text is =
+    ap (λ rest. other ++ rest) (concat-one_more texts place text is) ∙ sym (append_assoc other (concat (take place texts)) text)
 
--- what is spelled behind the first entries, and then behind one more
-pub spelled-one_more : (entries : List Entry) (place : ℕ) (entry : Entry) (old before after : List ℕ) → slice_get entries place ≡ Some entry
-    → before ≡ old ++ flat_map entry_octets (take place entries) → after ≡ before ++ entry_octets entry
-    → after ≡ old ++ flat_map entry_octets (take (place + 1) entries)
-spelled-one_more entries place entry old before after is so_far then_after =
-    let more : flat_map entry_octets (take (place + 1) entries) ≡ flat_map entry_octets (take place entries) ++ entry_octets entry =
-    rw (add-one, take-one_more entries place entry is)
-    (flat_map-append entry_octets (take place entries) (entry ∷ [])
-    ∙ ap (λ o. flat_map entry_octets (take place entries) ++ o) (append-nil (entry_octets entry))) in
-    then_after ∙ ap (λ o. o ++ entry_octets entry) so_far ∙ append_assoc old _ _ ∙ ap (λ o. old ++ o) (sym more)
+-- what is written behind the first texts, and then behind one more
+pub written-one_more : (texts : List (List ℕ)) (place : ℕ) (text : List ℕ) (old before after : List ℕ) → slice_get texts place ≡ Some text
+    → before ≡ old ++ concat (take place texts) → after ≡ before ++ text
+    → after ≡ old ++ concat (take (place + 1) texts)
+written-one_more texts place text old before after is so_far then_after =
+    let more : concat (take (place + 1) texts) ≡ concat (take place texts) ++ text =
+    rw add-one (concat-one_more texts place text is) in
+    then_after ∙ ap (λ o. o ++ text) so_far ∙ append_assoc old _ _ ∙ ap (λ o. old ++ o) (sym more)
 
--- a place among the entries has one
-pub no_more : (entries : List Entry) (place : ℕ) → slice_get entries place ≡ None → place < length entries → ⊥
+-- a place among texts has one
+pub no_more : (texts : List (List ℕ)) (place : ℕ) → slice_get texts place ≡ None → place < length texts → ⊥
 no_more [] place none below = omega (arith, below)
-no_more (entry ∷ entries) zero none below = cc
-no_more (entry ∷ entries) (suc place) none below = no_more entries place none (omega (arith, below))
+no_more (text ∷ texts) zero none below = cc
+no_more (text ∷ texts) (suc place) none below = no_more texts place none (omega (arith, below))
 
--- octets written one behind the other
+-- three texts
 pub three_behind : (old first second third : List ℕ) {one two three : List ℕ} → one ≡ old ++ first → two ≡ one ++ second → three ≡ two
     ++ third
     → three ≡ old ++ (first ++ (second ++ third))

@@ -4,7 +4,8 @@ use Rattle.std.specs.List.{flat_map}
 use Rattle.std.specs.Int.{w16, w32, w64, to_be_bytes}
 use Rattle.iol_types.specs.declared.config.PortConfig.{PortConfig}
 use Rattle.iol_types.specs.Config.{mode_octet, validation_octet}
-use Rattle.iol_types.specs.DataSet.{Entry, SetValue}
+use Rattle.iol_types.specs.DataSet.{SetValue}
+use Rattle.iol_types.specs.Parts.{entry_octets}
 use Rattle.iol_types.specs.Command.{CommandValue, Configure, Clear, Store, IsCommand}
 use Rattle.iol_types.specs.State.{Stored, Port, IsPort}
 use Rattle.iol_record.specs.declared.reader.TheConstants.{CONFIGURE, CLEAR, STORE, NO_SET, SET}
@@ -13,10 +14,6 @@ use Rattle.iol_record.specs.declared.reader.TheConstants.{CONFIGURE, CLEAR, STOR
 abbrev pub config_octets : PortConfig → List ℕ
 config_octets config =
     mode_octet config.mode ∷ validation_octet config.validation ∷ (to_be_bytes w16 config.vendor ++ to_be_bytes w32 config.device)
-
--- the octets of an entry: Index 2, Subindex 1, length 1, data (format, Records)
-abbrev pub entry_octets : Entry → List ℕ
-entry_octets entry = to_be_bytes w16 entry.0.index ++ (entry.0.subindex ∷ length entry.1 ∷ entry.1)
 
 -- the octets of a set: vendor 2, device 4, checksum 4, count 2, and its entries in order (format, Records)
 abbrev pub set_octets : SetValue → List ℕ

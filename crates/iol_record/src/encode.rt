@@ -4,14 +4,15 @@ ghost use Rattle.std.specs.List.{flat_map};
 ghost use Rattle.std.specs.Int.{w16, w32, to_be_bytes};
 ghost use Rattle.iol_types.specs.Config.{IsConfig};
 ghost use Rattle.iol_types.specs.DataSet.{IsSet};
+ghost use Rattle.iol_types.specs.Parts.{entry_octets};
 ghost use Rattle.iol_types.specs.Command.{Configure, Clear, Store, value_of};
 ghost use Rattle.iol_types.specs.Port.{stored_of};
 ghost use Rattle.iol_record.specs.declared.encode.TheConstants.{LARGEST_COMMAND_RECORD};
-ghost use Rattle.iol_record.specs.Record.{config_octets, command_octets, entry_octets, set_octets, stored_octets, IsCommandRecord};
+ghost use Rattle.iol_record.specs.Record.{config_octets, command_octets, set_octets, stored_octets, IsCommandRecord};
 ghost use Rattle.iol_record.specs.Record.{IsPortRecord};
 
 use crate::reader::{CLEAR, CONFIGURE, NO_SET, SET, STORE};
-use iol_types::{Command, DataSet, Key, PortConfig, PortId, PortState, StoredSet};
+use iol_types::{Command, DataSet, PortConfig, PortId, PortState, StoredSet};
 use std::alloc::{AllocError, Global};
 
 // The octets of a Configure record.
@@ -43,22 +44,13 @@ fn push_config(octets: &mut Vec<u8>, config: &PortConfig) -> Result<(), AllocErr
     Ok(())
 }
 
-fn push_entry(octets: &mut Vec<u8>, key: Key, value: &[u8]) -> Result<(), AllocError>
-    requires short { length value.now < 256 }
-    ensures { OnOk result (octets.new.items ≡ octets.old.items ++ entry_octets (key, value.now)) }
-{
-    octets.extend_from_slice(&key.index.to_be_bytes())?;
-    octets.push(key.subindex)?;
-    octets.push(value.len() as u8)?;
-    octets.extend_from_slice(value)
-}
-
+// The parts of a set are its entries as a record has them.
 fn push_entries(octets: &mut Vec<u8>, set: &DataSet) -> Result<(), AllocError>
     ensures { OnOk result (octets.new.items ≡ octets.old.items ++ flat_map entry_octets set.now.entries) }
 {
-    for place in 0..set.len() {
-        if let Some((key, data)) = set.entry(place) {
-            push_entry(octets, key, data)?;
+    for place in 0..set.parts() {
+        if let Some(part) = set.part(place) {
+            octets.extend_from_slice(part)?;
         }
     }
     Ok(())

@@ -1,51 +1,20 @@
--- Entries of a set: in memory and apart from it, and behind others.
-use Rattle.std.proofs.Common.{◌≡◌, ℕ, ◌+◌, ◌*◌, ◌≤◌, ◌<◌, Bool, true, false, cond, List, [], ◌∷◌, ◌++◌, length, Option, Some, None, refl}
+-- Entries of a set, one behind others.
+use Rattle.std.proofs.Common.{◌≡◌, ℕ, ◌+◌, ◌*◌, ◌≤◌, ◌<◌, Bool, true, false, cond, List, [], ◌∷◌, ◌++◌, length, Some, None, refl}
 use Rattle.std.proofs.Common.{ap, sym, ◌∙◌, subst, arith, is_some, get_or, length-append}
-use Rattle.std.specs.Option.{option_map}
-use Rattle.std.specs.Map.{lookup, keys_of}
+use Rattle.std.specs.Map.{keys_of}
 use Rattle.std.specs.List.{IsDistinct, AllByRecursion}
 use Rattle.std.specs.Prelude.{nat_lt, ◌==◌}
 use Rattle.std.proofs.lemmas.Bool.{and_parts}
 use Rattle.std.proofs.lemmas.Bool.Decides.{nat_tests}
-use Rattle.std.proofs.lemmas.List.{length-map, map-append}
+use Rattle.std.proofs.lemmas.List.{map-append}
 use Rattle.std.proofs.lemmas.List.Sums.{sum_by-append}
 use Rattle.std.proofs.lemmas.Grind.{common_steps}
 use borrow.Author.Tests.{ltb-false}
-use Rattle.arrayvec.specs.ArrayVec.{ArrayVec}
 use Rattle.iol_types.specs.Key.{IsKey, same_key, is_reserved}
-use Rattle.iol_types.specs.DataSet.{Entry, IsEntry, AreEntries, octets_of, data_at, add_fault, entries_of}
+use Rattle.iol_types.specs.DataSet.{Entry, IsEntry, AreEntries, octets_of, data_at, add_fault}
 use Rattle.iol_types.specs.declared.key.Key.{Key}
 use Rattle.iol_types.specs.declared.data_set.TheConstants.{MOST_ENTRY_OCTETS, ENTRY_HEAD_OCTETS, MOST_SET_OCTETS}
 use Rattle.iol_types.specs.declared.set_builder.AddFault.TheVariants.{ReservedKey, EntryTooLong, Duplicate, SetTooLarge}
-
--- a look-up among entries in memory is one among the entries
-pub lookup-entries_of : (test : Key → Bool) (kept : List (Key × ArrayVec ℕ)) → lookup test (entries_of kept)
-    ≡ option_map (λ kept. kept.items) (lookup test kept)
-lookup-entries_of test [] = refl
-lookup-entries_of test (entry ∷ kept) =
-    elim (test entry.0) as (λ here. cond here (Some entry.1.items) (lookup test (entries_of kept))
-    ≡ option_map (λ kept. kept.items) (cond here (Some entry.1) (lookup test kept))) [
-      | true ↦ refl
-      | false ↦ lookup-entries_of test kept
-    ]
-
-pub is_some-entries_of : (test : Key → Bool) (kept : List (Key × ArrayVec ℕ)) → is_some (lookup test (entries_of kept))
-    ≡ is_some (lookup test kept)
-is_some-entries_of test kept =
-    ap is_some (lookup-entries_of test kept)
-    ∙ elim (lookup test kept) as (λ found. is_some (option_map (λ kept. kept.items) found) ≡ is_some found)
-    [ None ↦ refl | Some kept ↦ refl ]
-
-pub none-entries_of : (test : Key → Bool) (kept : List (Key × ArrayVec ℕ)) → is_some (lookup test (entries_of kept)) ≡ false
-    → lookup test kept ≡ None
-none-entries_of test kept absent = by (lookup test kept) refl
-  where
-    by : (found : Option (ArrayVec ℕ)) → lookup test kept ≡ found → lookup test kept ≡ None
-    by None is = is
-    by (Some found) is = let both : true ≡ false = sym (ap is_some is) ∙ sym (is_some-entries_of test kept) ∙ absent in cc
-
-pub length-entries_of : (kept : List (Key × ArrayVec ℕ)) → length (entries_of kept) ≡ length kept
-length-entries_of kept = length-map kept _
 
 -- one more entry counts four octets and its own
 pub octets_of-push : (entries : List Entry) (key : Key) (octets : List ℕ)
@@ -174,25 +143,6 @@ may-stand entries entry more are =
         fits = omega (arith, are.fits, counted entries (entry ∷ more), counted (entry ∷ []) more);
       },
     )
-
--- what the entries in memory are once one that nothing refuses was put behind them
-pub record Grown (kept later : List (Key × ArrayVec ℕ)) (count : ℕ) (key : Key) (octets : List ℕ) : Type 0 where
-  pub entries : entries_of later ≡ entries_of kept ++ (key, octets) ∷ []
-  pub are : AreEntries (entries_of later)
-  pub counted : count + ENTRY_HEAD_OCTETS + length octets ≡ octets_of (entries_of later)
-
-pub grown : (kept later : List (Key × ArrayVec ℕ)) (count : ℕ) (key : Key) (value : ArrayVec ℕ) (octets : List ℕ) → value.items ≡ octets
-    → IsKey key → add_fault (entries_of kept) key octets ≡ None → later ≡ kept ++ (key, value) ∷ []
-    → AreEntries (entries_of kept) → count ≡ octets_of (entries_of kept) → Grown kept later count key octets
-grown kept later count key value octets is in_range none made are counted =
-    let whole : entries_of later ≡ entries_of kept ++ (key, octets) ∷ [] =
-    ap entries_of made ∙ map-append _ kept ((key, value) ∷ []) ∙ ap (λ (o : List ℕ). entries_of kept ++ (key, o) ∷ []) is in
-    record {
-      entries = whole;
-      are = subst AreEntries (sym whole)
-          (one-more (entries_of kept) key octets are in_range (may_be_added (entries_of kept) key octets none));
-      counted = omega (arith, octets_of-push (entries_of kept) key octets, ap octets_of whole, counted);
-    }
 
 -- entries count the octets of their heads at least
 pub length-octets_of : (entries : List Entry) → ENTRY_HEAD_OCTETS * length entries ≤ octets_of entries

@@ -1,9 +1,8 @@
 -- Parameter sets: what is kept of a device.
-use Rattle.std.specs.Prelude.{◌≡◌, ℕ, ◌+◌, ◌<◌, ◌≤◌, ◌^◌, nat_lt, false, if◌then◌else◌, List, length, map, sum_by, All, Option, Some, None}
+use Rattle.std.specs.Prelude.{◌≡◌, ℕ, ◌+◌, ◌<◌, ◌≤◌, ◌^◌, nat_lt, false, if◌then◌else◌, List, length, sum_by, All, Option, Some, None}
 use Rattle.std.specs.Prelude.{is_some}
 use Rattle.std.specs.List.{IsDistinct}
 use Rattle.std.specs.Map.{keys_of, lookup}
-use Rattle.arrayvec.specs.ArrayVec.{ArrayVec}
 use Rattle.iol_types.specs.Numbers.{IsDeviceNumber}
 use Rattle.iol_types.specs.Key.{IsKey, same_key, is_reserved}
 use Rattle.iol_types.specs.declared.key.Key.{Key}
@@ -59,7 +58,3 @@ add_fault entries key octets =
     else if is_some (data_at entries key) then Some Duplicate
     else if nat_lt MOST_SET_OCTETS (octets_of entries + ENTRY_HEAD_OCTETS + length octets) then Some SetTooLarge
     else None
-
--- entries in memory, as entries (own)
-abbrev pub entries_of : List (Key × ArrayVec ℕ) → List Entry
-entries_of kept = map (λ entry. (entry.0, entry.1.items)) kept

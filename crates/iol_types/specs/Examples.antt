@@ -25,9 +25,13 @@ example_set = record {
   checksum = 591;
 }
 
+-- for worked examples: the parameter 0040.00 with so many octets 07 (own)
+abbrev pub sevens : ℕ → Entry
+sevens octets = (record { index = 64; subindex = 0 }, replicate octets 7)
+
 -- for worked examples: 17 entries of 232 octets, which count 4,012 (own)
 abbrev pub nearly_full : List Entry
-nearly_full = replicate 17 (record { index = 64; subindex = 0 }, replicate 232 7)
+nearly_full = replicate 17 (sevens 232)
 
 -- for worked examples: the set, taken under the configuration (own)
 abbrev pub example_stored : Stored

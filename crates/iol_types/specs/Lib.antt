@@ -2,6 +2,9 @@ pub mod Numbers
 pub mod Config
 pub mod Key
 pub mod DataSet
+pub mod Parts
+pub mod PartsInMemory
+pub mod EntriesInMemory
 pub mod SetInMemory
 pub mod Command
 pub mod State

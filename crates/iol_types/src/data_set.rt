@@ -1,12 +1,13 @@
 //! What is kept of a device: its parameters, whose they are, and the checksum that it gave.
 ghost use Rattle.std.specs.Prelude.{◌≡◌, ◌≤◌, ◌↔◌, length, nat_eq, slice_get, IsTrue, IfSome};
+ghost use Rattle.std.specs.List.{concat, flat_map};
 ghost use Rattle.std.specs.Option.{option_copied, option_map};
 ghost use Rattle.iol_types.specs.declared.data_set.TheConstants.{MOST_ENTRY_OCTETS, MOST_SET_OCTETS};
+ghost use Rattle.iol_types.specs.declared.parts.TheConstants.{PART_OCTETS};
 
 use crate::device_id::DeviceId;
+use crate::kept_entries::Entries;
 use crate::key::Key;
-use arrayvec::ArrayVec;
-use indexmap::IndexMap;
 use std::marker::Model;
 
 /// The most octets that a parameter of a set has.
@@ -16,9 +17,6 @@ pub const ENTRY_HEAD_OCTETS: usize = 4;
 /// The most that the entries of a set count together.
 pub const MOST_SET_OCTETS: usize = 4096;
 
-// The parameters of a set in memory, in their order.
-pub(crate) type Entries = IndexMap<Key, ArrayVec<u8, MOST_ENTRY_OCTETS>>;
-
 /// A parameter set: what the Data Storage of one device was found to hold (IO-Link V1.1, Data
 /// Storage object). A contract sees the record `SetValue` of `specs/DataSet.antt`.
 ///
@@ -27,15 +25,13 @@ pub(crate) type Entries = IndexMap<Key, ArrayVec<u8, MOST_ENTRY_OCTETS>>;
 #[derive(Debug, Drop)]
 pub struct DataSet {
     entries: Entries,
-    octets: usize,
     vendor: u16,
     device: DeviceId,
     checksum: u32,
 }
 
 impl Model for DataSet {
-    ghost use Rattle.std.specs.Prelude.{◌≡◌};
-    ghost use Rattle.iol_types.specs.DataSet.{SetValue, IsSet, octets_of};
+    ghost use Rattle.iol_types.specs.DataSet.{SetValue, IsSet};
 
     ghost Value = { SetValue };
 
@@ -43,7 +39,7 @@ impl Model for DataSet {
 
     ghost view = { set_of };
 
-    ghost invariant = { λ s. IsSet (set_of s) × (s.octets ≡ octets_of (set_of s).entries) };
+    ghost invariant = { λ s. IsSet (set_of s) };
 }
 
 /// Sets are equal where they say the same: the same entries in the same order, and equal numbers. It
@@ -64,7 +60,7 @@ impl PartialEq for DataSet {
         self.vendor == other.vendor
             && self.device == other.device
             && self.checksum == other.checksum
-            && self.octets == other.octets
+            && self.octets() == other.octets()
             && self.len() == other.len()
             && has_entries_of(self, other)
     }
@@ -90,23 +86,16 @@ fn has_entries_of(set: &DataSet, other: &DataSet) -> bool
 }
 
 impl DataSet {
-    ghost use Rattle.iol_types.specs.DataSet.{SetValue, AreEntries, IsSet, entries_of, octets_of, data_at};
+    ghost use Rattle.iol_types.specs.DataSet.{SetValue, AreEntries, IsSet, octets_of, data_at};
+    ghost use Rattle.iol_types.specs.Parts.{entry_octets, parts_of};
 
-    // The set of these entries, which count so many octets.
-    pub(crate) fn of(
-        entries: Entries,
-        octets: usize,
-        vendor: u16,
-        device: DeviceId,
-        checksum: u32,
-    ) -> DataSet
-        requires entries { AreEntries (entries_of entries.entries) }
-        requires octets { octets ≡ octets_of (entries_of entries.entries) }
-        ensures { result ≡ record { entries = entries_of entries.entries; vendor = vendor; device = device; checksum = checksum } }
+    // The set of these entries.
+    pub(crate) fn of(entries: Entries, vendor: u16, device: DeviceId, checksum: u32) -> DataSet
+        requires { AreEntries entries }
+        ensures { result ≡ record { entries = entries; vendor = vendor; device = device; checksum = checksum } }
     {
         DataSet {
             entries,
-            octets,
             vendor,
             device,
             checksum,
@@ -117,10 +106,7 @@ impl DataSet {
     pub fn get(&self, key: Key) -> Option<&[u8]>
         ensures { option_copied result ≡ data_at self.now.entries key }
     {
-        match self.entries.get(&key) {
-            Some(data) => Some(data.as_slice()),
-            None => None,
-        }
+        self.entries.get(key)
     }
 
     /// The entry at a place, from 0, if it is there.
@@ -128,10 +114,7 @@ impl DataSet {
         ensures entry { option_map (λ entry. (entry.0, entry.1.now)) result ≡ slice_get self.now.entries place }
         ensures short { IfSome result (λ entry. length entry.1.now ≤ MOST_ENTRY_OCTETS) }
     {
-        match self.entries.get_index(place) {
-            Some((key, data)) => Some((*key, data.as_slice())),
-            None => None,
-        }
+        self.entries.entry(place)
     }
 
     /// How many entries there are, at most 1,024.
@@ -146,7 +129,7 @@ impl DataSet {
     pub fn is_empty(&self) -> bool
         ensures { result ≡ nat_eq (length self.now.entries) 0 }
     {
-        self.entries.is_empty()
+        self.entries.len() == 0
     }
 
     /// What the entries count: 4 for each, and its octets; at most 4,096, since the set is one.
@@ -155,7 +138,25 @@ impl DataSet {
         ensures bound { result ≤ MOST_SET_OCTETS }
         ensures set { IsSet self.now }
     {
-        self.octets
+        self.entries.octets()
+    }
+
+    /// How many parts there are, at most as many as entries.
+    pub fn parts(&self) -> usize
+        ensures { result ≡ length (parts_of self.now.entries) }
+    {
+        self.entries.parts()
+    }
+
+    /// A part of the entries, from 0, if it is there. In order the parts are the entries' octets as a
+    /// record spells them (docs/FORMATS.md, Records). Each has at most 512 octets of whole entries, and
+    /// a new one begins only where the next entry did not fit.
+    pub fn part(&self, place: usize) -> Option<&[u8]>
+        ensures part { option_copied result ≡ slice_get (parts_of self.now.entries) place }
+        ensures short { IfSome result (λ part. length part.now ≤ PART_OCTETS) }
+        ensures whole { concat (parts_of self.now.entries) ≡ flat_map entry_octets self.now.entries }
+    {
+        self.entries.part(place)
     }
 
     /// The VendorID of the device.

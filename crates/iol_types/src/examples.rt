@@ -1,18 +1,21 @@
 //! Facts with values of the standard and of the crate's formats, worked out by the check: a number
 //! that is wrong in a definition and in the code alike is refused here.
 
-ghost use Rattle.std.specs.Prelude.{◌≡◌, ℕ, [], ◌∷◌, ◌++◌, map, replicate, true, false};
+ghost use Rattle.std.specs.Prelude.{◌≡◌, ℕ, [], ◌∷◌, ◌++◌, length, map, replicate, true, false};
 ghost use Rattle.iol_types.specs.Numbers.{IsPortNumber, IsDeviceNumber};
 ghost use Rattle.iol_types.specs.Config.{mode_octet, mode_of, validation_octet, validation_of, IsConfig};
 ghost use Rattle.iol_types.specs.Config.{may_store_set, may_keep_set, keeps_set};
 ghost use Rattle.iol_types.specs.Command.{Configure, Clear, Store, IsCommand, command_of, set_in};
 ghost use Rattle.iol_types.specs.DataSet.{IsEntry, AreEntries, IsSet, octets_of, data_at, add_fault};
+ghost use Rattle.iol_types.specs.Parts.{parts_of};
 ghost use Rattle.iol_types.specs.State.{IsPort, empty_state, port_numbered, may_have, check, apply, after, legal};
-ghost use Rattle.iol_types.specs.Examples.{example_config, example_set, nearly_full, example_stored, example_port, port_of, one_port};
+ghost use Rattle.iol_types.specs.Examples.{example_config, example_set, sevens, nearly_full, example_stored};
+ghost use Rattle.iol_types.specs.Examples.{example_port, port_of, one_port};
 ghost use Rattle.iol_types.specs.declared.config.PortConfig.{PortConfig};
 ghost use Rattle.iol_types.specs.Key.{IsKey, is_reserved};
 ghost use Rattle.iol_types.specs.declared.key.TheConstants.{DIRECT_PARAMETER_PAGE, SYSTEM_COMMAND, DATA_STORAGE};
 ghost use Rattle.iol_types.specs.declared.data_set.TheConstants.{MOST_ENTRY_OCTETS, ENTRY_HEAD_OCTETS, MOST_SET_OCTETS};
+ghost use Rattle.iol_types.specs.declared.parts.TheConstants.{PART_OCTETS};
 ghost use Rattle.iol_types.specs.declared.port_id.TheConstants.{PORTS};
 
 use crate::command::{Change, CommandFault};
@@ -273,4 +276,22 @@ pub fn set_limits()
     ensures entry { MOST_ENTRY_OCTETS ≡ 232 }
     ensures head { ENTRY_HEAD_OCTETS ≡ 4 }
     ensures set { MOST_SET_OCTETS ≡ 4096 }
+{}
+
+/// A part has at most 512 octets of whole entries: with two of 232 octets one of 36 fits, and one of 37
+/// begins another part.
+pub fn whole_entries()
+    ensures limit { PART_OCTETS ≡ 512 }
+    ensures none { parts_of [] ≡ [] }
+    ensures spelled { parts_of example_set.entries
+        ≡ (0 ∷ 64 ∷ 0 ∷ 2 ∷ 10 ∷ 100 ∷ 0 ∷ 65 ∷ 1 ∷ 1 ∷ 127 ∷ []) ∷ [] }
+    ensures fits { map length (parts_of (replicate 2 (sevens 232) ++ sevens 36 ∷ [])) ≡ 512 ∷ [] }
+    ensures begins { map length (parts_of (replicate 2 (sevens 232) ++ sevens 37 ∷ [])) ≡ 472 ∷ 41 ∷ [] }
+{}
+
+/// The entries of a set that counts 4,096, of which 17 have 232 octets and one has 80, are nine parts:
+/// eight of 472 octets, and one of 320.
+pub fn nine_parts()
+    ensures counted { octets_of (nearly_full ++ sevens 80 ∷ []) ≡ 4096 }
+    ensures parts { map length (parts_of (nearly_full ++ sevens 80 ∷ [])) ≡ replicate 8 472 ++ 320 ∷ [] }
 {}

@@ -8,7 +8,7 @@
 //! or in a queue, act through these two calls alone.
 //!
 //! Modules in reading order: `port_id`, `device_id`, `config`, `key`, `data_set`, `set_builder`,
-//! `command`, `port_state`, `master_state`, `examples` (values worked out). What a configuration, a set,
+//! `parts`, `kept_entries`, `command`, `port_state`, `master_state`, `examples` (values worked out). What a configuration, a set,
 //! a command and a state are to a contract stands in `specs/Config.antt`, `specs/DataSet.antt`,
 //! `specs/Command.antt` and `specs/State.antt`.
 #![tactic(auto)]
@@ -18,8 +18,10 @@ mod config;
 mod data_set;
 mod device_id;
 pub mod examples;
+mod kept_entries;
 mod key;
 mod master_state;
+mod parts;
 mod port_id;
 mod port_state;
 mod set_builder;
@@ -30,6 +32,7 @@ pub use data_set::{DataSet, ENTRY_HEAD_OCTETS, MOST_ENTRY_OCTETS, MOST_SET_OCTET
 pub use device_id::{DEVICE_NUMBERS, DeviceId};
 pub use key::{DATA_STORAGE, DIRECT_PARAMETER_PAGE, Key, SYSTEM_COMMAND};
 pub use master_state::MasterState;
+pub use parts::PART_OCTETS;
 pub use port_id::{PORTS, PortId};
 pub use port_state::{LAST_REVISION, PortState, StoredSet};
 pub use set_builder::{AddFault, SetBuilder};

@@ -2,11 +2,10 @@
 ghost use Rattle.std.specs.Prelude.{◌≡◌, ◌≤◌, [], ◌∷◌, ◌++◌, IfErr, OnErr, OnOk, is_some, length, Some, None, ◌⊎◌};
 ghost use Rattle.iol_types.specs.declared.data_set.TheConstants.{MOST_ENTRY_OCTETS, MOST_SET_OCTETS};
 
-use crate::data_set::{DataSet, ENTRY_HEAD_OCTETS, Entries, MOST_ENTRY_OCTETS, MOST_SET_OCTETS};
+use crate::data_set::{DataSet, ENTRY_HEAD_OCTETS, MOST_ENTRY_OCTETS, MOST_SET_OCTETS};
 use crate::device_id::DeviceId;
+use crate::kept_entries::Entries;
 use crate::key::Key;
-use arrayvec::ArrayVec;
-use indexmap::IndexMap;
 use std::alloc::Global;
 use std::marker::Model;
 use thiserror::Error;
@@ -35,18 +34,17 @@ pub enum AddFault {
 #[derive(Drop)]
 pub struct SetBuilder {
     entries: Entries,
-    octets: usize,
 }
 
 impl Model for SetBuilder {
-    ghost use Rattle.std.specs.Prelude.{◌≡◌, List};
-    ghost use Rattle.iol_types.specs.DataSet.{Entry, AreEntries, entries_of, octets_of};
+    ghost use Rattle.std.specs.Prelude.{List};
+    ghost use Rattle.iol_types.specs.DataSet.{Entry, AreEntries};
 
     ghost Value = { List Entry };
 
-    ghost view = { λ s. entries_of s.entries.entries };
+    ghost view = { λ s. s.entries };
 
-    ghost invariant = { λ s. AreEntries (entries_of s.entries.entries) × (s.octets ≡ octets_of (entries_of s.entries.entries)) };
+    ghost invariant = { λ s. AreEntries s.entries };
 }
 
 impl SetBuilder {
@@ -58,8 +56,7 @@ impl SetBuilder {
         ensures { result ≡ [] }
     {
         SetBuilder {
-            entries: IndexMap::new(alloc),
-            octets: 0,
+            entries: Entries::new(alloc),
         }
     }
 
@@ -77,12 +74,8 @@ impl SetBuilder {
         if let Some(fault) = self.fault(key, octets) {
             return Err(fault);
         }
-        let octets_then = self.octets + ENTRY_HEAD_OCTETS + octets.len();
-        match self.entries.insert(key, data_of(octets)) {
-            Ok(_) => {
-                self.octets = octets_then;
-                Ok(())
-            }
+        match self.entries.push(key, octets) {
+            Ok(()) => Ok(()),
             Err(_) => Err(AddFault::Memory),
         }
     }
@@ -109,7 +102,7 @@ impl SetBuilder {
     pub fn has(&self, key: Key) -> bool
         ensures { result ≡ is_some (data_at self.now key) }
     {
-        self.entries.contains_key(&key)
+        self.entries.has(key)
     }
 
     /// What the entries count so far: 4 for each, and its octets; at most 4,096.
@@ -117,7 +110,7 @@ impl SetBuilder {
         ensures count { result ≡ octets_of self.now }
         ensures bound { result ≤ MOST_SET_OCTETS }
     {
-        self.octets
+        self.entries.octets()
     }
 
     /// The set of these entries, of the device with these numbers and this checksum. It takes no
@@ -125,17 +118,7 @@ impl SetBuilder {
     pub fn finish(self, vendor: u16, device: DeviceId, checksum: u32) -> DataSet
         ensures { result ≡ record { entries = self; vendor = vendor; device = device; checksum = checksum } }
     {
-        let SetBuilder { entries, octets } = self;
-        DataSet::of(entries, octets, vendor, device, checksum)
+        let SetBuilder { entries } = self;
+        DataSet::of(entries, vendor, device, checksum)
     }
-}
-
-// The octets of a parameter, kept beside its key.
-fn data_of(octets: &[u8]) -> ArrayVec<u8, MOST_ENTRY_OCTETS>
-    requires { length octets.now ≤ MOST_ENTRY_OCTETS }
-    ensures { result.items ≡ octets.now }
-{
-    let mut data = ArrayVec::new();
-    let _ = data.try_extend_from_slice(octets);
-    data
 }

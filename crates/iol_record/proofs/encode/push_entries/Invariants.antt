@@ -1,7 +1,8 @@
 use Rattle.std.proofs.Common.{◌≡◌, ◌++◌, take}
-use Rattle.std.specs.List.{flat_map}
-use Rattle.iol_record.specs.Record.{entry_octets}
+use Rattle.std.specs.List.{concat}
+use Rattle.iol_types.specs.Parts.{parts_of}
 use Rattle.iol_record.proofs.encode.push_entries.Given as goal
 
+-- the parts so far
 abbrev pub invariant-loop-place : goal.invariant-loop-place
-invariant-loop-place l = l.octets.items ≡ l.fn.octets.items ++ flat_map entry_octets (take l.place l.fn.set.entries)
+invariant-loop-place l = l.octets.items ≡ l.fn.octets.items ++ concat (take l.place (parts_of l.fn.set.entries))

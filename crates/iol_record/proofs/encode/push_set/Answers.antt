@@ -1,7 +1,7 @@
 use Rattle.std.proofs.Common.{◌∙◌, ap, ◌++◌, List, ℕ, length}
 use Rattle.std.specs.List.{flat_map}
 use Rattle.std.specs.Int.{w16, w32, to_be_bytes}
-use Rattle.iol_record.specs.Record.{entry_octets}
+use Rattle.iol_types.specs.Parts.{entry_octets}
 use Rattle.iol_record.proofs.Spellings.{three_behind}
 use Rattle.iol_record.proofs.encode.push_set.Goals as goal
 

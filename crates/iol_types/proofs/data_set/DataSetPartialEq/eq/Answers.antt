@@ -10,5 +10,5 @@ returns-then-len-clause-test c =
 
 pub returns-else-len-clause-test : goal.returns-else-len-clause-test
 returns-else-len-clause-test c =
-    let exactly : Decides c.if-self-other-3.value (c.args.self.now ≡ c.args.other.now) = search rules in
+    let exactly : Decides c.if-octets.value (c.args.self.now ≡ c.args.other.now) = search rules in
     one_answer _ _ exactly (same_set-Decides c.args.self.now c.args.other.now)

@@ -1,0 +1,227 @@
+-- Parts: what lies where in them, and what they are together.
+use Rattle.std.proofs.Common.{◌≡◌, ℕ, zero, suc, ◌+◌, ◌-◌, ◌≤◌, Bool, true, false, cond, List, [], ◌∷◌, ◌++◌, length, get_or, take, drop}
+use Rattle.std.proofs.Common.{refl}
+use Rattle.std.proofs.Common.{ap, sym, ◌∙◌, arith, leb-true, append_assoc, length-append, slice_get}
+use Rattle.std.specs.Prelude.{nat_le, slice_range, All, IfSome, fold}
+use Rattle.std.specs.List.{AllByRecursion, concat, flat_map}
+use Rattle.std.specs.Int.{w16, to_be_bytes}
+use Rattle.std.proofs.lemmas.List.{append-nil, take-append-le, drop-append-le, drop_at, take_all, length-drop, get_or_past, length_push}
+use Rattle.std.proofs.lemmas.Grind.{fold-append}
+use Rattle.iol_types.specs.DataSet.{Entry, IsEntry}
+use Rattle.iol_types.specs.Parts.{PartsValue, no_parts, entry_octets, with_text, grown, texts_of, parts_of, text_numbered, IsWithin}
+use Rattle.iol_types.specs.Parts.{octets_at}
+use Rattle.iol_types.specs.Parts.{place_behind}
+use Rattle.iol_types.specs.declared.key.Key.{Key}
+use Rattle.iol_types.specs.declared.parts.Place.{Place}
+use Rattle.iol_types.specs.declared.parts.TheConstants.{PART_OCTETS}
+use Rattle.iol_types.specs.declared.data_set.TheConstants.{ENTRY_HEAD_OCTETS}
+
+-- ---- what lay in parts lies there still when a text has come behind
+
+-- a text that has come behind others is found where none was
+pub get_or-behind : (full : List (List ℕ)) (last other : List ℕ) (i : ℕ) → i ≤ length full → get_or (full ++ last ∷ []) i other
+    ≡ get_or full i last
+get_or-behind [] last other zero below = refl
+get_or-behind [] last other (suc i) below = absurd (omega (arith, below))
+get_or-behind (text ∷ full) last other zero below = refl
+get_or-behind (text ∷ full) last other (suc i) below = get_or-behind full last other i (omega (arith, below))
+
+-- a text that grows at its end is the same at its front
+longer : (full : List (List ℕ)) (last more : List ℕ) (i : ℕ)
+    → (rest : List ℕ) × (get_or full i (last ++ more) ≡ get_or full i last ++ rest)
+longer [] last more i = (more, refl)
+longer (text ∷ full) last more zero = ([], sym (append-nil text))
+longer (text ∷ full) last more (suc i) = longer full last more i
+
+range-front : (text rest : List ℕ) (from count : ℕ) → from + count ≤ length text → slice_range (text ++ rest) from (from + count)
+    ≡ slice_range text from (from + count)
+range-front text rest from count within =
+    let behind : length (drop from text) ≡ length text - from = length-drop from text in
+    ap (take (from + count - from)) (drop-append-le from text rest (omega (arith, within)))
+    ∙ take-append-le (from + count - from) (drop from text) rest (omega (arith, behind, within))
+
+-- a place, and the octets there, in parts with a text more
+pub record Stays (parts later : PartsValue) (place : Place) : Type 0 where
+  pub within : IsWithin later place
+  pub octets : octets_at later place ≡ octets_at parts place
+
+pub stays : (parts : PartsValue) (text : List ℕ) (place : Place) → IsWithin parts place → Stays parts (with_text parts text) place
+stays parts text place is = by (nat_le (length parts.last + length text) PART_OCTETS)
+  where
+    by : (fits : Bool) → Stays parts (cond fits (record { full = parts.full; last = parts.last ++ text })
+        (record { full = parts.full ++ parts.last ∷ []; last = text })) place
+    by true =
+        let (rest, same) = longer parts.full parts.last text place.part in
+        record {
+          within = record {
+            part = is.part;
+            end = omega (arith, is.end, ap length same, length-append (text_numbered parts place.part) rest);
+          };
+          octets = ap (λ front. slice_range front place.offset (place.offset + place.octets)) same
+              ∙ range-front (text_numbered parts place.part) rest place.offset place.octets is.end;
+        }
+    by false =
+        let same : get_or (parts.full ++ parts.last ∷ []) place.part text ≡ text_numbered parts place.part =
+        get_or-behind parts.full parts.last text place.part is.part in
+        record {
+          within = record {
+            part = omega (arith, is.part, length_push parts.full parts.last);
+            end = omega (arith, is.end, ap length same);
+          };
+          octets = ap (λ front. slice_range front place.offset (place.offset + place.octets)) same;
+        }
+
+-- ---- where the text itself lies
+
+-- a text lies behind others
+record Lies (later : PartsValue) (text : List ℕ) (place : Place) : Type 0 where
+  before : List ℕ
+  part : place.part ≤ length later.full
+  found : text_numbered later place.part ≡ before ++ text
+  offset : length before ≡ place.offset
+
+lies : (parts : PartsValue) (text : List ℕ) → Lies (with_text parts text) text (place_behind parts (length text))
+lies parts text = by (nat_le (length parts.last + length text) PART_OCTETS)
+  where
+    by : (fits : Bool) → Lies (cond fits (record { full = parts.full; last = parts.last ++ text })
+        (record { full = parts.full ++ parts.last ∷ []; last = text })) text
+        (cond fits (record { part = length parts.full; offset = length parts.last; octets = length text })
+        (record { part = length parts.full + 1; offset = 0; octets = length text }))
+    by true = record {
+      before = parts.last;
+      part = omega arith;
+      found = get_or_past parts.full (length parts.full) (parts.last ++ text) (omega arith);
+      offset = refl;
+    }
+    by false = record {
+      before = [];
+      part = omega (arith, length_push parts.full parts.last);
+      found = get_or_past (parts.full ++ parts.last ∷ []) (length parts.full + 1) text (omega (arith, length_push parts.full parts.last));
+      offset = refl;
+    }
+
+-- where the octets of an entry lie, whose text lies at a place
+abbrev pub data_place : Place → ℕ → Place
+data_place text octets = record { part = text.part; offset = text.offset + ENTRY_HEAD_OCTETS; octets = octets }
+
+entry_head : Key → ℕ → List ℕ
+entry_head key octets = to_be_bytes w16 key.index ++ (key.subindex ∷ octets ∷ [])
+
+headed : (key : Key) (octets : List ℕ) → entry_octets (key, octets) ≡ entry_head key (length octets) ++ octets
+unfolding entry_head
+headed key octets = sym (append_assoc (to_be_bytes w16 key.index) (key.subindex ∷ length octets ∷ []) octets)
+
+length-head : (key : Key) (octets : ℕ) → length (entry_head key octets) ≡ ENTRY_HEAD_OCTETS
+unfolding entry_head
+length-head key octets = refl
+
+range-behind : (before octets : List ℕ) (from : ℕ) → length before ≡ from → slice_range (before ++ octets) from (from + length octets)
+    ≡ octets
+range-behind before octets from is =
+    ap (take (from + length octets - from)) (drop_at before octets from is) ∙ take_all _ octets (omega arith)
+
+pub record LiesThere (later : PartsValue) (place : Place) (said : List ℕ) : Type 0 where
+  pub within : IsWithin later place
+  pub octets : octets_at later place ≡ said
+
+-- the octets of an entry whose text has come behind others
+pub data_lies : (parts : PartsValue) (key : Key) (octets : List ℕ)
+    → LiesThere (with_text parts (entry_octets (key, octets)))
+    (data_place (place_behind parts (length (entry_octets (key, octets)))) (length octets)) octets
+data_lies parts key octets =
+    let text = entry_octets (key, octets) in
+    let there = lies parts text in
+    let place = data_place (place_behind parts (length text)) (length octets) in
+    let before = there.before ++ entry_head key (length octets) in
+    let found : text_numbered (with_text parts text) (place_behind parts (length text)).part ≡ before ++ octets =
+    there.found ∙ ap (λ behind. there.before ++ behind) (headed key octets)
+    ∙ sym (append_assoc there.before (entry_head key (length octets)) octets) in
+    let counted : length before ≡ (place_behind parts (length text)).offset + ENTRY_HEAD_OCTETS =
+    omega (arith, length-append there.before (entry_head key (length octets)), length-head key (length octets), there.offset) in
+    record {
+      within = record { part = there.part; end = omega (arith, counted, ap length found, length-append before octets) };
+      octets = ap (λ front. slice_range front place.offset (place.offset + length octets)) found
+          ∙ range-behind before octets place.offset counted;
+    }
+
+-- ---- what all parts are together
+
+-- one entry more is one text more
+pub grown-push : (entries : List Entry) (entry : Entry) → grown (entries ++ entry ∷ []) ≡ with_text (grown entries) (entry_octets entry)
+grown-push entries entry = fold-append (λ parts entry. with_text parts (entry_octets entry)) no_parts entries (entry ∷ [])
+
+concat-push : (texts : List (List ℕ)) (text : List ℕ) → concat (texts ++ text ∷ []) ≡ concat texts ++ text
+concat-push [] text = append-nil text
+concat-push (one ∷ texts) text = ap (λ rest. one ++ rest) (concat-push texts text) ∙ sym (append_assoc one (concat texts) text)
+
+concat-with_text : (parts : PartsValue) (text : List ℕ) → concat (texts_of (with_text parts text)) ≡ concat (texts_of parts) ++ text
+concat-with_text parts text = by (nat_le (length parts.last + length text) PART_OCTETS)
+  where
+    by : (fits : Bool) → concat (texts_of (cond fits (record { full = parts.full; last = parts.last ++ text })
+        (record { full = parts.full ++ parts.last ∷ []; last = text }))) ≡ concat (texts_of parts) ++ text
+    by true =
+        concat-push parts.full (parts.last ++ text) ∙ sym (append_assoc (concat parts.full) parts.last text)
+        ∙ ap (λ front. front ++ text) (sym (concat-push parts.full parts.last))
+    by false = concat-push (parts.full ++ parts.last ∷ []) text
+
+concat-from : (parts : PartsValue) (entries : List Entry)
+    → concat (texts_of (fold (λ parts entry. with_text parts (entry_octets entry)) parts entries))
+    ≡ concat (texts_of parts) ++ flat_map entry_octets entries
+concat-from parts [] = sym (append-nil (concat (texts_of parts)))
+concat-from parts (entry ∷ entries) =
+    concat-from (with_text parts (entry_octets entry)) entries
+    ∙ ap (λ front. front ++ flat_map entry_octets entries) (concat-with_text parts (entry_octets entry))
+    ∙ append_assoc (concat (texts_of parts)) (entry_octets entry) (flat_map entry_octets entries)
+
+-- the parts in order are the entries' octets
+pub concat-parts_of : (entries : List Entry) → concat (parts_of entries) ≡ flat_map entry_octets entries
+concat-parts_of [] = refl
+concat-parts_of (entry ∷ entries) = concat-from no_parts (entry ∷ entries)
+
+abbrev pub IsShort : List ℕ → Type 0
+IsShort text = length text ≤ PART_OCTETS
+
+all-push : (texts : List (List ℕ)) (text : List ℕ) → AllByRecursion IsShort texts → IsShort text
+    → AllByRecursion IsShort (texts ++ text ∷ [])
+all-push [] text all is = (is, tt)
+all-push (one ∷ texts) text all is = (all.0, all-push texts text all.1 is)
+
+-- parts of which none is long
+record AreShort (parts : PartsValue) : Type 0 where
+  full : AllByRecursion IsShort parts.full
+  last : IsShort parts.last
+
+short-with_text : (parts : PartsValue) (text : List ℕ) → AreShort parts → IsShort text → AreShort (with_text parts text)
+short-with_text parts text are is = by (nat_le (length parts.last + length text) PART_OCTETS) refl
+  where
+    by : (fits : Bool) → nat_le (length parts.last + length text) PART_OCTETS ≡ fits
+        → AreShort (cond fits (record { full = parts.full; last = parts.last ++ text })
+        (record { full = parts.full ++ parts.last ∷ []; last = text }))
+    by true fits = record {
+      full = are.full;
+      last = let room : length parts.last + length text ≤ PART_OCTETS = leb-true _ _ fits in
+          omega (arith, length-append parts.last text, room);
+    }
+    by false fits = record { full = all-push parts.full parts.last are.full are.last; last = is }
+
+short-from : (parts : PartsValue) (entries : List Entry) → AreShort parts → All IsEntry entries
+    → AreShort (fold (λ parts entry. with_text parts (entry_octets entry)) parts entries)
+short-from parts [] are all = are
+short-from parts (entry ∷ entries) are all =
+    let is : IsEntry entry = all 0 entry (omega arith) in
+    let short : IsShort (entry_octets entry) =
+    omega (arith, is.short, length-append (to_be_bytes w16 entry.0.index) (entry.0.subindex ∷ length entry.1 ∷ entry.1)) in
+    short-from (with_text parts (entry_octets entry)) entries (short-with_text parts (entry_octets entry) are short)
+    (λ i d below. all (suc i) d (omega (arith, below)))
+
+found-short : (texts : List (List ℕ)) (i : ℕ) → AllByRecursion IsShort texts → IfSome (slice_get texts i) IsShort
+found-short [] i all = tt
+found-short (text ∷ texts) zero all = all.0
+found-short (text ∷ texts) (suc i) all = found-short texts i all.1
+
+-- and none has more than 512 octets
+pub short-parts_of : (entries : List Entry) (i : ℕ) → All IsEntry entries → IfSome (slice_get (parts_of entries) i) IsShort
+short-parts_of [] i all = tt
+short-parts_of (entry ∷ entries) i all =
+    let are = short-from no_parts (entry ∷ entries) (record { full = tt; last = omega arith }) all in
+    found-short _ i (all-push _ _ are.full are.last)

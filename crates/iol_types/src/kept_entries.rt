@@ -1,0 +1,148 @@
+//! The entries of a set in memory: their parts, and where in them the octets of each key lie.
+ghost use Rattle.std.specs.Prelude.{◌≡◌, ◌≤◌, [], ◌∷◌, ◌++◌, length, slice_get, is_some, OnOk, OnErr, None};
+ghost use Rattle.std.specs.Option.{option_copied, option_map};
+ghost use Rattle.iol_types.specs.Parts.{entry_octets};
+ghost use Rattle.iol_types.specs.declared.data_set.TheConstants.{MOST_ENTRY_OCTETS};
+
+use crate::data_set::ENTRY_HEAD_OCTETS;
+use crate::key::Key;
+use crate::parts::{Parts, Place};
+use arrayvec::ArrayVec;
+use indexmap::IndexMap;
+use std::alloc::{AllocError, Global};
+use std::marker::Model;
+
+// The most octets of an entry in a part: its head, and 232.
+const MOST_TEXT_OCTETS: usize = 236;
+
+// Entries, each behind the one that came before it. A contract sees them as a list.
+#[derive(Debug, Drop)]
+pub(crate) struct Entries {
+    places: IndexMap<Key, Place>,
+    parts: Parts,
+    octets: usize,
+}
+
+impl Model for Entries {
+    ghost use Rattle.std.specs.Prelude.{List};
+    ghost use Rattle.iol_types.specs.DataSet.{Entry};
+
+    ghost Value = { List Entry };
+
+    ghost use Rattle.iol_types.specs.EntriesInMemory.{entries_in, AreKept};
+
+    ghost view = { entries_in };
+
+    ghost invariant = { λ s. AreKept s.parts s.places.entries s.octets };
+}
+
+impl Entries {
+    ghost use Rattle.iol_types.specs.DataSet.{octets_of, data_at, add_fault};
+    ghost use Rattle.iol_types.specs.Parts.{parts_of};
+
+    // No entries. It takes no memory.
+    pub(crate) fn new(alloc: Global) -> Entries
+        ensures { result ≡ [] }
+    {
+        Entries {
+            places: IndexMap::new(alloc),
+            parts: Parts::new(alloc),
+            octets: 0,
+        }
+    }
+
+    // The octets that a key has, if it is there.
+    pub(crate) fn get(&self, key: Key) -> Option<&[u8]>
+        ensures { option_copied result ≡ data_at self.now key }
+    {
+        match self.places.get(&key) {
+            Some(place) => Some(self.parts.octets_at(*place)),
+            None => None,
+        }
+    }
+
+    // Whether a key is there.
+    pub(crate) fn has(&self, key: Key) -> bool
+        ensures { result ≡ is_some (data_at self.now key) }
+    {
+        self.places.contains_key(&key)
+    }
+
+    // An entry by its number, from 0, if it is there.
+    pub(crate) fn entry(&self, number: usize) -> Option<(Key, &[u8])>
+        ensures { option_map (λ entry. (entry.0, entry.1.now)) result ≡ slice_get self.now number }
+    {
+        match self.places.get_index(number) {
+            Some((key, place)) => Some((*key, self.parts.octets_at(*place))),
+            None => None,
+        }
+    }
+
+    // How many entries there are.
+    pub(crate) fn len(&self) -> usize
+        ensures { result ≡ length self.now }
+    {
+        self.places.len()
+    }
+
+    // What the entries count: 4 for each, and its octets.
+    pub(crate) fn octets(&self) -> usize
+        ensures { result ≡ octets_of self.now }
+    {
+        self.octets
+    }
+
+    // How many parts there are.
+    pub(crate) fn parts(&self) -> usize
+        ensures { result ≡ length (parts_of self.now) }
+    {
+        if self.places.is_empty() {
+            0
+        } else {
+            self.parts.len()
+        }
+    }
+
+    // A part by its number, from 0, if it is there.
+    pub(crate) fn part(&self, number: usize) -> Option<&[u8]>
+        ensures { option_copied result ≡ slice_get (parts_of self.now) number }
+    {
+        if self.places.is_empty() {
+            None
+        } else {
+            self.parts.text(number)
+        }
+    }
+
+    // Puts an entry behind the others.
+    pub(crate) fn push(&mut self, key: Key, octets: &[u8]) -> Result<(), AllocError>
+        requires { add_fault self.old key octets.now ≡ None }
+        ensures pushed { OnOk result (self.new ≡ self.old ++ (key, octets.now) ∷ []) }
+        ensures kept { OnErr result (self.new ≡ self.old) }
+    {
+        self.places.reserve(1)?;
+        let text = self.parts.push(text_of(key, octets).as_slice())?;
+        let place = Place {
+            part: text.part,
+            offset: text.offset + ENTRY_HEAD_OCTETS,
+            octets: octets.len(),
+        };
+        // There is room now, so it goes in.
+        let _ = self.places.insert(key, place);
+        self.octets += ENTRY_HEAD_OCTETS + octets.len();
+        Ok(())
+    }
+}
+
+// An entry as a record spells it.
+fn text_of(key: Key, octets: &[u8]) -> ArrayVec<u8, MOST_TEXT_OCTETS>
+    requires { length octets.now ≤ MOST_ENTRY_OCTETS }
+    ensures { result.items ≡ entry_octets (key, octets.now) }
+{
+    let mut text = ArrayVec::new();
+    let _ = text.try_extend_from_slice(&key.index.to_be_bytes());
+    text.push(key.subindex);
+    text.push(octets.len() as u8);
+    let _ = text.try_extend_from_slice(octets);
+    text
+}
