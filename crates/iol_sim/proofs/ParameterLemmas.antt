@@ -1,23 +1,43 @@
 -- Parameters of a device: in memory and apart from it, one more, and written.
-use Rattle.std.proofs.Common.{◌≡◌, ℕ, ◌≤◌, ◌<◌, Bool, true, false, cond, List, [], ◌∷◌, ◌++◌, length, Some, None, refl, ap, sym, ◌∙◌, subst}
-use Rattle.std.proofs.Common.{arith, is_some, length-append, zero, suc}
+use Rattle.std.proofs.Common.{◌≡◌, ℕ, ◌≤◌, ◌<◌, Bool, true, false, cond, List, [], ◌∷◌, ◌++◌, length, Option, Some, None}
+use Rattle.std.proofs.Common.{refl, ap, sym, ◌∙◌, subst, arith, is_some, length-append, zero, suc}
 use Rattle.std.specs.Prelude.{nat_lt, All, slice_get}
 use Rattle.std.specs.List.{IsDistinct}
-use Rattle.std.specs.Map.{keys_of}
+use Rattle.std.specs.Map.{keys_of, lookup}
+use Rattle.std.specs.Option.{option_map}
 use Rattle.std.proofs.lemmas.List.{map-append}
 use Rattle.std.proofs.lemmas.List.Elements.{All-cons, All-push, All-head, All-tail}
 use Rattle.std.proofs.lemmas.Bool.{ltb-false}
 use Rattle.std.proofs.lemmas.Bool.Decides.{nat_tests}
+use Rattle.std.proofs.lemmas.Map.Made.{lookup-map_values}
 use Rattle.arrayvec.specs.ArrayVec.{ArrayVec}
 use Rattle.indexmap.specs.IndexMap.{insert_entry}
 use Rattle.iol_types.specs.Key.{IsKey, same_key, is_reserved}
-use Rattle.iol_types.specs.DataSet.{Entry, IsEntry, data_at, entries_of}
+use Rattle.iol_types.specs.DataSet.{Entry, IsEntry, data_at}
 use Rattle.iol_types.proofs.Entries.{distinct-push}
 use Rattle.iol_types.specs.declared.key.Key.{Key}
 use Rattle.iol_types.specs.declared.data_set.TheConstants.{MOST_ENTRY_OCTETS}
-use Rattle.iol_sim.specs.Parameters.{AreParameters, add_fault}
+use Rattle.iol_sim.specs.Parameters.{AreParameters, add_fault, entries_of}
 use Rattle.iol_sim.specs.declared.parameters.TheConstants.{MOST_PARAMETERS}
 use Rattle.iol_sim.specs.declared.parameters.DeviceFault.TheVariants.{ReservedKey, TooLong, Duplicate, TooMany}
+
+-- ---- in memory
+
+-- a key is there exactly where its parameter is
+pub is_some-entries_of : (test : Key → Bool) (kept : List (Key × ArrayVec ℕ)) → is_some (lookup test (entries_of kept))
+    ≡ is_some (lookup test kept)
+is_some-entries_of test kept =
+    ap is_some (lookup-map_values (λ value. value.items) test kept)
+    ∙ elim (lookup test kept) as (λ found. is_some (option_map (λ value. value.items) found) ≡ is_some found)
+    [ None ↦ refl | Some value ↦ refl ]
+
+pub none-entries_of : (test : Key → Bool) (kept : List (Key × ArrayVec ℕ)) → is_some (lookup test (entries_of kept)) ≡ false
+    → lookup test kept ≡ None
+none-entries_of test kept absent = by (lookup test kept) (sym (is_some-entries_of test kept) ∙ absent)
+  where
+    by : (found : Option (ArrayVec ℕ)) → is_some found ≡ false → found ≡ None
+    by None none = refl
+    by (Some value) none = cc
 
 -- ---- one more
 

@@ -1,7 +1,9 @@
 -- The parameters of a simulated device.
-use Rattle.std.specs.Prelude.{ℕ, ◌+◌, ◌*◌, ◌%◌, ◌^◌, ◌≤◌, nat_lt, if◌then◌else◌, List, [], ◌∷◌, length, All, Option, Some, None, is_some}
+use Rattle.std.specs.Prelude.{ℕ, ◌+◌, ◌*◌, ◌%◌, ◌^◌, ◌≤◌, nat_lt, if◌then◌else◌, List, [], ◌∷◌, length, map, All, Option, Some, None}
+use Rattle.std.specs.Prelude.{is_some}
 use Rattle.std.specs.List.{flat_map, IsDistinct}
 use Rattle.std.specs.Map.{keys_of}
+use Rattle.arrayvec.specs.ArrayVec.{ArrayVec}
 use Rattle.iol_types.specs.Key.{same_key, is_reserved}
 use Rattle.iol_types.specs.DataSet.{Entry, IsEntry, data_at}
 use Rattle.iol_types.specs.declared.key.Key.{Key}
@@ -9,6 +11,10 @@ use Rattle.iol_types.specs.declared.data_set.TheConstants.{MOST_ENTRY_OCTETS}
 use Rattle.iol_sim.specs.declared.parameters.TheConstants.{MOST_PARAMETERS}
 use Rattle.iol_sim.specs.declared.parameters.DeviceFault.{DeviceFault}
 use Rattle.iol_sim.specs.declared.parameters.DeviceFault.TheVariants.{ReservedKey, TooLong, Duplicate, TooMany}
+
+-- parameters in memory, as entries (own)
+abbrev pub entries_of : List (Key × ArrayVec ℕ) → List Entry
+entries_of kept = map (λ entry. (entry.0, entry.1.items)) kept
 
 -- parameters that a simulated device may have: each may stand in a parameter set, no key stands
 -- twice, and they are at most 70 (own)

@@ -51,8 +51,8 @@ pub struct Parameters {
 
 impl Model for Parameters {
     ghost use Rattle.std.specs.Prelude.{List};
-    ghost use Rattle.iol_types.specs.DataSet.{Entry, entries_of};
-    ghost use Rattle.iol_sim.specs.Parameters.{AreParameters};
+    ghost use Rattle.iol_types.specs.DataSet.{Entry};
+    ghost use Rattle.iol_sim.specs.Parameters.{AreParameters, entries_of};
 
     ghost Value = { List Entry };
 

@@ -2,8 +2,9 @@ use Rattle.std.proofs.Common.{◌≡◌, sym, ap, ◌∙◌, subst, None, [], �
 use Rattle.indexmap.specs.IndexMap.{insert_entry}
 use Rattle.indexmap.proofs.CallerLemmas.{insert_entry-new}
 use Rattle.iol_types.specs.Key.{same_key}
-use Rattle.iol_types.specs.DataSet.{Entry, entries_of}
-use Rattle.iol_types.proofs.Entries.{none-entries_of}
+use Rattle.iol_types.specs.DataSet.{Entry}
+use Rattle.iol_sim.specs.Parameters.{entries_of}
+use Rattle.iol_sim.proofs.ParameterLemmas.{none-entries_of}
 use Rattle.iol_sim.specs.Parameters.{AreParameters, add_fault}
 use Rattle.iol_sim.proofs.ParameterLemmas.{may_be_added, Grown, grown}
 use Rattle.iol_sim.proofs.parameters.Parameters.add.Goals as goal

@@ -3,7 +3,7 @@ use Rattle.std.specs.Map.Iter.{deref_pair}
 use Rattle.std.specs.Option.{option_map}
 use Rattle.arrayvec.specs.ArrayVec.{ArrayVec}
 use Rattle.iol_types.specs.declared.key.Key.{Key}
-use Rattle.iol_types.specs.DataSet.{entries_of}
+use Rattle.iol_sim.specs.Parameters.{entries_of}
 use Rattle.iol_sim.proofs.ParameterLemmas.{at-place, at-kept}
 use Rattle.iol_sim.proofs.parameters.Parameters.at.Goals as goal
 

@@ -2,8 +2,9 @@ use Rattle.std.proofs.Common.{◌≡◌, sym, ap, ◌∙◌, subst, List, is_som
 use Rattle.std.specs.Map.{lookup}
 use Rattle.indexmap.specs.IndexMap.{insert_entry}
 use Rattle.iol_types.specs.Key.{same_key}
-use Rattle.iol_types.specs.DataSet.{Entry, entries_of, data_at}
-use Rattle.iol_types.proofs.Entries.{is_some-entries_of}
+use Rattle.iol_types.specs.DataSet.{Entry, data_at}
+use Rattle.iol_sim.specs.Parameters.{entries_of}
+use Rattle.iol_sim.proofs.ParameterLemmas.{is_some-entries_of}
 use Rattle.iol_sim.specs.Parameters.{AreParameters}
 use Rattle.iol_sim.proofs.ParameterLemmas.{entries_of-written, are-written}
 use Rattle.iol_sim.proofs.parameters.Parameters.write.Goals as goal
