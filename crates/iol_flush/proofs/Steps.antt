@@ -20,7 +20,7 @@ use Rattle.iol_journal.specs.declared.batch.Batch.{Batch}
 use Rattle.iol_journal.specs.declared.journal.BeginCause.{BeginCause}
 use Rattle.iol_journal.specs.declared.journal.BeginCause.TheVariants.{TooLarge, NeedsCheckpoint, Misfit}
 use Rattle.iol_journal.specs.declared.phase.Phase.TheVariants.{Body}
-use Rattle.iol_flush.specs.Stages.{is_full, disk_of, next_calls, calls_owed, failure_of, HasHistory, StandsBehind, IsInStep}
+use Rattle.iol_flush.specs.Stages.{wants_checkpoint, disk_of, next_calls, calls_owed, failure_of, HasHistory, StandsBehind, IsInStep}
 use Rattle.iol_flush.specs.Steps.{writing_of, checkpoint_of, HasWritten, HasBegun, HasCheckpointed, HasMade, IsDiskStep}
 use Rattle.iol_flush.specs.declared.need.Need.TheVariants as need
 use Rattle.iol_flush.specs.declared.fault.FlushFault.{FlushFault}
@@ -28,7 +28,7 @@ use Rattle.iol_flush.specs.declared.fault.FlushFault.TheVariants as fault
 use Rattle.iol_flush.specs.declared.stage.Stage.{Stage}
 use Rattle.iol_flush.specs.declared.stage.Stage.TheVariants.{Resting, Given, Checkpointing, Writing, Publishing, Failed}
 
--- a batch that is taken finds a free slot
+-- a batch that is taken finds free slots
 abbrev Refused : Bool → Bool → Bool → Option BeginCause
 Refused large full fits = if large then Some TooLarge else if full then Some NeedsCheckpoint else if fits then None else Some Misfit
 
@@ -38,9 +38,10 @@ finds_slot false true fits none = search rules
 finds_slot false false fits none = refl
 
 pub not_full : {D : Type 0} (j : JournalView D) (batch : Batch) → batch_refusal j.standing batch.first (values batch.commands.items) ≡ None
-    → is_full j ≡ false
+    → wants_checkpoint j.standing (values batch.commands.items) ≡ false
 not_full j batch none =
-    finds_slot (is_too_large (values batch.commands.items)) (is_full j) (follows j.standing batch.first (values batch.commands.items)) none
+    finds_slot (is_too_large j.standing.layout.slots (values batch.commands.items))
+    (wants_checkpoint j.standing (values batch.commands.items)) (follows j.standing batch.first (values batch.commands.items)) none
 
 next_of_batch : {D : Type 0} (j : JournalView D) (batch : Batch) → batch_refusal j.standing batch.first (values batch.commands.items) ≡ None
     → next_calls (Given j batch) ≡ batch_calls j.standing (values batch.commands.items)
@@ -166,7 +167,8 @@ begun_in_step start published false j batch new has was =
 
 made_in_step : {D : Type 0} (start : Start) (published : List CommandValue) (old new : Stage D) → HasMade old new
     → IsInStep start old published → IsInStep start new published
-made_in_step start published (Given j batch) new has was = begun_in_step start published (is_full j) j batch new has was
+made_in_step start published (Given j batch) new has was =
+    begun_in_step start published (wants_checkpoint j.standing (values batch.commands.items)) j batch new has was
 made_in_step start published (Checkpointing c batch) new has was = checkpointed_in_step start published c batch new has was
 made_in_step start published (Writing w) new has was = written_in_step start published w new has was
 made_in_step start published (Resting j) new has was = absurd has

@@ -1,26 +1,27 @@
 -- Each disk call leaves fewer calls to make, and a batch of the queue is never refused for what it is.
-use Rattle.std.proofs.Common.{◌≡◌, ◌≤◌, ◌⊎◌, inl, inr, ◌+◌, ◌==◌, ℕ, Bool, true, false, if◌then◌else◌, List, [], length, Option, Some, None}
-use Rattle.std.proofs.Common.{Result, Ok, Err, sym, ◌∙◌, ap, subst, arith, rules}
-use Rattle.std.proofs.lemmas.Bool.Decides.{nat_tests}
+use Rattle.std.proofs.Common.{◌≡◌, ◌≤◌, ◌⊎◌, inl, inr, ◌+◌, ◌||◌, ℕ, Bool, true, false, if◌then◌else◌, nat_lt, List, [], length}
+use Rattle.std.proofs.Common.{Option, Some, None, zero-add, Result, Ok, Err, sym, ◌∙◌, ap, subst, arith, rules}
 use Rattle.iol_disk.specs.Calls.{Call}
 use Rattle.iol_disk.specs.Disk.{Disk}
 use Rattle.iol_journal.specs.Batches.{batch_calls}
 use Rattle.iol_journal.specs.Begin.{is_too_large, follows}
+use Rattle.iol_journal.specs.Body.{slots_for}
 use Rattle.iol_journal.specs.CheckpointViews.{CheckpointingView, stages_left}
-use Rattle.iol_journal.specs.Checkpoints.{checkpoint_calls}
+use Rattle.iol_journal.specs.Checkpoints.{checkpoint_calls, checkpointed}
 use Rattle.iol_journal.specs.Journals.{JournalView, WritingView, values, calls_left}
 use Rattle.iol_journal.specs.Meaning.{Standing}
 use Rattle.iol_journal.specs.Progress.{MakesFirst}
 use Rattle.iol_journal.specs.declared.batch.Batch.{Batch}
+use Rattle.iol_types.specs.Command.{CommandValue}
 use Rattle.iol_journal.specs.declared.place.Idle.{Idle}
 use Rattle.iol_journal.specs.declared.place.Idle.TheVariants.{Older, Closed}
 use Rattle.iol_journal.specs.declared.journal.BeginCause.{BeginCause}
 use Rattle.iol_journal.specs.declared.journal.BeginCause.TheVariants.{TooLarge, NeedsCheckpoint, Misfit}
 use Rattle.iol_disk.specs.declared.fault.DiskFault.{DiskFault}
 use Rattle.iol_flush.specs.Flushing.{FitsBatch, GoesOn}
-use Rattle.iol_flush.specs.Stages.{failure_of, is_full, disk_of, calls_owed, HasFewCalls, most_checkpoint_calls}
+use Rattle.iol_flush.specs.Stages.{failure_of, wants_checkpoint, disk_of, calls_owed, HasFewCalls, most_batch_calls, most_checkpoint_calls}
 use Rattle.iol_flush.specs.Steps.{HasWritten, HasCheckpointed, HasBegun, HasMade, IsDiskStep, IsUnfit, writing_of, checkpoint_of}
-use Rattle.iol_flush.specs.Turns.{calls_needed}
+use Rattle.iol_flush.specs.Turns.{calls_needed, given_calls}
 use Rattle.iol_flush.specs.declared.fault.FlushFault.{FlushFault}
 use Rattle.iol_flush.specs.declared.fault.FlushFault.TheVariants as fault
 use Rattle.iol_flush.specs.declared.stage.Stage.{Stage}
@@ -30,9 +31,15 @@ use Rattle.iol_flush.specs.declared.stage.Stage.TheVariants.{Resting, Given, Che
 one_less : (calls left : List Call) (old new : Disk) → MakesFirst calls left old new → length calls ≡ length left + 1
 one_less calls left old new made = ap length made.order ∙ omega arith
 
--- an area of which no slot is used is not full
-not_full : (slots : ℕ) → 1 ≤ slots → (0 == slots) ≡ false
-not_full slots some = grind (arith, nat_tests, some)
+-- a batch that fits an area finds room where no slot is used
+finds_room : (slots : ℕ) (commands : List CommandValue) → is_too_large slots commands ≡ false
+    → nat_lt slots (0 + slots_for commands) ≡ false
+finds_room slots commands small =
+    rw zero-add (second (nat_lt 64 (length commands)) (nat_lt slots (slots_for commands)) small)
+  where
+    second : (many long : Bool) → (many || long) ≡ false → long ≡ false
+    second true long small = absurd cc
+    second false long small = small
 
 -- a checkpoint has two disk calls at least
 two_calls : (s : Standing) (idle : Idle) → 2 ≤ length (checkpoint_calls s idle)
@@ -40,8 +47,8 @@ two_calls s Older = omega arith
 two_calls s Closed = omega arith
 
 -- what a batch needs in a journal that stands so
-abbrev given_needs : Standing → ℕ
-given_needs s = 21 + (if s.used == s.layout.slots then most_checkpoint_calls s.layout + 1 else 0)
+abbrev given_needs : Standing → List CommandValue → ℕ
+given_needs s commands = given_calls s.layout commands (wants_checkpoint s commands)
 
 module _ {D : Type 0} (disk : D → Disk) where
   written_needs : (w : WritingView D) (new : Stage D) (n : ℕ) → HasWritten w new → length (calls_owed new) + 1 ≤ n → calls_needed new + 1
@@ -53,34 +60,45 @@ module _ {D : Type 0} (disk : D → Disk) where
   written_needs w (Checkpointing c b) n has le = absurd has
   written_needs w (Failed d f) n has le = absurd has
 
-  checkpointed_needs : (c : CheckpointingView D) (batch : Batch) (new : Stage D) (n : ℕ) → 1 ≤ c.standing.layout.slots
+  checkpointed_needs : (c : CheckpointingView D) (batch : Batch) (new : Stage D) (n : ℕ)
+      → is_too_large c.standing.layout.slots (values batch.commands.items) ≡ false
       → HasCheckpointed c batch new
-      → length (calls_owed new) + 1 ≤ n → calls_needed new + 1 ≤ 21 + n
-  checkpointed_needs c batch (Checkpointing d kept) n some has le = omega (arith, le)
-  checkpointed_needs c batch (Given j kept) n some has le =
-      subst (λ (s : Standing). given_needs s + 1 ≤ 21 + n) (sym has.0)
-      (subst (λ (full : Bool). 21 + (if full then most_checkpoint_calls c.standing.layout + 1 else 0) + 1 ≤ 21 + n)
-      (sym (not_full c.standing.layout.slots some))
-      (omega (arith, le)))
-  checkpointed_needs c batch (Resting j) n some has le = absurd has
-  checkpointed_needs c batch (Writing w) n some has le = absurd has
-  checkpointed_needs c batch (Publishing j written) n some has le = absurd has
-  checkpointed_needs c batch (Failed d f) n some has le = absurd has
+      → length (calls_owed new) + 1 ≤ n → calls_needed new + 1 ≤ most_batch_calls (values batch.commands.items) + 2 + n
+  checkpointed_needs c batch (Checkpointing d kept) n small has le =
+      omega (arith, le, ap (λ (b : Batch). most_batch_calls (values b.commands.items)) has.2)
+  checkpointed_needs c batch (Given j kept) n small has le =
+      let commands = values batch.commands.items in
+      subst (λ (s : Standing). given_needs s (values kept.commands.items) + 1 ≤ most_batch_calls commands + 2 + n) (sym has.0)
+      (subst (λ (b : Batch). given_needs (checkpointed c.standing) (values b.commands.items) + 1 ≤ most_batch_calls commands + 2 + n)
+      (sym has.2)
+      (subst (λ (full : Bool). given_calls c.standing.layout commands full + 1 ≤ most_batch_calls commands + 2 + n)
+      (sym (finds_room c.standing.layout.slots commands small))
+      (omega (arith, le))))
+  checkpointed_needs c batch (Resting j) n small has le = absurd has
+  checkpointed_needs c batch (Writing w) n small has le = absurd has
+  checkpointed_needs c batch (Publishing j written) n small has le = absurd has
+  checkpointed_needs c batch (Failed d f) n small has le = absurd has
 
   begun_needs : (full : Bool) (j : JournalView D) (batch : Batch) (new : Stage D) (old next : Disk) → HasBegun full j batch new
       → HasFewCalls new
       → MakesFirst (if full then checkpoint_calls j.standing j.idle else batch_calls j.standing (values batch.commands.items))
       (calls_owed new) old next
-      → calls_needed new + 1 ≤ 21 + (if full then most_checkpoint_calls j.standing.layout + 1 else 0)
+      → calls_needed new + 1 ≤ given_calls j.standing.layout (values batch.commands.items) full
   begun_needs true j batch (Checkpointing c kept) old next has few made =
-      subst (λ (s : Standing). 21 + length (stages_left c) + 1 ≤ 21 + (most_checkpoint_calls s.layout + 1)) has.1.0 (omega (arith, few.1))
+      omega (
+        arith,
+        few.1,
+        ap (λ (b : Batch). most_batch_calls (values b.commands.items)) has.1.2,
+        ap (λ (s : Standing). most_checkpoint_calls s.layout) has.1.0,
+      )
   begun_needs true j batch (Given k kept) old next has few made =
       absurd (omega (arith, two_calls j.standing j.idle, one_less (checkpoint_calls j.standing j.idle) [] old next made))
   begun_needs true j batch (Resting k) old next has few made = absurd has.1
   begun_needs true j batch (Writing w) old next has few made = absurd has.1
   begun_needs true j batch (Publishing k written) old next has few made = absurd has.1
   begun_needs true j batch (Failed d f) old next has few made = absurd has.1
-  begun_needs false j batch (Writing w) old next has few made = omega (arith, few)
+  begun_needs false j batch (Writing w) old next has few made =
+      omega (arith, few, ap most_batch_calls has.1.3)
   begun_needs false j batch (Publishing k written) old next has few made = omega arith
   begun_needs false j batch (Given k kept) old next has few made = absurd has.1
   begun_needs false j batch (Checkpointing c kept) old next has few made = absurd has.1
@@ -91,7 +109,8 @@ module _ {D : Type 0} (disk : D → Disk) where
   pub advances : (old new : Stage D) → HasFewCalls old → HasFewCalls new → IsDiskStep disk old new (Ok tt) → calls_needed new + 1
       ≤ calls_needed old
   advances (Given j batch) new few_old few_new step =
-      begun_needs (is_full j) j batch new (disk j.disk) (disk (disk_of new)) step.0 few_new step.1
+      begun_needs (wants_checkpoint j.standing (values batch.commands.items)) j batch new (disk j.disk) (disk (disk_of new)) step.0 few_new
+      step.1
   advances (Checkpointing c batch) new few_old few_new step =
       checkpointed_needs c batch new (length (stages_left c)) few_old.0 step.0
       (omega (arith, one_less (stages_left c) (calls_owed new) (disk c.disk) (disk (disk_of new)) step.1))
@@ -118,7 +137,9 @@ only_full false false false small fit is = search rules
 -- a batch that goes on where the journal stands is not refused for what it is
 pub is_fit : {D : Type 0} (stage : Stage D) → GoesOn stage → IsUnfit stage → ⊥
 is_fit (Given j batch) goes unfit =
-    only_full (is_too_large (values batch.commands.items)) (is_full j) (follows j.standing batch.first (values batch.commands.items))
+    only_full (is_too_large j.standing.layout.slots (values batch.commands.items))
+    (wants_checkpoint j.standing (values batch.commands.items))
+    (follows j.standing batch.first (values batch.commands.items))
     goes.small goes.next unfit
 is_fit (Resting j) goes unfit = unfit
 is_fit (Checkpointing c batch) goes unfit = unfit
@@ -147,7 +168,7 @@ written_goes w (Given j b) has = absurd has
 written_goes w (Checkpointing c b) has = absurd has
 
 made_goes : {D : Type 0} (old new : Stage D) → HasMade old new → GoesOn old → GoesOn new
-made_goes (Given j batch) new has goes = begun_goes (is_full j) has
+made_goes (Given j batch) new has goes = begun_goes (wants_checkpoint j.standing (values batch.commands.items)) has
   where
     begun_goes : (full : Bool) → HasBegun full j batch new → GoesOn new
     begun_goes true has = checkpointed_goes (checkpoint_of j) batch new has.1 goes

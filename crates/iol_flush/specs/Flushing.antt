@@ -51,9 +51,9 @@ IsFlushing disk number state published waiting marks (Failed left fault) =
     (underway behind : List CommandValue) × (waiting ≡ underway ++ behind)
     × IsRun (disk left) (run_of number state published underway behind marks)
 
--- a batch goes on where a journal stands: it fits a slot, and follows (own)
+-- a batch goes on where a journal stands: it fits an area, and follows (own)
 pub record FitsBatch (standing : Standing) (batch : Batch) : Type 0 where
-  pub small : is_too_large (values batch.commands.items) ≡ false
+  pub small : is_too_large standing.layout.slots (values batch.commands.items) ≡ false
   pub next : follows standing batch.first (values batch.commands.items) ≡ true
 
 -- the batch that was given, if one is still to be begun, goes on where the journal stands (own)

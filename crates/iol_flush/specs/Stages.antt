@@ -1,16 +1,20 @@
 -- How far a flusher is: what it needs, its disk, and the disk calls that are owed.
-use Rattle.std.specs.Prelude.{◌≡◌, ◌≤◌, ℕ, ◌+◌, ◌*◌, ◌==◌, Bool, if◌then◌else◌, List, [], ◌++◌, length, Option, Some, None}
+use Rattle.std.specs.Prelude.{◌≡◌, ◌≤◌, ℕ, ◌+◌, ◌*◌, nat_lt, Bool, false, if◌then◌else◌, List, [], ◌++◌, length, Option, Some, None}
 use Rattle.iol_types.specs.Command.{CommandValue}
 use Rattle.iol_types.specs.State.{after}
 use Rattle.iol_disk.specs.Calls.{Call}
 use Rattle.iol_disk.specs.declared.fault.DiskFault.{DiskFault}
 use Rattle.iol_front.specs.Fronts.{Start}
 use Rattle.iol_journal.specs.Batches.{batch_calls}
+use Rattle.iol_journal.specs.Begin.{is_too_large, room_in}
+use Rattle.iol_journal.specs.Body.{slots_of, slots_for}
 use Rattle.iol_journal.specs.Checkpoints.{checkpoint_calls}
 use Rattle.iol_journal.specs.CheckpointViews.{stages_left}
 use Rattle.iol_journal.specs.Layout.{Layout}
 use Rattle.iol_journal.specs.Meaning.{Standing}
-use Rattle.iol_journal.specs.Journals.{JournalView, calls_left, values}
+use Rattle.iol_journal.specs.Journals.{calls_left, values}
+use Rattle.iol_journal.specs.declared.batch.TheConstants.{MOST_RECORD_OCTETS}
+use Rattle.iol_journal.specs.declared.geometry.TheConstants.{BODY_SECTORS}
 use Rattle.iol_journal.specs.declared.history.History.{History}
 use Rattle.iol_flush.specs.declared.need.Need.{Need}
 use Rattle.iol_flush.specs.declared.need.Need.TheVariants as need
@@ -31,6 +35,17 @@ abbrev pub failure_of : {D : Type 0} → Stage D → Option DiskFault
 failure_of (Failed disk fault) = Some fault
 failure_of stage = None
 
+-- the octets of records that a batch may have which is given now: what fits the free slots of a journal at rest, or where
+-- none is free one slot; at other stages one slot (own)
+abbrev pub room_of : {D : Type 0} → Stage D → ℕ
+room_of (Resting journal) = room_in journal.standing
+room_of stage = MOST_RECORD_OCTETS
+
+-- records of no more than so many octets fit the area of a journal at rest (own)
+abbrev pub HasRoom : {D : Type 0} → Stage D → ℕ → Type 0
+HasRoom (Resting journal) room = (octets : ℕ) → octets ≤ room → slots_of octets ≤ journal.standing.layout.slots
+HasRoom stage room = Unit {0}
+
 -- the disk of a flusher (own)
 abbrev pub disk_of : {D : Type 0} → Stage D → D
 disk_of (Resting journal) = journal.disk
@@ -46,14 +61,15 @@ calls_owed (Checkpointing checkpoint batch) = stages_left checkpoint
 calls_owed (Writing writing) = calls_left writing
 calls_owed stage = []
 
--- no slot of a journal is free (own)
-abbrev pub is_full : {D : Type 0} → JournalView D → Bool
-is_full journal = journal.standing.used == journal.standing.layout.slots
+-- too few slots of a journal are free for commands (own)
+abbrev pub wants_checkpoint : Standing → List CommandValue → Bool
+wants_checkpoint standing commands = nat_lt standing.layout.slots (standing.used + slots_for commands)
 
--- the disk calls that come next: those of a batch that was given or, where no slot is free for it, of a checkpoint (own)
+-- the disk calls that come next: those of a batch that was given or, where too few slots are free for it, of a checkpoint
+-- (own)
 abbrev pub next_calls : {D : Type 0} → Stage D → List Call
 next_calls (Given journal batch) =
-    if is_full journal then checkpoint_calls journal.standing journal.idle
+    if wants_checkpoint journal.standing (values batch.commands.items) then checkpoint_calls journal.standing journal.idle
     else batch_calls journal.standing (values batch.commands.items)
 next_calls stage = calls_owed stage
 
@@ -84,11 +100,16 @@ IsInStep start (Failed disk fault) published = Unit {0}
 abbrev pub most_checkpoint_calls : Layout → ℕ
 most_checkpoint_calls layout = layout.slots + 9 * layout.ports + 9
 
--- what is on its way has few disk calls: 19 of a batch, and those of a checkpoint into an area that has a slot (own)
+-- the most disk calls of a batch: 16 for each command, which takes a slot at most, and three more (own)
+abbrev pub most_batch_calls : List CommandValue → ℕ
+most_batch_calls commands = BODY_SECTORS * length commands + 3
+
+-- what is on its way has few disk calls: those of a batch, and those of a checkpoint into an area that the batch fits (own)
 abbrev pub HasFewCalls : {D : Type 0} → Stage D → Type 0
 HasFewCalls (Checkpointing checkpoint batch) =
-    (1 ≤ checkpoint.standing.layout.slots) × (length (stages_left checkpoint) ≤ most_checkpoint_calls checkpoint.standing.layout)
-HasFewCalls (Writing writing) = length (calls_left writing) ≤ 19
+    (is_too_large checkpoint.standing.layout.slots (values batch.commands.items) ≡ false)
+    × (length (stages_left checkpoint) ≤ most_checkpoint_calls checkpoint.standing.layout)
+HasFewCalls (Writing writing) = length (calls_left writing) ≤ most_batch_calls writing.commands
 HasFewCalls stage = Unit {0}
 
 -- a flusher as contracts see it: how far it is, and the list that is published (own)

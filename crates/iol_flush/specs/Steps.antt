@@ -12,7 +12,7 @@ use Rattle.iol_journal.specs.declared.batch.Batch.{Batch}
 use Rattle.iol_journal.specs.declared.journal.BeginCause.TheVariants.{TooLarge, Misfit}
 use Rattle.iol_journal.specs.declared.phase.Phase.TheVariants.{Body}
 use Rattle.iol_journal.specs.Written.{WrittenView}
-use Rattle.iol_flush.specs.Stages.{FlusherView, is_full, disk_of, next_calls, calls_owed, need_of, failure_of}
+use Rattle.iol_flush.specs.Stages.{FlusherView, wants_checkpoint, disk_of, next_calls, calls_owed, need_of, failure_of}
 use Rattle.iol_flush.specs.declared.need.Need.TheVariants as need
 use Rattle.iol_flush.specs.declared.fault.FlushFault.{FlushFault}
 use Rattle.iol_flush.specs.declared.fault.FlushFault.TheVariants as fault
@@ -53,16 +53,18 @@ HasCheckpointed c batch (Checkpointing d kept) = (d.standing ≡ c.standing) × 
 HasCheckpointed c batch (Given j kept) = (j.standing ≡ checkpointed c.standing) × (j.history ≡ c.history) × (kept ≡ batch)
 HasCheckpointed c batch stage = ⊥
 
--- the first disk call is made after a batch was given: its own or, where no slot is free for it, of a checkpoint (own)
+-- the first disk call is made after a batch was given: its own or, where too few slots are free for it, of a checkpoint (own)
 abbrev pub HasBegun : {D : Type 0} → Bool → JournalView D → Batch → Stage D → Type 0
-HasBegun true journal batch new = (is_too_large (values batch.commands.items) ≡ false) × HasCheckpointed (checkpoint_of journal) batch new
+HasBegun true journal batch new =
+    (is_too_large journal.standing.layout.slots (values batch.commands.items) ≡ false)
+    × HasCheckpointed (checkpoint_of journal) batch new
 HasBegun false journal batch new =
     (batch_refusal journal.standing batch.first (values batch.commands.items) ≡ None)
     × HasWritten (writing_of journal (values batch.commands.items)) new
 
 -- a disk call is made, and where the flusher is then (own)
 abbrev pub HasMade : {D : Type 0} → Stage D → Stage D → Type 0
-HasMade (Given journal batch) new = HasBegun (is_full journal) journal batch new
+HasMade (Given journal batch) new = HasBegun (wants_checkpoint journal.standing (values batch.commands.items)) journal batch new
 HasMade (Checkpointing checkpoint batch) new = HasCheckpointed checkpoint batch new
 HasMade (Writing writing) new = HasWritten writing new
 HasMade stage new = ⊥
@@ -76,7 +78,7 @@ IsUnfit stage = ⊥
 
 -- a batch was given and no disk call of it is made yet (own)
 abbrev pub IsGiven : {D : Type 0} → Stage D → Type 0
-IsGiven (Given journal batch) = is_too_large (values batch.commands.items) ≡ false
+IsGiven (Given journal batch) = is_too_large journal.standing.layout.slots (values batch.commands.items) ≡ false
 IsGiven stage = ⊥
 
 -- the first of the disk calls that come next is made, or fails; or none is made and nothing changes: a call failed before,

@@ -3,7 +3,7 @@
 ghost use Rattle.std.specs.Prelude.{◌≡◌, ◌<◌, ◌⊎◌, true, false};
 ghost use Rattle.iol_journal.specs.Begin.{is_too_large};
 ghost use Rattle.iol_journal.specs.Journals.{values};
-ghost use Rattle.iol_flush.specs.Stages.{HasFewCalls, is_full, need_of};
+ghost use Rattle.iol_flush.specs.Stages.{HasFewCalls, wants_checkpoint, need_of};
 ghost use Rattle.iol_flush.specs.Steps.{IsDiskStep};
 ghost use Rattle.iol_flush.specs.Flushing.{KeepsRun, IsSound};
 ghost use Rattle.iol_flush.specs.declared.need.Need.TheVariants as need;
@@ -38,7 +38,7 @@ pub(crate) fn make_call<D: SectorDisk>(
     }
 }
 
-// Makes the first disk call of a batch or, where no slot is free, of a checkpoint before it.
+// Makes the first disk call of a batch or, where too few slots are free for it, of a checkpoint before it.
 fn begin<D: SectorDisk>(journal: Journal<D>, batch: Batch) -> (Stage<D>, Result<(), FlushFault>)
     ensures step { IsDiskStep D.disk (stage.Given journal batch) result.0 result.1 }
     ensures few { HasFewCalls result.0 }
@@ -63,13 +63,13 @@ fn begin<D: SectorDisk>(journal: Journal<D>, batch: Batch) -> (Stage<D>, Result<
     }
 }
 
-// Makes the first disk call of a checkpoint, as no slot is free.
+// Makes the first disk call of a checkpoint, as too few slots are free.
 fn begin_checkpoint<D: SectorDisk>(
     journal: Journal<D>,
     batch: Batch,
 ) -> (Stage<D>, Result<(), FlushFault>)
-    requires full { is_full journal ≡ true }
-    requires small { is_too_large (values batch.commands.items) ≡ false }
+    requires wanted { wants_checkpoint journal.standing (values batch.commands.items) ≡ true }
+    requires small { is_too_large journal.standing.layout.slots (values batch.commands.items) ≡ false }
     requires used { 0 < journal.standing.used }
     ensures step { IsDiskStep D.disk (stage.Given journal batch) result.0 result.1 }
     ensures few { HasFewCalls result.0 }

@@ -13,7 +13,8 @@ pub enum FlushFault {
     /// Out of memory. Nothing changed, and the same call may be made again.
     #[error("out of memory")]
     Memory,
-    /// The batch does not follow the journal, or is too large for a slot. Nothing changed.
+    /// The batch does not follow the journal, has more than 64 commands, or takes more slots than an area has. Nothing
+    /// changed.
     #[error("the batch does not follow the journal")]
     Misfit,
     /// This call of the disk failed.

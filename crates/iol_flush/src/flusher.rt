@@ -1,7 +1,7 @@
 //! The flusher, and its calls.
 
-ghost use Rattle.std.specs.Prelude.{◌≡◌, ◌⊎◌};
-ghost use Rattle.iol_flush.specs.Stages.{need_of, failure_of, HasHistory, HasFewCalls, IsInStep};
+ghost use Rattle.std.specs.Prelude.{◌≡◌, ◌≤◌, ◌⊎◌};
+ghost use Rattle.iol_flush.specs.Stages.{need_of, room_of, failure_of, HasRoom, HasHistory, HasFewCalls, IsInStep};
 ghost use Rattle.iol_flush.specs.Steps.{IsDiskStep, IsGift, HasGivenUp, IsPublished, IsEnd};
 ghost use Rattle.iol_flush.specs.Flushing.{KeepsRun, IsSound};
 ghost use Rattle.iol_flush.specs.declared.need.Need.TheVariants as need;
@@ -69,11 +69,18 @@ impl<D: SectorDisk, F: Name> Flusher<D, F> {
         self.stage.needs()
     }
 
-    /// The octets of records that a batch may have: 8,170.
+    /// The octets of records that a batch may have which is given now: what fits the free slots of the journal at rest, or
+    /// where none is free one slot, 8,170; at other stages 8,170.
     pub fn room(&self) -> usize
-        ensures { result ≡ MOST_RECORD_OCTETS }
+        ensures room { result ≡ room_of self.now.stage }
+        ensures least { MOST_RECORD_OCTETS ≤ result }
+        // A batch of no more octets fits the area.
+        ensures fits { HasRoom self.now.stage result }
     {
-        MOST_RECORD_OCTETS
+        match &self.stage {
+            Stage::Resting(journal) => journal.room(),
+            _ => MOST_RECORD_OCTETS,
+        }
     }
 
     /// How the disk has failed, if it has.
@@ -95,7 +102,7 @@ impl<D: SectorDisk, F: Name> Flusher<D, F> {
         replace_with(&mut self.stage, batch, with_batch)
     }
 
-    /// Makes the journal's next disk call: of the batch that was given or, where no slot is free for it, of a checkpoint.
+    /// Makes the journal's next disk call: of the batch that was given or, where too few slots are free for it, of a checkpoint.
     ///
     /// # Errors
     /// `Stopped` where a disk call has failed before; `Memory` where it is out of memory, and `Misfit` where the batch does

@@ -13,7 +13,7 @@ pub enum Stage<D: SectorDisk> {
     Resting(Journal<D>),
     /// A batch was given, and no disk call of it is made yet.
     Given(Journal<D>, Batch),
-    /// No slot was free for the batch: a checkpoint is on its way.
+    /// Too few slots were free for the batch: a checkpoint is on its way.
     Checkpointing(Checkpointing<D>, Batch),
     /// The batch is on its way.
     Writing(Writing<D>),

@@ -1,12 +1,13 @@
 -- The disk calls of a batch, one after another.
-use Rattle.std.proofs.Common.{◌≡◌, ◌≤◌, ◌<◌, ℕ, suc, ◌+◌, ◌-◌, nat_lt, if◌then◌else◌, Bool, true, false, List, [], ◌∷◌, ◌++◌, length, map}
-use Rattle.std.proofs.Common.{Some, None, refl, ◌∙◌, ap, arith, length-append}
+use Rattle.std.proofs.Common.{◌≡◌, ◌≤◌, ◌<◌, ℕ, suc, ◌+◌, ◌-◌, ◌*◌, nat_lt, if◌then◌else◌, Bool, true, false, List, [], ◌∷◌, ◌++◌, length}
+use Rattle.std.proofs.Common.{map, Some, None, refl, ◌∙◌, ap, arith, length-append}
 use Rattle.std.specs.List.{range_with_len}
 use Rattle.std.proofs.lemmas.Bool.Decides.{nat_tests}
 use Rattle.std.proofs.lemmas.List.FromFn.{length-map-range_with_len}
 use Rattle.iol_types.specs.Command.{CommandValue}
 use Rattle.iol_disk.specs.Calls.{Call, sync}
 use Rattle.iol_journal.specs.Batches.{body_for, sectors_for, body_write, gate_write, batch_calls, calls_from, call_of, next_phase, IsPhase}
+use Rattle.iol_journal.specs.Body.{slots_for}
 use Rattle.iol_journal.specs.Meaning.{Standing}
 use Rattle.iol_journal.specs.declared.geometry.TheConstants.{BODY_SECTORS}
 use Rattle.iol_journal.specs.declared.phase.Phase.{Phase}
@@ -75,7 +76,7 @@ length-batch_calls s commands =
       length-map-range_with_len (λ j. body_write s (body_for s commands) j) 0 (sectors_for s commands),
     )
 
--- so there are 19 at most
-pub at_most : (s : Standing) (commands : List CommandValue) → sectors_for s commands ≤ BODY_SECTORS
-    → length (calls_from s (body_for s commands) (sectors_for s commands) (Body 0)) ≤ 19
+-- so there are 16 for each slot, and three more, at most
+pub at_most : (s : Standing) (commands : List CommandValue) → sectors_for s commands ≤ BODY_SECTORS * slots_for commands
+    → length (calls_from s (body_for s commands) (sectors_for s commands) (Body 0)) ≤ BODY_SECTORS * slots_for commands + 3
 at_most s commands short = omega (arith, ap (λ (calls : List Call). length calls) (all_calls s commands), length-batch_calls s commands)

@@ -18,7 +18,7 @@ use Rattle.iol_journal.specs.Octets.{number_at, octets_at, padded, sectors_reach
 use Rattle.iol_journal.specs.Journals.{values}
 use Rattle.iol_journal.specs.Body.{commands_of, fits, head_of, batch_of, records_of, head_octets, body_octets}
 use Rattle.iol_journal.specs.declared.header.TheConstants.{LAST_NUMBER}
-use Rattle.iol_journal.specs.declared.batch.TheConstants.{MOST_COMMANDS, MOST_RECORD_OCTETS, BODY_HEAD_OCTETS}
+use Rattle.iol_journal.specs.declared.batch.TheConstants.{MOST_COMMANDS, BODY_HEAD_OCTETS}
 use Rattle.iol_journal.proofs.Sectors.{octets_at-add}
 
 -- in front of the records of other commands, these octets are read as these commands
@@ -101,15 +101,14 @@ module _ (epoch first count octets : ℕ) (rest : List ℕ) where
   head-octets : octets < 2 ^ 32 → number_at w32 18 (head_octets epoch first count octets ++ rest) ≡ octets
   head-octets fits = omega (arith, from_be_bytes-to_be_bytes_4 octets fits)
 
-fits-true : (epoch first count octets : ℕ) → 1 ≤ count → count ≤ MOST_COMMANDS → octets ≤ MOST_RECORD_OCTETS → first + count ≤ LAST_NUMBER
-    + 1
+fits-true : (epoch first count octets : ℕ) → 1 ≤ count → count ≤ MOST_COMMANDS → first + count ≤ LAST_NUMBER + 1
     → fits (record { epoch = epoch; first = first; count = count; octets = octets }) epoch first ≡ true
-fits-true epoch first count octets some most short last = grind (arith, nat_tests)
+fits-true epoch first count octets some most last = grind (arith, nat_tests)
 
 -- a body is read as its commands, whatever follows the records
 pub batch_of-body : (epoch first : ℕ) (commands : List CommandValue) (rest : List ℕ) → epoch < 2 ^ 64
-    → 1 ≤ length commands → length commands ≤ MOST_COMMANDS → length (records_of commands) ≤ MOST_RECORD_OCTETS → first + length commands
-    ≤ LAST_NUMBER + 1
+    → 1 ≤ length commands → length commands ≤ MOST_COMMANDS → length (records_of commands) < 2 ^ 32
+    → first + length commands ≤ LAST_NUMBER + 1
     → commands_of (length commands) (records_of commands) ≡ Some commands
     → batch_of epoch first (head_octets epoch first (length commands) (length (records_of commands)) ++ (records_of commands ++ rest))
     ≡ Some commands
@@ -118,16 +117,27 @@ batch_of-body epoch first commands rest small some most short last is =
     let count = length commands in
     let octets = length (records_of commands) in
     let behind = records_of commands ++ rest in
-    let fit = fits-true epoch first count octets some most short last in
+    let fit = fits-true epoch first count octets some most last in
     rw (
       head-epoch epoch first count octets behind small,
       head-first epoch first count octets behind (omega arith),
       head-count epoch first count octets behind (omega arith),
-      head-octets epoch first count octets behind (omega arith),
+      head-octets epoch first count octets behind short,
       fit,
       take-append_seam (records_of commands) rest,
     )
     is
+
+-- a body that was written tells of the octets of its records
+pub head_of-body_octets : (epoch first : ℕ) (commands : List CommandValue) → length (records_of commands) < 2 ^ 32
+    → (head_of (body_octets epoch first commands)).octets ≡ length (records_of commands)
+unfolding body_octets padded head_of
+head_of-body_octets epoch first commands short =
+    let head = head_octets epoch first (length commands) (length (records_of commands)) in
+    let records = records_of commands in
+    let zeros = replicate {A = ℕ} (SECTOR_OCTETS * sectors_reached (length (head ++ records)) - length (head ++ records)) 0 in
+    ap (number_at w32 18) (append_assoc head records zeros)
+    ∙ head-octets epoch first (length commands) (length records) (records ++ zeros) short
 
 -- the sectors of a body
 pub length-body : (epoch first : ℕ) (commands : List CommandValue)
@@ -143,8 +153,8 @@ length-body epoch first commands =
 
 -- whatever follows a body in its slot, it is read as its commands
 pub batch_of-body_octets : (epoch first : ℕ) (commands : List CommandValue) (rest : List ℕ) → epoch < 2 ^ 64
-    → 1 ≤ length commands → length commands ≤ MOST_COMMANDS → length (records_of commands) ≤ MOST_RECORD_OCTETS → first + length commands
-    ≤ LAST_NUMBER + 1
+    → 1 ≤ length commands → length commands ≤ MOST_COMMANDS → length (records_of commands) < 2 ^ 32
+    → first + length commands ≤ LAST_NUMBER + 1
     → commands_of (length commands) (records_of commands) ≡ Some commands
     → batch_of epoch first (body_octets epoch first commands ++ rest) ≡ Some commands
 unfolding body_octets padded

@@ -42,7 +42,7 @@ pub record IsRead (sectors : ℕ) (image : Image) (s : Standing) (base : ℕ) (p
   pub layout : layout_in sectors image ≡ Ok s.layout
   pub in_use : in_use_in s.layout image ≡ Ok (record { area = s.area; header = record { epoch = s.epoch; base = base } })
   pub ports_are : ports_from s.layout s.area image 0 s.layout.ports ≡ Ok ports
-  pub log : log_from s.layout s.area s.epoch image 0 s.layout.slots base ports
+  pub log : log_from s.layout s.area s.epoch image 0 0 s.layout.slots base ports
       ≡ Ok (record { used = s.used; number = s.number; state = s.state })
 
 pub read_stands : (sectors : ℕ) (image : Image) (s : Standing) (base : ℕ) (ports : State) → IsRead sectors image s base ports
@@ -57,7 +57,7 @@ stands_read sectors image s is =
     let g = bind_ok (layout_in sectors image) _ s is in
     let u = bind_ok (in_use_in g.0 image) _ s g.2 in
     let p = bind_ok (ports_from g.0 u.0.area image 0 g.0.ports) _ s u.2 in
-    let l = bind_ok (log_from g.0 u.0.area u.0.header.epoch image 0 g.0.slots u.0.header.base p.0) _ s p.2 in
+    let l = bind_ok (log_from g.0 u.0.area u.0.header.epoch image 0 0 g.0.slots u.0.header.base p.0) _ s p.2 in
     put_together g.0 u.0 p.0 l.0 s (same_ok _ s l.2) g.1 u.1 p.1 l.1
   where
     same_ok : (x y : Standing) → ok x ≡ Ok y → x ≡ y
@@ -66,7 +66,7 @@ stands_read sectors image s is =
     put_together : (layout : Layout) (u : InUse) (p : State) (l : Log) (s : Standing)
         → record { layout = layout; area = u.area; epoch = u.header.epoch; used = l.used; number = l.number; state = l.state } ≡ s
         → layout_in sectors image ≡ Ok layout → in_use_in layout image ≡ Ok u → ports_from layout u.area image 0 layout.ports ≡ Ok p
-        → log_from layout u.area u.header.epoch image 0 layout.slots u.header.base p ≡ Ok l
+        → log_from layout u.area u.header.epoch image 0 0 layout.slots u.header.base p ≡ Ok l
         → (base : ℕ) × (ports : State) × IsRead sectors image s base ports
     put_together layout u p l s same laid_out in_use ports log =
         subst (λ (t : Standing). (base : ℕ) × (ports : State) × IsRead sectors image t base ports) same
@@ -100,17 +100,17 @@ module _ (sectors : ℕ) (image : Image) where
   pub no_log : (layout : Layout) (used : InUse) (ports : State) (told : RecoverCause) → layout_in sectors image ≡ Ok layout
       → in_use_in layout image ≡ Ok used
       → ports_from layout used.area image 0 layout.ports ≡ Ok ports
-      → SaysWhy (log_from layout used.area used.header.epoch image 0 layout.slots used.header.base ports) told
+      → SaysWhy (log_from layout used.area used.header.epoch image 0 0 layout.slots used.header.base ports) told
       → SaysWhy (standing_in sectors image) told
   unfolding standing_in
   no_log layout used ports told laid_out in_use state is =
       rw (laid_out, in_use, state)
-      (cause_before (log_from layout used.area used.header.epoch image 0 layout.slots used.header.base ports) _ told is)
+      (cause_before (log_from layout used.area used.header.epoch image 0 0 layout.slots used.header.base ports) _ told is)
 
   pub stands : (layout : Layout) (used : InUse) (ports : State) (log : Log) → layout_in sectors image ≡ Ok layout → in_use_in layout image
       ≡ Ok used
       → ports_from layout used.area image 0 layout.ports ≡ Ok ports
-      → log_from layout used.area used.header.epoch image 0 layout.slots used.header.base ports ≡ Ok log
+      → log_from layout used.area used.header.epoch image 0 0 layout.slots used.header.base ports ≡ Ok log
       → standing_in sectors image
       ≡ Ok (record {
         layout = layout;

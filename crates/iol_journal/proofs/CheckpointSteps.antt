@@ -120,7 +120,7 @@ pub drafted-first : (d : Disk) (s : Standing) (idle : Idle) → IsResting d s �
 drafted-first d s idle resting used records = record {
   fits = resting.fits;
   some = omega (arith, used, resting.within);
-  near = omega (arith, used, resting.begun);
+  near = omega (arith, resting.in_use used);
   bound = resting.bound;
   count = resting.count;
   records = records;
@@ -188,6 +188,7 @@ module _ (s : Standing) (stage : Stage) (old new : Disk) (drafted : IsDrafted ol
     within = omega arith;
     bound = drafted.bound;
     begun = omega (arith, drafted.near);
+    in_use = λ some. absurd (omega (arith, some));
     count = drafted.count;
   }
 

@@ -56,10 +56,10 @@ module _ (sectors : ℕ) (old new : Image) (same : (i : ℕ) → i ≢ DISK_GATE
   ports_same layout a = ports_from-same layout a old new 0 layout.ports (λ i above below. same i (omega (arith, above, behind layout a)))
 
   log_same : (layout : Layout) (u : InUse) (ports : State)
-      → log_from layout u.area u.header.epoch new 0 layout.slots u.header.base ports
-      ≡ log_from layout u.area u.header.epoch old 0 layout.slots u.header.base ports
+      → log_from layout u.area u.header.epoch new 0 0 layout.slots u.header.base ports
+      ≡ log_from layout u.area u.header.epoch old 0 0 layout.slots u.header.base ports
   log_same layout u ports =
-      log_from-same layout u.area u.header.epoch old new 0 layout.slots u.header.base ports (λ i above below.
+      log_from-same layout u.area u.header.epoch old new 0 0 layout.slots u.header.base ports (λ i above below.
       same i (omega (arith, above, behind layout u.area)))
 
   standing_same : standing_in sectors new ≡ standing_in sectors old

@@ -1,5 +1,5 @@
 -- The laws of journals, for proofs of other crates.
-use Rattle.std.proofs.Common.{◌≡◌, ◌⊎◌, ◌==◌, true, false, IsTrue, ℕ, List, Some, None, inl, inr, refl, arith}
+use Rattle.std.proofs.Common.{◌≡◌, ◌<◌, ◌⊎◌, ◌+◌, nat_lt, true, false, IsTrue, ℕ, List, Some, None, inl, inr, refl, arith}
 use Rattle.std.proofs.lemmas.Bool.Decides.{nat_tests}
 use Rattle.iol_types.specs.Command.{CommandValue}
 use Rattle.iol_disk.specs.Content.{Image, Content, IsImage}
@@ -7,6 +7,7 @@ use Rattle.iol_disk.specs.Disk.{Disk}
 use Rattle.iol_slots.specs.Gate.{is_open}
 use Rattle.iol_journal.specs.Batches.{body_for, sectors_for}
 use Rattle.iol_journal.specs.Begin.{follows, is_too_large, batch_refusal}
+use Rattle.iol_journal.specs.Body.{slots_for}
 use Rattle.iol_journal.specs.CheckpointViews.{CheckpointingView, IsCheckpointUnderway}
 use Rattle.iol_journal.specs.Journals.{WritingView, with_batch}
 use Rattle.iol_journal.specs.Kept.{KeptEither, EachMeans}
@@ -56,11 +57,12 @@ checkpoint_means_its_state disk c under h image is =
 pub rest_means_its_state : (d : Disk) (s : Standing) (idle : Idle) → IsAtRest d s idle → EachMeans d s.number s.state
 rest_means_its_state d s idle rests h image is = kept_means d.sectors s idle image (rests h image is)
 
--- a batch that goes on where the journal stands, and fits a slot, wants one, or nothing
-pub following_batch_wants_a_slot : (s : Standing) (first : ℕ) (commands : List CommandValue) → is_too_large commands ≡ false
+-- a batch that goes on where the journal stands, and fits an area, wants free slots, or nothing
+pub following_batch_wants_a_slot : (s : Standing) (first : ℕ) (commands : List CommandValue) → is_too_large s.layout.slots commands ≡ false
     → follows s first commands ≡ true
-    → (batch_refusal s first commands ≡ None) ⊎ ((batch_refusal s first commands ≡ Some NeedsCheckpoint) × (s.used ≡ s.layout.slots))
+    → (batch_refusal s first commands ≡ None)
+    ⊎ ((batch_refusal s first commands ≡ Some NeedsCheckpoint) × (s.layout.slots < s.used + slots_for commands) × (0 < s.used))
 following_batch_wants_a_slot s first commands fits goes_on =
-    by_test (s.used == s.layout.slots) _
-    (λ full. inr (rw (fits, full) refl, grind (arith, nat_tests)))
+    by_test (nat_lt s.layout.slots (s.used + slots_for commands)) _
+    (λ full. inr (rw (fits, full) refl, grind (arith, nat_tests), grind (arith, nat_tests)))
     (λ free. inl (rw (fits, free, goes_on) refl))

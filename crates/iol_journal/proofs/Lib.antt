@@ -2,6 +2,7 @@ pub mod Geometries
 pub mod Chains
 pub mod Sectors
 pub mod Rows
+pub mod Spans
 pub mod Logs
 pub mod Frames
 pub mod OtherArea

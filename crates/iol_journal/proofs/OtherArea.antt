@@ -161,7 +161,7 @@ module _ (s : Standing) (old new : Image) (same : SameButArea s.layout (other s.
         in_use = put_in_use s.layout new s.area _ (own_header ∙ own.0) own.1 (idle_before s idle new harmless);
         ports_are = ports_from-same s.layout s.area old new 0 s.layout.ports (λ i above below.
             in_area i (omega (arith, above)) (omega (arith, below))) ∙ is.ports_are;
-        log = log_from-same s.layout s.area s.epoch old new 0 s.layout.slots base ports (λ i above below.
+        log = log_from-same s.layout s.area s.epoch old new 0 0 s.layout.slots base ports (λ i above below.
             in_area i (omega (arith, above)) (omega (arith, below))) ∙ is.log;
       }
 
@@ -181,7 +181,7 @@ module _ (s : Standing) (old new : Image) (same : SameButArea s.layout (other s.
 -- with all slots closed it has no log but its base
 pub log-none : (layout : Layout) (a : Area) (epoch : ℕ) (image : Image) (left base : ℕ) (state : State)
     → (0 < left → is_open (image (slot_at layout a 0)) ≡ false)
-    → log_from layout a epoch image 0 left base state ≡ Ok (record { used = 0; number = base; state = state })
+    → log_from layout a epoch image 0 0 left base state ≡ Ok (record { used = 0; number = base; state = state })
 log-none layout a epoch image zero base state shut = refl
 log-none layout a epoch image (suc left) base state shut = let closed : is_open (image (slot_at layout a 0)) ≡ false = shut (omega arith) in
     rw closed refl

@@ -1,6 +1,6 @@
 -- The disk calls of a batch, one after the other, on an honest disk.
-use Rattle.std.proofs.Common.{◌≡◌, ◌≢◌, ◌≤◌, ◌<◌, inl, inr, ℕ, zero, suc, ◌+◌, ◌*◌, nat_lt, if◌then◌else◌, Bool, true, false, IsTrue, List}
-use Rattle.std.proofs.Common.{[], ◌∷◌, ◌++◌, length, Some, None, refl, sym, ◌∙◌, ap, subst, arith}
+use Rattle.std.proofs.Common.{◌≡◌, ◌≢◌, ◌≤◌, ◌<◌, ◌⊎◌, inl, inr, ℕ, zero, suc, ◌+◌, ◌*◌, nat_lt, if◌then◌else◌, Bool, true, false, IsTrue}
+use Rattle.std.proofs.Common.{List, [], ◌∷◌, ◌++◌, length, Some, None, refl, sym, ◌∙◌, ap, subst, arith}
 use Rattle.std.proofs.lemmas.Bool.{cases_lt}
 use Rattle.std.proofs.lemmas.Bool.Decides.{nat_tests}
 use Rattle.iol_types.specs.Command.{CommandValue}
@@ -12,9 +12,10 @@ use Rattle.iol_disk.proofs.DiskLaws.{HasOnTheWay}
 use Rattle.iol_slots.specs.Gate.{is_open, open_gate}
 use Rattle.iol_slots.proofs.SlotLaws.{is_open-open_gate}
 use Rattle.iol_journal.specs.Layout.{slot_at, body_at}
-use Rattle.iol_journal.specs.Octets.{octets_at, sector_of}
-use Rattle.iol_journal.specs.Body.{batch_of}
-use Rattle.iol_journal.specs.Meaning.{Standing}
+use Rattle.iol_journal.specs.Octets.{sector_of}
+use Rattle.iol_journal.specs.Body.{head_of, slots_of, records_of, slots_for, batch_of}
+use Rattle.iol_journal.specs.declared.body.Head.{Head}
+use Rattle.iol_journal.specs.Meaning.{Standing, body_in, span_in}
 use Rattle.iol_journal.specs.Kept.{IsKeptAs, KeptEither, EachMeans}
 use Rattle.iol_disk.specs.Calls.{content_after, Made}
 use Rattle.iol_disk.specs.declared.disk.TheConstants.{SECTOR_OCTETS}
@@ -29,57 +30,91 @@ use Rattle.iol_journal.specs.declared.geometry.TheConstants.{BODY_SECTORS}
 use Rattle.iol_journal.proofs.BatchCalls.{phase_of}
 use Rattle.iol_journal.proofs.JournalLaws.{between_means_either}
 use Rattle.iol_journal.proofs.Bodies.{octets_at-in_slot}
-use Rattle.iol_journal.proofs.Frames.{SameButSlot, kept_closed, kept_open, kept_means}
+use Rattle.iol_journal.proofs.Frames.{SameButSlots, kept_closed, kept_open, kept_means}
+use Rattle.iol_journal.proofs.ReachedBodies.{head_of-first}
+use Rattle.iol_journal.proofs.Spans.{slots_of-some, body_at-within, body_at-rises, body_at-no_gate}
 use Rattle.iol_journal.proofs.Rows.{left_behind}
 
--- a batch for the first free slot
+-- a batch for the first free slots
 pub record IsFit (s : Standing) (commands : List CommandValue) (body : List ℕ) (sectors : ℕ) : Type 0 where
-  pub room : s.used < s.layout.slots
+  pub room : s.used + slots_for commands ≤ s.layout.slots
   pub whole : length body ≡ SECTOR_OCTETS * sectors
-  pub short : sectors ≤ BODY_SECTORS
+  pub least : 1 ≤ sectors
+  pub short : sectors ≤ BODY_SECTORS * slots_for commands
+  pub tells : (head_of body).octets ≡ length (records_of commands)
   pub read_back : (rest : List ℕ) → batch_of s.epoch (s.number + 1) (body ++ rest) ≡ Some commands
   pub passes : legal s.state commands ≡ true
 
 module _ (s : Standing) (idle : Idle) (commands : List CommandValue) (body : List ℕ) (sectors : ℕ) (fit : IsFit s commands body sectors)
   where
-    but_slot : (n : ℕ) (was image : Image) → slot_at s.layout s.area s.used ≤ n → n < slot_at s.layout s.area s.used + 1 + BODY_SECTORS
-        → ((i : ℕ) → i ≢ n → image i ≡ was i) → SameButSlot s was image
-    but_slot n was image above below same i (inl before) = same i (omega arith)
-    but_slot n was image above below same i (inr behind) = same i (omega arith)
+    some_slot : 1 ≤ slots_for commands
+    some_slot = slots_of-some (length (records_of commands))
+
+    but_slots : (n : ℕ) (was image : Image) → slot_at s.layout s.area s.used ≤ n
+        → n < slot_at s.layout s.area (s.used + slots_for commands)
+        → ((k : ℕ) → s.used < k → slot_at s.layout s.area k ≢ n)
+        → ((i : ℕ) → i ≢ n → image i ≡ was i) → SameButSlots s (slots_for commands) was image
+    but_slots n was image above below no_gate same = record {
+      outside = λ i apart. same i (away i apart);
+      gates = λ k behind. same (slot_at s.layout s.area k) (no_gate k behind);
+    }
+      where
+        away : (i : ℕ) → (i < slot_at s.layout s.area s.used) ⊎ (slot_at s.layout s.area (s.used + slots_for commands) ≤ i) → i ≢ n
+        away i (inl before) = omega (arith, before, above)
+        away i (inr behind) = omega (arith, behind, below)
 
     -- the write of a sector of the body
     body_kept : (size j : ℕ) → j < sectors → (was image : Image) → IsKeptAs size s idle was
         → ((i : ℕ) → i ≢ body_at s.layout s.area s.used j → image i ≡ was i) → IsKeptAs size s idle image
     body_kept size j below was image kept same =
-        kept_closed size s idle was image fit.room
-        (but_slot (body_at s.layout s.area s.used j) was image (omega arith) (omega (arith, fit.short)) same) kept
-        (ap is_open (same (slot_at s.layout s.area s.used) (omega arith)) ∙ kept.rest s.used (omega arith) fit.room)
+        kept_closed size s (slots_for commands) idle was image fit.room some_slot
+        (but_slots (body_at s.layout s.area s.used j) was image (omega arith)
+        (body_at-within s.layout s.area s.used (slots_for commands) j (omega (arith, below, fit.short)))
+        (λ k behind. body_at-no_gate s.layout s.area s.used k j) same) kept
+        (ap is_open (same (slot_at s.layout s.area s.used) (body_at-no_gate s.layout s.area s.used s.used j))
+        ∙ kept.rest s.used (omega arith) (omega (arith, fit.room, some_slot)))
 
     -- the body in an image that differs in the gate alone from what is settled
-    body_read : (c : Content) (was image : Image) → IsImage c was → HasWritten s body sectors c → IsSettled c
+    there : (c : Content) (was image : Image) → IsImage c was → HasWritten s body sectors c → IsSettled c
         → ((i : ℕ) → i ≢ slot_at s.layout s.area s.used → image i ≡ was i)
-        → batch_of s.epoch (s.number + 1) (octets_at image (body_at s.layout s.area s.used 0) BODY_SECTORS) ≡ Some commands
-    body_read c was image is written settled same =
-        read_at (octets_at-in_slot image body (body_at s.layout s.area s.used 0) sectors BODY_SECTORS there fit.whole fit.short)
-      where
-        there : (j : ℕ) → j < sectors → image (body_at s.layout s.area s.used 0 + j) ≡ sector_of body j
-        there j below =
-            let place : body_at s.layout s.area s.used 0 + j ≡ body_at s.layout s.area s.used j = omega arith in
-            ap image place ∙ same (body_at s.layout s.area s.used j) (omega arith)
-            ∙ ap (λ (i : Image). i (body_at s.layout s.area s.used j)) (image-settled c was settled is) ∙ written j below
+        → (j : ℕ) → j < sectors → image (body_at s.layout s.area s.used j) ≡ sector_of body j
+    there c was image is written settled same j below =
+        same (body_at s.layout s.area s.used j) (λ e. body_at-no_gate s.layout s.area s.used s.used j (sym e))
+        ∙ ap (λ (i : Image). i (body_at s.layout s.area s.used j)) (image-settled c was settled is) ∙ written j below
 
-        read_at : (rest : List ℕ) × (octets_at image (body_at s.layout s.area s.used 0) BODY_SECTORS ≡ body ++ rest)
-            → batch_of s.epoch (s.number + 1) (octets_at image (body_at s.layout s.area s.used 0) BODY_SECTORS) ≡ Some commands
+    body_read : (image : Image) → ((j : ℕ) → j < sectors → image (body_at s.layout s.area s.used j) ≡ sector_of body j)
+        → batch_of s.epoch (s.number + 1) (body_in s.layout s.area image s.used (slots_for commands)) ≡ Some commands
+    body_read image there =
+        read_at (octets_at-in_slot (λ j. image (body_at s.layout s.area s.used j)) body 0 sectors (BODY_SECTORS * slots_for commands)
+        from_first fit.whole fit.short)
+      where
+        from_first : (j : ℕ) → j < sectors → image (body_at s.layout s.area s.used (0 + j)) ≡ sector_of body j
+        from_first j below =
+            let place : body_at s.layout s.area s.used (0 + j) ≡ body_at s.layout s.area s.used j =
+            ap (λ (i : ℕ). body_at s.layout s.area s.used i) (omega arith) in
+            ap image place ∙ there j below
+
+        read_at : (rest : List ℕ) × (body_in s.layout s.area image s.used (slots_for commands) ≡ body ++ rest)
+            → batch_of s.epoch (s.number + 1) (body_in s.layout s.area image s.used (slots_for commands)) ≡ Some commands
         read_at (rest, at) = ap (batch_of s.epoch (s.number + 1)) at ∙ fit.read_back rest
+
+    span_read : (image : Image) → ((j : ℕ) → j < sectors → image (body_at s.layout s.area s.used j) ≡ sector_of body j)
+        → span_in s.layout s.area image s.used ≡ slots_for commands
+    span_read image there =
+        ap (λ (octets : List ℕ). slots_of (head_of octets).octets) (there 0 fit.least)
+        ∙ ap (λ (h : Head). slots_of h.octets) (head_of-first body sectors fit.whole fit.least)
+        ∙ ap slots_of fit.tells
 
     -- the write of the gate
     gate_between : (size : ℕ) (c : Content) (was image : Image) → IsKeptAs size s idle was → IsImage c was → HasWritten s body sectors c
         → IsSettled c
         → ((i : ℕ) → i ≢ slot_at s.layout s.area s.used → image i ≡ was i) → IsBetween size s idle commands image
     gate_between size c was image kept is written settled same =
-        let apart = but_slot (slot_at s.layout s.area s.used) was image (omega arith) (omega arith) same in (
-          λ closed. kept_closed size s idle was image fit.room apart kept closed,
-          λ opened. kept_open size s idle was image commands fit.room apart kept opened (body_read c was image is written settled same)
+        let apart = but_slots (slot_at s.layout s.area s.used) was image (omega arith) (omega (arith, some_slot))
+        (λ k behind. omega (arith, behind)) same in
+        let at = there c was image is written settled same in (
+          λ closed. kept_closed size s (slots_for commands) idle was image fit.room some_slot apart kept closed,
+          λ opened. kept_open size s idle was image commands fit.room apart kept opened (span_read image at) (body_read image at)
               fit.passes,
         )
 
@@ -96,7 +131,7 @@ module _ (s : Standing) (idle : Idle) (commands : List CommandValue) (body : Lis
             → reads (wrote (body_at s.layout s.area s.used j) (sector_of body j) c) (body_at s.layout s.area s.used k) ≡ sector_of body k
         written_at k less = elim (cases_lt k j) [
           | inl before ↦ reads-wrote_other (body_at s.layout s.area s.used j) (sector_of body j) c (body_at s.layout s.area s.used k)
-              (omega arith) ∙ written k before
+              (omega (arith, body_at-rises s.layout s.area s.used k j before)) ∙ written k before
           | inr last ↦
               let e : k ≡ j = omega arith in
               subst (λ (i : ℕ). reads (wrote (body_at s.layout s.area s.used j) (sector_of body j) c) (body_at s.layout s.area s.used i)
@@ -193,7 +228,9 @@ pub fit_of : (d : Disk) (s : Standing) (commands : List CommandValue) (p : Phase
 fit_of d s commands p planned = record {
   room = planned.room;
   whole = planned.whole;
+  least = planned.least;
   short = planned.short;
+  tells = planned.tells;
   read_back = planned.read_back;
   passes = planned.passes;
 }
@@ -208,17 +245,18 @@ rest_means d d' s s' idle idle' same_disk same_standing same_idle rest =
     (rest, λ h image is. kept_means d.sectors s idle image (rest h image is))))
 
 -- the standing behind a batch, as the step makes it
-pub standing_behind : (place : Place) (number number' : ℕ) (state state' : State) (commands : List CommandValue) → number' ≡ number
-    + length commands → state' ≡ after state commands
-    → standing_at (record { layout = place.layout; area = place.area; epoch = place.epoch; used = place.used + 1; idle = place.idle })
+pub standing_behind : (place : Place) (number number' span : ℕ) (state state' : State) (commands : List CommandValue)
+    → span ≡ slots_for commands
+    → number' ≡ number + length commands → state' ≡ after state commands
+    → standing_at (record { layout = place.layout; area = place.area; epoch = place.epoch; used = place.used + span; idle = place.idle })
     number' state'
     ≡ with_batch (standing_at place number state) commands
-standing_behind place number number' state state' commands same_number same_state =
+standing_behind place number number' span state state' commands same_span same_number same_state =
     λ j. record {
       layout = place.layout;
       area = place.area;
       epoch = place.epoch;
-      used = place.used + 1;
+      used = place.used + same_span j;
       number = same_number j;
       state = same_state j;
     }

@@ -84,7 +84,9 @@ module _ (s : Standing) (idle : Idle) (commands : List CommandValue) (body : Lis
     fits = subst (λ (n : ℕ). total s.layout ≤ n) (sym made.after.sectors) planned.fits;
     room = planned.room;
     whole = planned.whole;
+    least = planned.least;
     short = planned.short;
+    tells = planned.tells;
     in_phase = in_next (sectors_for s commands) p q planned.in_phase (sym (next_is (Some q) is));
     read_back = planned.read_back;
     passes = planned.passes;
@@ -127,9 +129,10 @@ pub resting_behind : (d d' : Disk) (s : Standing) (commands : List CommandValue)
     ≡ d.sectors → IsResting d' (with_batch s commands)
 resting_behind d d' s commands p planned same = record {
   fits = subst (λ (n : ℕ). total s.layout ≤ n) (sym same) planned.fits;
-  within = omega (arith, planned.room);
+  within = planned.room;
   bound = planned.bound;
-  begun = omega (arith, planned.begun, planned.some);
+  begun = omega (arith, planned.begun);
+  in_use = λ some. omega (arith, planned.begun, planned.some);
   count = length-after s.state commands ∙ planned.count;
 }
 

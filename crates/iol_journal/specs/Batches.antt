@@ -18,8 +18,8 @@ body_for s commands = body_octets s.epoch (s.number + 1) commands
 abbrev pub sectors_for : Standing → List CommandValue → ℕ
 sectors_for s commands = sectors_reached (length (body_for s commands))
 
--- the write of a sector of the body to the first free slot, and that of the slot's open gate (format, Orders of disk
--- calls)
+-- the write of a sector of the body, from the first free slot on, and that of the slot's open gate (format, Orders of
+-- disk calls)
 abbrev pub body_write : Standing → List ℕ → ℕ → Call
 body_write s body j = write (body_at s.layout s.area s.used j) (sector_of body j)
 

@@ -1,6 +1,6 @@
 -- The body of a slot: a head, and the records of a batch.
-use Rattle.std.specs.Prelude.{ℕ, zero, suc, ◌+◌, ◌==◌, nat_le, Bool, ◌&&◌, if◌then◌else◌, List, [], ◌∷◌, ◌++◌, length, take, drop, Option}
-use Rattle.std.specs.Prelude.{Some, None, Result, Ok, Err}
+use Rattle.std.specs.Prelude.{ℕ, zero, suc, ◌+◌, ◌-◌, ◌/◌, ◌==◌, nat_le, Bool, ◌&&◌, if◌then◌else◌, List, [], ◌∷◌, ◌++◌, length, take, drop}
+use Rattle.std.specs.Prelude.{Option, Some, None, Result, Ok, Err}
 use Rattle.std.specs.Int.{w16, w32, w64, to_be_bytes}
 use Rattle.std.specs.List.{flat_map}
 use Rattle.iol_types.specs.Command.{CommandValue}
@@ -10,7 +10,7 @@ use Rattle.iol_record.specs.declared.fault.RecordFault.{RecordFault}
 use Rattle.iol_journal.specs.Octets.{number_at, padded}
 use Rattle.iol_journal.specs.declared.body.Head.{Head}
 use Rattle.iol_journal.specs.declared.header.TheConstants.{LAST_NUMBER}
-use Rattle.iol_journal.specs.declared.batch.TheConstants.{MOST_COMMANDS, MOST_RECORD_OCTETS, BODY_HEAD_OCTETS}
+use Rattle.iol_journal.specs.declared.batch.TheConstants.{MOST_COMMANDS, BODY_OCTETS, BODY_HEAD_OCTETS}
 
 -- the head of a body: epoch 8, number of the first command 8, count 2, octets of the records 4 (format, Slots)
 unfoldable pub head_of : List ℕ → Head
@@ -25,7 +25,11 @@ head_of body = record {
 abbrev pub fits : Head → ℕ → ℕ → Bool
 fits head epoch first =
     (head.epoch == epoch) && (head.first == first) && nat_le 1 head.count && nat_le head.count MOST_COMMANDS
-    && nat_le head.octets MOST_RECORD_OCTETS && nat_le (first + head.count) (LAST_NUMBER + 1)
+    && nat_le (first + head.count) (LAST_NUMBER + 1)
+
+-- how many slots a batch takes whose records have so many octets (format, Slots)
+abbrev pub slots_of : ℕ → ℕ
+slots_of octets = (BODY_HEAD_OCTETS + octets + (BODY_OCTETS - 1)) / BODY_OCTETS
 
 -- a command in front of others, if they are there (own)
 abbrev pub prepended : CommandValue → Option (List CommandValue) → Option (List CommandValue)
@@ -53,6 +57,10 @@ batch_of epoch first body =
 -- the records of commands, one behind the other (format, Slots)
 abbrev pub records_of : List CommandValue → List ℕ
 records_of commands = flat_map command_octets commands
+
+-- how many slots commands take (format, Slots)
+abbrev pub slots_for : List CommandValue → ℕ
+slots_for commands = slots_of (length (records_of commands))
 
 -- a head as it is written (format, Slots)
 abbrev pub head_octets : ℕ → ℕ → ℕ → ℕ → List ℕ

@@ -15,7 +15,7 @@ use Rattle.iol_journal.specs.declared.geometry.TheConstants.{BODY_SECTORS}
 use Rattle.iol_journal.specs.declared.header.TheConstants.{LAST_NUMBER}
 use Rattle.iol_disk.specs.Calls.{Call}
 use Rattle.iol_journal.specs.Batches.{IsPhase, body_for, sectors_for, calls_from}
-use Rattle.iol_journal.specs.Body.{batch_of}
+use Rattle.iol_journal.specs.Body.{head_of, slots_for, records_of, batch_of}
 use Rattle.iol_disk.specs.declared.disk.TheConstants.{SECTOR_OCTETS}
 
 -- the values of commands (own)
@@ -57,13 +57,13 @@ standing_at place number state = record {
   state = state;
 }
 
--- how a journal stands after a batch: one more slot, more commands, the state after them (own)
+-- how a journal stands after a batch: its slots are used, more commands, the state after them (own)
 abbrev pub with_batch : Standing → List CommandValue → Standing
 with_batch s commands = record {
   layout = s.layout;
   area = s.area;
   epoch = s.epoch;
-  used = s.used + 1;
+  used = s.used + slots_for commands;
   number = s.number + length commands;
   state = after s.state commands;
 }
@@ -82,27 +82,31 @@ pub record IsResting (d : Disk) (s : Standing) : Type 0 where
   pub fits : total s.layout ≤ d.sectors
   pub within : s.used ≤ s.layout.slots
   pub bound : s.number ≤ LAST_NUMBER
-  -- each epoch but the first has begun after a command, and each used slot has one
-  pub begun : s.epoch + s.used ≤ s.number + 1
+  -- each epoch but the first has begun after a command, and there is one in the used slots
+  pub begun : s.epoch ≤ s.number + 1
+  pub in_use : 0 < s.used → s.epoch ≤ s.number
   pub count : length s.state ≡ s.layout.ports
 
 -- What holds of a batch on its way, on any disk (own)
 pub record IsPlanned (d : Disk) (s : Standing) (commands : List CommandValue) (phase : Phase) : Type 0 where
   pub fits : total s.layout ≤ d.sectors
-  pub room : s.used < s.layout.slots
+  pub room : s.used + slots_for commands ≤ s.layout.slots
   pub whole : length (body_for s commands) ≡ SECTOR_OCTETS * sectors_for s commands
-  pub short : sectors_for s commands ≤ BODY_SECTORS
+  pub least : 1 ≤ sectors_for s commands
+  pub short : sectors_for s commands ≤ BODY_SECTORS * slots_for commands
+  pub tells : (head_of (body_for s commands)).octets ≡ length (records_of commands)
   pub in_phase : IsPhase (sectors_for s commands) phase
   -- whatever follows the body in its slot, it is read as these commands, and they pass
   pub read_back : (rest : List ℕ) → batch_of s.epoch (s.number + 1) (body_for s commands ++ rest) ≡ Some commands
   pub passes : legal s.state commands ≡ true
   pub some : 1 ≤ length commands
   pub bound : s.number + length commands ≤ LAST_NUMBER
-  pub begun : s.epoch + s.used ≤ s.number + 1
+  pub begun : s.epoch ≤ s.number + 1
   pub count : length s.state ≡ s.layout.ports
 
--- A plan has the body of the batch, its sectors, and the state behind it (own)
+-- A plan has the body of the batch, its slots and sectors, and the state behind it (own)
 pub record IsPlan (s : Standing) (commands : List CommandValue) (plan : Plan) : Type 0 where
   pub body : plan.body.items ≡ body_for s commands
+  pub span : plan.span ≡ slots_for commands
   pub sectors : plan.sectors ≡ sectors_for s commands
   pub next : plan.next ≡ after s.state commands

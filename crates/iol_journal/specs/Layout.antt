@@ -1,5 +1,5 @@
 -- Where things stand on a disk (docs/FORMATS.md, "Disk layout").
-use Rattle.std.specs.Prelude.{ℕ, ◌+◌, ◌*◌}
+use Rattle.std.specs.Prelude.{ℕ, ◌+◌, ◌*◌, ◌/◌}
 use Rattle.iol_journal.specs.Geometry.{Geometry}
 use Rattle.iol_journal.specs.declared.geometry.TheConstants.{PORT_SECTORS, BODY_SECTORS}
 use Rattle.iol_journal.specs.declared.area.Area.{Area}
@@ -44,10 +44,11 @@ header_at layout a = gate_at layout a + 1
 abbrev pub port_at : Layout → Area → ℕ → ℕ
 port_at layout a p = gate_at layout a + 2 + layout.port_sectors * p
 
--- where the gate of a slot stands, and a sector of its body; slots and sectors are counted from 0 (format, Disk
--- layout)
+-- where the gate of a slot stands; slots are counted from 0 (format, Disk layout)
 abbrev pub slot_at : Layout → Area → ℕ → ℕ
 slot_at layout a k = gate_at layout a + 2 + layout.port_sectors * layout.ports + (1 + BODY_SECTORS) * k
 
+-- a sector of the body of a batch that begins in a slot: one behind the other, the gates of further slots left out;
+-- sectors are counted from 0 (format, Slots)
 abbrev pub body_at : Layout → Area → ℕ → ℕ → ℕ
-body_at layout a k j = slot_at layout a k + 1 + j
+body_at layout a k j = slot_at layout a k + 1 + j + j / BODY_SECTORS

@@ -1,6 +1,6 @@
 -- What an image of a disk means: the state of a master after a number of commands, or why it means none.
-use Rattle.std.specs.Prelude.{ℕ, zero, suc, ◌+◌, ◌==◌, nat_le, nat_lt, Bool, true, false, ◌&&◌, if◌then◌else◌, List, [], ◌∷◌, length}
-use Rattle.std.specs.Prelude.{Option, Some, None, Result, Ok, Err}
+use Rattle.std.specs.Prelude.{ℕ, zero, suc, ◌+◌, ◌-◌, ◌*◌, ◌==◌, nat_le, nat_lt, Bool, true, false, ◌&&◌, if◌then◌else◌, List, [], ◌∷◌}
+use Rattle.std.specs.Prelude.{length, Option, Some, None, Result, Ok, Err}
 use Rattle.iol_types.specs.State.{Port, State, after, legal}
 use Rattle.iol_record.specs.Reading.{◌>>=◌, port_record_at}
 use Rattle.iol_record.specs.declared.fault.RecordFault.{RecordFault}
@@ -9,7 +9,8 @@ use Rattle.iol_slots.specs.Gate.{is_open}
 use Rattle.iol_journal.specs.Geometry.{geometry_of}
 use Rattle.iol_journal.specs.Layout.{Layout, layout_of, total, gate_at, header_at, port_at, slot_at, body_at}
 use Rattle.iol_journal.specs.Octets.{octets_at}
-use Rattle.iol_journal.specs.Body.{batch_of}
+use Rattle.iol_types.specs.Command.{CommandValue}
+use Rattle.iol_journal.specs.Body.{head_of, slots_of, batch_of}
 use Rattle.iol_journal.specs.Header.{header_of, is_sound}
 use Rattle.iol_journal.specs.declared.area.Area.{Area}
 use Rattle.iol_journal.specs.declared.area.Area.TheVariants.{A, B}
@@ -87,15 +88,31 @@ pub record Log : Type 0 where
   pub number : ℕ
   pub state : State
 
--- the slots from this one on, up to the first whose gate is closed, on top of a number of commands and a state
--- (format, Recovery)
-abbrev pub log_from : Layout → Area → ℕ → Image → ℕ → ℕ → ℕ → State → Result Log Cause
-log_from layout a epoch image k zero number state = Ok (record { used = k; number = number; state = state })
-log_from layout a epoch image k (suc left) number state =
+-- the body of a batch that begins in a slot and takes so many (format, Slots)
+abbrev pub body_in : Layout → Area → Image → ℕ → ℕ → List ℕ
+body_in layout a image k n = octets_at (λ j. image (body_at layout a k j)) 0 (BODY_SECTORS * n)
+
+-- how many slots the batch takes that begins in a slot, as its head says (format, Slots)
+abbrev pub span_in : Layout → Area → Image → ℕ → ℕ
+span_in layout a image k = slots_of (head_of (image (body_at layout a k 0))).octets
+
+-- the commands of the batch that begins in a slot, if it takes no more than so many slots, under this epoch and with
+-- this number of its first command (format, Slots)
+abbrev pub batch_in : Layout → Area → ℕ → Image → ℕ → ℕ → ℕ → Option (List CommandValue)
+batch_in layout a epoch image k most first =
+    if nat_le (span_in layout a image k) most then batch_of epoch first (body_in layout a image k (span_in layout a image k)) else None
+
+-- the batches from a slot on, so many slots of which belong to the batch before, up to the first head place whose gate
+-- is closed, on top of a number of commands and a state (format, Recovery)
+abbrev pub log_from : Layout → Area → ℕ → Image → ℕ → ℕ → ℕ → ℕ → State → Result Log Cause
+log_from layout a epoch image k skipped zero number state = Ok (record { used = k; number = number; state = state })
+log_from layout a epoch image k (suc skipped) (suc left) number state = log_from layout a epoch image (k + 1) skipped left number state
+log_from layout a epoch image k zero (suc left) number state =
     if is_open (image (slot_at layout a k))
-    then (or_damaged (batch_of epoch (number + 1) (octets_at image (body_at layout a k 0) BODY_SECTORS)) (body_at layout a k 0)
+    then (or_damaged (batch_in layout a epoch image k (suc left) (number + 1)) (body_at layout a k 0)
     >>= λ commands. if_sound (legal state commands) (body_at layout a k 0) commands
-    >>= λ legal_commands. log_from layout a epoch image (k + 1) left (number + length legal_commands) (after state legal_commands))
+    >>= λ legal_commands.
+    log_from layout a epoch image (k + 1) (span_in layout a image k - 1) left (number + length legal_commands) (after state legal_commands))
     else Ok (record { used = k; number = number; state = state })
 
 -- how a journal stands: where it writes next, how many commands it has, and the state after them (own)
@@ -114,7 +131,7 @@ standing_in sectors image =
     layout_in sectors image
     >>= λ layout. in_use_in layout image
     >>= λ used. ports_from layout used.area image 0 layout.ports
-    >>= λ ports. log_from layout used.area used.header.epoch image 0 layout.slots used.header.base ports
+    >>= λ ports. log_from layout used.area used.header.epoch image 0 0 layout.slots used.header.base ports
     >>= λ log. Ok (record {
       layout = layout;
       area = used.area;

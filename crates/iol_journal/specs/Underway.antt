@@ -22,7 +22,7 @@ EachKept sectors s idle c = (image : Image) → IsImage c image → IsKeptAs sec
 abbrev pub IsAtRest : Disk → Standing → Idle → Type 0
 IsAtRest d s idle = IsTrue d.honest → EachKept d.sectors s idle d.content
 
--- so many sectors of the body are written in the first free slot (own)
+-- so many sectors of the body are written, from the first free slot on (own)
 abbrev pub HasWritten : Standing → List ℕ → ℕ → Content → Type 0
 HasWritten s body n c = (j : ℕ) → j < n → reads c (body_at s.layout s.area s.used j) ≡ sector_of body j
 

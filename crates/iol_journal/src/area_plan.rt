@@ -55,7 +55,7 @@ impl AreaPlan {
         requires there { slot < self.now.layout.slots }
         ensures { Makes (slot_write self.now.layout self.now.area slot ∷ []) (D.disk disk.old) (D.disk disk.new) result }
     {
-        self.layout.slot(self.area, slot).close_gate(disk)
+        self.layout.slot(self.area, slot, 1).close_gate(disk)
     }
 
     // Writes the header.

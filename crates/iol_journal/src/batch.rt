@@ -1,9 +1,10 @@
 //! Commands that are written together.
 
-ghost use Rattle.std.specs.Prelude.{◌≡◌, ◌≤◌, ◌<◌, true, false, length, IfOk};
+ghost use Rattle.std.specs.Prelude.{◌≡◌, ◌≤◌, ◌<◌, ◌*◌, ◌^◌, true, false, length, IfOk, IfSome, IfNone};
 ghost use Rattle.iol_types.specs.State.{after, legal};
+ghost use Rattle.iol_record.specs.declared.encode.TheConstants.{LARGEST_COMMAND_RECORD};
 ghost use Rattle.iol_journal.specs.Begin.{is_too_large};
-ghost use Rattle.iol_journal.specs.Body.{records_of};
+ghost use Rattle.iol_journal.specs.Body.{records_of, slots_of, slots_for};
 ghost use Rattle.iol_journal.specs.Journals.{values};
 
 use iol_record::command_record_octets;
@@ -14,7 +15,9 @@ use std::alloc::AllocError;
 pub(crate) const MOST_COMMANDS: usize = 64;
 // The octets of a slot's body before the records: epoch 8, number of the first command 8, count 2, octets of the records 4.
 pub(crate) const BODY_HEAD_OCTETS: usize = 22;
-/// The most octets of records that a batch has: what a slot's body holds behind its head.
+// The octets of a slot's body.
+pub(crate) const BODY_OCTETS: usize = 8192;
+/// The most octets of records that a batch of one slot has: what a slot's body holds behind its head.
 pub const MOST_RECORD_OCTETS: usize = 8170;
 
 /// Commands that are written together, and the number of the first.
@@ -27,7 +30,9 @@ pub struct Batch {
 // How many octets the records of commands have.
 fn record_octets(commands: &[Command]) -> usize
     requires { length commands.now ≤ MOST_COMMANDS }
-    ensures { result ≡ length (records_of (values commands.now)) }
+    ensures octets { result ≡ length (records_of (values commands.now)) }
+    ensures bound { result < 2 ^ 40 }
+    ensures most { result ≤ LARGEST_COMMAND_RECORD * length commands.now }
 {
     let mut octets = 0;
     for command in commands {
@@ -36,11 +41,26 @@ fn record_octets(commands: &[Command]) -> usize
     octets
 }
 
-// Whether a batch does not fit a slot's body.
-pub(crate) fn is_too_large(commands: &[Command]) -> bool
-    ensures { result ≡ is_too_large (values commands.now) }
+// How many slots a batch takes whose records have so many octets.
+pub(crate) fn slots_of(octets: usize) -> usize
+    requires { octets < 2 ^ 40 }
+    ensures { result ≡ slots_of octets }
 {
-    MOST_COMMANDS < commands.len() || MOST_RECORD_OCTETS < record_octets(commands)
+    (BODY_HEAD_OCTETS + octets).div_ceil(BODY_OCTETS)
+}
+
+// How many slots a batch takes, if it fits an area of so many.
+pub(crate) fn span_within(slots: usize, commands: &[Command]) -> Option<usize>
+    ensures some { IfSome result (λ span. (span ≡ slots_for (values commands.now)) × (is_too_large slots (values commands.now) ≡ false)) }
+    // A command takes a slot at most, as its record has 4,118 octets or fewer.
+    ensures few { IfSome result (λ span. 1 ≤ length commands.now → span ≤ length commands.now) }
+    ensures none { IfNone result (is_too_large slots (values commands.now) ≡ true) }
+{
+    if MOST_COMMANDS < commands.len() {
+        return None;
+    }
+    let span = slots_of(record_octets(commands));
+    if slots < span { None } else { Some(span) }
 }
 
 // Applies the commands, if each passes in the state that it meets.

@@ -1,12 +1,12 @@
 //! The body of a slot: its head, and the records of a batch.
 
-ghost use Rattle.std.specs.Prelude.{◌≡◌, ◌≤◌, ◌<◌, ◌+◌, ◌*◌, ◌++◌, ℕ, List, length, Some, IfOk};
+ghost use Rattle.std.specs.Prelude.{◌≡◌, ◌≤◌, ◌<◌, ◌+◌, ◌*◌, ◌^◌, ◌++◌, ℕ, List, length, Some, IfOk};
 ghost use Rattle.iol_journal.specs.Octets.{sectors_reached};
-ghost use Rattle.iol_journal.specs.Body.{batch_of, commands_of, records_of, head_octets, body_octets};
+ghost use Rattle.iol_journal.specs.Body.{head_of, batch_of, commands_of, records_of, slots_for, head_octets, body_octets};
 ghost use Rattle.iol_journal.specs.declared.geometry.TheConstants.{BODY_SECTORS};
 ghost use Rattle.iol_journal.specs.Journals.{values};
 
-use crate::batch::{BODY_HEAD_OCTETS, MOST_COMMANDS, MOST_RECORD_OCTETS};
+use crate::batch::{BODY_HEAD_OCTETS, MOST_COMMANDS, slots_of};
 use crate::header::LAST_NUMBER;
 use crate::numbers::array_at;
 use iol_disk::SECTOR_OCTETS;
@@ -27,7 +27,7 @@ pub struct Head {
 }
 
 impl Head {
-    ghost use Rattle.iol_journal.specs.Body.{head_of, fits};
+    ghost use Rattle.iol_journal.specs.Body.{head_of, fits, slots_of};
 
     // The head at the front of a body.
     #[tactic(auto, unfolding(crate::specs::Body::head_of))]
@@ -52,21 +52,27 @@ impl Head {
             && self.first == first
             && 1 <= self.count
             && usize::from(self.count) <= MOST_COMMANDS
-            && self.octets as usize <= MOST_RECORD_OCTETS
             && first + u64::from(self.count) <= LAST_NUMBER + 1
     }
 
-    /// How many sectors of the body it and its records take, as it says: 1 to 16 where it is that of a batch.
+    /// How many sectors of the body it and its records take, as it says: 1 or more, and at most 16 for each slot of its batch.
     pub fn sectors(self) -> usize
         ensures { result ≡ sectors_reached (BODY_HEAD_OCTETS + self.octets) }
     {
         (BODY_HEAD_OCTETS + self.octets as usize).div_ceil(SECTOR_OCTETS)
     }
+
+    /// How many slots its batch takes, as it says: 1 or more.
+    pub fn slots(self) -> usize
+        ensures { result ≡ slots_of self.octets }
+    {
+        slots_of(self.octets as usize)
+    }
 }
 
 // The records of commands, one behind the other.
 fn records(alloc: Global, commands: &[Command]) -> Result<Vec<u8>, AllocError>
-    requires { length (records_of (values commands.now)) ≤ MOST_RECORD_OCTETS }
+    requires { length (records_of (values commands.now)) < 2 ^ 31 }
     ensures records { IfOk result (λ octets. octets.items ≡ records_of (values commands.now)) }
     ensures read { IfOk result (λ octets. commands_of (length commands.now) octets.items ≡ Some (values commands.now)) }
 {
@@ -86,10 +92,12 @@ pub(crate) fn body_of(
     commands: &[Command],
 ) -> Result<Vec<u8>, AllocError>
     requires most { length commands.now ≤ MOST_COMMANDS }
-    requires small { length (records_of (values commands.now)) ≤ MOST_RECORD_OCTETS }
+    requires small { length (records_of (values commands.now)) < 2 ^ 31 }
     ensures octets { IfOk result (λ body. body.items ≡ body_octets epoch first (values commands.now)) }
     ensures whole { IfOk result (λ body. length body.items ≡ SECTOR_OCTETS * sectors_reached (length body.items)) }
-    ensures short { IfOk result (λ body. (1 ≤ sectors_reached (length body.items)) × (sectors_reached (length body.items) ≤ BODY_SECTORS)) }
+    ensures short { IfOk result (λ body. (1 ≤ sectors_reached (length body.items))
+        × (sectors_reached (length body.items) ≤ BODY_SECTORS * slots_for (values commands.now))) }
+    ensures tells { IfOk result (λ body. (head_of body.items).octets ≡ length (records_of (values commands.now))) }
     // Whatever follows it in its slot, it is read as these commands.
     ensures sound { IfOk result (λ body. 1 ≤ length commands.now → first + length commands.now ≤ LAST_NUMBER + 1
         → (rest : List ℕ) → batch_of epoch first (body.items ++ rest) ≡ Some (values commands.now)) }

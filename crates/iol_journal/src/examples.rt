@@ -6,7 +6,7 @@ ghost use Rattle.iol_types.specs.Command.{Configure};
 ghost use Rattle.iol_types.specs.Examples.{example_config};
 ghost use Rattle.iol_disk.specs.Calls.{write, sync};
 ghost use Rattle.iol_journal.specs.Batches.{batch_calls};
-ghost use Rattle.iol_journal.specs.Body.{body_octets, fits};
+ghost use Rattle.iol_journal.specs.Body.{body_octets, fits, slots_of};
 ghost use Rattle.iol_journal.specs.Checkpoints.{checkpoint_calls};
 ghost use Rattle.iol_journal.specs.Examples.{two_by_four, checkpoint_of_two_by_four, first_body, first_standing, standing_of};
 ghost use Rattle.iol_journal.specs.Geometry.{IsGeometry, geometry_of, geometry_octets};
@@ -15,7 +15,7 @@ ghost use Rattle.iol_slots.specs.Gate.{open_gate, closed_gate};
 ghost use Rattle.iol_types.specs.State.{State};
 ghost use Rattle.iol_record.specs.declared.examples.TheConstants.{BLANK_RECORD};
 ghost use Rattle.iol_journal.specs.Octets.{padded};
-ghost use Rattle.iol_journal.specs.Begin.{batch_refusal};
+ghost use Rattle.iol_journal.specs.Begin.{batch_refusal, room_in};
 ghost use Rattle.iol_journal.specs.Meaning.{unformatted, damaged, layout_in, greatest};
 ghost use Rattle.iol_journal.specs.Orders.{format_calls};
 ghost use Rattle.iol_journal.specs.Layout.{layout_of, total, gate_at, header_at, port_at, slot_at, body_at};
@@ -47,6 +47,8 @@ pub fn places()
     ensures ports { map (port_at (layout_of two_by_four) Area.A) (0 ∷ 1 ∷ []) ≡ 4 ∷ 13 ∷ [] }
     ensures slots { map (slot_at (layout_of two_by_four) Area.A) (0 ∷ 1 ∷ 2 ∷ 3 ∷ []) ≡ 22 ∷ 39 ∷ 56 ∷ 73 ∷ [] }
     ensures bodies { map (body_at (layout_of two_by_four) Area.A 0) (0 ∷ 15 ∷ []) ≡ 23 ∷ 38 ∷ [] }
+    // A body over the slots 1 and 2: it leaves out the gate of slot 2, sector 56.
+    ensures longer { map (body_at (layout_of two_by_four) Area.A 1) (0 ∷ 15 ∷ 16 ∷ []) ≡ 40 ∷ 55 ∷ 57 ∷ [] }
     ensures largest { total (layout_of (record { ports = 32; slots = 256 })) ≡ 9286 }
 {}
 
@@ -78,7 +80,7 @@ pub fn headers()
     ensures over { is_sound (record { epoch = 1; base = 4611686018427387905 }) ≡ false }
 {}
 
-/// The limits of batches: 64 commands, 8,170 octets of records behind a head of 22, numbers up to 2^62.
+/// The limits of batches: 64 commands, 8,170 octets of records in one slot behind a head of 22, numbers up to 2^62.
 pub fn limits()
     ensures commands { MOST_COMMANDS ≡ 64 }
     ensures records { MOST_RECORD_OCTETS ≡ 8170 }
@@ -88,11 +90,21 @@ pub fn limits()
     ensures no_command { fits (record { epoch = 1; first = 1; count = 0; octets = 10 }) 1 1 ≡ false }
     ensures last_count { fits (record { epoch = 1; first = 1; count = 64; octets = 8170 }) 1 1 ≡ true }
     ensures a_65th_command { fits (record { epoch = 1; first = 1; count = 65; octets = 10 }) 1 1 ≡ false }
-    ensures too_long { fits (record { epoch = 1; first = 1; count = 1; octets = 8171 }) 1 1 ≡ false }
+    ensures one_slot { slots_of 8170 ≡ 1 }
+    ensures two_slots { slots_of 8171 ≡ 2 }
+    ensures all_slots { slots_of 2097130 ≡ 256 }
     ensures last_number { fits (record { epoch = 1; first = 4611686018427387904; count = 1; octets = 10 }) 1 4611686018427387904 ≡ true }
     ensures past_the_last { fits (record { epoch = 1; first = 4611686018427387904; count = 2; octets = 20 }) 1 4611686018427387904 ≡ false }
     ensures other_epoch { fits (record { epoch = 2; first = 1; count = 1; octets = 10 }) 1 1 ≡ false }
     ensures other_first { fits (record { epoch = 1; first = 2; count = 1; octets = 10 }) 1 1 ≡ false }
+{}
+
+/// The octets of records that fit the free ones of 4 slots: 8,192 for each, less a head of 22. Where none is free, those of one.
+pub fn rooms()
+    ensures all_free { room_in (standing_of 0 9) ≡ 32746 }
+    ensures three_free { room_in (standing_of 1 9) ≡ 24554 }
+    ensures one_free { room_in (standing_of 3 9) ≡ 8170 }
+    ensures none_free { room_in (standing_of 4 9) ≡ 8170 }
 {}
 
 /// The body of the first slot with one Configure: epoch 1, number 1, one command, 10 octets, the record, and zeros.

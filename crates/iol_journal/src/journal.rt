@@ -1,7 +1,7 @@
 //! A journal at rest, and which batches it takes.
 
 use crate::area_plan::AreaPlan;
-use crate::batch::{Batch, apply_all, is_too_large};
+use crate::batch::{BODY_HEAD_OCTETS, BODY_OCTETS, Batch, apply_all, span_within};
 use crate::body::body_of;
 use crate::checkpointing::Checkpointing;
 use crate::header::{Header, LAST_NUMBER};
@@ -40,11 +40,11 @@ impl<D: SectorDisk> Model for Journal<D> {
 /// Why a batch was not begun. The causes are judged in this order.
 #[derive(Clone, Copy, Debug, PartialEq, Eq, Error)]
 pub enum BeginCause {
-    /// It has more than 64 commands, or their records have more than 8,170 octets.
+    /// It has more than 64 commands, or takes more slots than an area has.
     #[error("the batch is too large")]
     TooLarge,
-    /// No slot is free.
-    #[error("no slot is free")]
+    /// It takes more slots than are free.
+    #[error("too few slots are free")]
     NeedsCheckpoint,
     /// Out of memory.
     #[error("out of memory")]
@@ -82,11 +82,11 @@ pub struct BeginFault<D: SectorDisk> {
 }
 
 impl<D: SectorDisk> Journal<D> {
-    ghost use Rattle.std.specs.Prelude.{◌≡◌, ◌≤◌, ◌<◌, ◌+◌, ◌*◌, ◌++◌, nat_lt, false, List, length, None, IfOk, IfErr, OnOk};
+    ghost use Rattle.std.specs.Prelude.{◌≡◌, ◌≤◌, ◌<◌, ◌+◌, ◌*◌, ◌++◌, ℕ, nat_lt, false, List, length, None, IfOk, IfErr, OnOk};
     ghost use Rattle.iol_journal.specs.AreaPlans.{AreRecords, IsAreaPlan};
     ghost use Rattle.iol_journal.specs.Checkpoints.{checkpoint_calls, first_stage, next_area, next_header};
     ghost use Rattle.iol_journal.specs.CheckpointViews.{stages_left, IsCheckpointUnderway};
-    ghost use Rattle.iol_journal.specs.Begin.{batch_refusal, IsBatchRefusal};
+    ghost use Rattle.iol_journal.specs.Begin.{batch_refusal, room_in, IsBatchRefusal};
     ghost use Rattle.iol_journal.specs.Underway.{IsAtRest, IsUnderway};
     ghost use Rattle.iol_journal.specs.Batches.{batch_calls};
     ghost use Rattle.iol_journal.specs.Runs.{Run, with_batch_begun};
@@ -94,6 +94,9 @@ impl<D: SectorDisk> Journal<D> {
     ghost use Rattle.iol_journal.specs.CheckpointRuns.{IsRunCheckpointing};
     ghost use Rattle.iol_types.specs.Command.{CommandValue};
     ghost use Rattle.iol_journal.specs.Journals.{standing_at, values, calls_left, IsPlan, IsPlanned, IsResting, LeadsTo};
+    ghost use Rattle.iol_journal.specs.Body.{slots_of, slots_for};
+    ghost use Rattle.iol_journal.specs.declared.batch.TheConstants.{MOST_RECORD_OCTETS};
+    ghost use Rattle.iol_journal.specs.declared.geometry.TheConstants.{BODY_SECTORS};
     ghost use Rattle.iol_journal.specs.declared.header.TheConstants.{LAST_NUMBER};
     ghost use Rattle.iol_journal.specs.declared.phase.Phase.TheVariants.{Body};
 
@@ -141,6 +144,17 @@ impl<D: SectorDisk> Journal<D> {
         self.place.used < self.place.layout.slots()
     }
 
+    /// The octets of records that fit the free slots, or where none is free one slot: 8,192 for each slot, less 22.
+    pub fn room(&self) -> usize
+        ensures room { result ≡ room_in self.now.standing }
+        ensures least { MOST_RECORD_OCTETS ≤ result }
+        // Records of no more octets fit the area.
+        ensures fits { (octets : ℕ) → octets ≤ result → slots_of octets ≤ self.now.standing.layout.slots }
+    {
+        let free = self.place.layout.slots() - self.place.used;
+        BODY_OCTETS * free.max(1) - BODY_HEAD_OCTETS
+    }
+
     /// The disk, to be recovered again.
     pub fn disk(self) -> D
         ensures { result ≡ self.disk }
@@ -164,9 +178,11 @@ impl<D: SectorDisk> Journal<D> {
         ensures begun { IfOk result (λ w. (w.disk ≡ self.disk) × (w.standing ≡ self.standing) × (w.idle ≡ self.idle)
             × (w.history ≡ self.history)
             × (w.commands ≡ values batch.commands.items) × (w.phase ≡ Body 0)) }
-        // Its steps make these disk calls, 19 at most.
+        // Its steps make these disk calls: 16 for each slot, and three more, at most.
         ensures calls { IfOk result (λ w. calls_left w ≡ batch_calls self.standing (values batch.commands.items)) }
-        ensures at_most { IfOk result (λ w. length (calls_left w) ≤ 19) }
+        ensures at_most { IfOk result (λ w. length (calls_left w) ≤ BODY_SECTORS * slots_for (values batch.commands.items) + 3) }
+        // A command takes a slot at most, so there are no more than 16 for each command, and three.
+        ensures few { IfOk result (λ w. length (calls_left w) ≤ BODY_SECTORS * length (values batch.commands.items) + 3) }
         // It changes no meaning.
         ensures underway { IsAtRest (D.disk self.disk) self.standing self.idle → IfOk result (λ w. IsUnderway D.disk w) }
         // Each run of the journal goes on as one whose first queued commands are underway.
@@ -174,7 +190,7 @@ impl<D: SectorDisk> Journal<D> {
             → IsRunAtRest D.disk r self → IsRunWriting D.disk (with_batch_begun r (values batch.commands.items) behind) w) }
         ensures follows { OnOk result (batch_refusal self.standing batch.first (values batch.commands.items) ≡ None) }
         ensures cause { IfErr result (λ fault. IsBatchRefusal self.standing batch.first (values batch.commands.items) fault.cause) }
-        // Where no slot is free, a checkpoint can be made.
+        // Where too few slots are free, a checkpoint can be made.
         ensures used { IfErr result (λ fault. fault.cause ≡ BeginCause.NeedsCheckpoint → 0 < self.standing.used) }
         ensures back { IfErr result (λ fault. (fault.journal ≡ self) × (fault.batch ≡ batch)) }
     {
@@ -203,14 +219,16 @@ impl<D: SectorDisk> Journal<D> {
         ensures planned { IfOk result (λ plan. IsPlanned (D.disk self.now.disk) self.now.standing (values batch.now.commands.items) (Body 0)
             × IsPlan self.now.standing (values batch.now.commands.items) plan
             × (batch.now.first ≡ self.now.standing.number + 1)) }
+        ensures few { OnOk result (slots_for (values batch.now.commands.items) ≤ length (values batch.now.commands.items)) }
         ensures follows { OnOk result (batch_refusal self.now.standing batch.now.first (values batch.now.commands.items) ≡ None) }
         ensures cause { IfErr result (IsBatchRefusal self.now.standing batch.now.first (values batch.now.commands.items)) }
         ensures used { IfErr result (λ cause. cause ≡ BeginCause.NeedsCheckpoint → 0 < self.now.standing.used) }
     {
-        if is_too_large(&batch.commands) {
+        let slots = self.place.layout.slots();
+        let Some(span) = span_within(slots, &batch.commands) else {
             return Err(BeginCause::TooLarge);
-        }
-        if self.place.used == self.place.layout.slots() {
+        };
+        if slots - self.place.used < span {
             return Err(BeginCause::NeedsCheckpoint);
         }
         let body = body_of(self.alloc, self.place.epoch, batch.first, &batch.commands)?;
@@ -224,6 +242,7 @@ impl<D: SectorDisk> Journal<D> {
             let sectors = body.len() / SECTOR_OCTETS;
             Ok(Plan {
                 body,
+                span,
                 sectors,
                 next,
             })

@@ -1,9 +1,10 @@
 //! Laws of journals, which no code calls. Proofs of other crates cite them from `proofs/JournalLaws.antt`, under the same names.
 
-ghost use Rattle.std.specs.Prelude.{◌≡◌, ◌⊎◌, ℕ, true, false, IsTrue, List, Some, None};
+ghost use Rattle.std.specs.Prelude.{◌≡◌, ◌<◌, ◌⊎◌, ◌+◌, ℕ, true, false, IsTrue, List, Some, None};
 ghost use Rattle.iol_types.specs.Command.{CommandValue};
 ghost use Rattle.iol_disk.specs.Content.{Image, IsImage};
 ghost use Rattle.iol_disk.specs.Disk.{Disk};
+ghost use Rattle.iol_journal.specs.Body.{slots_for};
 ghost use Rattle.iol_journal.specs.Begin.{follows, is_too_large, batch_refusal};
 ghost use Rattle.iol_journal.specs.CheckpointViews.{CheckpointingView, IsCheckpointUnderway};
 ghost use Rattle.iol_journal.specs.Journals.{WritingView};
@@ -34,7 +35,9 @@ pub fn rest_means_its_state()
 
 /// A batch that is not too large and goes on where the journal stands is refused for want of a slot alone.
 pub fn following_batch_wants_a_slot()
-    ensures { (s : Standing) (first : ℕ) (commands : List CommandValue) → is_too_large commands ≡ false → follows s first commands ≡ true
+    ensures { (s : Standing) (first : ℕ) (commands : List CommandValue) → is_too_large s.layout.slots commands ≡ false
+        → follows s first commands ≡ true
         → (batch_refusal s first commands ≡ None)
-        ⊎ ((batch_refusal s first commands ≡ Some BeginCause.NeedsCheckpoint) × (s.used ≡ s.layout.slots)) }
+        ⊎ ((batch_refusal s first commands ≡ Some BeginCause.NeedsCheckpoint) × (s.layout.slots < s.used + slots_for commands)
+        × (0 < s.used)) }
 {}

@@ -52,6 +52,7 @@ impl Layout {
     pub fn slots(self) -> usize
         ensures value { result ≡ self.slots }
         ensures some { 1 ≤ result }
+        ensures bound { result ≤ 256 }
     {
         self.geometry.slots()
     }
@@ -114,12 +115,13 @@ impl Layout {
         self.gate(area) + 2 + PORT_SECTORS * port
     }
 
-    // A slot of an area.
-    pub(crate) fn slot(self, area: Area, slot: usize) -> Slot
-        requires { slot < self.slots }
+    // So many slots of an area, from this one on.
+    pub(crate) fn slot(self, area: Area, slot: usize, span: usize) -> Slot
+        requires { slot + span ≤ self.slots }
         ensures gate { result.gate ≡ slot_at self area slot }
         ensures body { result.body ≡ body_at self area slot 0 }
-        ensures sectors { result.sectors ≡ BODY_SECTORS }
+        ensures span { result.span ≡ span }
+        ensures sectors { result.sectors ≡ BODY_SECTORS * span }
     {
         let gate = self.gate(area)
             + 2
@@ -128,7 +130,8 @@ impl Layout {
         Slot {
             gate,
             body: gate + 1,
-            sectors: BODY_SECTORS,
+            span,
+            sectors: BODY_SECTORS * span,
         }
     }
 }

@@ -3,7 +3,7 @@
 //! In come a disk and commands; out go a master's state after them, and the promise that a batch is durable once
 //! its last step is done. [`format`] makes an empty journal of a [`Geometry`], and [`erase`] makes a disk unformatted;
 //! [`Journal::recover`] finds the journal on a disk, and the state; [`Journal::begin`] takes a [`Batch`], which
-//! [`Writing::step`] writes one disk call at a time; where no slot is free, [`Journal::checkpoint`] and
+//! [`Writing::step`] writes one disk call at a time; where too few slots are free, [`Journal::checkpoint`] and
 //! [`Checkpointing::step`] write the state into the other area, which frees all. Each of these owns its disk, and hands
 //! it back.
 //!

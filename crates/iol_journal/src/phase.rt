@@ -1,6 +1,6 @@
 //! The disk call that comes next where a batch is written.
 
-ghost use Rattle.std.specs.Prelude.{◌≡◌, ◌≤◌};
+ghost use Rattle.std.specs.Prelude.{◌≡◌, ◌<◌};
 
 /// The disk call that comes next where a batch is written.
 #[derive(Clone, Copy)]
@@ -16,13 +16,12 @@ pub enum Phase {
 }
 
 impl Phase {
-    ghost use Rattle.iol_journal.specs.declared.geometry.TheConstants.{BODY_SECTORS};
     ghost use Rattle.iol_journal.specs.Batches.{next_phase, IsPhase};
 
     // The phase after this one, with a body of so many sectors.
     pub(crate) fn next(self, sectors: usize) -> Option<Phase>
         requires phase { IsPhase sectors self }
-        requires short { sectors ≤ BODY_SECTORS }
+        requires short { sectors < 1000000 }
         ensures { result ≡ next_phase sectors self }
     {
         match self {

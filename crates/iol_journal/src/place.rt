@@ -24,17 +24,18 @@ pub(crate) struct Place {
 }
 
 impl Place {
-    ghost use Rattle.std.specs.Prelude.{◌≡◌, ◌<◌};
+    ghost use Rattle.std.specs.Prelude.{◌≡◌, ◌≤◌, ◌+◌, ◌*◌};
     ghost use Rattle.iol_journal.specs.Layout.{slot_at, body_at};
     ghost use Rattle.iol_journal.specs.declared.geometry.TheConstants.{BODY_SECTORS};
 
-    // The first slot that is not used.
-    pub(crate) fn slot(&self) -> Slot
-        requires { self.now.used < self.now.layout.slots }
+    // So many slots, from the first one that is not used on.
+    pub(crate) fn slot(&self, span: usize) -> Slot
+        requires { self.now.used + span ≤ self.now.layout.slots }
         ensures gate { result.gate ≡ slot_at self.now.layout self.now.area self.now.used }
         ensures body { result.body ≡ body_at self.now.layout self.now.area self.now.used 0 }
-        ensures sectors { result.sectors ≡ BODY_SECTORS }
+        ensures span { result.span ≡ span }
+        ensures sectors { result.sectors ≡ BODY_SECTORS * span }
     {
-        self.layout.slot(self.area, self.used)
+        self.layout.slot(self.area, self.used, span)
     }
 }

@@ -1,7 +1,7 @@
 //! A plain and slow program for what an image of a disk means, to compare a recovery with. It takes all sectors, and knows
 //! no disk.
 ghost use Rattle.std.specs.Prelude.{◌≡◌, ◌<◌, ◌≤◌, ◌+◌, ◌*◌, length, IfOk, IfErr};
-ghost use Rattle.iol_slots.specs.Gate.{is_open};
+ghost use Rattle.iol_slots.specs.Gate.{is_open, body_sector};
 ghost use Rattle.iol_journal.specs.Faults.{IsFault, IsDiskFault};
 ghost use Rattle.iol_journal.specs.Layout.{total};
 ghost use Rattle.iol_journal.specs.Meaning.{layout_in, header_in, in_use_in, port_in, ports_from, log_from, meaning};
@@ -11,6 +11,8 @@ ghost use Rattle.iol_journal.specs.Reading.{Says};
 ghost use Rattle.iol_journal.specs.declared.header.TheConstants.{LAST_NUMBER};
 
 use crate::area::Area;
+use crate::batch::slots_of;
+use crate::body::Head;
 use crate::cause::RecoverCause;
 use crate::geometry::{BODY_SECTORS, DISK_GATE, GEOMETRY, Geometry};
 use crate::header::Header;
@@ -144,28 +146,53 @@ fn read_slots(
     requires fits { total layout ≤ length image.now }
     requires base { used.header.base ≤ LAST_NUMBER }
     ensures says { Says (λ end. record { used = end.used; number = end.number; state = state.new })
-        (log_from layout used.area used.header.epoch (image_of image.now) 0 layout.slots used.header.base state.old) result }
+        (log_from layout used.area used.header.epoch (image_of image.now) 0 0 layout.slots used.header.base state.old) result }
     ensures no_disk { IfErr result (λ told. IsDiskFault told → ⊥) }
 {
     let mut number = used.header.base;
-    for place in 0..layout.slots() {
-        let slot = layout.slot(used.area, place);
+    let mut place = 0;
+    while place < layout.slots() {
+        let slot = layout.slot(used.area, place, 1);
         if !gate_is_open(image, slot.gate) {
             return Ok(End {
                 used: place,
                 number,
             });
         }
-        let body = octets_from(image, slot.body, BODY_SECTORS);
-        number = match replay_body(alloc, body, used.header.epoch, number, state)? {
+        let span = slots_of(Head::read(sector_at(image, slot.body)).octets as usize);
+        if layout.slots() - place < span {
+            return Err(RecoverCause::Damaged { sector: slot.body });
+        }
+        let body = body_from(alloc, image, slot.body, span)?;
+        number = match replay_body(alloc, &body, used.header.epoch, number, state)? {
             Some(number) => number,
             None => return Err(RecoverCause::Damaged { sector: slot.body }),
         };
+        place += span;
     }
     Ok(End {
-        used: layout.slots(),
+        used: place,
         number,
     })
+}
+
+// The octets of a body that takes so many slots.
+fn body_from(
+    alloc: Global,
+    image: &[[u8; SECTOR_OCTETS]],
+    first: usize,
+    span: usize,
+) -> Result<Vec<u8>, AllocError>
+    requires fits { first + (1 + BODY_SECTORS) * span ≤ length image.now + 1 }
+    requires small { (first < 10000) × (span ≤ 256) }
+    ensures octets { IfOk result (λ body. body.items ≡ octets_in (λ j. image_of image.now (body_sector first j)) 0 (BODY_SECTORS * span)) }
+    ensures size { IfOk result (λ body. length body.items ≡ 512 * (BODY_SECTORS * span)) }
+{
+    let mut body = Vec::new(alloc);
+    for j in 0..BODY_SECTORS * span {
+        body.extend_from_slice(sector_at(image, first + j + j / BODY_SECTORS))?;
+    }
+    Ok(body)
 }
 
 // The octets of so many sectors, one behind the other.

@@ -38,6 +38,7 @@ pub(crate) fn gate(sector: usize) -> Slot
     Slot {
         gate: sector,
         body: sector + 1,
+        span: 0,
         sectors: 0,
     }
 }

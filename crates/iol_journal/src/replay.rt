@@ -1,28 +1,28 @@
 //! The commands of an area's slots, applied in order.
 
-ghost use Rattle.std.specs.Prelude.{◌≡◌, ◌≤◌, ◌<◌, ◌+◌, ◌++◌, ℕ, length, drop, IsTrue, IfOk, IfErr, IfSome, IfNone, OnOk, Ok, Err, Some};
-ghost use Rattle.std.specs.Prelude.{None, if◌then◌else◌};
+ghost use Rattle.std.specs.Prelude.{◌≡◌, ◌≤◌, ◌<◌, ◌+◌, ◌*◌, ◌++◌, ℕ, length, drop, IsTrue, IfOk, IfErr, IfSome, IfNone, OnOk, Ok, Err};
+ghost use Rattle.std.specs.Prelude.{Some, None, if◌then◌else◌};
 ghost use Rattle.iol_types.specs.Command.{value_of};
 ghost use Rattle.iol_record.specs.Reading.{command_at};
 ghost use Rattle.iol_record.specs.declared.fault.RecordFault.{RecordFault};
 ghost use Rattle.std.specs.Option.{option_map};
 ghost use Rattle.iol_disk.specs.Disk.{Same};
-ghost use Rattle.iol_journal.specs.Body.{batch_of, commands_of};
+ghost use Rattle.iol_journal.specs.Body.{head_of, slots_of, batch_of, commands_of};
 ghost use Rattle.iol_journal.specs.Faults.{Counted, IsFault};
 ghost use Rattle.iol_journal.specs.Layout.{total};
 ghost use Rattle.iol_journal.specs.Meaning.{log_from};
+ghost use Rattle.iol_slots.specs.Gate.{body_sector};
 ghost use Rattle.iol_journal.specs.Octets.{octets_at};
 ghost use Rattle.iol_journal.specs.Reading.{Shows, Finds};
 ghost use Rattle.iol_journal.specs.Replay.{reached, HoldsRecords};
 
 use crate::area::Area;
-use crate::batch::{BODY_HEAD_OCTETS, MOST_RECORD_OCTETS};
+use crate::batch::{BODY_HEAD_OCTETS, slots_of};
 use crate::body::Head;
 use crate::cause::RecoverCause;
 use crate::geometry::BODY_SECTORS;
 use crate::header::{Header, LAST_NUMBER};
 use crate::layout::Layout;
-use crate::numbers::array_at;
 use iol_disk::{DiskFault, SECTOR_OCTETS, SectorDisk};
 use iol_record::{RecordFault, decode_command};
 use iol_slots::Slot;
@@ -48,56 +48,79 @@ pub(crate) fn replay_slots<D: SectorDisk>(
     requires fits { total layout ≤ (D.disk disk.old).sectors }
     requires base { header.base ≤ LAST_NUMBER }
     ensures finds { Finds (λ end. record { used = end.used; number = end.number; state = state.new }) (D.disk disk.old)
-        (λ image. log_from layout area header.epoch image 0 layout.slots header.base state.old) result }
+        (λ image. log_from layout area header.epoch image 0 0 layout.slots header.base state.old) result }
     ensures counted { Counted (D.disk disk.old) (D.disk disk.new) result }
-    ensures within { IfOk result (λ end. (end.used ≤ layout.slots) × (header.base + end.used ≤ end.number) × (end.number ≤ LAST_NUMBER)) }
+    ensures within { IfOk result (λ end. (end.used ≤ layout.slots) × (header.base ≤ end.number)
+        × (0 < end.used → header.base < end.number) × (end.number ≤ LAST_NUMBER)) }
     ensures ports { OnOk result (length state.new ≡ length state.old) }
     ensures same { Same (D.disk disk.old) (D.disk disk.new) }
 {
     let mut body = Vec::with_capacity(alloc, BODY_SECTORS * SECTOR_OCTETS)?;
     let mut number = header.base;
-    for used in 0..layout.slots() {
-        let slot = layout.slot(area, used);
+    let mut used = 0;
+    while used < layout.slots() {
+        let slot = layout.slot(area, used, 1);
         if !slot.is_open(disk)? {
             return Ok(End { used, number });
         }
-        read_body(disk, slot, &mut body)?;
+        let span = read_head(disk, slot, &mut body)?;
+        if layout.slots() - used < span {
+            return Err(RecoverCause::Damaged { sector: slot.body });
+        }
+        read_body(disk, layout.slot(area, used, span), &mut body)?;
         number = match replay_body(alloc, &body, header.epoch, number, state)? {
             Some(number) => number,
             None => return Err(RecoverCause::Damaged { sector: slot.body }),
         };
+        used += span;
     }
-    Ok(End {
-        used: layout.slots(),
-        number,
-    })
+    Ok(End { used, number })
 }
 
-// Reads the sectors that a slot's records reach, or the first alone where they would reach past the body.
-fn read_body<D: SectorDisk>(
+// Reads the first sector of a body: how many slots it takes, as its head says.
+fn read_head<D: SectorDisk>(
     disk: &mut D,
     slot: Slot,
     body: &mut Vec<u8>,
-) -> Result<(), RecoverCause>
-    requires fits { slot.body + BODY_SECTORS ≤ (D.disk disk.old).sectors }
-    requires sectors { slot.sectors ≡ BODY_SECTORS }
-    // Its batch is that of the whole body of the slot.
-    ensures reads { OnOk result (Shows (D.disk disk.old) (λ image. (epoch first : ℕ)
-        → batch_of epoch first body.new.items ≡ batch_of epoch first (octets_at image slot.body BODY_SECTORS))) }
-    ensures holds { OnOk result (IsTrue (D.disk disk.old).honest → HoldsRecords body.new.items) }
-    ensures some { OnOk result (SECTOR_OCTETS ≤ length body.new.items) }
+) -> Result<usize, RecoverCause>
+    requires fits { slot.gate + (1 + BODY_SECTORS) ≤ (D.disk disk.old).sectors }
+    requires one { slot.span ≡ 1 }
+    ensures reads { OnOk result (Shows (D.disk disk.old) (λ image. body.new.items ≡ image slot.body)) }
+    ensures size { OnOk result (length body.new.items ≡ SECTOR_OCTETS) }
+    ensures span { IfOk result (λ span. span ≡ slots_of (head_of body.new.items).octets) }
     ensures fault { IfErr result IsFault }
     ensures counted { Counted (D.disk disk.old) (D.disk disk.new) result }
     ensures same { Same (D.disk disk.old) (D.disk disk.new) }
 {
     body.clear();
     push_sector(disk, slot, 0, body)?;
-    let octets = u32::from_be_bytes(array_at(body, 18)) as usize;
-    if octets <= MOST_RECORD_OCTETS {
-        let reached = (BODY_HEAD_OCTETS + octets).div_ceil(SECTOR_OCTETS);
-        for j in 1..reached {
-            push_sector(disk, slot, j, body)?;
-        }
+    Ok(slots_of(Head::read(body).octets as usize))
+}
+
+// Reads the further sectors that the records of a body reach.
+fn read_body<D: SectorDisk>(
+    disk: &mut D,
+    slot: Slot,
+    body: &mut Vec<u8>,
+) -> Result<(), RecoverCause>
+    requires fits { slot.gate + (1 + BODY_SECTORS) * slot.span ≤ (D.disk disk.old).sectors }
+    requires first { Shows (D.disk disk.old) (λ image. body.old.items ≡ image slot.body) }
+    requires size { length body.old.items ≡ SECTOR_OCTETS }
+    requires span { slot.span ≡ slots_of (head_of body.old.items).octets }
+    // Its batch is that of the whole body.
+    ensures reads { OnOk result (Shows (D.disk disk.old) (λ image. (epoch first : ℕ)
+        → batch_of epoch first body.new.items
+        ≡ batch_of epoch first (octets_at (λ j. image (body_sector slot.body j)) 0 (BODY_SECTORS * slot.span)))) }
+    ensures holds { OnOk result (IsTrue (D.disk disk.old).honest → HoldsRecords body.new.items) }
+    ensures some { OnOk result (SECTOR_OCTETS ≤ length body.new.items) }
+    ensures fault { IfErr result IsFault }
+    ensures counted { Counted (D.disk disk.old) (D.disk disk.new) result }
+    ensures same { Same (D.disk disk.old) (D.disk disk.new) }
+{
+    let octets = Head::read(body).octets as usize;
+    let reached = (BODY_HEAD_OCTETS + octets).div_ceil(SECTOR_OCTETS);
+    for j in 1..reached {
+        push_sector(disk, slot, j, body)?;
     }
     Ok(())
 }
@@ -109,8 +132,8 @@ fn push_sector<D: SectorDisk>(
     body: &mut Vec<u8>,
 ) -> Result<(), RecoverCause>
     requires inside { j < slot.sectors }
-    requires fits { slot.body + slot.sectors ≤ (D.disk disk.old).sectors }
-    ensures pushed { OnOk result (Shows (D.disk disk.old) (λ image. body.new.items ≡ body.old.items ++ image (slot.body + j))) }
+    requires fits { slot.gate + (1 + BODY_SECTORS) * slot.span ≤ (D.disk disk.old).sectors }
+    ensures pushed { OnOk result (Shows (D.disk disk.old) (λ image. body.new.items ≡ body.old.items ++ image (body_sector slot.body j))) }
     ensures longer { OnOk result (length body.new.items ≡ length body.old.items + SECTOR_OCTETS) }
     ensures fault { IfErr result IsFault }
     ensures counted { Counted (D.disk disk.old) (D.disk disk.new) result }

@@ -42,7 +42,7 @@ pub fn read_slot<D: SectorDisk>(
     ensures head { IfOk result (λ front. Shows (D.disk disk.old) (λ image. front.head ≡ head_in layout image area place)) }
     ensures same { Same (D.disk disk.old) (D.disk disk.new) }
 {
-    let slot = layout.slot(area, place);
+    let slot = layout.slot(area, place, 1);
     let gate = slot.gate;
     if !slot.is_open(disk)? {
         return Ok(SlotFront { gate, head: None });

@@ -14,8 +14,9 @@ use std::marker::Model;
 // What a batch writes, and the state after it.
 #[derive(Drop)]
 pub(crate) struct Plan {
-    // the body of its slot
+    // the body, and how many slots it takes
     pub body: Vec<u8>,
+    pub span: usize,
     pub sectors: usize,
     pub next: MasterState,
 }
@@ -219,7 +220,7 @@ impl<D: SectorDisk> Writing<D> {
             }),
             None => {
                 let place = Place {
-                    used: place.used + 1,
+                    used: place.used + plan.span,
                     ..place
                 };
                 let number = number + batch.commands.len() as u64;

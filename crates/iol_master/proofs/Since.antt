@@ -10,7 +10,7 @@ use Rattle.iol_journal.specs.CheckpointViews.{CheckpointingView}
 use Rattle.iol_journal.specs.Journals.{JournalView, WritingView, values}
 use Rattle.iol_journal.specs.declared.batch.Batch.{Batch}
 use Rattle.iol_flush.specs.Flushing.{IsSound}
-use Rattle.iol_flush.specs.Stages.{FlusherView, calls_owed, disk_of, failure_of, is_full, next_calls}
+use Rattle.iol_flush.specs.Stages.{FlusherView, calls_owed, disk_of, failure_of, wants_checkpoint, next_calls}
 use Rattle.iol_flush.specs.Steps.{HasBegun, HasCheckpointed, HasMade, HasPublished, HasTaken, HasWritten, IsDiskStep, IsGift, IsPublished}
 use Rattle.iol_flush.specs.Steps.{checkpoint_of, writing_of}
 use Rattle.iol_flush.specs.declared.fault.FlushFault.{FlushFault}
@@ -88,7 +88,7 @@ module _ {D : Type 0} (disk : D → Disk) where
   begun_none false j batch new has = written_none (writing_of j (values batch.commands.items)) new has.1
 
   made_none : (old new : Stage D) → HasMade old new → (failure_of old ≡ None) × (failure_of new ≡ None)
-  made_none (Given j b) new has = (refl, begun_none (is_full j) j b new has)
+  made_none (Given j b) new has = (refl, begun_none (wants_checkpoint j.standing (values b.commands.items)) j b new has)
   made_none (Checkpointing k b) new has = (refl, checkpointed_none k b new has)
   made_none (Writing w) new has = (refl, written_none w new has)
   made_none (Resting j) new has = absurd has

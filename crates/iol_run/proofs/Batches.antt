@@ -15,16 +15,15 @@ use Rattle.iol_core.specs.Core.{CoreView}
 use Rattle.iol_flush.proofs.RunLaws.{gives, publishes}
 use Rattle.iol_flush.specs.Flushing.{FitsBatch, GoesOn, IsFlushing}
 use Rattle.iol_flush.specs.Stages as flush
-use Rattle.iol_flush.specs.Stages.{FlusherView, StandsBehind}
+use Rattle.iol_flush.specs.Stages.{FlusherView, StandsBehind, HasRoom}
 use Rattle.iol_flush.specs.Steps.{HasTaken, HasPublished}
 use Rattle.iol_flush.specs.declared.stage.Stage.{Stage}
 use Rattle.iol_flush.specs.declared.stage.Stage.TheVariants.{Resting, Given, Checkpointing, Writing, Publishing, Failed}
 use Rattle.iol_front.specs.Fronts.{Start, CommittedView}
-use Rattle.iol_journal.specs.Body.{records_of}
+use Rattle.iol_journal.specs.Body.{records_of, slots_of, slots_for}
 use Rattle.iol_journal.specs.Journals.{values}
 use Rattle.iol_journal.specs.Meaning.{Standing}
 use Rattle.iol_journal.specs.declared.batch.Batch.{Batch}
-use Rattle.iol_journal.specs.declared.batch.TheConstants.{MOST_RECORD_OCTETS}
 use Rattle.iol_journal.specs.declared.header.TheConstants.{LAST_NUMBER}
 use Rattle.iol_run.specs.CoreOnDisk.{IsInFlight, IsDurable, HasFlight, IsAtRest, IsInStep, KeepsRunning}
 
@@ -43,8 +42,8 @@ taken_flight old new room batch is = record {
     count : length (values batch.commands.items) ≡ new.flight
     count = ap length is.commands ∙ length-take-le new.flight old.queue is.longest.within
 
-small : (n octets : ℕ) → n ≤ 64 → octets ≤ MOST_RECORD_OCTETS → (nat_lt 64 n || nat_lt MOST_RECORD_OCTETS octets) ≡ false
-small n octets few short = grind (arith, nat_tests, few, short)
+small : (n slots span : ℕ) → n ≤ 64 → span ≤ slots → (nat_lt 64 n || nat_lt slots span) ≡ false
+small n slots span few short = grind (arith, nat_tests, few, short)
 
 all : (a b c d : Bool) → a ≡ true → b ≡ true → c ≡ true → d ≡ true → (a && b && c && d) ≡ true
 all true true true true one two three four = refl
@@ -54,18 +53,19 @@ all true false c d one two three four = two
 all false b c d one two three four = one
 
 -- it goes on where the journal stands
-taken_fits : (start : Start) (published : List CommandValue) (old new : CoreView) (s : Standing) (batch : Batch)
+taken_fits : (start : Start) (published : List CommandValue) (old new : CoreView) (s : Standing) (batch : Batch) (room : ℕ)
     → s.number ≡ start.number + length published → s.state ≡ after start.state published → IsDurable start old published
-    → IsTaken old MOST_RECORD_OCTETS new batch → legal old.durable (values batch.commands.items) ≡ true
+    → IsTaken old room new batch → ((octets : ℕ) → octets ≤ room → slots_of octets ≤ s.layout.slots)
+    → legal old.durable (values batch.commands.items) ≡ true
     → (length (values batch.commands.items) ≤ 64) × (batch.first + length (values batch.commands.items) ≤ LAST_NUMBER + 1)
     → FitsBatch s batch
-taken_fits start published old new s batch number state durable is passes bound = record {
+taken_fits start published old new s batch room number state durable is has_room passes bound = record {
   small =
-      small (length (values batch.commands.items)) (length (records_of (values batch.commands.items))) bound.0
-      (subst (λ (cs : List CommandValue). length (records_of cs) ≤ MOST_RECORD_OCTETS) (sym is.commands) is.longest.fits);
+      small (length (values batch.commands.items)) s.layout.slots (slots_for (values batch.commands.items)) bound.0
+      (has_room _ (subst (λ (cs : List CommandValue). length (records_of cs) ≤ room) (sym is.commands) is.longest.fits));
   next = all (nat_le 1 count) (batch.first == s.number + 1) (nat_le (s.number + count) LAST_NUMBER)
       (legal s.state (values batch.commands.items))
-      (le-leb 1 count (taken_flight old new MOST_RECORD_OCTETS batch is).some)
+      (le-leb 1 count (taken_flight old new room batch is).some)
       (eq-eqb batch.first (s.number + 1) here)
       (le-leb (s.number + count) LAST_NUMBER (omega (arith, here, bound.1)))
       (ap (λ (st : State). legal st (values batch.commands.items)) (state ∙ sym durable.state) ∙ passes);
@@ -79,36 +79,37 @@ taken_fits start published old new s batch number state durable is passes bound 
 
 module _ {D : Type 0} where
   -- a batch of the core is given to a flusher that rests
-  pub given_in_step : (start : Start) (old new : CoreView) (before behind : FlusherView D) (batch : Batch)
+  pub given_in_step : (start : Start) (old new : CoreView) (before behind : FlusherView D) (batch : Batch) (room : ℕ)
       → HasTaken before.stage batch behind.stage → behind.published ≡ before.published → flush.IsInStep start before.stage before.published
-      → IsTaken old MOST_RECORD_OCTETS new batch → legal old.durable (values batch.commands.items) ≡ true
+      → IsTaken old room new batch → HasRoom before.stage room → legal old.durable (values batch.commands.items) ≡ true
       → (length (values batch.commands.items) ≤ 64) × (batch.first + length (values batch.commands.items) ≤ LAST_NUMBER + 1)
       → IsInStep start old before None → IsInStep start new behind None
-  given_in_step start old new before behind batch taken same stands is passes bound was =
-      given before.stage before.published behind.stage behind.published taken same stands was.0
+  given_in_step start old new before behind batch room taken same stands is has_room passes bound was =
+      given before.stage before.published behind.stage behind.published taken same stands has_room was.0
     where
       given : (s : Stage D) (published : List CommandValue) (t : Stage D) (list : List CommandValue) → HasTaken s batch t → list ≡ published
-          → flush.IsInStep start s published → IsDurable start old published → IsDurable start new list × HasFlight new t × GoesOn t
-      given (Resting j) published t list taken same stands durable = (
+          → flush.IsInStep start s published → HasRoom s room → IsDurable start old published
+          → IsDurable start new list × HasFlight new t × GoesOn t
+      given (Resting j) published t list taken same stands fits durable = (
         subst (λ (cs : List CommandValue). IsDurable start new cs) (sym same)
             (subst (λ (c : CoreView). IsDurable start c published) (sym is.others)
             (record { number = durable.number; state = durable.state })),
-        subst (λ (u : Stage D). HasFlight new u) (sym taken) (taken_flight old new MOST_RECORD_OCTETS batch is),
+        subst (λ (u : Stage D). HasFlight new u) (sym taken) (taken_flight old new room batch is),
         subst (λ (u : Stage D). GoesOn u) (sym taken)
-            (taken_fits start published old new j.standing batch stands.number stands.state durable is passes bound),
+            (taken_fits start published old new j.standing batch room stands.number stands.state durable is fits passes bound),
       )
-      given (Given j b) published t list taken same stands durable = absurd taken
-      given (Checkpointing c b) published t list taken same stands durable = absurd taken
-      given (Writing w) published t list taken same stands durable = absurd taken
-      given (Publishing j written) published t list taken same stands durable = absurd taken
-      given (Failed d f) published t list taken same stands durable = absurd taken
+      given (Given j b) published t list taken same stands fits durable = absurd taken
+      given (Checkpointing c b) published t list taken same stands fits durable = absurd taken
+      given (Writing w) published t list taken same stands fits durable = absurd taken
+      given (Publishing j written) published t list taken same stands fits durable = absurd taken
+      given (Failed d f) published t list taken same stands fits durable = absurd taken
 
   -- the run goes on
-  pub given_running : (disk : D → Disk) (start : Start) (old new : CoreView) (before behind : FlusherView D) (batch : Batch)
-      → HasTaken before.stage batch behind.stage → behind.published ≡ before.published → IsTaken old MOST_RECORD_OCTETS new batch
+  pub given_running : (disk : D → Disk) (start : Start) (old new : CoreView) (before behind : FlusherView D) (batch : Batch) (room : ℕ)
+      → HasTaken before.stage batch behind.stage → behind.published ≡ before.published → IsTaken old room new batch
       → KeepsRunning disk start (record { core = old; flusher = before; committed = None })
       (record { core = new; flusher = behind; committed = None })
-  given_running disk start old new before behind batch taken same is = record {
+  given_running disk start old new before behind batch room taken same is = record {
     goes_on = λ marks was.
         subst (λ (cs : List CommandValue). IsFlushing disk start.number start.state cs new.queue marks behind.stage) (sym same)
         (subst (λ (cs : List CommandValue). IsFlushing disk start.number start.state before.published cs marks behind.stage)

@@ -6,9 +6,9 @@ use Rattle.iol_disk.specs.Disk.{Disk}
 use Rattle.iol_core.specs.Core.{CoreView}
 use Rattle.iol_core.specs.Submit.{has_failed}
 use Rattle.iol_flush.proofs.Turns.{advances}
-use Rattle.iol_flush.specs.Stages.{FlusherView, HasFewCalls, is_full, most_checkpoint_calls, need_of}
+use Rattle.iol_flush.specs.Stages.{FlusherView, HasFewCalls, wants_checkpoint, room_of, need_of}
 use Rattle.iol_flush.specs.Steps.{HasTaken, HasPublished}
-use Rattle.iol_flush.specs.Turns.{calls_needed}
+use Rattle.iol_flush.specs.Turns.{calls_needed, given_calls}
 use Rattle.iol_flush.specs.declared.need.Need.{Need}
 use Rattle.iol_flush.specs.declared.need.Need.TheVariants as need
 use Rattle.iol_flush.specs.declared.stage.Stage.{Stage}
@@ -18,13 +18,12 @@ use Rattle.iol_types.specs.Command.{CommandValue}
 use Rattle.iol_journal.specs.Layout.{Layout}
 use Rattle.iol_journal.specs.Journals.{values}
 use Rattle.iol_journal.specs.declared.batch.Batch.{Batch}
-use Rattle.iol_journal.specs.declared.batch.TheConstants.{MOST_RECORD_OCTETS}
 use Rattle.iol_trace.specs.Events.{Event}
 use Rattle.iol_run.proofs.Batches.{taken_flight}
 use Rattle.iol_run.proofs.Served.{IsServed, Served}
 use Rattle.iol_run.proofs.Serving.{knows}
 use Rattle.iol_run.proofs.TurnsLeft.{HasBatch, HasLayout, own_turns, turns_behind, turns_left, fewer_behind, given_turns, flies_within}
-use Rattle.iol_run.specs.CoreOnDisk.{CoreOnDiskView, HasFlight, IsAtRest}
+use Rattle.iol_run.specs.CoreOnDisk.{CoreOnDiskView, IsInFlight, HasFlight, IsAtRest}
 use Rattle.iol_run.specs.Flushed.{batch_turns}
 use Rattle.iol_run.specs.Tasks.{waits_of}
 use Rattle.iol_run.specs.Turns.{Acknowledges, Takes, HasCalled, Publishes, Serves, IsTurn}
@@ -36,8 +35,8 @@ less_own : (own_old own_new old new : ℕ) → own_new + 1 ≤ own_old → new �
 less_own own_old own_new old new fewer same = omega (arith, fewer, same)
 
 -- a batch is taken of those that wait
-less_behind : (each own old new : ℕ) → own + 1 ≤ each → each + new ≤ old → own + new ≤ 0 + old - 1
-less_behind each own old new short fewer = omega (arith, short, fewer)
+less_behind : (own old new : ℕ) → own + 1 + new ≤ old → own + new ≤ 0 + old - 1
+less_behind own old new fewer = omega (arith, fewer)
 
 -- where no batch may be taken, none is in flight and the disk has not failed, nothing waits
 pub nothing_waits : (waits flies : ℕ) (failed : Bool) → (not (nat_eq waits 0) && nat_eq flies 0 && not failed) ≡ false → flies ≡ 0
@@ -106,16 +105,19 @@ module _ {D : Type 0} (layout : Layout) where
             length-drop old.core.flight old.core.queue,
           )
 
-  taken_own : (s t : Stage D) (batch : Batch) → HasTaken s batch t → HasLayout layout s → own_turns t None + 1 ≤ batch_turns layout
-  taken_own (Resting j) t batch has same =
-      subst (λ (u : Stage D). own_turns u None + 1 ≤ batch_turns layout) (sym has)
-      (subst (λ (l : Layout). 21 + (if is_full j then most_checkpoint_calls l + 1 else 0) + 1 + 1 ≤ batch_turns layout) (sym same)
-      (given_turns (most_checkpoint_calls layout) (is_full j)))
-  taken_own (Given j b) t batch has same = absurd has
-  taken_own (Checkpointing c b) t batch has same = absurd has
-  taken_own (Writing w) t batch has same = absurd has
-  taken_own (Publishing j written) t batch has same = absurd has
-  taken_own (Failed d f) t batch has same = absurd has
+  taken_own : (s t : Stage D) (batch : Batch) → HasTaken s batch t → HasLayout layout s → 1 ≤ length (values batch.commands.items)
+      → own_turns t None + 1 ≤ batch_turns layout * length (values batch.commands.items)
+  taken_own (Resting j) t batch has same some =
+      let commands = values batch.commands.items in
+      let full = wants_checkpoint j.standing commands in
+      subst (λ (u : Stage D). own_turns u None + 1 ≤ batch_turns layout * length commands) (sym has)
+      (subst (λ (l : Layout). given_calls l commands full + 1 + 1 ≤ batch_turns layout * length commands) (sym same)
+      (given_turns layout commands full some))
+  taken_own (Given j b) t batch has same some = absurd has
+  taken_own (Checkpointing c b) t batch has same some = absurd has
+  taken_own (Writing w) t batch has same some = absurd has
+  taken_own (Publishing j written) t batch has same some = absurd has
+  taken_own (Failed d f) t batch has same some = absurd has
 
   pub resting : (core : CoreView) (stage : Stage D) → need_of stage ≡ need.Batch → HasFlight core stage → (own_turns stage None ≡ 0)
       × (core.flight ≡ 0)
@@ -133,12 +135,11 @@ module _ {D : Type 0} (layout : Layout) where
       → IsFewer old new
   takes_fewer old new told Made none needs is was waits sound =
       subst (λ (n : ℕ). left_of new ≤ n + turns_behind layout old.core - 1) (sym before)
-      (less_behind (batch_turns layout) (own_turns new.flusher.stage new.committed) (turns_behind layout old.core)
-      (turns_behind layout new.core)
-      (subst (λ (c : Option CommittedView). own_turns new.flusher.stage c + 1 ≤ batch_turns layout) (sym is.4)
-      (taken_own old.flusher.stage new.flusher.stage is.0 is.2 was.layout_is))
-      (subst (λ (n : ℕ). batch_turns layout + turns_behind layout new.core ≤ n) (ap (λ (n : ℕ). batch_turns layout * n) waiting)
-      (fewer_behind (batch_turns layout) (length new.core.queue) new.core.flight within.0 within.1)))
+      (less_behind (own_turns new.flusher.stage new.committed) (turns_behind layout old.core) (turns_behind layout new.core)
+      (subst (λ (n : ℕ). own_turns new.flusher.stage new.committed + 1 + turns_behind layout new.core ≤ n)
+      (ap (λ (n : ℕ). batch_turns layout * n) waiting)
+      (fewer_behind (batch_turns layout) (length new.core.queue) new.core.flight (own_turns new.flusher.stage new.committed + 1)
+      own (flies_within new.core commands flight).1)))
     where
       rest : (own_turns old.flusher.stage None ≡ 0) × (old.core.flight ≡ 0)
       rest = resting old.core old.flusher.stage needs was.batch
@@ -146,8 +147,17 @@ module _ {D : Type 0} (layout : Layout) where
       before : own_turns old.flusher.stage old.committed ≡ 0
       before = ap (own_turns old.flusher.stage) none ∙ rest.0
 
-      within : (1 ≤ new.core.flight) × (new.core.flight ≤ length new.core.queue)
-      within = flies_within new.core (values is.0.commands.items) (taken_flight old.core new.core MOST_RECORD_OCTETS is.0 is.1)
+      commands : List CommandValue
+      commands = values is.0.commands.items
+
+      flight : IsInFlight new.core commands
+      flight = taken_flight old.core new.core (room_of old.flusher.stage) is.0 is.1
+
+      own : own_turns new.flusher.stage new.committed + 1 ≤ batch_turns layout * new.core.flight
+      own =
+          subst (λ (n : ℕ). own_turns new.flusher.stage new.committed + 1 ≤ batch_turns layout * n) (sym flight.flight)
+          (subst (λ (c : Option CommittedView). own_turns new.flusher.stage c + 1 ≤ batch_turns layout * length commands) (sym is.4)
+          (taken_own old.flusher.stage new.flusher.stage is.0 is.2 was.layout_is flight.some))
 
       waiting : length new.core.queue ≡ length old.core.queue - old.core.flight
       waiting = omega (arith, ap (λ (c : CoreView). length c.queue) is.1.others, rest.1)

@@ -13,7 +13,7 @@ use Rattle.iol_core.specs.declared.permit.Grant.{Grant}
 use Rattle.iol_core.specs.declared.core_value.TheConstants.{QUEUE_COMMANDS}
 use Rattle.iol_core.specs.declared.ticket.SubmitFault.{SubmitFault}
 use Rattle.iol_core.specs.declared.ticket.SubmitFault.TheVariants as fault
-use Rattle.iol_flush.specs.Stages.{FlusherView, HasFewCalls, is_full, need_of, failure_of}
+use Rattle.iol_flush.specs.Stages.{FlusherView, HasFewCalls, wants_checkpoint, room_of, need_of, failure_of}
 use Rattle.iol_flush.specs.Steps.{HasWritten, HasCheckpointed, HasBegun, HasMade, HasTaken, HasPublished, writing_of, checkpoint_of}
 use Rattle.iol_flush.specs.declared.need.Need.{Need}
 use Rattle.iol_flush.specs.declared.need.Need.TheVariants as need
@@ -25,7 +25,6 @@ use Rattle.iol_journal.specs.Journals.{JournalView, WritingView, values}
 use Rattle.iol_journal.specs.Layout.{Layout}
 use Rattle.iol_journal.specs.Meaning.{Standing}
 use Rattle.iol_journal.specs.declared.batch.Batch.{Batch}
-use Rattle.iol_journal.specs.declared.batch.TheConstants.{MOST_RECORD_OCTETS}
 use Rattle.iol_trace.specs.Events.{Event}
 use Rattle.iol_link.specs.Link.{LinkCall, LinkAnswer}
 use Rattle.iol_run.proofs.Batches.{taken_flight}
@@ -138,21 +137,21 @@ module _ {D : Type 0} (layout : Layout) where
       fewer = omega (arith, ap (λ (c : CoreView). length c.queue) is.0, length-drop old.core.flight old.core.queue, was.few_wait)
 
   -- a batch is taken
-  taken_served : (old new : CoreView) (s t : Stage D) (batch : Batch) → IsTaken old MOST_RECORD_OCTETS new batch → HasTaken s batch t
+  taken_served : (old new : CoreView) (s t : Stage D) (batch : Batch) (room : ℕ) → IsTaken old room new batch → HasTaken s batch t
       → IsServed layout old s None → IsServed layout new t None
-  taken_served old new (Resting j) t batch is has was =
+  taken_served old new (Resting j) t batch room is has was =
       subst (λ (u : Stage D). IsServed layout new u None) (sym has) (record {
-        batch = taken_flight old new MOST_RECORD_OCTETS batch is;
+        batch = taken_flight old new room batch is;
         layout_is = was.layout_is;
         few_calls = tt;
         few_wait = subst (λ (cs : List CommandValue). length cs ≤ QUEUE_COMMANDS) (sym (ap (λ (c : CoreView). c.queue) is.others))
             was.few_wait;
       })
-  taken_served old new (Given j b) t batch is has was = absurd has
-  taken_served old new (Checkpointing c b) t batch is has was = absurd has
-  taken_served old new (Writing w) t batch is has was = absurd has
-  taken_served old new (Publishing j written) t batch is has was = absurd has
-  taken_served old new (Failed d f) t batch is has was = absurd has
+  taken_served old new (Given j b) t batch room is has was = absurd has
+  taken_served old new (Checkpointing c b) t batch room is has was = absurd has
+  taken_served old new (Writing w) t batch room is has was = absurd has
+  taken_served old new (Publishing j written) t batch room is has was = absurd has
+  taken_served old new (Failed d f) t batch room is has was = absurd has
 
   same_served : (old new : CoreOnDiskView D) → new ≡ old → Served layout old → Served layout new
   same_served old new same was = subst (λ (m : CoreOnDiskView D). Served layout m) (sym same) was
@@ -168,7 +167,8 @@ module _ {D : Type 0} (layout : Layout) where
   takes_served : (old new : CoreOnDiskView D) (told : List Event) (turned : Turned) → old.committed ≡ None → Takes old new told turned
       → Served layout old → Served layout new
   takes_served old new told Made none is was =
-      none_served old new none is.4 (taken_served old.core new.core old.flusher.stage new.flusher.stage is.0 is.1 is.2) was
+      none_served old new none is.4
+      (taken_served old.core new.core old.flusher.stage new.flusher.stage is.0 (room_of old.flusher.stage) is.1 is.2) was
   takes_served old new told Idle none is was = same_served old new is.1 was
   takes_served old new told Waited none is was = same_served old new is.1 was
 
@@ -196,7 +196,7 @@ module _ {D : Type 0} (layout : Layout) where
   begun_layout false j batch new has is = written_layout (writing_of j (values batch.commands.items)) new has.1 is
 
   made_layout : (old new : Stage D) → HasMade old new → HasLayout layout old → HasLayout layout new
-  made_layout (Given j batch) new has is = begun_layout (is_full j) j batch new has is
+  made_layout (Given j batch) new has is = begun_layout (wants_checkpoint j.standing (values batch.commands.items)) j batch new has is
   made_layout (Checkpointing c batch) new has is = checkpointed_layout c batch new has is
   made_layout (Writing w) new has is = written_layout w new has is
   made_layout (Resting j) new has is = absurd has

@@ -9,7 +9,7 @@ use Rattle.iol_core.specs.Submit.{has_failed}
 use Rattle.iol_core.specs.declared.stop.StopCause.TheVariants as cause
 use Rattle.iol_flush.proofs.Turns.{goes_on}
 use Rattle.iol_flush.specs.Flushing.{IsFlushing, KeepsRun}
-use Rattle.iol_flush.specs.Stages.{FlusherView, is_full, failure_of}
+use Rattle.iol_flush.specs.Stages.{FlusherView, wants_checkpoint, failure_of}
 use Rattle.iol_flush.specs.Steps.{HasWritten, HasCheckpointed, HasBegun, HasMade, IsDiskStep, writing_of, checkpoint_of}
 use Rattle.iol_flush.specs.declared.fault.FlushFault.TheVariants as fault
 use Rattle.iol_flush.specs.declared.stage.Stage.{Stage}
@@ -53,7 +53,8 @@ module _ {D : Type 0} where
   begun_flight core false j batch new has is = written_flight core (writing_of j (values batch.commands.items)) new has.1 is
 
   pub made_flight : (core : CoreView) (old new : Stage D) → HasMade old new → HasFlight core old → HasFlight core new
-  made_flight core (Given j batch) new has is = begun_flight core (is_full j) j batch new has is
+  made_flight core (Given j batch) new has is =
+      begun_flight core (wants_checkpoint j.standing (values batch.commands.items)) j batch new has is
   made_flight core (Checkpointing c batch) new has is = checkpointed_flight core c batch new has is
   made_flight core (Writing w) new has is = written_flight core w new has is
   made_flight core (Resting j) new has is = absurd has

@@ -1,17 +1,18 @@
 -- How many turns of the flusher are left until all that waits is acknowledged.
 use Rattle.std.proofs.Common.{◌≡◌, ◌≤◌, ℕ, ◌+◌, ◌-◌, ◌*◌, Bool, true, false, if◌then◌else◌, List, length, length-append, Option, Some, None}
 use Rattle.std.proofs.Common.{ap, sym, ◌∙◌, subst, arith}
-use Rattle.std.proofs.Math.Nat.{mul-le-mul_left, mul-add, mul-one}
+use Rattle.std.proofs.Math.Nat.{mul-le-mul_left, mul-add, add-mul, le-mul_of_pos_right}
 use Rattle.iol_types.specs.Command.{CommandValue}
 use Rattle.iol_core.specs.Core.{CoreView}
-use Rattle.iol_flush.specs.Stages.{HasFewCalls, most_checkpoint_calls, is_full}
-use Rattle.iol_flush.specs.Turns.{calls_needed}
+use Rattle.iol_flush.specs.Stages.{HasFewCalls, most_batch_calls, most_checkpoint_calls, wants_checkpoint}
+use Rattle.iol_flush.specs.Turns.{calls_needed, given_calls}
 use Rattle.iol_flush.specs.declared.stage.Stage.{Stage}
 use Rattle.iol_flush.specs.declared.stage.Stage.TheVariants.{Resting, Given, Checkpointing, Writing, Publishing, Failed}
 use Rattle.iol_front.specs.Fronts.{CommittedView}
 use Rattle.iol_journal.specs.CheckpointViews.{stages_left}
 use Rattle.iol_journal.specs.Journals.{values}
 use Rattle.iol_journal.specs.Layout.{Layout}
+use Rattle.iol_journal.specs.declared.geometry.TheConstants.{BODY_SECTORS}
 use Rattle.iol_run.specs.CoreOnDisk.{IsInFlight, HasFlight, IsAtRest}
 use Rattle.iol_run.specs.Flushed.{batch_turns}
 
@@ -53,25 +54,31 @@ none_more turns all le = omega (arith, le)
 add_within : (turns most more : ℕ) → turns ≤ most → turns + more ≤ most + more
 add_within turns most more le = omega (arith, le)
 
-both_within : (own each behind all : ℕ) → own ≤ each → each + behind ≤ all → own + behind ≤ all
-both_within own each behind all most fewer = omega (arith, most, fewer)
-
 one_less : (turns most : ℕ) → turns + 1 ≤ most → turns ≤ most
 one_less turns most le = omega (arith, le)
 
-calls_within : (calls most : ℕ) → calls ≤ most → 21 + calls + 1 ≤ 24 + most
-calls_within calls most le = omega (arith, le)
+-- the turns of a batch of so many commands are no more than those of as many batches
+within_each : (most n : ℕ) → 1 ≤ n → BODY_SECTORS * n + 8 + most ≤ (24 + most) * n
+within_each most n some =
+    subst (λ (all : ℕ). BODY_SECTORS * n + 8 + most ≤ all) (sym (add-mul 24 most n)) (omega (arith, some, le-mul_of_pos_right most some))
 
-written_within : (calls most : ℕ) → calls ≤ 19 → 1 + calls + 1 ≤ 24 + most
-written_within calls most le = omega (arith, le)
+given_within : (most n : ℕ) (full : Bool) → 1 ≤ n → BODY_SECTORS * n + 3 + 2 + (if full then most + 1 else 0) + 1 + 1 ≤ (24 + most) * n
+given_within most n true some = omega (arith, within_each most n some)
+given_within most n false some = omega (arith, within_each most n some)
 
-few_within : (turns most : ℕ) → turns ≤ 2 → turns ≤ 24 + most
-few_within turns most le = omega (arith, le)
+calls_within : (calls most n : ℕ) → 1 ≤ n → calls ≤ most → BODY_SECTORS * n + 3 + 2 + calls + 1 ≤ (24 + most) * n
+calls_within calls most n some le = omega (arith, le, within_each most n some)
 
--- a batch of one command or more leaves fewer commands behind
-pub fewer_behind : (each waits flies : ℕ) → 1 ≤ flies → flies ≤ waits → each + each * (waits - flies) ≤ each * waits
-fewer_behind each waits flies some within =
-    subst (λ (n : ℕ). each + each * (waits - flies) ≤ n) (sym parted) (add_within each (each * flies) (each * (waits - flies)) least)
+written_within : (calls most n : ℕ) → 1 ≤ n → calls ≤ BODY_SECTORS * n + 3 → 1 + calls + 1 ≤ (24 + most) * n
+written_within calls most n some le = omega (arith, le, within_each most n some)
+
+few_within : (turns most n : ℕ) → 1 ≤ n → turns ≤ 2 → turns ≤ (24 + most) * n
+few_within turns most n some le = omega (arith, le, within_each most n some)
+
+-- the turns of a batch, and of the commands behind it
+pub fewer_behind : (each waits flies own : ℕ) → own ≤ each * flies → flies ≤ waits → own + each * (waits - flies) ≤ each * waits
+fewer_behind each waits flies own most within =
+    subst (λ (n : ℕ). own + each * (waits - flies) ≤ n) (sym parted) (add_within own (each * flies) (each * (waits - flies)) most)
   where
     parted : each * waits ≡ each * flies + each * (waits - flies)
     parted = ap (λ (n : ℕ). each * n) (parts waits flies within) ∙ mul-add each flies (waits - flies)
@@ -79,13 +86,10 @@ fewer_behind each waits flies some within =
         parts : (n m : ℕ) → m ≤ n → n ≡ m + (n - m)
         parts n m le = omega (arith, le)
 
-    least : each ≤ each * flies
-    least = subst (λ (n : ℕ). n ≤ each * flies) (mul-one each) (mul-le-mul_left each some)
-
 -- a batch that was given, with its acknowledgement, needs a turn less than one that is still to be taken
-pub given_turns : (most : ℕ) (full : Bool) → 21 + (if full then most + 1 else 0) + 1 + 1 ≤ 24 + most
-given_turns most true = omega arith
-given_turns most false = omega arith
+pub given_turns : (layout : Layout) (commands : List CommandValue) (full : Bool) → 1 ≤ length commands
+    → given_calls layout commands full + 1 + 1 ≤ batch_turns layout * length commands
+given_turns layout commands full some = given_within (most_checkpoint_calls layout) (length commands) full some
 
 -- what is in flight is one command or more of those that wait
 pub flies_within : (core : CoreView) (commands : List CommandValue) → IsInFlight core commands → (1 ≤ core.flight)
@@ -102,12 +106,11 @@ module _ (layout : Layout) where
       less : (n m : ℕ) → n - m ≤ n
       less n m = omega arith
 
-  one_with : (core : CoreView) (commands : List CommandValue) (own : ℕ) → IsInFlight core commands → own ≤ batch_turns layout
-      → own + turns_behind layout core ≤ batch_turns layout * length core.queue
+  one_with : (core : CoreView) (commands : List CommandValue) (own : ℕ) → IsInFlight core commands
+      → own ≤ batch_turns layout * length commands → own + turns_behind layout core ≤ batch_turns layout * length core.queue
   one_with core commands own is most =
-      let within = flies_within core commands is in
-      both_within own (batch_turns layout) (turns_behind layout core) (batch_turns layout * length core.queue) most
-      (fewer_behind (batch_turns layout) (length core.queue) core.flight within.0 within.1)
+      fewer_behind (batch_turns layout) (length core.queue) core.flight own
+      (subst (λ (n : ℕ). own ≤ batch_turns layout * n) (sym is.flight) most) (flies_within core commands is).1
 
 module _ {D : Type 0} (layout : Layout) where
   -- as many turns are left at most as each command that waits needs in a batch of its own
@@ -115,23 +118,34 @@ module _ {D : Type 0} (layout : Layout) where
       → HasLayout layout stage → HasFewCalls stage
       → turns_left layout core stage committed ≤ batch_turns layout * length core.queue
   most_left core stage (Some committed) batch same few =
-      one_with layout core committed.commands 1 batch.0 (few_within 1 (most_checkpoint_calls layout) (omega arith))
+      one_with layout core committed.commands 1 batch.0
+      (few_within 1 (most_checkpoint_calls layout) (length committed.commands) batch.0.some (omega arith))
   most_left core (Resting j) None batch same few = none_with layout core
-  most_left core (Given j b) None batch same few = one_with layout core (values b.commands.items) _ batch (given_most (is_full j))
+  most_left core (Given j b) None batch same few =
+      one_with layout core commands _ batch (given_most (wants_checkpoint j.standing commands))
     where
-      given_most : (full : Bool) → 21 + (if full then most_checkpoint_calls j.standing.layout + 1 else 0) + 1 ≤ batch_turns layout
+      commands : List CommandValue
+      commands = values b.commands.items
+
+      given_most : (full : Bool) → given_calls j.standing.layout commands full + 1 ≤ batch_turns layout * length commands
       given_most full =
-          let most = most_checkpoint_calls layout in
-          subst (λ (l : Layout). 21 + (if full then most_checkpoint_calls l + 1 else 0) + 1 ≤ batch_turns layout) (sym same)
-          (one_less (21 + (if full then most + 1 else 0) + 1) (24 + most) (given_turns most full))
-  most_left core (Checkpointing c b) None batch same few = one_with layout core (values b.commands.items) _ batch (few_most few.1)
+          subst (λ (l : Layout). given_calls l commands full + 1 ≤ batch_turns layout * length commands) (sym same)
+          (one_less (given_calls layout commands full + 1) (batch_turns layout * length commands)
+          (given_turns layout commands full batch.some))
+  most_left core (Checkpointing c b) None batch same few = one_with layout core commands _ batch (few_most few.1)
     where
-      few_most : length (stages_left c) ≤ most_checkpoint_calls c.standing.layout → 21 + length (stages_left c) + 1 ≤ batch_turns layout
+      commands : List CommandValue
+      commands = values b.commands.items
+
+      few_most : length (stages_left c) ≤ most_checkpoint_calls c.standing.layout
+          → most_batch_calls commands + 2 + length (stages_left c) + 1 ≤ batch_turns layout * length commands
       few_most le =
-          calls_within (length (stages_left c)) (most_checkpoint_calls layout)
+          calls_within (length (stages_left c)) (most_checkpoint_calls layout) (length commands) batch.some
           (subst (λ (l : Layout). length (stages_left c) ≤ most_checkpoint_calls l) same le)
   most_left core (Writing w) None batch same few =
-      one_with layout core w.commands _ batch (written_within _ (most_checkpoint_calls layout) few)
+      one_with layout core w.commands _ batch
+      (written_within _ (most_checkpoint_calls layout) (length w.commands) batch.some few)
   most_left core (Publishing j written) None batch same few =
-      one_with layout core written.commands 2 batch (few_within 2 (most_checkpoint_calls layout) (omega arith))
+      one_with layout core written.commands 2 batch
+      (few_within 2 (most_checkpoint_calls layout) (length written.commands) batch.some (omega arith))
   most_left core (Failed d f) None batch same few = none_with layout core

@@ -32,8 +32,8 @@ AllDrained tasks ended first events =
     (before : List Task) → tasks ≡ before ++ Drain ∷ [] → ended ≡ Whole → (HasFailure events → ⊥)
     → acked first events ≡ first + length (accepted events)
 
--- the most turns that a batch needs: it is taken, no slot is free, its checkpoint and its 19 disk calls are made, it is
--- published and acknowledged (own)
+-- the most turns that a batch needs for each of its commands: it is taken, too few slots are free, its checkpoint and its disk
+-- calls are made, 16 for each command and three more, it is published and acknowledged (own)
 abbrev pub batch_turns : Layout → ℕ
 batch_turns layout = 24 + most_checkpoint_calls layout
 

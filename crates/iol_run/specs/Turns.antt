@@ -6,14 +6,13 @@ use Rattle.iol_core.specs.Batches.{IsTaken, has_batch, acknowledged}
 use Rattle.iol_core.specs.Core.{CoreView}
 use Rattle.iol_core.specs.Submit.{stopped_by}
 use Rattle.iol_core.specs.declared.stop.StopCause.TheVariants as cause
-use Rattle.iol_flush.specs.Stages.{need_of, HasFewCalls}
+use Rattle.iol_flush.specs.Stages.{need_of, room_of, HasFewCalls}
 use Rattle.iol_flush.specs.Steps.{IsDiskStep, HasTaken, HasPublished, IsGiven}
 use Rattle.iol_flush.specs.declared.fault.FlushFault.TheVariants as fault
 use Rattle.iol_flush.specs.declared.need.Need.{Need}
 use Rattle.iol_flush.specs.declared.need.Need.TheVariants as need
 use Rattle.iol_front.specs.Fronts.{CommittedView}
 use Rattle.iol_journal.specs.declared.batch.Batch.{Batch}
-use Rattle.iol_journal.specs.declared.batch.TheConstants.{MOST_RECORD_OCTETS}
 use Rattle.iol_trace.specs.Events.{Event, Acknowledged, DiskFailed}
 use Rattle.iol_run.specs.CoreOnDisk.{CoreOnDiskView}
 use Rattle.iol_run.specs.declared.core_on_disk.Turned.{Turned}
@@ -25,10 +24,11 @@ Acknowledges old new told =
     (new.core ≡ acknowledged old.core new.core.seen) × (new.flusher ≡ old.flusher) × (new.committed ≡ None)
     × (told ≡ Acknowledged new.core.number ∷ [])
 
--- a batch of the core is taken and given to the flusher; none is there, or memory runs out, and nothing changes (own)
+-- a batch of the core that fits is taken and given to the flusher; none is there, or memory runs out, and nothing changes
+-- (own)
 abbrev pub Takes : {D : Type 0} → CoreOnDiskView D → CoreOnDiskView D → List Event → Turned → Type 0
 Takes old new told Made =
-    (batch : Batch) × IsTaken old.core MOST_RECORD_OCTETS new.core batch × HasTaken old.flusher.stage batch new.flusher.stage
+    (batch : Batch) × IsTaken old.core (room_of old.flusher.stage) new.core batch × HasTaken old.flusher.stage batch new.flusher.stage
     × (new.flusher.published ≡ old.flusher.published) × (new.committed ≡ None) × (told ≡ [])
 Takes old new told Idle = (has_batch old.core ≡ false) × (new ≡ old) × (told ≡ [])
 Takes old new told Waited = (has_batch old.core ≡ true) × (new ≡ old) × (told ≡ [])

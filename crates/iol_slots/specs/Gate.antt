@@ -1,9 +1,9 @@
 -- Gates, and what stands behind them.
-use Rattle.std.specs.Prelude.{◌≡◌, ◌<◌, ◌+◌, ℕ, Bool, false, IsTrue, List, ◌++◌, replicate, nat_eq, None}
+use Rattle.std.specs.Prelude.{◌≡◌, ◌<◌, ◌+◌, ◌/◌, ℕ, Bool, false, IsTrue, List, ◌++◌, replicate, nat_eq, None}
 use Rattle.std.specs.List.{starts_with}
 use Rattle.iol_disk.specs.Content.{Image, IsImage}
 use Rattle.iol_disk.specs.Disk.{Disk}
-use Rattle.iol_slots.specs.declared.slot.TheConstants.{GATE_MARK}
+use Rattle.iol_slots.specs.declared.slot.TheConstants.{GATE_MARK, BODY_SECTORS}
 use Rattle.iol_disk.specs.declared.disk.TheConstants.{SECTOR_OCTETS}
 
 -- a gate is open exactly where its sector begins with the mark; the rest of it is not read (format, Gates)
@@ -21,6 +21,11 @@ closed_gate = replicate SECTOR_OCTETS 0
 abbrev pub IsShut : ℕ → Disk → Type 0
 IsShut gate d = IsTrue d.honest → (image : Image) → IsImage d.content image → is_open (image gate) ≡ false
 
--- so many sectors from the first on are written and synced (own)
+-- sector j of a body that begins here, and may go on over further slots, whose gates are left out; sectors are counted
+-- from 0 (format, Slots)
+abbrev pub body_sector : ℕ → ℕ → ℕ
+body_sector first j = first + j + j / BODY_SECTORS
+
+-- so many sectors of a body from its first on are written and synced (own)
 abbrev pub AreSynced : ℕ → ℕ → Disk → Type 0
-AreSynced first count d = IsTrue d.honest → (j : ℕ) → j < count → d.content.written (first + j) ≡ None
+AreSynced first count d = IsTrue d.honest → (j : ℕ) → j < count → d.content.written (body_sector first j) ≡ None

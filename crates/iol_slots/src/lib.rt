@@ -10,4 +10,4 @@
 pub mod examples;
 mod slot;
 
-pub use slot::{GATE_MARK, Slot};
+pub use slot::{BODY_SECTORS, GATE_MARK, Slot};

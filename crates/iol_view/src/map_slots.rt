@@ -26,7 +26,7 @@ pub(crate) enum Reach {
     Idle,
 }
 
-// Adds a line for each slot of an area.
+// Adds a line for each slot of an area; the slots of a batch have one.
 pub(crate) fn add_slots<D: SectorDisk>(
     alloc: Global,
     disk: &mut D,
@@ -38,12 +38,28 @@ pub(crate) fn add_slots<D: SectorDisk>(
     ensures { Same (D.disk disk.old) (D.disk disk.new) }
 {
     let mut reach = first_reach(front.standing);
-    for place in 0..layout.slots() {
+    let mut place = 0;
+    while place < layout.slots() {
         let slot = read_slot(disk, layout, front.area, place)?;
-        lines.add(slot_line(alloc, front.header.epoch, place + 1, slot, reach)?)?;
+        let span = span_of(slot.head, layout.slots() - place);
+        let numbers = Span::counted(place + 1, span);
+        lines.add(slot_line(alloc, front.header.epoch, numbers, slot, reach)?)?;
         reach = next_reach(reach, slot.head);
+        place += span;
     }
     Ok(())
+}
+
+// How many slots the batch takes that begins in one, of so many that are left: one where its gate is closed, or where its
+// head tells of more than are left.
+fn span_of(head: Option<Head>, left: usize) -> usize
+    requires { 1 ≤ left }
+    ensures { (1 ≤ result) × (result ≤ left) }
+{
+    match head {
+        Some(head) if head.slots() <= left => head.slots(),
+        _ => 1,
+    }
 }
 
 // How far a recovery comes at the first slot of an area.
@@ -68,11 +84,11 @@ fn next_reach(reach: Reach, head: Option<Head>) -> Reach
     }
 }
 
-// The line of a slot, of an area of this epoch.
+// The line of a slot, or of those of a batch, of an area of this epoch.
 fn slot_line(
     alloc: Global,
     epoch: u64,
-    number: usize,
+    numbers: Span,
     slot: SlotFront,
     reach: Reach,
 ) -> Result<Line, AllocError>
@@ -83,8 +99,8 @@ fn slot_line(
     let used = body_sectors(head);
     Ok(Line {
         part: Part::Slot,
-        numbers: Span::one(number),
-        sectors: Span::counted(slot.gate, 1 + BODY_SECTORS),
+        numbers,
+        sectors: Span::counted(slot.gate, slot_sectors(numbers)),
         cells: Cells {
             gate: Some(gate_of(head)),
             used,
@@ -95,7 +111,13 @@ fn slot_line(
     })
 }
 
-// How many sectors of its body a slot uses, as far as its head is to be believed.
+// How many sectors slots have, with their gates.
+fn slot_sectors(numbers: Span) -> usize {
+    let slots = numbers.last.saturating_sub(numbers.first).saturating_add(1);
+    slots.saturating_mul(1 + BODY_SECTORS)
+}
+
+// How many sectors of the first body of a batch are used, as far as its head is to be believed.
 fn body_sectors(head: Option<Head>) -> usize {
     match head {
         Some(head) => head.sectors().min(BODY_SECTORS),

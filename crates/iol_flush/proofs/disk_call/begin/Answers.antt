@@ -1,4 +1,7 @@
-use Rattle.iol_journal.specs.Journals.{values}
+use Rattle.std.proofs.Common.{◌≤◌, List, length, sym, subst}
+use Rattle.iol_types.specs.Command.{CommandValue}
+use Rattle.iol_journal.specs.Journals.{values, calls_left}
+use Rattle.iol_flush.specs.Stages.{most_batch_calls}
 use Rattle.iol_flush.proofs.Keeping.{begins_batch, keeps_given, rests_still}
 use Rattle.iol_flush.proofs.Steps.{as_begun, begun}
 use Rattle.iol_flush.proofs.disk_call.begin.Goals as goal
@@ -52,3 +55,9 @@ returns-in-TooLarge-clause-sound g c = λ rest.
 pub returns-in-Misfit-clause-sound : goal.returns-in-Misfit-clause-sound
 returns-in-Misfit-clause-sound g c = λ rest.
     rests_still g.D.SectorDisk.disk c.args.journal c.in-Err.fault.journal c.in-Err.ensures.back.0 rest
+
+pub write-requires : goal.write-requires
+write-requires g c = record {
+  few = subst (λ (commands : List CommandValue). length (calls_left c.in-Ok.writing) ≤ most_batch_calls commands)
+      (sym c.in-Ok.ensures.begun.4) c.in-Ok.ensures.few;
+}

@@ -17,8 +17,8 @@ loop-command-preserved c =
       bound = omega (arith, c.loop-command.invariant.bound, c.command_record_octets-octets.ensures.most);
     }
 
-pub returns : goal.returns
-returns c =
+pub returns-clause-octets : goal.returns-clause-octets
+returns-clause-octets c =
     let index : c.loop-command.command-index ≡ length c.args.commands.now = omega arith in
     c.loop-command.invariant.counted
     ∙ ap (λ (commands : List CommandValue). length (records_of commands)) (ap (λ (n : ℕ). values (take n c.args.commands.now)) index

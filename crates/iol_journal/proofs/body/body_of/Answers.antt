@@ -2,11 +2,11 @@ use Rattle.std.proofs.Common.{◌≡◌, ◌+◌, ◌*◌, ◌-◌, ◌++◌, Li
 use Rattle.std.proofs.lemmas.List.{length-map}
 use Rattle.iol_types.specs.Command.{value_of}
 use Rattle.iol_disk.specs.declared.disk.TheConstants.{SECTOR_OCTETS}
-use Rattle.iol_journal.specs.Body.{batch_of, records_of, head_octets, body_octets}
+use Rattle.iol_journal.specs.Body.{head_of, batch_of, records_of, head_octets, body_octets}
 use Rattle.iol_journal.specs.Journals.{values}
 use Rattle.iol_journal.specs.Octets.{sectors_reached}
 use Rattle.iol_journal.specs.declared.batch.TheConstants.{BODY_HEAD_OCTETS}
-use Rattle.iol_journal.proofs.Bodies.{batch_of-body_octets, length-body}
+use Rattle.iol_journal.proofs.Bodies.{batch_of-body_octets, head_of-body_octets, length-body}
 use Rattle.iol_journal.proofs.Paddings.{padded-front}
 use Rattle.iol_journal.proofs.body.body_of.Goals as goal
 
@@ -70,6 +70,11 @@ pub returns-clause-short : goal.returns-clause-short
 returns-clause-short c =
     let size = ap (λ (os : List ℕ). length os) (spelled c) ∙ length-body c.args.epoch c.args.first (values c.args.commands.now) in
     (omega (arith, size), omega (arith, size, sized c, c.len-2.ensures, c.in_ok-records.records.ok, c.requires.small))
+
+pub returns-clause-tells : goal.returns-clause-tells
+returns-clause-tells c =
+    ap (λ (os : List ℕ). (head_of os).octets) (spelled c)
+    ∙ head_of-body_octets c.args.epoch c.args.first (values c.args.commands.now) (omega (arith, c.requires.small))
 
 pub returns-clause-sound : goal.returns-clause-sound
 returns-clause-sound c some last rest =

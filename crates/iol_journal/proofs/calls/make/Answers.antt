@@ -1,8 +1,8 @@
-use Rattle.std.proofs.Common.{refl, arith}
+use Rattle.std.proofs.Common.{◌+◌, refl, arith}
 use Rattle.iol_slots.specs.Gate.{open_gate}
 use Rattle.iol_journal.specs.Octets.{sector_of}
 use Rattle.iol_journal.specs.Layout.{slot_at, body_at}
-use Rattle.iol_journal.proofs.Geometries.{slot-inside}
+use Rattle.iol_journal.proofs.Spans.{slots-inside}
 use Rattle.iol_journal.proofs.Making.{makes_write, makes_sync}
 use Rattle.iol_journal.proofs.calls.make.Goals as goal
 
@@ -52,11 +52,17 @@ write_sector-requires-clause-fits g c = let place = c.args.place.now in
     omega (
       arith,
       c.requires.fits,
-      slot-inside place.layout place.area place.used c.requires.room,
-      c.slot-slot.ensures.body,
-      c.slot-slot.ensures.sectors,
+      slots-inside place.layout place.area (place.used + c.args.plan.now.span) c.requires.room,
+      c.slot-slot.ensures.gate,
+      c.slot-slot.ensures.span,
     )
 
 pub open_gate-requires : goal.open_gate-requires
 open_gate-requires g c = let place = c.args.place.now in
-    omega (arith, c.requires.fits, slot-inside place.layout place.area place.used c.requires.room, c.slot-slot.ensures.gate)
+    omega (
+      arith,
+      c.requires.fits,
+      slots-inside place.layout place.area (place.used + c.args.plan.now.span) c.requires.room,
+      c.slot-slot.ensures.gate,
+      c.requires.some,
+    )

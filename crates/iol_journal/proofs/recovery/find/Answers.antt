@@ -97,7 +97,7 @@ returns-in_err-end-clause-finds g c =
     let p = err_from_is_err_and c.from_residual-in_err-end.result c.from_residual-in_err-end.ensures.1 in
     rw (p.1, p.2)
     (cause_after old (d c.read_ports.new.disk) (λ image.
-    log_from layout used.area used.header.epoch image 0 layout.slots used.header.base state) (standing_in old.sectors) _
+    log_from layout used.area used.header.epoch image 0 0 layout.slots used.header.base state) (standing_in old.sectors) _
     (synced-then _ _ _ chosen c.read_ports.ensures.same)
     (λ h is. no_log old.sectors (reads old.content) layout used state _ (areas h).0 (areas h).1 (ports h) is) c.in_err-end.ensures.finds)
 
@@ -117,7 +117,7 @@ returns-clause-finds g c = λ h.
     (found_after old (d c.find_areas.new.disk) (λ image. ports_from layout used.area image 0 layout.ports) state chosen
     c.in_ok-state.ensures.finds h)
     (found_after old (d c.read_ports.new.disk) (λ image.
-    log_from layout used.area used.header.epoch image 0 layout.slots used.header.base state) log
+    log_from layout used.area used.header.epoch image 0 0 layout.slots used.header.base state) log
     (synced-then _ _ _ chosen c.read_ports.ensures.same) c.in_ok-end.ensures.finds h)
 
 pub returns-clause-settled : goal.returns-clause-settled

@@ -3,6 +3,7 @@ use Rattle.iol_disk.specs.Disk.{Same}
 use Rattle.iol_disk.specs.declared.disk.TheConstants.{SECTOR_OCTETS}
 use Rattle.iol_journal.specs.Reading.{Shows}
 use Rattle.iol_journal.specs.Octets.{octets_at}
+use Rattle.iol_journal.proofs.ReachedBodies.{of_body}
 use Rattle.iol_journal.proofs.replay.read_body.Given as goal
 
 abbrev pub invariant-loop-j : goal.invariant-loop-j
@@ -10,5 +11,5 @@ invariant-loop-j g l = record {
   same : Same (g.D.SectorDisk.disk l.fn.disk) (g.D.SectorDisk.disk l.disk);
   quiet : (g.D.SectorDisk.disk l.disk).failures ≡ (g.D.SectorDisk.disk l.fn.disk).failures;
   whole : length l.body.items ≡ SECTOR_OCTETS * l.j;
-  read : Shows (g.D.SectorDisk.disk l.fn.disk) (λ image. l.body.items ≡ octets_at image l.fn.slot.body l.j);
+  read : Shows (g.D.SectorDisk.disk l.fn.disk) (λ image. l.body.items ≡ octets_at (of_body l.fn.slot.body image) 0 l.j);
 }

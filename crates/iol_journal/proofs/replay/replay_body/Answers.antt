@@ -1,7 +1,7 @@
 use Rattle.std.proofs.Common.{◌≡◌, ◌+◌, ◌-◌, true, ap, ◌∙◌, sym, arith}
 use Rattle.iol_journal.specs.Replay.{reached}
 use Rattle.iol_journal.specs.declared.batch.TheConstants.{BODY_HEAD_OCTETS}
-use Rattle.iol_journal.proofs.ReachedBodies.{batch_of-misfit, batch_of-fits, fits-octets}
+use Rattle.iol_journal.proofs.ReachedBodies.{batch_of-misfit, batch_of-fits}
 use Rattle.iol_journal.proofs.replay.replay_body.Goals.{else-end-body-via-then-end-body+in_ok-replay+else-branch}
 use Rattle.iol_journal.proofs.replay.replay_body.Goals.{else-end-body-via-else-end-body}
 use Rattle.iol_journal.proofs.replay.replay_body.Goals as goal
@@ -33,7 +33,6 @@ returns-else-end-body-clause-reached c = λ holds.
           (batch_of-fits c.args.epoch (c.args.number + 1) c.args.body.now c.read-head.result c.read-head.ensures (sym c.fits.ensures ∙ fit))
           ∙ rw records at refused
       | else-end-body-via-else-end-body w ↦
-          let small = fits-octets c.args.epoch (c.args.number + 1) c.read-head.result (sym c.fits.ensures ∙ fit) in
           let within = rw (← c.read-head.ensures) at holds in
-          absurd (omega (arith, within small, w.if-end-body.false))
+          absurd (omega (arith, within, w.if-end-body.false))
     ]

@@ -1,4 +1,5 @@
-use Rattle.std.proofs.Common.{◌≤◌, length, sym, ◌∙◌, ap, subst, arith}
+use Rattle.std.proofs.Common.{◌≤◌, ◌+◌, ◌*◌, length, sym, ◌∙◌, ap, subst, arith}
+use Rattle.iol_journal.specs.Body.{slots_for}
 use Rattle.iol_journal.specs.Underway.{IsAtRest, IsUnderway}
 use Rattle.iol_journal.specs.Journals.{JournalView, WritingView, IsPlanned, standing_at, calls_left, values}
 use Rattle.iol_journal.specs.declared.phase.Phase.TheVariants.{Body}
@@ -18,8 +19,11 @@ returns-in-Ok-clause-at_most g c =
     let commands = values c.args.batch.commands.items in
     let planned = subst (λ (v : JournalView g.row.D.Denot). IsPlanned (d v.disk) v.standing commands (Body 0)) (sym c.self.view_is)
     c.in-Ok.ensures.planned.0 in
-    subst (λ (w : WritingView g.row.D.Denot). length (calls_left w) ≤ 19) (sym c.begun.ensures)
+    subst (λ (w : WritingView g.row.D.Denot). length (calls_left w) ≤ 16 * slots_for commands + 3) (sym c.begun.ensures)
     (at_most (standing_at c.self.inside.place c.self.inside.number c.self.inside.state) commands planned.short)
+
+pub returns-in-Ok-clause-few : goal.returns-in-Ok-clause-few
+returns-in-Ok-clause-few g c = omega (arith, returns-in-Ok-clause-at_most g c, c.in-Ok.ensures.few)
 
 pub returns-in-Ok-clause-run : goal.returns-in-Ok-clause-run
 returns-in-Ok-clause-run g c r behind queued resting =

@@ -69,7 +69,8 @@ at_rest-journal-requires-clause-resting g c =
     let w = c.self.inside in
     let s = standing_at w.place w.number w.state in
     let commands = values w.batch.commands.items in
-    let behind = standing_behind w.place w.number (w.number + c.len.result) w.state w.plan.next commands
+    let behind = standing_behind w.place w.number (w.number + c.len.result) w.plan.span w.state w.plan.next commands
+    c.self.invariant.1.span
     (omega (arith, c.len.ensures, length-map w.batch.commands.items value_of)) c.self.invariant.1.next in
     subst (IsResting (g.D.SectorDisk.disk c.make.new.disk)) (sym behind)
     (resting_behind _ _ s commands w.phase c.self.invariant.0 (c.in_default.ensures.makes w.number w.state).after.sectors)
@@ -98,7 +99,7 @@ standing_after : (g : Given.Over) (c : goal.After-drop-state-inside-in-None-1 g)
 standing_after g c =
     let w = c.self.inside in
     c.at_rest-journal.ensures.standing
-    ∙ standing_behind w.place w.number _ w.state w.plan.next (values w.batch.commands.items)
+    ∙ standing_behind w.place w.number _ w.plan.span w.state w.plan.next (values w.batch.commands.items) c.self.invariant.1.span
     (omega (arith, c.len.ensures, length-map w.batch.commands.items value_of)) c.self.invariant.1.next
 
 pub returns-in-None-clause-durable : goal.returns-in-None-clause-durable

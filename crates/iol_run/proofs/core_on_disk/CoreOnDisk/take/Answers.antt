@@ -7,7 +7,7 @@ use Rattle.iol_flush.specs.Stages as flush
 use Rattle.iol_flush.specs.Steps.{HasTaken}
 use Rattle.iol_journal.specs.Journals.{values}
 use Rattle.iol_journal.specs.declared.batch.Batch.{Batch}
-use Rattle.iol_journal.specs.declared.batch.TheConstants.{MOST_RECORD_OCTETS}
+use Rattle.iol_flush.specs.Stages.{room_of, HasRoom}
 use Rattle.iol_journal.specs.declared.header.TheConstants.{LAST_NUMBER}
 use Rattle.iol_run.specs.CoreOnDisk.{CoreOnDiskView, IsInStep}
 use Rattle.iol_run.specs.Events.{told_of}
@@ -27,8 +27,9 @@ invariant_of-self g c =
     c.requires.stands in
     let took = subst (λ (o : Option Batch). IsTake i.core c.room.result c.take_batch.new.self o) c.in-Ok-Some.field-0-is
     c.in-Ok-Some.ensures.take in
-    let is : IsTaken i.core MOST_RECORD_OCTETS c.take_batch.new.self batch =
-    subst (λ (room : ℕ). IsTaken i.core room c.take_batch.new.self batch) c.room.ensures took in
+    let room = room_of i.flusher.stage in
+    let is : IsTaken i.core room c.take_batch.new.self batch =
+    subst (λ (room : ℕ). IsTaken i.core room c.take_batch.new.self batch) c.room.ensures.room took in
     let passes = subst (λ (o : Option Batch). IfSome o (λ b. legal i.core.durable (values b.commands.items) ≡ true)) c.in-Ok-Some.field-0-is
     c.in-Ok-Some.ensures.legal in
     let most = subst (λ (o : Option Batch).
@@ -36,8 +37,8 @@ invariant_of-self g c =
     c.in-Ok-Some.ensures.bound in
     let bound = subst (λ (n : ℕ). (n ≤ 64) × (batch.first + n ≤ LAST_NUMBER + 1)) (sym (length-map batch.commands.items value_of)) most in
     subst (λ o. IsInStep start c.take_batch.new.self c.give.new.self o) (sym none)
-    (given_in_step start i.core c.take_batch.new.self i.flusher c.give.new.self batch c.in-Ok.ensures.gift c.give.ensures.published stands
-    is
+    (given_in_step start i.core c.take_batch.new.self i.flusher c.give.new.self batch room c.in-Ok.ensures.gift c.give.ensures.published
+    stands is (subst (HasRoom i.flusher.stage) c.room.ensures.room c.room.ensures.fits)
     passes bound (subst (λ o. IsInStep start i.core i.flusher o) none c.self.invariant))
 
 pub returns-in-Ok-clause-turn : goal.returns-in-Ok-clause-turn
@@ -48,13 +49,14 @@ returns-in-Ok-clause-turn g c =
     let batch = c.in-Ok-Some.batch in
     let took = subst (λ (o : Option Batch). IsTake i.core c.room.result c.take_batch.new.self o) c.in-Ok-Some.field-0-is
     c.in-Ok-Some.ensures.take in
-    let is : IsTaken i.core MOST_RECORD_OCTETS c.take_batch.new.self batch =
-    subst (λ (room : ℕ). IsTaken i.core room c.take_batch.new.self batch) c.room.ensures took in
+    let room = room_of i.flusher.stage in
+    let is : IsTaken i.core room c.take_batch.new.self batch =
+    subst (λ (room : ℕ). IsTaken i.core room c.take_batch.new.self batch) c.room.ensures.room took in
     subst (λ (t : Turned).
     Takes c.args.self.now (record { core = c.take_batch.new.self; flusher = c.give.new.self; committed = i.committed })
     (told_of c.silent.result.event) t) (sym c.silent.ensures.0) (
       batch,
-      subst (λ (m : V). IsTaken m.core MOST_RECORD_OCTETS c.take_batch.new.self batch) c.self.view_is is,
+      subst (λ (m : V). IsTaken m.core (room_of m.flusher.stage) c.take_batch.new.self batch) c.self.view_is is,
       subst (λ (m : V). HasTaken m.flusher.stage batch c.give.new.self.stage) c.self.view_is c.in-Ok.ensures.gift,
       subst (λ (m : V). c.give.new.self.published ≡ m.flusher.published) c.self.view_is c.give.ensures.published,
       none,
@@ -68,9 +70,10 @@ returns-in-Ok-clause-run g c =
     let batch = c.in-Ok-Some.batch in
     let took = subst (λ (o : Option Batch). IsTake i.core c.room.result c.take_batch.new.self o) c.in-Ok-Some.field-0-is
     c.in-Ok-Some.ensures.take in
-    let is : IsTaken i.core MOST_RECORD_OCTETS c.take_batch.new.self batch =
-    subst (λ (room : ℕ). IsTaken i.core room c.take_batch.new.self batch) c.room.ensures took in
+    let room = room_of i.flusher.stage in
+    let is : IsTaken i.core room c.take_batch.new.self batch =
+    subst (λ (room : ℕ). IsTaken i.core room c.take_batch.new.self batch) c.room.ensures.room took in
     to_none g.D.SectorDisk.disk g.F.Name.front.start c.args.self.now c.take_batch.new.self c.give.new.self i.committed none
     (from_none g.D.SectorDisk.disk g.F.Name.front.start c.args.self.now _ i.core i.flusher i.committed c.self.view_is none
-    (given_running g.D.SectorDisk.disk g.F.Name.front.start i.core c.take_batch.new.self i.flusher c.give.new.self batch
+    (given_running g.D.SectorDisk.disk g.F.Name.front.start i.core c.take_batch.new.self i.flusher c.give.new.self batch room
     c.in-Ok.ensures.gift c.give.ensures.published is))

@@ -1,6 +1,6 @@
-use Rattle.std.proofs.Common.{true, ◌+◌, ◌∙◌, arith}
+use Rattle.std.proofs.Common.{true, ◌∙◌, arith}
 use Rattle.iol_disk.proofs.DiskLaws.{image-clean, wrote_some, leaves_write}
-use Rattle.iol_slots.specs.Gate.{open_gate}
+use Rattle.iol_slots.specs.Gate.{open_gate, body_sector}
 use Rattle.iol_slots.proofs.Gates.{is_open-open_gate, gate-after_write}
 use Rattle.iol_slots.proofs.slot.Slot.open_gate.Goals as goal
 
@@ -21,4 +21,5 @@ returns-clause-whole g c synced =
     let slot = c.args.self.now in
     leaves_write slot.gate (d c.args.disk.now) (d c.write.new.self) _ (wrote_some _ _ _ _ _ e.wrote e.wrote_some)
     (λ h image was is same j below.
-    same (slot.body + j) (omega arith) ∙ image-clean (d c.args.disk.now).content was (slot.body + j) is (synced h j below))
+    same (body_sector slot.body j) (omega arith)
+    ∙ image-clean (d c.args.disk.now).content was (body_sector slot.body j) is (synced h j below))
