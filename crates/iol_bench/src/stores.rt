@@ -1,0 +1,145 @@
+//! The largest sets of 32 ports made durable: all in one batch over several slots, and one by one, each beside the same calls of a
+//! plain file.
+
+use crate::commands::{configure, largest_set};
+use crate::plain::{Pair, nanoseconds_since, opened_file, timed_calls};
+use anyhow::{Context, bail};
+use iol_disk::{DiskCall, ImageFile, MemoryDisk, RecordedDisk, SectorDisk};
+use iol_example::{create, open};
+use iol_journal::{Batch, Geometry, Journal, Progress};
+use iol_types::{Command, DataSet, PORTS, PortId};
+use std::alloc::Global;
+use std::fs;
+use std::sync::Arc;
+use std::time::Instant;
+
+// All sets fit the one area, also where each has a slot of its own.
+const SLOTS: u16 = 64;
+
+/// Times rounds of 32 sets made durable, so many of them in each batch, and prints for each round what all of them took.
+pub fn measure_stores(
+    rt: &HostRuntime,
+    folder: &str,
+    rounds: usize,
+    name: &str,
+    each: u8,
+) -> anyhow::Result<()> {
+    let calls = calls_of_stores(rt.alloc(), each)?;
+    let syncs = calls.iter().filter(|call| **call == DiskCall::Sync).count();
+    println!(rt; "{name}: {} disk calls, {syncs} of them syncs", calls.len())?;
+    for _ in 0..rounds {
+        cost_of_stores(rt, folder, each, calls.as_slice())?.print(rt, name, 1)?;
+    }
+    Ok(())
+}
+
+fn geometry() -> anyhow::Result<Geometry> {
+    Geometry::new(u16::from(PORTS), SLOTS).context("no geometry")
+}
+
+// The journal after a batch.
+fn written<D: SectorDisk + Drop>(
+    journal: Journal<D>,
+    commands: Vec<Command>,
+) -> anyhow::Result<Journal<D>> {
+    let first = journal.number() + 1;
+    let mut writing = match journal.begin(Batch { first, commands }) {
+        Ok(writing) => writing,
+        Err(_) => bail!("a batch is refused"),
+    };
+    loop {
+        match writing.step() {
+            Progress::More(next) => writing = next,
+            Progress::Done(journal, written) => {
+                let _batch = written.into_batch();
+                return Ok(journal);
+            }
+            Progress::Failed(_, _) => bail!("a disk call failed"),
+        }
+    }
+}
+
+// The journal once each port is configured.
+fn configured<D: SectorDisk + Drop>(
+    alloc: Global,
+    journal: Journal<D>,
+) -> anyhow::Result<Journal<D>> {
+    let mut commands = Vec::new(alloc);
+    for port in 1..=PORTS {
+        commands.push(configure(port)?)?;
+    }
+    written(journal, commands)
+}
+
+// The journal once each port has the set, so many ports in each batch.
+fn stored<D: SectorDisk + Drop>(
+    alloc: Global,
+    mut journal: Journal<D>,
+    set: &Arc<DataSet>,
+    each: u8,
+) -> anyhow::Result<Journal<D>> {
+    let mut commands = Vec::new(alloc);
+    for port in 1..=PORTS {
+        commands.push(Command::Store {
+            port: PortId::new(port).context("no port number")?,
+            revision: 1,
+            set: Arc::try_clone(set)?,
+        })?;
+        if port % each.max(1) == 0 {
+            journal = written(journal, commands)?;
+            commands = Vec::new(alloc);
+        }
+    }
+    Ok(journal)
+}
+
+// The disk calls that store the sets, recorded on a disk in memory: they are the same on every disk.
+fn calls_of_stores(alloc: Global, each: u8) -> anyhow::Result<Vec<DiskCall>> {
+    let set = Arc::new(alloc, largest_set(alloc)?)?;
+    let disk = MemoryDisk::new(alloc, geometry()?.sectors())?;
+    let Ok(journal) = create(alloc, disk, geometry()?) else {
+        bail!("no journal in memory")
+    };
+    let disk = configured(alloc, journal)?.disk();
+    let Ok((journal, _)) = open(alloc, RecordedDisk::new(alloc, disk)) else {
+        bail!("no journal in memory")
+    };
+    let calls = stored(alloc, journal, &set, each)?.disk().calls();
+    // Opening it made a sync and reads.
+    let writes = calls
+        .iter()
+        .copied()
+        .filter(|call| !matches!(call, DiskCall::Read(_)));
+    Ok(writes.skip(1).collect(alloc)?)
+}
+
+// What the sets take on a new file, and then the same calls of a plain file.
+fn cost_of_stores(
+    rt: &HostRuntime,
+    folder: &str,
+    each: u8,
+    calls: &[DiskCall],
+) -> anyhow::Result<Pair> {
+    let image = format!(in rt.alloc(); "{folder}/iol_bench_stores.img")?;
+    let plain = format!(in rt.alloc(); "{folder}/iol_bench_plain.img")?;
+    let sectors = geometry()?.sectors();
+    let _made = ImageFile::create(rt, plain.as_str(), sectors)?;
+    let disk = ImageFile::create(rt, image.as_str(), sectors)?;
+    let Ok(journal) = create(rt.alloc(), disk, geometry()?) else {
+        bail!("no journal on {image}")
+    };
+    let journal = configured(rt.alloc(), journal)?;
+    let set = Arc::new(rt.alloc(), largest_set(rt.alloc())?)?;
+    let start = Instant::now(rt)?;
+    let journal = stored(rt.alloc(), journal, &set, each)?;
+    let own = nanoseconds_since(rt, start)?;
+    drop(journal);
+    let file = opened_file(rt, plain.as_str())?;
+    let cost = Pair {
+        journal: own,
+        plain: timed_calls(rt, &file, calls)?,
+    };
+    fs::remove_file(rt, image)?;
+    fs::remove_file(rt, plain)?;
+    Ok(cost)
+}
