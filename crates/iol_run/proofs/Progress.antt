@@ -1,5 +1,5 @@
 -- Each turn of the flusher that has not to wait leaves fewer turns.
-use Rattle.std.proofs.Common.{◌≡◌, refl, ◌≤◌, ℕ, zero, suc, ◌+◌, ◌-◌, ◌*◌, ◌&&◌, nat_eq, not, Bool, true, false, if◌then◌else◌, List, []}
+use Rattle.std.proofs.Common.{◌≡◌, refl, ◌≤◌, ℕ, zero, suc, ◌+◌, ◌-◌, ◌*◌, ◌&&◌, nat_eq, not, Bool, true, false, List, []}
 use Rattle.std.proofs.Common.{◌∷◌, length, Option, Some, None, ap, sym, ◌∙◌, subst, arith, rules, length-drop}
 use Rattle.std.proofs.Math.Nat.{mul-le-mul_right, mul-zero, one-mul}
 use Rattle.iol_disk.specs.Disk.{Disk}
