@@ -6,13 +6,13 @@ use Rattle.std.specs.Map.{lookup}
 use Rattle.std.specs.List.{AllByRecursion}
 use Rattle.std.proofs.lemmas.List.{map_push}
 use Rattle.iol_types.specs.DataSet.{Entry, octets_of}
-use Rattle.iol_types.specs.Parts.{PartsValue, IsWithin, octets_at, entry_octets, with_text, grown, place_behind}
+use Rattle.iol_types.specs.Parts.{PartsValue, IsWithin, octets_at, entry_octets, with_text, grown, data_behind}
 use Rattle.iol_types.specs.EntriesInMemory.{entries_of, AreKept}
 use Rattle.iol_types.specs.declared.key.Key.{Key}
 use Rattle.iol_types.specs.declared.parts.Place.{Place}
 use Rattle.iol_types.specs.declared.data_set.TheConstants.{ENTRY_HEAD_OCTETS}
 use Rattle.iol_types.proofs.Entries.{octets_of-push}
-use Rattle.iol_types.proofs.PartLemmas.{stays, data_place, data_lies, grown-push}
+use Rattle.iol_types.proofs.PartLemmas.{stays, data_lies, grown-push}
 
 -- all places lie within parts
 abbrev AreWithin : PartsValue → List (Key × Place) → Type 0
@@ -80,13 +80,13 @@ pub record Pushed (parts : PartsValue) (kept : List (Key × Place)) (octets : �
 
 pub pushed : (parts : PartsValue) (kept : List (Key × Place)) (count : ℕ) (key : Key) (octets : List ℕ) → AreKept parts kept count
     → Pushed (with_text parts (entry_octets (key, octets)))
-    (kept ++ (key, data_place (place_behind parts (length (entry_octets (key, octets)))) (length octets)) ∷ [])
+    (kept ++ (key, data_behind parts (length octets)) ∷ [])
     (count + (ENTRY_HEAD_OCTETS + length octets))
     (entries_of parts kept ++ (key, octets) ∷ [])
 pushed parts kept count key octets are =
     let text = entry_octets (key, octets) in
     let later = with_text parts text in
-    let place = data_place (place_behind parts (length text)) (length octets) in
+    let place = data_behind parts (length octets) in
     let there = data_lies parts key octets in
     let entries = entries_of parts kept in
     let whole : entries_of later (kept ++ (key, place) ∷ []) ≡ entries ++ (key, octets) ∷ [] =

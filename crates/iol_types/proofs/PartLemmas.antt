@@ -1,7 +1,7 @@
 -- Parts: what lies where in them, and what they are together.
 use Rattle.std.proofs.Common.{◌≡◌, ℕ, zero, suc, ◌+◌, ◌-◌, ◌≤◌, Bool, true, false, cond, List, [], ◌∷◌, ◌++◌, length, get_or, take, drop}
 use Rattle.std.proofs.Common.{refl}
-use Rattle.std.proofs.Common.{ap, sym, ◌∙◌, arith, leb-true, append_assoc, length-append, slice_get}
+use Rattle.std.proofs.Common.{ap, sym, ◌∙◌, arith, subst, leb-true, append_assoc, length-append, slice_get}
 use Rattle.std.specs.Prelude.{nat_le, slice_range, All, IfSome, fold}
 use Rattle.std.specs.List.{AllByRecursion, concat, flat_map}
 use Rattle.std.specs.Int.{w16, to_be_bytes}
@@ -10,7 +10,7 @@ use Rattle.std.proofs.lemmas.Grind.{fold-append}
 use Rattle.iol_types.specs.DataSet.{Entry, IsEntry}
 use Rattle.iol_types.specs.Parts.{PartsValue, no_parts, entry_octets, with_text, grown, texts_of, parts_of, text_numbered, IsWithin}
 use Rattle.iol_types.specs.Parts.{octets_at}
-use Rattle.iol_types.specs.Parts.{place_behind}
+use Rattle.iol_types.specs.Parts.{data_behind}
 use Rattle.iol_types.specs.declared.key.Key.{Key}
 use Rattle.iol_types.specs.declared.parts.Place.{Place}
 use Rattle.iol_types.specs.declared.parts.TheConstants.{PART_OCTETS}
@@ -71,38 +71,7 @@ stays parts text place is = by (nat_le (length parts.last + length text) PART_OC
           octets = ap (λ front. slice_range front place.offset (place.offset + place.octets)) same;
         }
 
--- ---- where the text itself lies
-
--- a text lies behind others
-record Lies (later : PartsValue) (text : List ℕ) (place : Place) : Type 0 where
-  before : List ℕ
-  part : place.part ≤ length later.full
-  found : text_numbered later place.part ≡ before ++ text
-  offset : length before ≡ place.offset
-
-lies : (parts : PartsValue) (text : List ℕ) → Lies (with_text parts text) text (place_behind parts (length text))
-lies parts text = by (nat_le (length parts.last + length text) PART_OCTETS)
-  where
-    by : (fits : Bool) → Lies (cond fits (record { full = parts.full; last = parts.last ++ text })
-        (record { full = parts.full ++ parts.last ∷ []; last = text })) text
-        (cond fits (record { part = length parts.full; offset = length parts.last; octets = length text })
-        (record { part = length parts.full + 1; offset = 0; octets = length text }))
-    by true = record {
-      before = parts.last;
-      part = omega arith;
-      found = get_or_past parts.full (length parts.full) (parts.last ++ text) (omega arith);
-      offset = refl;
-    }
-    by false = record {
-      before = [];
-      part = omega (arith, length_push parts.full parts.last);
-      found = get_or_past (parts.full ++ parts.last ∷ []) (length parts.full + 1) text (omega (arith, length_push parts.full parts.last));
-      offset = refl;
-    }
-
--- where the octets of an entry lie, whose text lies at a place
-abbrev pub data_place : Place → ℕ → Place
-data_place text octets = record { part = text.part; offset = text.offset + ENTRY_HEAD_OCTETS; octets = octets }
+-- ---- where the octets of an entry lie
 
 entry_head : Key → ℕ → List ℕ
 entry_head key octets = to_be_bytes w16 key.index ++ (key.subindex ∷ octets ∷ [])
@@ -124,25 +93,49 @@ pub record LiesThere (later : PartsValue) (place : Place) (said : List ℕ) : Ty
   pub within : IsWithin later place
   pub octets : octets_at later place ≡ said
 
+-- octets lie where their text ends with them
+ends_with : (later : PartsValue) (part from : ℕ) (before octets : List ℕ) → part ≤ length later.full
+    → text_numbered later part ≡ before ++ octets → length before ≡ from
+    → LiesThere later (record { part = part; offset = from; octets = length octets }) octets
+ends_with later part from before octets there found counted = record {
+  within = record { part = there; end = omega (arith, counted, ap length found, length-append before octets) };
+  octets = ap (λ text. slice_range text from (from + length octets)) found ∙ range-behind before octets from counted;
+}
+
 -- the octets of an entry whose text has come behind others
 pub data_lies : (parts : PartsValue) (key : Key) (octets : List ℕ)
-    → LiesThere (with_text parts (entry_octets (key, octets)))
-    (data_place (place_behind parts (length (entry_octets (key, octets)))) (length octets)) octets
+    → LiesThere (with_text parts (entry_octets (key, octets))) (data_behind parts (length octets)) octets
 data_lies parts key octets =
-    let text = entry_octets (key, octets) in
-    let there = lies parts text in
-    let place = data_place (place_behind parts (length text)) (length octets) in
-    let before = there.before ++ entry_head key (length octets) in
-    let found : text_numbered (with_text parts text) (place_behind parts (length text)).part ≡ before ++ octets =
-    there.found ∙ ap (λ behind. there.before ++ behind) (headed key octets)
-    ∙ sym (append_assoc there.before (entry_head key (length octets)) octets) in
-    let counted : length before ≡ (place_behind parts (length text)).offset + ENTRY_HEAD_OCTETS =
-    omega (arith, length-append there.before (entry_head key (length octets)), length-head key (length octets), there.offset) in
-    record {
-      within = record { part = there.part; end = omega (arith, counted, ap length found, length-append before octets) };
-      octets = ap (λ front. slice_range front place.offset (place.offset + length octets)) found
-          ∙ range-behind before octets place.offset counted;
-    }
+    subst (λ (count : ℕ). LiesThere (cond (nat_le (length parts.last + count) PART_OCTETS)
+    (record { full = parts.full; last = parts.last ++ text }) (record { full = parts.full ++ parts.last ∷ []; last = text }))
+    (data_behind parts (length octets)) octets) (sym counted)
+    (by (nat_le (length parts.last + (ENTRY_HEAD_OCTETS + length octets)) PART_OCTETS))
+  where
+    text : List ℕ
+    text = entry_octets (key, octets)
+
+    head : List ℕ
+    head = entry_head key (length octets)
+
+    counted : length text ≡ ENTRY_HEAD_OCTETS + length octets
+    counted = omega (arith, ap length (headed key octets), length-append head octets, length-head key (length octets))
+
+    by : (fits : Bool) → LiesThere (cond fits (record { full = parts.full; last = parts.last ++ text })
+        (record { full = parts.full ++ parts.last ∷ []; last = text }))
+        (cond fits (record { part = length parts.full; offset = length parts.last + ENTRY_HEAD_OCTETS; octets = length octets })
+        (record { part = length parts.full + 1; offset = ENTRY_HEAD_OCTETS; octets = length octets })) octets
+    by true =
+        ends_with (record { full = parts.full; last = parts.last ++ text }) (length parts.full) (length parts.last + ENTRY_HEAD_OCTETS)
+        (parts.last ++ head) octets (omega arith)
+        (get_or_past parts.full (length parts.full) (parts.last ++ text) (omega arith)
+        ∙ ap (λ behind. parts.last ++ behind) (headed key octets) ∙ sym (append_assoc parts.last head octets))
+        (omega (arith, length-append parts.last head, length-head key (length octets)))
+    by false =
+        ends_with (record { full = parts.full ++ parts.last ∷ []; last = text }) (length parts.full + 1) ENTRY_HEAD_OCTETS head octets
+        (omega (arith, length_push parts.full parts.last))
+        (get_or_past (parts.full ++ parts.last ∷ []) (length parts.full + 1) text (omega (arith, length_push parts.full parts.last))
+        ∙ headed key octets)
+        (length-head key (length octets))
 
 -- ---- what all parts are together
 

@@ -2,6 +2,7 @@
 use Rattle.std.specs.Prelude.{ℕ, ◌+◌, ◌≤◌, nat_le, if◌then◌else◌, List, [], ◌∷◌, ◌++◌, length, get_or, slice_range, fold}
 use Rattle.std.specs.Int.{w16, to_be_bytes}
 use Rattle.iol_types.specs.DataSet.{Entry}
+use Rattle.iol_types.specs.declared.data_set.TheConstants.{ENTRY_HEAD_OCTETS}
 use Rattle.iol_types.specs.declared.parts.Place.{Place}
 use Rattle.iol_types.specs.declared.parts.TheConstants.{PART_OCTETS}
 
@@ -53,9 +54,9 @@ pub record IsWithin (parts : PartsValue) (place : Place) : Type 0 where
 abbrev pub octets_at : PartsValue → Place → List ℕ
 octets_at parts place = slice_range (text_numbered parts place.part) place.offset (place.offset + place.octets)
 
--- where a text of so many octets comes to lie (own)
-abbrev pub place_behind : PartsValue → ℕ → Place
-place_behind parts octets =
-    if nat_le (length parts.last + octets) PART_OCTETS
-    then record { part = length parts.full; offset = length parts.last; octets = octets }
-    else record { part = length parts.full + 1; offset = 0; octets = octets }
+-- where the octets of an entry come to lie, so many of them, behind its head (own)
+abbrev pub data_behind : PartsValue → ℕ → Place
+data_behind parts octets =
+    if nat_le (length parts.last + (ENTRY_HEAD_OCTETS + octets)) PART_OCTETS
+    then record { part = length parts.full; offset = length parts.last + ENTRY_HEAD_OCTETS; octets = octets }
+    else record { part = length parts.full + 1; offset = ENTRY_HEAD_OCTETS; octets = octets }

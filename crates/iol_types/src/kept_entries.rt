@@ -7,13 +7,9 @@ ghost use Rattle.iol_types.specs.declared.data_set.TheConstants.{MOST_ENTRY_OCTE
 use crate::data_set::ENTRY_HEAD_OCTETS;
 use crate::key::Key;
 use crate::parts::{Parts, Place};
-use arrayvec::ArrayVec;
 use indexmap::IndexMap;
 use std::alloc::{AllocError, Global};
 use std::marker::Model;
-
-// The most octets of an entry in a part: its head, and 232.
-const MOST_TEXT_OCTETS: usize = 236;
 
 // Entries, each behind the one that came before it. A contract sees them as a list.
 #[derive(Debug, Drop)]
@@ -121,12 +117,7 @@ impl Entries {
         ensures kept { OnErr result (self.new ≡ self.old) }
     {
         self.places.reserve(1)?;
-        let text = self.parts.push(text_of(key, octets).as_slice())?;
-        let place = Place {
-            part: text.part,
-            offset: text.offset + ENTRY_HEAD_OCTETS,
-            octets: octets.len(),
-        };
+        let place = self.parts.push(head_of(key, octets), octets)?;
         // There is room now, so it goes in.
         let _ = self.places.insert(key, place);
         self.octets += ENTRY_HEAD_OCTETS + octets.len();
@@ -134,15 +125,11 @@ impl Entries {
     }
 }
 
-// An entry as a record spells it.
-fn text_of(key: Key, octets: &[u8]) -> ArrayVec<u8, MOST_TEXT_OCTETS>
+// What stands in front of an entry's octets in a record.
+fn head_of(key: Key, octets: &[u8]) -> [u8; ENTRY_HEAD_OCTETS]
     requires { length octets.now ≤ MOST_ENTRY_OCTETS }
-    ensures { result.items ≡ entry_octets (key, octets.now) }
+    ensures { result ++ octets.now ≡ entry_octets (key, octets.now) }
 {
-    let mut text = ArrayVec::new();
-    let _ = text.try_extend_from_slice(&key.index.to_be_bytes());
-    text.push(key.subindex);
-    text.push(octets.len() as u8);
-    let _ = text.try_extend_from_slice(octets);
-    text
+    let index = key.index.to_be_bytes();
+    [index[0], index[1], key.subindex, octets.len() as u8]
 }

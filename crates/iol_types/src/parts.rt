@@ -1,8 +1,10 @@
 //! The parts of a set: texts of at most 512 octets, each of whole entries as a record spells them.
-ghost use Rattle.std.specs.Prelude.{◌≡◌, ◌≤◌, ◌<◌, ◌+◌, length, slice_get, OnOk, OnErr, IfOk};
+ghost use Rattle.std.specs.Prelude.{◌≡◌, ◌≤◌, ◌<◌, ◌+◌, ◌++◌, length, slice_get, OnOk, OnErr, IfOk};
 ghost use Rattle.std.specs.Option.{option_copied};
+ghost use Rattle.iol_types.specs.declared.data_set.TheConstants.{ENTRY_HEAD_OCTETS};
 ghost use Rattle.iol_types.specs.declared.parts.TheConstants.{PART_OCTETS};
 
+use crate::data_set::ENTRY_HEAD_OCTETS;
 use std::alloc::{AllocError, Global};
 use std::marker::Model;
 use std::mem::replace;
@@ -36,7 +38,7 @@ impl Model for Parts {
 }
 
 impl Parts {
-    ghost use Rattle.iol_types.specs.Parts.{IsWithin, no_parts, with_text, texts_of, octets_at, place_behind};
+    ghost use Rattle.iol_types.specs.Parts.{IsWithin, no_parts, with_text, texts_of, octets_at, data_behind};
 
     // No text yet. It takes no memory.
     pub(crate) fn new(alloc: Global) -> Parts
@@ -80,52 +82,65 @@ impl Parts {
         &text[place.offset..place.offset + place.octets]
     }
 
-    // Puts a text behind the others, and tells where it lies. It takes room for one text at most.
-    pub(crate) fn push(&mut self, text: &[u8]) -> Result<Place, AllocError>
-        requires { length text.now ≤ PART_OCTETS }
-        ensures pushed { OnOk result (self.new ≡ with_text self.old text.now) }
-        ensures place { IfOk result (λ place. place ≡ place_behind self.old (length text.now)) }
+    // Puts the text of an entry behind the others, a head and octets, and tells where these octets lie. It takes room for one
+    // text at most.
+    pub(crate) fn push(
+        &mut self,
+        head: [u8; ENTRY_HEAD_OCTETS],
+        octets: &[u8],
+    ) -> Result<Place, AllocError>
+        requires { ENTRY_HEAD_OCTETS + length octets.now ≤ PART_OCTETS }
+        ensures pushed { OnOk result (self.new ≡ with_text self.old (head ++ octets.now)) }
+        ensures place { IfOk result (λ place. place ≡ data_behind self.old (length octets.now)) }
         ensures kept { OnErr result (self.new ≡ self.old) }
     {
-        if self.last.len() + text.len() <= PART_OCTETS {
-            self.extend_last(text)
+        if self.last.len() + ENTRY_HEAD_OCTETS + octets.len() <= PART_OCTETS {
+            self.extend_last(head, octets)
         } else {
-            self.begin(text)
+            self.begin(head, octets)
         }
     }
+
     // Puts a text behind the last one.
-    fn extend_last(&mut self, text: &[u8]) -> Result<Place, AllocError>
-        requires { length self.old.last + length text.now ≤ PART_OCTETS }
-        ensures pushed { OnOk result (self.new ≡ with_text self.old text.now) }
-        ensures place { IfOk result (λ place. place ≡ place_behind self.old (length text.now)) }
+    fn extend_last(
+        &mut self,
+        head: [u8; ENTRY_HEAD_OCTETS],
+        octets: &[u8],
+    ) -> Result<Place, AllocError>
+        requires { length self.old.last + ENTRY_HEAD_OCTETS + length octets.now ≤ PART_OCTETS }
+        ensures pushed { OnOk result (self.new ≡ with_text self.old (head ++ octets.now)) }
+        ensures place { IfOk result (λ place. place ≡ data_behind self.old (length octets.now)) }
         ensures kept { OnErr result (self.new ≡ self.old) }
     {
         let place = Place {
             part: self.full.len(),
-            offset: self.last.len(),
-            octets: text.len(),
+            offset: self.last.len() + ENTRY_HEAD_OCTETS,
+            octets: octets.len(),
         };
         self.last.reserve(PART_OCTETS - self.last.len())?;
-        self.last.extend_from_slice(text)?;
+        // There is room now, so both go in.
+        let _ = self.last.extend_from_slice(&head);
+        let _ = self.last.extend_from_slice(octets);
         Ok(place)
     }
 
     // Makes a text the last one, and the one before full.
-    fn begin(&mut self, text: &[u8]) -> Result<Place, AllocError>
-        requires { PART_OCTETS < length self.old.last + length text.now }
-        ensures pushed { OnOk result (self.new ≡ with_text self.old text.now) }
-        ensures place { IfOk result (λ place. place ≡ place_behind self.old (length text.now)) }
+    fn begin(&mut self, head: [u8; ENTRY_HEAD_OCTETS], octets: &[u8]) -> Result<Place, AllocError>
+        requires { PART_OCTETS < length self.old.last + ENTRY_HEAD_OCTETS + length octets.now }
+        ensures pushed { OnOk result (self.new ≡ with_text self.old (head ++ octets.now)) }
+        ensures place { IfOk result (λ place. place ≡ data_behind self.old (length octets.now)) }
         ensures kept { OnErr result (self.new ≡ self.old) }
     {
         let mut next = Vec::with_capacity(*self.full.allocator(), PART_OCTETS)?;
-        next.extend_from_slice(text)?;
+        next.extend_from_slice(&head)?;
+        next.extend_from_slice(octets)?;
         self.full.reserve(1)?;
         // There is room now, so it goes in.
         let _ = self.full.push(replace(&mut self.last, next));
         Ok(Place {
             part: self.full.len(),
-            offset: 0,
-            octets: text.len(),
+            offset: ENTRY_HEAD_OCTETS,
+            octets: octets.len(),
         })
     }
 }

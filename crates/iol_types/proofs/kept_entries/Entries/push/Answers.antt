@@ -1,17 +1,16 @@
-use Rattle.std.proofs.Common.{◌≡◌, ◌<◌, ◌+◌, ℕ, true, List, [], ◌∷◌, ◌++◌, Result, Ok, Err, None, OnOk, is_ok, length}
+use Rattle.std.proofs.Common.{◌≡◌, ◌<◌, ◌+◌, true, List, [], ◌∷◌, ◌++◌, Result, Ok, Err, None, OnOk, is_ok, length}
 use Rattle.std.proofs.Common.{sym, ap, ◌∙◌, subst, arith}
 use Rattle.indexmap.proofs.CallerLemmas.{insert_entry-new}
 use Rattle.indexmap.specs.IndexMap.{spare, insert_entry}
 use Rattle.iol_types.specs.Key.{same_key}
 use Rattle.iol_types.specs.DataSet.{Entry, add_fault}
 use Rattle.iol_types.specs.EntriesInMemory.{entries_of}
-use Rattle.iol_types.specs.Parts.{PartsValue, entry_octets, with_text, place_behind}
+use Rattle.iol_types.specs.Parts.{PartsValue, entry_octets, with_text, data_behind}
 use Rattle.iol_types.specs.declared.data_set.TheConstants.{ENTRY_HEAD_OCTETS}
 use Rattle.iol_types.specs.declared.key.Key.{Key}
 use Rattle.iol_types.specs.declared.parts.Place.{Place}
 use Rattle.iol_types.proofs.Entries.{may_be_added}
 use Rattle.iol_types.proofs.Kept.{none-entries_of, Pushed, pushed}
-use Rattle.iol_types.proofs.PartLemmas.{data_place}
 use Rattle.iol_types.proofs.kept_entries.Entries.push.Goals as goal
 
 -- what is said of success, of what succeeded
@@ -27,23 +26,19 @@ made c =
     let parts = c.self.inside.parts in
     let kept = c.self.inside.places.entries in
     let text = entry_octets (c.args.key, c.args.octets.now) in
-    let spelled : c.as_slice.result.now ≡ text = c.as_slice.ensures.value ∙ c.text_of.ensures in
-    let later : c.push.new.self ≡ with_text parts text = c.in_ok-text.ensures.pushed ∙ ap (with_text parts) spelled in
-    let there : c.in_ok-text.text ≡ place_behind parts (length text) =
-    c.in_ok-text.ensures.place ∙ ap (λ (octets : List ℕ). place_behind parts (length octets)) spelled in
+    let later : c.push.new.self ≡ with_text parts text = c.in_ok-place.ensures.pushed ∙ ap (with_text parts) c.head_of.ensures in
     let may : add_fault (entries_of parts kept) c.args.key c.args.octets.now ≡ None =
     ap (λ entries. add_fault entries c.args.key c.args.octets.now) c.self.view_is ∙ c.requires in
     let room : 0 < spare c.reserve.new.self = omega (arith, c.in_ok-reserve.ensures.ok) in
     let absent = none-entries_of parts (same_key c.args.key) kept
     (may_be_added (entries_of parts kept) c.args.key c.args.octets.now may).absent in
-    let put : Place = data_place c.in_ok-text.text (length c.args.octets.now) in
     let inserted = said c.insert.result (c.insert.ensures.succeeds room) c.insert.ensures.entries in
     let entries : c.insert.new.self.entries
-    ≡ kept ++ (c.args.key, data_place (place_behind parts (length text)) (length c.args.octets.now)) ∷ [] =
+    ≡ kept ++ (c.args.key, data_behind parts (length c.args.octets.now)) ∷ [] =
     inserted
-    ∙ ap (λ before. insert_entry same_key before c.args.key put) c.in_ok-reserve.ensures.entries
-    ∙ insert_entry-new same_key c.self.inside.places c.args.key put absent
-    ∙ ap (λ (place : Place). kept ++ (c.args.key, data_place place (length c.args.octets.now)) ∷ []) there in
+    ∙ ap (λ before. insert_entry same_key before c.args.key c.in_ok-place.place) c.in_ok-reserve.ensures.entries
+    ∙ insert_entry-new same_key c.self.inside.places c.args.key c.in_ok-place.place absent
+    ∙ ap (λ (place : Place). kept ++ (c.args.key, place) ∷ []) c.in_ok-place.ensures.place in
     subst (λ (new : PartsValue × List (Key × Place)).
     Pushed new.0 new.1 (c.self.inside.octets + (ENTRY_HEAD_OCTETS + length c.args.octets.now))
     (entries_of parts kept ++ (c.args.key, c.args.octets.now) ∷ []))
