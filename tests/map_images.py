@@ -74,8 +74,12 @@ class Image:
 
     def batch(self, area, place, epoch, number, records):
         octets = b"".join(records)
-        self.put(self.slot(area, place), OPEN)
-        self.put(self.slot(area, place) + 1, struct.pack(">QQHI", epoch, number, len(records), len(octets)) + octets)
+        gate = self.slot(area, place)
+        self.put(gate, OPEN)
+        body = struct.pack(">QQHI", epoch, number, len(records), len(octets)) + octets
+        # The gates of further slots are left out.
+        for sector, at in enumerate(range(0, len(body), SECTOR)):
+            self.put(gate + 1 + sector + sector // BODY_SECTORS, body[at : at + SECTOR])
 
 
 IN_USE = config(1, 3, 500, 43981)
@@ -97,6 +101,21 @@ def with_a_checkpoint():
     image.batch("A", 3, 1, 6, [bytes([2, 2])])
     image.area("B", True, 2, 6, [port(IN_USE, 1, IN_USE, SMALL_SET), port(config(0, 0, 0, 0), 1)])
     image.batch("B", 0, 2, 7, [store(1, 1, LARGE_SET)])
+    return image
+
+
+def with_long_batches():
+    image = Image(2, 4)
+    image.batch("A", 0, 1, 1, [configure(1, IN_USE), configure(2, IN_USE)])
+    image.batch("A", 1, 1, 3, [store(1, 1, LARGE_SET), store(2, 1, LARGE_SET)])
+    image.batch("A", 3, 1, 5, [bytes([2, 1])])
+    return image
+
+
+def over_all_slots():
+    image = Image(2, 2)
+    image.area("B", True, 2, 2, [port(IN_USE, 1), port(IN_USE, 1)])
+    image.batch("B", 0, 2, 3, [store(1, 1, LARGE_SET), store(2, 1, LARGE_SET)])
     return image
 
 
@@ -122,6 +141,8 @@ IMAGES = {
     "the smallest": lambda: Image(1, 1),
     "batches": with_batches,
     "a checkpoint": with_a_checkpoint,
+    "long batches": with_long_batches,
+    "all slots": over_all_slots,
     "large sets": with_large_sets,
     "the largest": largest,
 }

@@ -43,12 +43,12 @@ class Reading:
     def is_open(self, sector):
         return self.at(sector)[:8] == OPEN
 
-    def add(self, name, number, first, count, gate, used, unused, text):
-        line = Line(name, (number, number), first, first + count - 1, gate, used, unused, text)
+    def add(self, name, number, first, count, gate, used, unused, text, slots=1):
+        line = Line(name, (number, number + slots - 1), first, first + count - 1, gate, used, unused, text)
         line.damaged = self.damaged is not None and line.first <= self.damaged <= line.last
         before = self.lines[-1] if self.lines else None
         if before and before.is_like(line):
-            before.numbers, before.last = (before.numbers[0], number), line.last
+            before.numbers, before.last = (before.numbers[0], line.numbers[1]), line.last
         else:
             self.lines.append(line)
 
@@ -103,8 +103,11 @@ class Reading:
             self.port(place + 1, first + 2 + PORT_SECTORS * place)
         slots = first + 2 + PORT_SECTORS * self.ports
         reach = "next" if area == best else "idle"
-        for place in range(self.slots):
-            reach = self.slot(place + 1, slots + (1 + BODY_SECTORS) * place, header[0], reach)
+        place = 0
+        while place < self.slots:
+            gate = slots + (1 + BODY_SECTORS) * place
+            taken, reach = self.slot(place + 1, gate, header[0], reach, self.slots - place)
+            place += taken
 
     def port(self, number, first):
         read, said = 0, None
@@ -114,12 +117,15 @@ class Reading:
         text = f"{read} of {PORT_SECTORS} sectors, {said}" if said else "no record of a port"
         self.add("port", number, first, PORT_SECTORS, None, read, PORT_SECTORS - read, text)
 
-    def slot(self, number, gate, epoch, reach):
+    def slot(self, number, gate, epoch, reach, left):
+        """Adds the line of a slot, or of those of a batch, and tells how many these are, and how far a recovery comes."""
         is_open = self.is_open(gate)
-        used, text, behind = 0, "gate closed", reach
+        taken, used, text, behind = 1, 0, "gate closed", reach
         if is_open:
             its_epoch, first, count, octets = struct.unpack(">QQHI", self.at(gate + 1)[:22])
             used = min(BODY_SECTORS, (22 + octets + SECTOR - 1) // SECTOR)
+            wanted = -(-(22 + octets) // (SECTOR * BODY_SECTORS))
+            taken = wanted if wanted <= left else 1
             text = f"first command {first}, count {count}"
             if count and first <= LAST_NUMBER:
                 text = span("command", first, first + count - 1)
@@ -128,8 +134,8 @@ class Reading:
                 text = "gate open behind a closed one: not read"
         elif reach == "next":
             text, behind = "gate closed, the first: slots behind it are not read", "behind"
-        self.add("slot", number, gate, 1 + BODY_SECTORS, is_open, used, BODY_SECTORS - used, text)
-        return behind
+        self.add("slot", number, gate, (1 + BODY_SECTORS) * taken, is_open, used, BODY_SECTORS - used, text, taken)
+        return taken, behind
 
     def texts(self):
         for line in self.lines:
