@@ -1,7 +1,7 @@
 //! Commits of one Configure each and the checkpoints between them, beside the same writes and syncs of a plain file.
 
 use crate::commands::configure;
-use crate::plain::{Pair, nanoseconds_since, opened_file, timed_calls};
+use crate::plain::{Pair, nanoseconds_since, opened_file, timed_calls, writes_of};
 use anyhow::{Context, bail};
 use iol_disk::{DiskCall, ImageFile, MemoryDisk, RecordedDisk, SectorDisk};
 use iol_example::{create, open, write};
@@ -82,13 +82,7 @@ fn calls_of_round(alloc: Global) -> anyhow::Result<Vec<DiskCall>> {
     for _ in 0..COMMITS + CHECKPOINTS {
         journal = advanced(alloc, journal)?;
     }
-    // Opening it made a sync and reads.
-    let calls = journal.disk().calls();
-    let writes = calls
-        .iter()
-        .copied()
-        .filter(|call| !matches!(call, DiskCall::Read(_)));
-    Ok(writes.skip(1).collect(alloc)?)
+    Ok(writes_of(alloc, journal.disk().calls().as_slice())?)
 }
 
 // Times a round on new files: each commit or checkpoint, and the same calls of a plain file behind it.

@@ -1,6 +1,7 @@
 //! Calls of a plain file: the same sectors as those of a journal, in the same order; and what both took.
 
 use iol_disk::{DiskCall, SECTOR_OCTETS};
+use std::alloc::{AllocError, Global};
 use std::fs::File;
 use std::io;
 use std::os::unix::fs::FileExt;
@@ -46,6 +47,15 @@ pub fn timed_calls(rt: &HostRuntime, file: &File, calls: &[DiskCall]) -> io::Res
         }
     }
     nanoseconds_since(rt, start)
+}
+
+/// The writes and syncs of a disk that was opened first, which made a sync and reads.
+pub fn writes_of(alloc: Global, calls: &[DiskCall]) -> Result<Vec<DiskCall>, AllocError> {
+    let writes = calls
+        .iter()
+        .copied()
+        .filter(|call| !matches!(call, DiskCall::Read(_)));
+    writes.skip(1).collect(alloc)
 }
 
 /// Nanoseconds since an instant.

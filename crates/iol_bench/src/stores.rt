@@ -2,7 +2,7 @@
 //! plain file.
 
 use crate::commands::{configure, largest_set};
-use crate::plain::{Pair, nanoseconds_since, opened_file, timed_calls};
+use crate::plain::{Pair, nanoseconds_since, opened_file, timed_calls, writes_of};
 use anyhow::{Context, bail};
 use iol_disk::{DiskCall, ImageFile, MemoryDisk, RecordedDisk, SectorDisk};
 use iol_example::{create, open};
@@ -105,12 +105,7 @@ fn calls_of_stores(alloc: Global, each: u8) -> anyhow::Result<Vec<DiskCall>> {
         bail!("no journal in memory")
     };
     let calls = stored(alloc, journal, &set, each)?.disk().calls();
-    // Opening it made a sync and reads.
-    let writes = calls
-        .iter()
-        .copied()
-        .filter(|call| !matches!(call, DiskCall::Read(_)));
-    Ok(writes.skip(1).collect(alloc)?)
+    Ok(writes_of(alloc, calls.as_slice())?)
 }
 
 // What the sets take on a new file, and then the same calls of a plain file.
