@@ -35,16 +35,16 @@ abbrev pub failure_of : {D : Type 0} → Stage D → Option DiskFault
 failure_of (Failed disk fault) = Some fault
 failure_of stage = None
 
--- the octets of records that a batch may have which is given now: what fits the free slots of a journal at rest, or where
--- none is free one slot; at other stages one slot (own)
+-- how many octets of records a batch that is given now may have: as many as fit the free slots of a journal at rest, and one
+-- slot where none is free, or at another stage (own)
 abbrev pub room_of : {D : Type 0} → Stage D → ℕ
 room_of (Resting journal) = room_in journal.standing
 room_of stage = MOST_RECORD_OCTETS
 
 -- records of no more than so many octets fit the area of a journal at rest (own)
-abbrev pub HasRoom : {D : Type 0} → Stage D → ℕ → Type 0
-HasRoom (Resting journal) room = (octets : ℕ) → octets ≤ room → slots_of octets ≤ journal.standing.layout.slots
-HasRoom stage room = Unit {0}
+abbrev pub FitsArea : {D : Type 0} → Stage D → ℕ → Type 0
+FitsArea (Resting journal) room = (octets : ℕ) → octets ≤ room → slots_of octets ≤ journal.standing.layout.slots
+FitsArea stage room = Unit {0}
 
 -- the disk of a flusher (own)
 abbrev pub disk_of : {D : Type 0} → Stage D → D

@@ -1,7 +1,7 @@
 //! The flusher, and its calls.
 
 ghost use Rattle.std.specs.Prelude.{◌≡◌, ◌≤◌, ◌⊎◌};
-ghost use Rattle.iol_flush.specs.Stages.{need_of, room_of, failure_of, HasRoom, HasHistory, HasFewCalls, IsInStep};
+ghost use Rattle.iol_flush.specs.Stages.{need_of, room_of, failure_of, FitsArea, HasHistory, HasFewCalls, IsInStep};
 ghost use Rattle.iol_flush.specs.Steps.{IsDiskStep, IsGift, HasGivenUp, IsPublished, IsEnd};
 ghost use Rattle.iol_flush.specs.Flushing.{KeepsRun, IsSound};
 ghost use Rattle.iol_flush.specs.declared.need.Need.TheVariants as need;
@@ -69,13 +69,13 @@ impl<D: SectorDisk, F: Name> Flusher<D, F> {
         self.stage.needs()
     }
 
-    /// The octets of records that a batch may have which is given now: what fits the free slots of the journal at rest, or
-    /// where none is free one slot, 8,170; at other stages 8,170.
+    /// How many octets of records a batch that is given now may have: as many as fit the free slots of the journal at rest, and
+    /// one slot, 8,170, where none is free, or at another stage.
     pub fn room(&self) -> usize
         ensures room { result ≡ room_of self.now.stage }
         ensures least { MOST_RECORD_OCTETS ≤ result }
         // A batch of no more octets fits the area.
-        ensures fits { HasRoom self.now.stage result }
+        ensures fits { FitsArea self.now.stage result }
     {
         match &self.stage {
             Stage::Resting(journal) => journal.room(),

@@ -15,7 +15,7 @@ use Rattle.iol_core.specs.Core.{CoreView}
 use Rattle.iol_flush.proofs.RunLaws.{gives, publishes}
 use Rattle.iol_flush.specs.Flushing.{FitsBatch, GoesOn, IsFlushing}
 use Rattle.iol_flush.specs.Stages as flush
-use Rattle.iol_flush.specs.Stages.{FlusherView, StandsBehind, HasRoom}
+use Rattle.iol_flush.specs.Stages.{FlusherView, StandsBehind, FitsArea}
 use Rattle.iol_flush.specs.Steps.{HasTaken, HasPublished}
 use Rattle.iol_flush.specs.declared.stage.Stage.{Stage}
 use Rattle.iol_flush.specs.declared.stage.Stage.TheVariants.{Resting, Given, Checkpointing, Writing, Publishing, Failed}
@@ -81,14 +81,14 @@ module _ {D : Type 0} where
   -- a batch of the core is given to a flusher that rests
   pub given_in_step : (start : Start) (old new : CoreView) (before behind : FlusherView D) (batch : Batch) (room : ℕ)
       → HasTaken before.stage batch behind.stage → behind.published ≡ before.published → flush.IsInStep start before.stage before.published
-      → IsTaken old room new batch → HasRoom before.stage room → legal old.durable (values batch.commands.items) ≡ true
+      → IsTaken old room new batch → FitsArea before.stage room → legal old.durable (values batch.commands.items) ≡ true
       → (length (values batch.commands.items) ≤ 64) × (batch.first + length (values batch.commands.items) ≤ LAST_NUMBER + 1)
       → IsInStep start old before None → IsInStep start new behind None
   given_in_step start old new before behind batch room taken same stands is has_room passes bound was =
       given before.stage before.published behind.stage behind.published taken same stands has_room was.0
     where
       given : (s : Stage D) (published : List CommandValue) (t : Stage D) (list : List CommandValue) → HasTaken s batch t → list ≡ published
-          → flush.IsInStep start s published → HasRoom s room → IsDurable start old published
+          → flush.IsInStep start s published → FitsArea s room → IsDurable start old published
           → IsDurable start new list × HasFlight new t × GoesOn t
       given (Resting j) published t list taken same stands fits durable = (
         subst (λ (cs : List CommandValue). IsDurable start new cs) (sym same)

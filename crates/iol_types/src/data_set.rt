@@ -141,7 +141,7 @@ impl DataSet {
         self.entries.octets()
     }
 
-    /// How many parts there are, at most as many as entries.
+    /// How many parts there are.
     pub fn parts(&self) -> usize
         ensures { result ≡ length (parts_of self.now.entries) }
     {

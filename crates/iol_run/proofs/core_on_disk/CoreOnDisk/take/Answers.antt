@@ -7,7 +7,7 @@ use Rattle.iol_flush.specs.Stages as flush
 use Rattle.iol_flush.specs.Steps.{HasTaken}
 use Rattle.iol_journal.specs.Journals.{values}
 use Rattle.iol_journal.specs.declared.batch.Batch.{Batch}
-use Rattle.iol_flush.specs.Stages.{room_of, HasRoom}
+use Rattle.iol_flush.specs.Stages.{room_of, FitsArea}
 use Rattle.iol_journal.specs.declared.header.TheConstants.{LAST_NUMBER}
 use Rattle.iol_run.specs.CoreOnDisk.{CoreOnDiskView, IsInStep}
 use Rattle.iol_run.specs.Events.{told_of}
@@ -38,7 +38,7 @@ invariant_of-self g c =
     let bound = subst (λ (n : ℕ). (n ≤ 64) × (batch.first + n ≤ LAST_NUMBER + 1)) (sym (length-map batch.commands.items value_of)) most in
     subst (λ o. IsInStep start c.take_batch.new.self c.give.new.self o) (sym none)
     (given_in_step start i.core c.take_batch.new.self i.flusher c.give.new.self batch room c.in-Ok.ensures.gift c.give.ensures.published
-    stands is (subst (HasRoom i.flusher.stage) c.room.ensures.room c.room.ensures.fits)
+    stands is (subst (FitsArea i.flusher.stage) c.room.ensures.room c.room.ensures.fits)
     passes bound (subst (λ o. IsInStep start i.core i.flusher o) none c.self.invariant))
 
 pub returns-in-Ok-clause-turn : goal.returns-in-Ok-clause-turn
