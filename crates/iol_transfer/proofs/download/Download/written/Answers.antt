@@ -1,4 +1,4 @@
-use Rattle.std.proofs.Common.{◌≡◌, ◌<◌, inr, refl, length, drop, sym, ap, ◌∙◌, subst, arith}
+use Rattle.std.proofs.Common.{◌≡◌, ◌<◌, inr, refl, length, drop, sym, ap, ◌∙◌, subst, arith, rules}
 use Rattle.iol_types.specs.DataSet.{SetValue}
 use Rattle.iol_isdu.specs.declared.messages.Answer.TheVariants.{WriteOk}
 use Rattle.iol_transfer.specs.Download.{Sender, Sends, writing, sends_of, sends_after, IsDownloadStep}
@@ -24,3 +24,6 @@ returns-then-place-len c =
           ∙ ap (λ (s : Sends). let sender : Sender = record { set = now.set; sends = s; busy = 0 } in sender)
           (next.1 ∙ ap (sends_after now.set) (sym sends)),
     ))
+
+pub returns-in-Starting : goal.returns-in-Starting
+returns-in-Starting c = search rules

@@ -1,0 +1,5 @@
+use Rattle.std.proofs.Common.{rules}
+use Rattle.iol_transfer.proofs.examples.lists.Goals as goal
+
+pub returns-clause-sixteenth : goal.returns-clause-sixteenth
+returns-clause-sixteenth c = search rules
