@@ -1,4 +1,4 @@
-//! `iol_plays`, a program that tests are made with: it plays what no command of `iolmaster` does.
+//! `iol_plays`, a program that tests and measurements are made with: it plays what no command of `iolmaster` does.
 //!
 //! - `iol_plays schedule SCRIPT` makes the steps of a script on a disk in memory, also where memory runs out, and prints how they
 //!   ended, what was told of them, and what a recovery with memory finds behind a power stop.
@@ -7,23 +7,31 @@
 //!   It has so many links, which give no page before so many were asked for. A client is a word of calls, two letters each: what
 //!   is asked (`c` for Clear, `f` for Configure, `r` for a read, `m` to meet another's receipt) and of which port. In the place of a
 //!   client, `-` waits for a line of standard input.
+//! - `iol_plays two_clients` plays an example to read (`two_clients`).
+//! - `iol_plays measure FOLDER ROUNDS` times a journal on files in a folder (`measures`); `bench/run` makes medians of it.
 #![tactic(auto)]
 
 mod asking;
+mod behind;
 mod clients;
 mod live;
+mod measures;
 mod meeting_link;
 mod schedule;
+mod two_clients;
 
 use anyhow::bail;
 use clients::{links_of, play_clients};
 use iol_commands::opened;
 use live::text_of_live;
+use measures::measure;
 use schedule::play_schedule;
+use two_clients::play_two_clients;
 
 fn main(rt: HostRuntime) -> anyhow::Result<()> {
     let words: Vec<String> = std::env::args(&rt)?.collect(rt.alloc())?;
     match words.as_slice() {
+        [_, _two_clients] => play_two_clients(&rt, rt.alloc(), &mut rt.stdout()),
         [_, play, path] => {
             let script = std::fs::read(&rt, path.as_str())?;
             if play.as_str() == "schedule" {
@@ -33,6 +41,7 @@ fn main(rt: HostRuntime) -> anyhow::Result<()> {
             print!(&rt; "{text}")?;
             Ok(())
         }
+        [_, _measure, folder, rounds] => measure(&rt, folder.as_str(), rounds.as_str().parse()?),
         [_, _, path, links, pages, clients @ ..] => {
             let Ok(disk) = opened(&rt, path.as_str()) else {
                 bail!("no image")

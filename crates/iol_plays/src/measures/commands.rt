@@ -17,7 +17,7 @@ fn config() -> anyhow::Result<PortConfig> {
 }
 
 /// A Configure of the port with this number.
-pub fn configure(port: u8) -> anyhow::Result<Command> {
+pub(crate) fn configure(port: u8) -> anyhow::Result<Command> {
     Ok(Command::Configure {
         port: PortId::new(port).context("no port number")?,
         config: config()?,
@@ -25,7 +25,7 @@ pub fn configure(port: u8) -> anyhow::Result<Command> {
 }
 
 /// A set that counts 4,096 octets: 17 entries of 232 octets, and one of 80.
-pub fn largest_set(alloc: Global) -> anyhow::Result<DataSet> {
+pub(crate) fn largest_set(alloc: Global) -> anyhow::Result<DataSet> {
     let octets = [0xA7; 232];
     let mut set = SetBuilder::new(alloc);
     for entry in 0..18 {

@@ -1,7 +1,7 @@
 //! Commits of one Configure each and the checkpoints between them, beside the same writes and syncs of a plain file.
 
-use crate::commands::configure;
-use crate::plain::{Pair, nanoseconds_since, opened_file, timed_calls, writes_of};
+use crate::measures::commands::configure;
+use crate::measures::plain::{Pair, nanoseconds_since, opened_file, timed_calls, writes_of};
 use anyhow::{Context, bail};
 use iol_disk::{DiskCall, ImageFile, MemoryDisk, RecordedDisk, SectorDisk};
 use iol_example::{create, open, write};
@@ -21,7 +21,7 @@ const CHECKPOINTS: usize = 10;
 const COMMIT_CALLS: usize = 4;
 
 /// Times rounds of commits and checkpoints, and prints for each round what one of either takes.
-pub fn measure_commits(rt: &HostRuntime, folder: &str, rounds: usize) -> anyhow::Result<()> {
+pub(crate) fn measure_commits(rt: &HostRuntime, folder: &str, rounds: usize) -> anyhow::Result<()> {
     let calls = calls_of_round(rt.alloc())?;
     println!(rt;
         "{rounds} rounds, each of {COMMITS} commits and {CHECKPOINTS} checkpoints: {PORTS} ports, {SLOTS} slots"
@@ -91,8 +91,8 @@ fn costs_of_round(
     folder: &str,
     calls: &[DiskCall],
 ) -> anyhow::Result<(Pair, Pair)> {
-    let image = format!(in rt.alloc(); "{folder}/iol_bench_journal.img")?;
-    let plain = format!(in rt.alloc(); "{folder}/iol_bench_plain.img")?;
+    let image = format!(in rt.alloc(); "{folder}/measured_journal.img")?;
+    let plain = format!(in rt.alloc(); "{folder}/measured_plain.img")?;
     let sectors = geometry()?.sectors();
     let _made = ImageFile::create(rt, plain.as_str(), sectors)?;
     let disk = ImageFile::create(rt, image.as_str(), sectors)?;

@@ -1,16 +1,12 @@
-//! `iol_two_clients`, an example: two clients of one master, in threads of their own, and what a third reads behind their receipts.
+//! An example: two clients of one running master, in threads of their own, and what a third reads behind their receipts.
 //!
 //! A disk in memory is formatted for two ports, and a master started over it, at whose ports no device is. Each client configures a
 //! port and brings back its receipt. The third meets both receipts, so what it reads is no older than what the two asked for.
-#![tactic(auto)]
-
-mod clients;
-
 ghost use Rattle.std.specs.Prelude.{◌≡◌, []};
 ghost use Rattle.iol_flush.specs.Stages.{HasHistory};
 
+use crate::behind::{Granted, configuring, read_behind};
 use anyhow::bail;
-use clients::{Granted, configuring, read_behind};
 use iol_disk::MemoryDisk;
 use iol_front::{Front, Name};
 use iol_journal::{Geometry, Journal, format};
@@ -100,11 +96,16 @@ fn tell<F: Name, R: Wait, W: Write>(
     Ok(())
 }
 
-fn main(rt: HostRuntime) -> anyhow::Result<()> {
-    let (journal, state) = match Journal::recover(rt.alloc(), formatted(rt.alloc())?) {
+/// Plays the example on a disk in memory, and prints what the third client reads and how the master ends.
+pub(crate) fn play_two_clients<R: Threads + Wait + Copy + Send + 'static, W: Write>(
+    rt: &R,
+    alloc: Global,
+    out: &mut W,
+) -> anyhow::Result<()> {
+    let (journal, state) = match Journal::recover(alloc, formatted(alloc)?) {
         Ok(found) => found,
         Err(_) => bail!("no recovery"),
     };
-    let front = Front::new(rt.alloc(), journal.number(), &state)?;
-    play::<Brand, _, _>(&rt, rt.alloc(), front, journal, state, &mut rt.stdout())
+    let front = Front::new(alloc, journal.number(), &state)?;
+    play::<Brand, _, _>(rt, alloc, front, journal, state, out)
 }

@@ -1,4 +1,4 @@
-use Rattle.iol_two_clients.proofs.main.Given as goal
+use Rattle.iol_plays.proofs.two_clients.play_two_clients.Given as goal
 
 -- the front that was just made
 abbrev pub ghosts-play : goal.ghosts-play

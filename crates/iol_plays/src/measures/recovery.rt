@@ -1,8 +1,8 @@
 //! The recovery of the largest journal, beside plain reads of its file: 32 ports, each with a parameter set that counts 4,096
 //! octets, and 256 slots, all used.
 
-use crate::commands::{configure, largest_set};
-use crate::plain::{Pair, nanoseconds_since, opened_file, timed_calls};
+use crate::measures::commands::{configure, largest_set};
+use crate::measures::plain::{Pair, nanoseconds_since, opened_file, timed_calls};
 use anyhow::{Context, bail};
 use iol_disk::{DiskCall, ImageFile, RecordedDisk, SectorDisk};
 use iol_example::{create, open, write};
@@ -17,8 +17,12 @@ const SLOTS: u16 = 256;
 
 /// Times recoveries, and prints what each takes: beside a plain read of the sectors that a recovery reads, and beside one of
 /// all sectors, each a sector at a time and in order.
-pub fn measure_recovery(rt: &HostRuntime, folder: &str, rounds: usize) -> anyhow::Result<()> {
-    let path = format!(in rt.alloc(); "{folder}/iol_bench_largest.img")?;
+pub(crate) fn measure_recovery(
+    rt: &HostRuntime,
+    folder: &str,
+    rounds: usize,
+) -> anyhow::Result<()> {
+    let path = format!(in rt.alloc(); "{folder}/measured_largest.img")?;
     let geometry = Geometry::new(u16::from(PORTS), SLOTS).context("no geometry")?;
     let sectors = geometry.sectors();
     let disk = ImageFile::create(rt, path.as_str(), sectors)?;

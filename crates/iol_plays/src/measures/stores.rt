@@ -1,8 +1,8 @@
 //! The largest sets of 32 ports made durable: all in one batch over several slots, and one by one, each beside the same calls of a
 //! plain file.
 
-use crate::commands::{configure, largest_set};
-use crate::plain::{Pair, nanoseconds_since, opened_file, timed_calls, writes_of};
+use crate::measures::commands::{configure, largest_set};
+use crate::measures::plain::{Pair, nanoseconds_since, opened_file, timed_calls, writes_of};
 use anyhow::{Context, bail};
 use iol_disk::{DiskCall, ImageFile, MemoryDisk, RecordedDisk, SectorDisk};
 use iol_example::{create, open};
@@ -17,7 +17,7 @@ use std::time::Instant;
 const SLOTS: u16 = 64;
 
 /// Times rounds of 32 sets made durable, so many of them in each batch, and prints for each round what all of them took.
-pub fn measure_stores(
+pub(crate) fn measure_stores(
     rt: &HostRuntime,
     folder: &str,
     rounds: usize,
@@ -115,8 +115,8 @@ fn cost_of_stores(
     each: u8,
     calls: &[DiskCall],
 ) -> anyhow::Result<Pair> {
-    let image = format!(in rt.alloc(); "{folder}/iol_bench_stores.img")?;
-    let plain = format!(in rt.alloc(); "{folder}/iol_bench_plain.img")?;
+    let image = format!(in rt.alloc(); "{folder}/measured_stores.img")?;
+    let plain = format!(in rt.alloc(); "{folder}/measured_plain.img")?;
     let sectors = geometry()?.sectors();
     let _made = ImageFile::create(rt, plain.as_str(), sectors)?;
     let disk = ImageFile::create(rt, image.as_str(), sectors)?;

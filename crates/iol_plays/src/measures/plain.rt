@@ -9,14 +9,14 @@ use std::time::Instant;
 
 /// What a journal took and what a plain file took, in nanoseconds.
 #[derive(Clone, Copy)]
-pub struct Pair {
-    pub journal: u64,
-    pub plain: u64,
+pub(crate) struct Pair {
+    pub(crate) journal: u64,
+    pub(crate) plain: u64,
 }
 
 impl Pair {
     /// Both, with these added.
-    pub fn plus(self, journal: u64, plain: u64) -> Pair {
+    pub(crate) fn plus(self, journal: u64, plain: u64) -> Pair {
         Pair {
             journal: self.journal.saturating_add(journal),
             plain: self.plain.saturating_add(plain),
@@ -24,19 +24,19 @@ impl Pair {
     }
 
     /// Prints what one of so many took.
-    pub fn print(self, rt: &HostRuntime, name: &str, count: u64) -> io::Result<()> {
+    pub(crate) fn print(self, rt: &HostRuntime, name: &str, count: u64) -> io::Result<()> {
         let count = count.max(1);
         println!(rt; "{name}: {} {}", self.journal / count, self.plain / count)
     }
 }
 
 /// Opens a file to read and to write.
-pub fn opened_file(rt: &HostRuntime, path: &str) -> io::Result<File> {
+pub(crate) fn opened_file(rt: &HostRuntime, path: &str) -> io::Result<File> {
     File::options().read(true).write(true).open(rt, path)
 }
 
 /// Makes these calls of a file, and tells how many nanoseconds they took. What is written does not matter.
-pub fn timed_calls(rt: &HostRuntime, file: &File, calls: &[DiskCall]) -> io::Result<u64> {
+pub(crate) fn timed_calls(rt: &HostRuntime, file: &File, calls: &[DiskCall]) -> io::Result<u64> {
     let mut octets = [0x5A; SECTOR_OCTETS];
     let start = Instant::now(rt)?;
     for call in calls {
@@ -50,7 +50,7 @@ pub fn timed_calls(rt: &HostRuntime, file: &File, calls: &[DiskCall]) -> io::Res
 }
 
 /// The writes and syncs of a disk that was opened first, which made a sync and reads.
-pub fn writes_of(alloc: Global, calls: &[DiskCall]) -> Result<Vec<DiskCall>, AllocError> {
+pub(crate) fn writes_of(alloc: Global, calls: &[DiskCall]) -> Result<Vec<DiskCall>, AllocError> {
     let writes = calls
         .iter()
         .copied()
@@ -59,7 +59,7 @@ pub fn writes_of(alloc: Global, calls: &[DiskCall]) -> Result<Vec<DiskCall>, All
 }
 
 /// Nanoseconds since an instant.
-pub fn nanoseconds_since(rt: &HostRuntime, start: Instant) -> io::Result<u64> {
+pub(crate) fn nanoseconds_since(rt: &HostRuntime, start: Instant) -> io::Result<u64> {
     let elapsed = start.elapsed(rt)?;
     Ok(u64::try_from(elapsed.as_nanos()).unwrap_or(u64::MAX))
 }
