@@ -6,14 +6,14 @@ ghost use Rattle.iol_flush.specs.Stages.{HasHistory};
 use crate::asking::{Asking, Told};
 use crate::meeting_link::MeetingLink;
 use anyhow::bail;
-use crossbeam_channel::Receiver;
+use crossbeam_channel::{Receiver, Sender};
 use iol_disk::SectorDisk;
 use iol_front::{Front, Name, Pass};
 use iol_journal::Journal;
-use iol_master::{Ending, Master, Receipt, StartFault};
+use iol_master::{Client, Ending, Master, Receipt, StartFault};
 use iol_sim::SimLink;
 use iol_types::MasterState;
-use std::alloc::Global;
+use std::alloc::{AllocError, Global};
 use std::io::{Input, Write};
 use std::marker::Brand;
 use std::sync::atomic::AtomicU64;
@@ -110,38 +110,80 @@ fn ask<
 ) -> anyhow::Result<()> {
     let (told, heard) = crossbeam_channel::unbounded(alloc)?;
     let (granted, receipts) = crossbeam_channel::unbounded(alloc)?;
+    let ends = Ends {
+        told,
+        granted,
+        receipts,
+    };
+    let clients = start_all(rt, alloc, master, words, &ends)?;
+    // (what is heard ends once no client and nobody here can tell more)
+    let receipts = ends.receipts;
+    hear(rt, &heard, out)?;
+    join_all(rt, clients);
+    writeln!(out, "met at {}", meet_all(rt, &receipts))?;
+    Ok(())
+}
+
+// What clients share: where their answers go, and where their receipts go and others' come from.
+#[derive(Drop)]
+struct Ends<F: Name> {
+    told: Sender<Told, Global>,
+    granted: Sender<Receipt<F>, Global>,
+    receipts: Receiver<Receipt<F>, Global>,
+}
+
+impl<F: Name> Ends<F> {
+    // What a client with this number asks with.
+    fn asking(&self, number: usize, client: Client<F>) -> Result<Asking<F>, AllocError> {
+        Ok(Asking {
+            number,
+            told: self.told.clone()?,
+            granted: self.granted.clone()?,
+            receipts: self.receipts.clone()?,
+            client,
+        })
+    }
+}
+
+// Starts a client for each word, one after another.
+fn start_all<
+    D: SectorDisk + Drop + Send + 'static,
+    F: Name + 'static,
+    R: Threads + Wait + Input + Copy + Send + 'static,
+>(
+    rt: &R,
+    alloc: Global,
+    master: &mut Master<D, F>,
+    words: &[String],
+    ends: &Ends<F>,
+) -> anyhow::Result<Vec<JoinHandle<()>>> {
     let mut clients = Vec::new(alloc);
     for word in words {
         if word.as_str() == "-" {
             rt.read_line(&mut String::new(alloc))?;
         } else {
-            let asking = Asking {
-                number: clients.len().saturating_add(1),
-                client: master.client()?,
-                told: told.clone()?,
-                granted: granted.clone()?,
-                receipts: receipts.clone()?,
-            };
-            clients.push(start(rt, asking, word.clone()?)?)?;
+            let number = clients.len().saturating_add(1);
+            clients.push(start(rt, ends.asking(number, master.client()?)?, word)?)?;
         }
     }
-    drop(told);
-    drop(granted);
-    hear(rt, &heard, out)?;
+    Ok(clients)
+}
+
+// Waits until these threads have ended.
+fn join_all<R: Threads>(rt: &R, clients: Vec<JoinHandle<()>>) {
     for client in clients {
         client.join(rt);
     }
-    writeln!(out, "met at {}", meet_all(rt, &receipts))?;
-    Ok(())
 }
 
 // A thread in which a client makes the calls of a word.
 fn start<F: Name + 'static, R: Threads + Wait + Copy + Send + 'static>(
     rt: &R,
     asking: Asking<F>,
-    word: String,
+    word: &String,
 ) -> anyhow::Result<JoinHandle<()>> {
     let rt = *rt;
+    let word = word.clone()?;
     let Ok(started) = thread::spawn(&rt, move || asking.ask_all(&rt, word.as_str())) else {
         bail!("no thread")
     };

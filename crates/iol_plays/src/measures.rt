@@ -12,6 +12,7 @@ mod stores;
 
 use anyhow::bail;
 use commits::measure_commits;
+use plain::Files;
 use recovery::measure_recovery;
 use stores::measure_stores;
 
@@ -21,8 +22,18 @@ pub(crate) fn measure(rt: &HostRuntime, folder: &str, rounds: usize) -> anyhow::
     if rounds < 1 || 99 < rounds {
         bail!("the number of rounds is 1 to 99");
     }
-    measure_commits(rt, folder, rounds)?;
-    measure_stores(rt, folder, rounds, "32 stores together", 32)?;
-    measure_stores(rt, folder, rounds, "32 stores one by one", 1)?;
-    measure_recovery(rt, folder, rounds)
+    let image = format!(in rt.alloc(); "{folder}/measured_image")?;
+    let plain = format!(in rt.alloc(); "{folder}/measured_plain")?;
+    let files = Files {
+        image: image.as_str(),
+        plain: plain.as_str(),
+    };
+    measure_each(rt, files, rounds)
+}
+
+fn measure_each(rt: &HostRuntime, files: Files<'_>, rounds: usize) -> anyhow::Result<()> {
+    measure_commits(rt, files, rounds)?;
+    measure_stores(rt, files, rounds, "32 stores together", 32)?;
+    measure_stores(rt, files, rounds, "32 stores one by one", 1)?;
+    measure_recovery(rt, files.image, rounds)
 }

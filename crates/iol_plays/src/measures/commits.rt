@@ -1,13 +1,13 @@
 //! Commits of one Configure each and the checkpoints between them, beside the same writes and syncs of a plain file.
 
 use crate::measures::commands::configure;
-use crate::measures::plain::{Pair, nanoseconds_since, opened_file, timed_calls, writes_of};
+use crate::measures::plain::{Files, Pair, nanoseconds_since, opened_file, timed_calls, writes_of};
 use anyhow::{Context, bail};
-use iol_disk::{DiskCall, ImageFile, MemoryDisk, RecordedDisk, SectorDisk};
+use iol_disk::{DiskCall, MemoryDisk, RecordedDisk, SectorDisk};
 use iol_example::{create, open, write};
 use iol_journal::{CheckpointProgress, Geometry, Journal};
 use std::alloc::Global;
-use std::fs::{self, File};
+use std::fs::File;
 use std::time::Instant;
 
 const PORTS: u16 = 8;
@@ -21,13 +21,17 @@ const CHECKPOINTS: usize = 10;
 const COMMIT_CALLS: usize = 4;
 
 /// Times rounds of commits and checkpoints, and prints for each round what one of either takes.
-pub(crate) fn measure_commits(rt: &HostRuntime, folder: &str, rounds: usize) -> anyhow::Result<()> {
+pub(crate) fn measure_commits(
+    rt: &HostRuntime,
+    files: Files<'_>,
+    rounds: usize,
+) -> anyhow::Result<()> {
     let calls = calls_of_round(rt.alloc())?;
     println!(rt;
         "{rounds} rounds, each of {COMMITS} commits and {CHECKPOINTS} checkpoints: {PORTS} ports, {SLOTS} slots"
     )?;
     for _ in 0..rounds {
-        let (commits, checkpoints) = costs_of_round(rt, folder, calls.as_slice())?;
+        let (commits, checkpoints) = costs_of_round(rt, files, calls.as_slice())?;
         commits.print(rt, "commit", COMMITS as u64)?;
         checkpoints.print(rt, "checkpoint", CHECKPOINTS as u64)?;
     }
@@ -88,20 +92,12 @@ fn calls_of_round(alloc: Global) -> anyhow::Result<Vec<DiskCall>> {
 // Times a round on new files: each commit or checkpoint, and the same calls of a plain file behind it.
 fn costs_of_round(
     rt: &HostRuntime,
-    folder: &str,
+    files: Files<'_>,
     calls: &[DiskCall],
 ) -> anyhow::Result<(Pair, Pair)> {
-    let image = format!(in rt.alloc(); "{folder}/measured_journal.img")?;
-    let plain = format!(in rt.alloc(); "{folder}/measured_plain.img")?;
-    let sectors = geometry()?.sectors();
-    let _made = ImageFile::create(rt, plain.as_str(), sectors)?;
-    let disk = ImageFile::create(rt, image.as_str(), sectors)?;
-    let Ok(journal) = create(rt.alloc(), disk, geometry()?) else {
-        bail!("no journal on {image}")
-    };
-    let costs = costs_of(rt, journal, &opened_file(rt, plain.as_str())?, calls)?;
-    fs::remove_file(rt, image)?;
-    fs::remove_file(rt, plain)?;
+    let journal = files.make(rt, geometry()?)?;
+    let costs = costs_of(rt, journal, &opened_file(rt, files.plain)?, calls)?;
+    files.remove(rt)?;
     Ok(costs)
 }
 

@@ -1,8 +1,11 @@
 //! Calls of a plain file: the same sectors as those of a journal, in the same order; and what both took.
 
-use iol_disk::{DiskCall, SECTOR_OCTETS};
+use anyhow::bail;
+use iol_disk::{DiskCall, ImageFile, SECTOR_OCTETS};
+use iol_example::create;
+use iol_journal::{Geometry, Journal};
 use std::alloc::{AllocError, Global};
-use std::fs::File;
+use std::fs::{self, File};
 use std::io;
 use std::os::unix::fs::FileExt;
 use std::time::Instant;
@@ -27,6 +30,36 @@ impl Pair {
     pub(crate) fn print(self, rt: &HostRuntime, name: &str, count: u64) -> io::Result<()> {
         let count = count.max(1);
         println!(rt; "{name}: {} {}", self.journal / count, self.plain / count)
+    }
+}
+
+/// Where the files of a measurement stand: a journal's image, and a plain file of the same size.
+#[derive(Clone, Copy)]
+pub(crate) struct Files<'a> {
+    pub(crate) image: &'a str,
+    pub(crate) plain: &'a str,
+}
+
+impl Files<'_> {
+    /// Makes both files, with an empty journal on the image.
+    pub(crate) fn make(
+        self,
+        rt: &HostRuntime,
+        geometry: Geometry,
+    ) -> anyhow::Result<Journal<ImageFile<File>>> {
+        let sectors = geometry.sectors();
+        let _plain = ImageFile::create(rt, self.plain, sectors)?;
+        let disk = ImageFile::create(rt, self.image, sectors)?;
+        match create(rt.alloc(), disk, geometry) {
+            Ok(journal) => Ok(journal),
+            Err(_) => bail!("no journal on a new file"),
+        }
+    }
+
+    /// Removes both files.
+    pub(crate) fn remove(self, rt: &HostRuntime) -> io::Result<()> {
+        fs::remove_file(rt, self.image)?;
+        fs::remove_file(rt, self.plain)
     }
 }
 

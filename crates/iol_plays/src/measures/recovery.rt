@@ -17,38 +17,36 @@ const SLOTS: u16 = 256;
 
 /// Times recoveries, and prints what each takes: beside a plain read of the sectors that a recovery reads, and beside one of
 /// all sectors, each a sector at a time and in order.
-pub(crate) fn measure_recovery(
-    rt: &HostRuntime,
-    folder: &str,
-    rounds: usize,
-) -> anyhow::Result<()> {
-    let path = format!(in rt.alloc(); "{folder}/measured_largest.img")?;
+pub(crate) fn measure_recovery(rt: &HostRuntime, path: &str, rounds: usize) -> anyhow::Result<()> {
     let geometry = Geometry::new(u16::from(PORTS), SLOTS).context("no geometry")?;
     let sectors = geometry.sectors();
-    let disk = ImageFile::create(rt, path.as_str(), sectors)?;
+    let disk = ImageFile::create(rt, path, sectors)?;
     write_largest(rt.alloc(), disk, geometry)?;
-    let calls = calls_of_recovery(rt, path.as_str())?;
-    println!(rt;
-        "recovery of {sectors} sectors: {} disk calls, one of them a sync",
-        calls.len()
-    )?;
-    time(
-        rt,
-        "recovery beside its reads",
-        path.as_str(),
-        &calls,
-        rounds,
-    )?;
+    time_own_reads(rt, path, sectors, rounds)?;
     let all = all_sectors(rt.alloc(), sectors)?;
     time(
         rt,
         "recovery beside a read of the whole file",
-        path.as_str(),
+        path,
         &all,
         rounds,
     )?;
     fs::remove_file(rt, path)?;
     Ok(())
+}
+
+fn time_own_reads(
+    rt: &HostRuntime,
+    path: &str,
+    sectors: usize,
+    rounds: usize,
+) -> anyhow::Result<()> {
+    let calls = calls_of_recovery(rt, path)?;
+    println!(rt;
+        "recovery of {sectors} sectors: {} disk calls, one of them a sync",
+        calls.len()
+    )?;
+    time(rt, "recovery beside its reads", path, &calls, rounds)
 }
 
 // The command that is written in this turn: first every port is configured, then each gets the set, one after the other.

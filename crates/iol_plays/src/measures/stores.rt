@@ -2,14 +2,13 @@
 //! plain file.
 
 use crate::measures::commands::{configure, largest_set};
-use crate::measures::plain::{Pair, nanoseconds_since, opened_file, timed_calls, writes_of};
+use crate::measures::plain::{Files, Pair, nanoseconds_since, opened_file, timed_calls, writes_of};
 use anyhow::{Context, bail};
-use iol_disk::{DiskCall, ImageFile, MemoryDisk, RecordedDisk, SectorDisk};
+use iol_disk::{DiskCall, MemoryDisk, RecordedDisk, SectorDisk};
 use iol_example::{create, open};
 use iol_journal::{Batch, Geometry, Journal, Progress};
 use iol_types::{Command, DataSet, PORTS, PortId};
 use std::alloc::Global;
-use std::fs;
 use std::sync::Arc;
 use std::time::Instant;
 
@@ -19,7 +18,7 @@ const SLOTS: u16 = 64;
 /// Times rounds of 32 sets made durable, so many of them in each batch, and prints for each round what all of them took.
 pub(crate) fn measure_stores(
     rt: &HostRuntime,
-    folder: &str,
+    files: Files<'_>,
     rounds: usize,
     name: &str,
     each: u8,
@@ -28,7 +27,7 @@ pub(crate) fn measure_stores(
     let syncs = calls.iter().filter(|call| **call == DiskCall::Sync).count();
     println!(rt; "{name}: {} disk calls, {syncs} of them syncs", calls.len())?;
     for _ in 0..rounds {
-        cost_of_stores(rt, folder, each, calls.as_slice())?.print(rt, name, 1)?;
+        cost_of_stores(rt, files, each, calls.as_slice())?.print(rt, name, 1)?;
     }
     Ok(())
 }
@@ -111,30 +110,25 @@ fn calls_of_stores(alloc: Global, each: u8) -> anyhow::Result<Vec<DiskCall>> {
 // What the sets take on a new file, and then the same calls of a plain file.
 fn cost_of_stores(
     rt: &HostRuntime,
-    folder: &str,
+    files: Files<'_>,
     each: u8,
     calls: &[DiskCall],
 ) -> anyhow::Result<Pair> {
-    let image = format!(in rt.alloc(); "{folder}/measured_stores.img")?;
-    let plain = format!(in rt.alloc(); "{folder}/measured_plain.img")?;
-    let sectors = geometry()?.sectors();
-    let _made = ImageFile::create(rt, plain.as_str(), sectors)?;
-    let disk = ImageFile::create(rt, image.as_str(), sectors)?;
-    let Ok(journal) = create(rt.alloc(), disk, geometry()?) else {
-        bail!("no journal on {image}")
-    };
-    let journal = configured(rt.alloc(), journal)?;
+    let journal = configured(rt.alloc(), files.make(rt, geometry()?)?)?;
+    let journal = time_of_stores(rt, journal, each)?;
+    let plain = timed_calls(rt, &opened_file(rt, files.plain)?, calls)?;
+    files.remove(rt)?;
+    Ok(Pair { journal, plain })
+}
+
+// The nanoseconds that the sets take.
+fn time_of_stores<D: SectorDisk + Drop>(
+    rt: &HostRuntime,
+    journal: Journal<D>,
+    each: u8,
+) -> anyhow::Result<u64> {
     let set = Arc::new(rt.alloc(), largest_set(rt.alloc())?)?;
     let start = Instant::now(rt)?;
-    let journal = stored(rt.alloc(), journal, &set, each)?;
-    let own = nanoseconds_since(rt, start)?;
-    drop(journal);
-    let file = opened_file(rt, plain.as_str())?;
-    let cost = Pair {
-        journal: own,
-        plain: timed_calls(rt, &file, calls)?,
-    };
-    fs::remove_file(rt, image)?;
-    fs::remove_file(rt, plain)?;
-    Ok(cost)
+    let _journal = stored(rt.alloc(), journal, &set, each)?;
+    Ok(nanoseconds_since(rt, start)?)
 }
