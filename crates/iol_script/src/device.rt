@@ -40,9 +40,9 @@ pub struct Device {
 }
 
 impl Device {
-    ghost use Rattle.std.specs.Prelude.{◌≡◌, None, Some, IfOk, option_map};
+    ghost use Rattle.std.specs.Prelude.{◌≡◌, List, None, Some, IfOk, option_map};
     ghost use Rattle.toml.specs.View.{view, table_view};
-    ghost use Rattle.iol_script.specs.Parameters.{entries_of};
+    ghost use Rattle.iol_types.specs.DataSet.{Entry};
     ghost use Rattle.iol_script.specs.Device.{device_of, device_by, device_with, said_device};
 
     // The device that a value says, a table with `port`, `vendor` and `device`; the other keys may be missing.
@@ -69,12 +69,20 @@ impl Device {
             return Err(ScriptFault::NotValid);
         }
         let parameters = parameters_in(alloc, table)?;
-        Device::with(parameters, table).ok_or(ScriptFault::NotValid)
+        match Device::without_parameters(alloc, table) {
+            Some(device) => Ok(Device {
+                parameters,
+                ..device
+            }),
+            None => Err(ScriptFault::NotValid),
+        }
     }
 
-    // The device with these parameters that a table says.
-    fn with(parameters: Vec<Parameter>, table: &Table) -> Option<Device>
-        ensures { option_map said_device result ≡ device_with (entries_of parameters.items) (table_view table.now) }
+    // The device that a table says, before its parameters are there: they would be let go at each `?`.
+    fn without_parameters(alloc: Global, table: &Table) -> Option<Device>
+        ensures { (parameters : List Entry)
+            → option_map (λ device. record (said_device device) { parameters = parameters }) result
+            ≡ device_with parameters (table_view table.now) }
     {
         Some(Device {
             port: port_in(table)?,
@@ -84,9 +92,9 @@ impl Device {
             isdu: truth_or(table, "isdu", true)?,
             flag: truth_or(table, "flag", false)?,
             locked: truth_or(table, "locked", false)?,
-            parameters,
             answers: calls_at(table, "answers")?,
             event: calls_at(table, "event")?,
+            parameters: Vec::new(alloc),
         })
     }
 }

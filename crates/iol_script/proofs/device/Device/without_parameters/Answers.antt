@@ -1,5 +1,5 @@
 use Rattle.std.proofs.Common.{rules}
-use Rattle.iol_script.proofs.device.Device.with.Goals as goal
+use Rattle.iol_script.proofs.device.Device.without_parameters.Goals as goal
 
 pub returns : goal.returns
 returns c = search rules
