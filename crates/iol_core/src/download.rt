@@ -1,14 +1,16 @@
 //! Downloads: a permit, and the durable set.
 
-ghost use Rattle.std.specs.Prelude.{◌≡◌, ◌≢◌, Some, None, IfOk, IfErr, OnOk, IsSomeAnd};
+ghost use Rattle.std.specs.Prelude.{◌≡◌, ◌≢◌, ℕ, Bool, true, ◌&&◌, Option, Some, None, IfOk, IfErr, OnOk, IsSomeAnd};
+ghost use Rattle.iol_types.specs.State.{Stored, port_numbered};
+ghost use Rattle.iol_core.specs.Core.{live, names_device};
 ghost use Rattle.iol_core.specs.Permits.{without_download};
-ghost use Rattle.iol_core.specs.Downloads.{IsBeginDownload, durable_set, download_fault};
-ghost use Rattle.iol_core.specs.declared.download.DownloadFault.TheVariants.{Memory};
+ghost use Rattle.iol_core.specs.Downloads.{IsBeginDownload, durable_set, download_fault, download_fault_at, is_of_device, set_fault};
+ghost use Rattle.iol_core.specs.declared.download.DownloadFault.TheVariants.{Empty, Memory};
 
 use crate::core_value::Core;
 use crate::permit::{DownloadPermit, Grant};
 use iol_front::Name;
-use iol_types::{DataSet, DeviceId, PortId};
+use iol_types::{DataSet, DeviceId, PortConfig, PortId};
 use std::alloc::AllocError;
 use std::sync::Arc;
 use thiserror::Error;
@@ -99,6 +101,33 @@ impl<F: Name> Core<F> {
         ensures fault { IfErr result (λ fault. download_fault self.now port vendor device checksum ≡ Some fault) }
         ensures memory { IfErr result (λ fault. fault ≢ Memory) }
     {
+        let config = self.live_config(port)?;
+        let Some(stored) = self.stored(port) else {
+            return Err(DownloadFault::Empty);
+        };
+        let set = &stored.set;
+        if !is_for(&config, set, vendor, device) {
+            Err(DownloadFault::WrongDevice)
+        } else if self.permit(port).is_some() {
+            Err(DownloadFault::Taken)
+        } else if set.checksum() == checksum {
+            Err(DownloadFault::Same)
+        } else {
+            Ok(set)
+        }
+    }
+
+    // The live configuration of a port that may keep a set, and has one in the live state.
+    fn live_config(&self, port: PortId) -> Result<PortConfig, DownloadFault>
+        ensures empty { IfOk result (λ _. (vendor device checksum : ℕ) → (taken : Bool)
+            → download_fault_at (port_numbered (live self.now) port) None vendor device checksum taken ≡ Some Empty) }
+        ensures kept { IfOk result (λ config. (set : Stored) → (vendor device checksum : ℕ) → (taken : Bool)
+            → download_fault_at (port_numbered (live self.now) port) (Some set) vendor device checksum taken
+            ≡ set_fault config (Some set) (Some set) vendor device checksum taken) }
+        ensures fault { IfErr result (λ fault. (durable : Option Stored) → (vendor device checksum : ℕ) → (taken : Bool)
+            → download_fault_at (port_numbered (live self.now) port) durable vendor device checksum taken ≡ Some fault) }
+        ensures memory { IfErr result (λ fault. fault ≢ Memory) }
+    {
         let Some(live) = self.live().port(port) else {
             return Err(DownloadFault::NotAllowed);
         };
@@ -109,22 +138,17 @@ impl<F: Name> Core<F> {
         if live.stored().is_none() {
             return Err(DownloadFault::Empty);
         }
-        let Some(stored) = self.stored(port) else {
-            return Err(DownloadFault::Empty);
-        };
-        let set = &stored.set;
-        if !(config.vendor == vendor
-            && config.device == device
-            && set.vendor() == vendor
-            && set.device() == device)
-        {
-            Err(DownloadFault::WrongDevice)
-        } else if self.permit(port).is_some() {
-            Err(DownloadFault::Taken)
-        } else if set.checksum() == checksum {
-            Err(DownloadFault::Same)
-        } else {
-            Ok(set)
-        }
+        Ok(config)
     }
+}
+
+// Whether a configuration and a set are both of a device with these numbers.
+fn is_for(config: &PortConfig, set: &DataSet, vendor: u16, device: DeviceId) -> bool
+    ensures same { result ≡ (names_device config.now vendor device && is_of_device set.now vendor device) }
+    ensures set { result ≡ true → (set.now.vendor ≡ vendor) × (set.now.device ≡ device) }
+{
+    config.vendor == vendor
+        && config.device == device
+        && set.vendor() == vendor
+        && set.device() == device
 }
