@@ -11,14 +11,15 @@ use Rattle.iol_types.proofs.StateLemmas.{length-after}
 use Rattle.iol_journal.specs.declared.header.TheConstants.{LAST_NUMBER}
 use Rattle.iol_front.specs.Fronts.{Start, CommittedView}
 use Rattle.iol_core.specs.Batches.{IsInFlight, acknowledged}
-use Rattle.iol_core.specs.Core.{CoreView, IsCore, FitsAt, live, live_number, permit_at}
+use Rattle.iol_core.specs.Core.{CoreView, IsCore, FitsAt, live, live_number, permit_at, with_permit}
 use Rattle.iol_core.specs.Standing.{Stands}
 use Rattle.iol_core.specs.Submit.{queue_fault, queued}
 use Rattle.iol_core.specs.declared.core_value.TheConstants.{QUEUE_COMMANDS}
 use Rattle.iol_core.specs.declared.permit.Grant.{Grant}
 use Rattle.iol_core.specs.declared.ticket.SubmitFault.{SubmitFault}
 use Rattle.iol_core.specs.declared.ticket.SubmitFault.TheVariants.{QueueFull, Exhausted}
-use Rattle.iol_core.proofs.Permits.{fits_applied}
+use Rattle.iol_core.proofs.Permits.{fits_applied, fits_written}
+use Rattle.iol_core.proofs.Places.{length_written}
 use Rattle.iol_core.proofs.Queues.{after_push, legal_push, legal_parts, after_parts, none_out}
 use Rattle.iol_core.proofs.Standing as standing
 
@@ -65,6 +66,19 @@ pub has_room : (core : CoreView) → queue_fault core ≡ None → (length core.
 has_room core room =
     let tests = neither (nat_le QUEUE_COMMANDS (length core.queue)) (nat_le LAST_NUMBER (live_number core)) QueueFull Exhausted room in
     (leb-false QUEUE_COMMANDS (length core.queue) tests.0, leb-false LAST_NUMBER (live_number core) tests.1)
+
+-- a port's permit is out or, where it is none, not out
+pub permit_core : (start : Start) (core : CoreView) (port : ℕ) (permit : Option Grant) → IsCore start core → 1 ≤ port
+    → FitsAt (live core) port permit → IsCore start (with_permit core port permit)
+permit_core start core port permit is one fits = record {
+  stands = is.stands;
+  legal = is.legal;
+  few = is.few;
+  bound = is.bound;
+  flight = is.flight;
+  places = length_written core.permits (port - 1) permit ∙ is.places;
+  permits = fits_written (live core) core.permits port permit one fits is.permits;
+}
 
 -- one more command waits
 pub queued_core : (start : Start) (core : CoreView) (command : CommandValue) → IsCore start core → check (live core) command ≡ None

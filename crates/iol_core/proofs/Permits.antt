@@ -1,5 +1,5 @@
 -- What a permit to upload is for still fits its port once commands were applied, and whether one is current.
-use Rattle.std.proofs.Common.{◌≡◌, ◌≢◌, ◌⊎◌, inl, inr, ⊎_elim, ◌<◌, ◌≤◌, ℕ, zero, suc, ◌-◌, ◌==◌, ◌&&◌, true, not, if◌then◌else◌, List}
+use Rattle.std.proofs.Common.{◌≡◌, ◌≢◌, ◌⊎◌, inl, inr, ⊎_elim, ◌<◌, ◌≤◌, ℕ, zero, suc, ◌-◌, ◌==◌, ◌&&◌, true, if◌then◌else◌, List}
 use Rattle.std.proofs.Common.{Option, Some, None, IsSomeAnd, slice_get, slice_set, refl, sym, ap, ◌∙◌, subst, arith}
 use Rattle.std.proofs.lemmas.Bool.{cases_eq, and_parts, and_from, eqb-true, eq-eqb, le-leb}
 use Rattle.iol_types.specs.Command.{CommandValue, Configure, Clear, Store}

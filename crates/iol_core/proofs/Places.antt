@@ -1,5 +1,5 @@
 -- What stands at a place of a list, where one place was written.
-use Rattle.std.proofs.Common.{◌≡◌, ◌≢◌, ℕ, zero, suc, List, [], ◌∷◌, Some, None, slice_get, slice_set, refl, ap}
+use Rattle.std.proofs.Common.{◌≡◌, ◌≢◌, ℕ, zero, suc, List, [], ◌∷◌, Some, None, length, slice_get, slice_set, refl, ap}
 
 module _ {A : Type 0} where
   pub get_written : (l : List A) (i : ℕ) (x y : A) → slice_get l i ≡ Some y → slice_get (slice_set l i x) i ≡ Some x
@@ -18,3 +18,8 @@ module _ {A : Type 0} where
   set_past [] i x e = refl
   set_past (a ∷ l) zero x e = absurd cc
   set_past (a ∷ l) (suc i) x e = ap (λ (rest : List A). a ∷ rest) (set_past l i x e)
+
+  pub length_written : (l : List A) (i : ℕ) (x : A) → length (slice_set l i x) ≡ length l
+  length_written [] i x = refl
+  length_written (a ∷ l) zero x = refl
+  length_written (a ∷ l) (suc i) x = ap suc (length_written l i x)

@@ -1,6 +1,6 @@
 -- Queues of commands: one more behind them, their first ones, and those that are left.
 use Rattle.std.proofs.Common.{◌≡◌, ◌<◌, ◌&&◌, ℕ, zero, suc, ◌+◌, true, List, [], ◌∷◌, ◌++◌, length, map, take, drop, None, Some, is_none}
-use Rattle.std.proofs.Common.{get_or, replicate, slice_get, refl, sym, ap, ◌∙◌, length-append, append-nil, add-one}
+use Rattle.std.proofs.Common.{Bool, not, nat_eq, arith, get_or, replicate, slice_get, refl, sym, ap, ◌∙◌, length-append, append-nil, add-one}
 use Rattle.std.proofs.lemmas.Bool.{and_parts}
 use Rattle.std.proofs.lemmas.List.{length-map, map_more, take_more, take-map, take-append-drop}
 use Rattle.std.proofs.lemmas.Option.{slice_get_within, get_or_from_slice_get}
@@ -10,6 +10,9 @@ use Rattle.std.proofs.lemmas.Grind.{flat_map-append}
 use Rattle.iol_types.specs.declared.command.Command.{Command}
 use Rattle.iol_record.specs.Record.{command_octets}
 use Rattle.iol_journal.specs.Body.{records_of}
+use Rattle.iol_core.specs.Core.{CoreView}
+use Rattle.iol_core.specs.Batches.{has_batch}
+use Rattle.iol_core.specs.Submit.{has_failed}
 use Rattle.iol_journal.specs.Journals.{values}
 use Rattle.iol_core.specs.Core.{out_at}
 use Rattle.iol_types.specs.Command.{CommandValue, value_of}
@@ -89,3 +92,11 @@ first_left {A = A} xs i x rest is = rw add-one (behind xs i is)
     behind [] (suc n) e = absurd cc
     behind (y ∷ ys) zero e = let head : y ≡ x = cc in let tail : ys ≡ rest = cc in (ap (λ (one : A). one ∷ []) head, tail)
     behind (y ∷ ys) (suc n) e = let next = behind ys n e in (ap (λ (front : List A). y ∷ front) next.0, next.1)
+
+not_none : (count : ℕ) (idle fails : Bool) → (not (nat_eq count 0) && idle && fails) ≡ true → 0 < count
+not_none zero idle fails e = absurd cc
+not_none (suc n) idle fails e = omega arith
+
+-- a command waits where a batch may be taken
+pub some_waits : (core : CoreView) → has_batch core ≡ true → 0 < length core.queue
+some_waits core there = not_none (length core.queue) (nat_eq core.flight 0) (not (has_failed core.stopped)) there

@@ -1,7 +1,9 @@
 //! The core, and what its calls share.
 
-ghost use Rattle.std.specs.Prelude.{◌≡◌, ◌≤◌, ◌+◌, [], length, replicate, None, IfOk, Some};
+ghost use Rattle.std.specs.Prelude.{◌≡◌, ◌≤◌, ◌+◌, [], length, replicate, slice_set, None, IfOk, Some};
+ghost use Rattle.std.specs.VecDeque.{deque_capacity};
 ghost use Rattle.iol_types.specs.Command.{value_of};
+ghost use Rattle.iol_journal.specs.Journals.{values};
 ghost use Rattle.iol_types.specs.State.{after, check};
 ghost use Rattle.iol_core.specs.Core.{IsCore, FitsAt, live, live_number, permit_at, with_permit};
 ghost use Rattle.iol_core.specs.Submit.{is_stopped, has_failed, stopped_by, queue_fault, queued};
@@ -86,9 +88,7 @@ impl<F: Name> Core<F> {
           seen = pass;
         }) }
     {
-        let live = state.copy()?;
-        let queue = VecDeque::with_capacity(alloc, QUEUE_COMMANDS)?;
-        let permits = vec![in alloc; None; usize::from(state.ports())]?;
+        let (live, queue, permits) = memory_for(alloc, &state)?;
         let number = pass.count();
         Ok(Core {
             alloc,
@@ -177,9 +177,7 @@ impl<F: Name> Core<F> {
         requires { FitsAt (live self.old) port permit }
         ensures { self.new ≡ with_permit self.old port permit }
     {
-        if let Some(place) = self.permits.get_mut(port.place()) {
-            *place = permit;
-        }
+        put_permit(&mut self.permits, port.place(), permit);
     }
 
     // Whether the queue takes a further command.
@@ -208,5 +206,30 @@ impl<F: Name> Core<F> {
         };
         self.live.apply(command);
         Ticket::of(self.number + self.queue.len() as u64)
+    }
+}
+
+// What a core over a state takes memory for: the live state, the queue, and a place for each port's permit.
+fn memory_for(
+    alloc: Global,
+    state: &MasterState,
+) -> Result<(MasterState, VecDeque<Command>, Vec<Option<Grant>>), AllocError>
+    ensures live { IfOk result (λ memory. memory.0 ≡ state.now) }
+    ensures queue { IfOk result (λ memory. values memory.1.items ≡ []) }
+    ensures room { IfOk result (λ memory. QUEUE_COMMANDS ≤ deque_capacity memory.1) }
+    ensures permits { IfOk result (λ memory. memory.2.items ≡ replicate (length state.now) None) }
+{
+    let live = state.copy()?;
+    let queue = VecDeque::with_capacity(alloc, QUEUE_COMMANDS)?;
+    let permits = vec![in alloc; None; usize::from(state.ports())]?;
+    Ok((live, queue, permits))
+}
+
+// Writes a place, if it is there.
+fn put_permit(permits: &mut Vec<Option<Grant>>, place: usize, permit: Option<Grant>)
+    ensures { permits.new.items ≡ slice_set permits.old.items place permit }
+{
+    if let Some(was) = permits.get_mut(place) {
+        *was = permit;
     }
 }

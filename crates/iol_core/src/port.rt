@@ -5,12 +5,13 @@ ghost use mathlib.Core.List.{IsPrefix};
 ghost use Rattle.iol_core.specs.Standing.{Stands};
 ghost use Rattle.std.specs.Option.{option_map};
 ghost use Rattle.iol_types.specs.Port.{stored_of};
-ghost use Rattle.iol_core.specs.Downloads.{durable_set};
+ghost use Rattle.iol_types.specs.State.{port_numbered};
+ghost use Rattle.iol_core.specs.Downloads.{durable_set, stored_at};
 ghost use Rattle.iol_core.specs.Ports.{work_at, view_at};
 
 use crate::core_value::Core;
 use iol_front::{Name, Pass};
-use iol_types::{PortConfig, PortId, PortState, StoredSet};
+use iol_types::{MasterState, PortConfig, PortId, PortState, StoredSet};
 use std::alloc::AllocError;
 
 /// What a port is to work with: its live configuration and revision, and the checksum of its durable set, if there is
@@ -65,14 +66,23 @@ impl<F: Name> Core<F> {
         ensures unchanged { OnErr result ((self.new ≡ self.old) × (pass.new ≡ pass.old)) }
         ensures memory { OnErr result (IsSome (durable_set self.old port)) }
     {
-        let view = match self.durable.port(port) {
-            Some(state) => Some(View {
-                port: state.copy()?,
-                number: self.number,
-            }),
-            None => None,
-        };
+        let view = view_of(&self.durable, self.number, port)?;
         pass.meet(&mut self.pass);
         Ok(view)
+    }
+}
+
+// The port of a durable state with this number, its set shared.
+fn view_of(durable: &MasterState, number: u64, port: PortId) -> Result<Option<View>, AllocError>
+    ensures view { IfOk result (λ view.
+        view ≡ option_map (λ p. record { port = p; number = number }) (port_numbered durable.now port)) }
+    ensures memory { OnErr result (IsSome (stored_at (port_numbered durable.now port))) }
+{
+    match durable.port(port) {
+        Some(state) => Ok(Some(View {
+            port: state.copy()?,
+            number,
+        })),
+        None => Ok(None),
     }
 }
