@@ -1,11 +1,14 @@
 //! An upload of a port, from its permit to its last message.
 
-ghost use Rattle.std.specs.Prelude.{◌≡◌, ◌⊎◌, true};
-ghost use Rattle.iol_port.specs.Answers.{upload_answered, RunsOut};
+ghost use Rattle.std.specs.Prelude.{◌≡◌, ◌⊎◌, true, Ok};
+ghost use Rattle.iol_transfer.specs.Machine.{step};
+ghost use Rattle.iol_port.specs.Answers.{uploaded, upload_answered, RunsOut};
 ghost use Rattle.iol_port.specs.Calls.{HandsBack, IsUnder};
 ghost use Rattle.iol_port.specs.Heard.{upload_permitted, finished_upload, told_ticket, is_beginning_upload, is_filed, is_storing};
-ghost use Rattle.iol_port.specs.Stage.{IsStage, Uploading};
+ghost use Rattle.iol_port.specs.Stage.{IsStage, Uploading, Filing, Breaking};
 ghost use Rattle.iol_port.specs.View.{stage_of};
+ghost use Rattle.iol_port.specs.declared.fault.PortFault.TheVariants.{Memory};
+ghost use Rattle.iol_port.specs.declared.stage.Held.TheVariants as held;
 
 use crate::exchanging::fail;
 use crate::fault::PortFault;
@@ -50,19 +53,43 @@ pub(crate) fn answer(
         ⊎ RunsOut (Uploading permit page upload) answer (stage_of result) }
     ensures holds { IsStage (stage_of result) }
 {
-    let mut upload = upload;
     match answer {
-        Ok(answer) => match upload.feed(answer) {
-            UploadStep::More => Stage::Uploading(permit, page, upload),
-            UploadStep::Whole(set) => match Arc::new(alloc, set) {
-                Ok(set) => Stage::Filing(permit, page, set),
-                Err(_) => Stage::Breaking(Held::Upload(permit), PortFault::Memory),
-            },
-            UploadStep::Fault(fault) => {
-                Stage::Breaking(Held::Upload(permit), PortFault::of_transfer(fault))
-            }
-        },
-        Err(fault) => Stage::Breaking(Held::Upload(permit), PortFault::of_isdu(fault)),
+        Ok(answer) => feed(alloc, permit, page, upload, answer),
+        Err(fault) => break_off(permit, upload, PortFault::of_isdu(fault)),
+    }
+}
+
+// The upload is given an answer.
+fn feed(alloc: Global, permit: UploadPermit, page: Page, upload: Upload, answer: Answer) -> Stage
+    requires { IsStage (Uploading permit page upload) }
+    ensures stage { (stage_of result ≡ uploaded permit page (step upload answer))
+        ⊎ RunsOut (Uploading permit page upload) (Ok answer) (stage_of result) }
+    ensures holds { IsStage (stage_of result) }
+{
+    let mut upload = upload;
+    match upload.feed(answer) {
+        UploadStep::More => Stage::Uploading(permit, page, upload),
+        UploadStep::Whole(set) => file(alloc, permit, page, set),
+        UploadStep::Fault(fault) => break_off(permit, upload, PortFault::of_transfer(fault)),
+    }
+}
+
+// The upload is let go, and what the device has of it is broken off.
+fn break_off(permit: UploadPermit, _upload: Upload, fault: PortFault) -> Stage
+    ensures { stage_of result ≡ Breaking (held.Upload permit) fault }
+{
+    Stage::Breaking(Held::Upload(permit), fault)
+}
+
+// The upload has ended with a set, which is filed where there is memory for it.
+fn file(alloc: Global, permit: UploadPermit, page: Page, set: DataSet) -> Stage
+    requires { IsUnder permit set }
+    ensures stage { (stage_of result ≡ Filing permit page set) ⊎ (stage_of result ≡ Breaking (held.Upload permit) Memory) }
+    ensures holds { IsStage (stage_of result) }
+{
+    match Arc::new(alloc, set) {
+        Ok(set) => Stage::Filing(permit, page, set),
+        Err(_) => Stage::Breaking(Held::Upload(permit), PortFault::Memory),
     }
 }
 
