@@ -1,6 +1,7 @@
 //! The device is gone, or the machine ends: a permit that is held is returned.
 
-ghost use Rattle.std.specs.Prelude.{◌≡◌, true};
+ghost use Rattle.std.specs.Prelude.{◌≡◌, true, IfSome, IfNone};
+ghost use Rattle.iol_core.specs.Core.{CoreView};
 ghost use Rattle.iol_port.specs.Ending.{released, ended};
 ghost use Rattle.iol_port.specs.Heard.{lost, settled, awaits_link, is_returned};
 ghost use Rattle.iol_port.specs.Stage.{IsStage};
@@ -16,25 +17,25 @@ pub(crate) fn lose(stage: Stage) -> Stage
     ensures stage { stage_of result ≡ lost (stage_of stage) }
     ensures holds { IsStage (stage_of result) }
 {
-    match { stage } {
+    match stage {
         Stage::Paging(_what) => Stage::Settled(Rest::Lost),
         Stage::Exchanging(_what) => Stage::Settled(Rest::Lost),
-        Stage::Uploading(permit, _page, _upload) => {
-            Stage::Returning(Held::Upload(permit), Rest::Lost)
+        Stage::Uploading(permit, _page, upload) => {
+            Stage::Returning(Held::of_upload(permit, upload), Rest::Lost)
         }
-        Stage::Downloading(permit, _page, _download) => {
-            Stage::Returning(Held::Download(permit), Rest::Lost)
+        Stage::Downloading(permit, _page, download) => {
+            Stage::Returning(Held::of_download(permit, download), Rest::Lost)
         }
         Stage::Breaking(held, _fault) => Stage::Returning(held, Rest::Lost),
-        Stage::Settled(_rest) => unreachable!(),
-        Stage::Attending(_what) => unreachable!(),
-        Stage::BeginningUpload(_found) => unreachable!(),
-        Stage::BeginningDownload(_found, _checksum) => unreachable!(),
-        Stage::Filing(_permit, _page, _set) => unreachable!(),
-        Stage::Filed(_page) => unreachable!(),
-        Stage::Storing(_ticket, _page) => unreachable!(),
-        Stage::Returning(_held, _rest) => unreachable!(),
-        Stage::Returned(_transfer, _rest) => unreachable!(),
+        Stage::Settled(..) => unreachable!(),
+        Stage::Attending(..) => unreachable!(),
+        Stage::BeginningUpload(..) => unreachable!(),
+        Stage::BeginningDownload(..) => unreachable!(),
+        Stage::Filing(..) => unreachable!(),
+        Stage::Filed(..) => unreachable!(),
+        Stage::Storing(..) => unreachable!(),
+        Stage::Returning(..) => unreachable!(),
+        Stage::Returned(..) => unreachable!(),
     }
 }
 
@@ -54,30 +55,32 @@ pub(crate) fn settle(stage: Stage) -> Stage
 pub(crate) fn release<F: Name>(stage: Stage, core: &mut Core<F>)
     ensures { core.new ≡ ended core.old (stage_of stage) }
 {
-    match { stage } {
-        Stage::Uploading(permit, _page, _upload) => core.abandon_upload(permit),
-        Stage::Filing(permit, _page, _set) => core.abandon_upload(permit),
-        Stage::Downloading(permit, _page, _download) => core.end_download(permit),
-        Stage::Breaking(held, _fault) => return_permit(held, core),
-        Stage::Returning(held, _rest) => return_permit(held, core),
-        Stage::Settled(_rest) => {}
-        Stage::Paging(_what) => {}
-        Stage::Attending(_what) => {}
-        Stage::BeginningUpload(_found) => {}
-        Stage::BeginningDownload(_found, _checksum) => {}
-        Stage::Exchanging(_what) => {}
-        Stage::Filed(_page) => {}
-        Stage::Storing(_ticket, _page) => {}
-        Stage::Returned(_transfer, _rest) => {}
+    match held_by(stage) {
+        Some(Held::Upload(permit)) => core.abandon_upload(permit),
+        Some(Held::Download(permit)) => core.end_download(permit),
+        None => {}
     }
 }
 
-// Returns a permit.
-fn return_permit<F: Name>(held: Held, core: &mut Core<F>)
-    ensures { core.new ≡ released core.old held }
+// The permit that a stage holds, if it does; the rest of it is let go.
+fn held_by(stage: Stage) -> Option<Held>
+    ensures held { IfSome result (λ held. (core : CoreView) → ended core (stage_of stage) ≡ released core held) }
+    ensures none { IfNone result ((core : CoreView) → ended core (stage_of stage) ≡ core) }
 {
-    match held {
-        Held::Upload(permit) => core.abandon_upload(permit),
-        Held::Download(permit) => core.end_download(permit),
+    match { stage } {
+        Stage::Uploading(permit, _page, upload) => Some(Held::of_upload(permit, upload)),
+        Stage::Filing(permit, _page, _set) => Some(Held::Upload(permit)),
+        Stage::Downloading(permit, _page, download) => Some(Held::of_download(permit, download)),
+        Stage::Breaking(held, _fault) => Some(held),
+        Stage::Returning(held, _rest) => Some(held),
+        Stage::Settled(_rest) => None,
+        Stage::Paging(_what) => None,
+        Stage::Attending(_what) => None,
+        Stage::BeginningUpload(_found) => None,
+        Stage::BeginningDownload(_found, _checksum) => None,
+        Stage::Exchanging(_what) => None,
+        Stage::Filed(_page) => None,
+        Stage::Storing(_ticket, _page) => None,
+        Stage::Returned(_transfer, _rest) => None,
     }
 }

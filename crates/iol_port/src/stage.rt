@@ -93,6 +93,25 @@ pub(crate) enum Held {
     Download(DownloadPermit),
 }
 
+impl Held {
+    ghost use Rattle.std.specs.Prelude.{◌≡◌};
+    ghost use Rattle.iol_port.specs.declared.stage.Held.TheVariants as held;
+
+    // The permit of an upload that is let go.
+    pub(crate) fn of_upload(permit: UploadPermit, _upload: Upload) -> Held
+        ensures { result ≡ held.Upload permit }
+    {
+        Held::Upload(permit)
+    }
+
+    // The permit of a download that is let go.
+    pub(crate) fn of_download(permit: DownloadPermit, _download: Download) -> Held
+        ensures { result ≡ held.Download permit }
+    {
+        Held::Download(permit)
+    }
+}
+
 // How far a port is. Permits stand in the stages that hold them, and are spent with these.
 pub(crate) enum Stage {
     Settled(Rest),

@@ -55,7 +55,9 @@ pub(crate) fn answer(
 {
     match answer {
         Ok(answer) => feed(alloc, permit, page, upload, answer),
-        Err(fault) => break_off(permit, upload, PortFault::of_isdu(fault)),
+        Err(fault) => {
+            Stage::Breaking(Held::of_upload(permit, upload), PortFault::of_isdu(fault))
+        }
     }
 }
 
@@ -70,15 +72,13 @@ fn feed(alloc: Global, permit: UploadPermit, page: Page, upload: Upload, answer:
     match upload.feed(answer) {
         UploadStep::More => Stage::Uploading(permit, page, upload),
         UploadStep::Whole(set) => file(alloc, permit, page, set),
-        UploadStep::Fault(fault) => break_off(permit, upload, PortFault::of_transfer(fault)),
+        UploadStep::Fault(fault) => {
+            Stage::Breaking(
+                Held::of_upload(permit, upload),
+                PortFault::of_transfer(fault),
+            )
+        }
     }
-}
-
-// The upload is let go, and what the device has of it is broken off.
-fn break_off(permit: UploadPermit, _upload: Upload, fault: PortFault) -> Stage
-    ensures { stage_of result ≡ Breaking (held.Upload permit) fault }
-{
-    Stage::Breaking(Held::Upload(permit), fault)
 }
 
 // The upload has ended with a set, which is filed where there is memory for it.
