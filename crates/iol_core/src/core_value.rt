@@ -1,11 +1,11 @@
 //! The core, and what its calls share.
 
-ghost use Rattle.std.specs.Prelude.{◌≡◌, ◌≤◌, ◌+◌, [], length, replicate, slice_set, None, IfOk, Some};
+ghost use Rattle.std.specs.Prelude.{◌≡◌, ◌≤◌, ◌+◌, [], length, replicate, slice_get, slice_set, None, IfOk, Some};
 ghost use Rattle.std.specs.VecDeque.{deque_capacity};
 ghost use Rattle.iol_types.specs.Command.{value_of};
 ghost use Rattle.iol_journal.specs.Journals.{values};
 ghost use Rattle.iol_types.specs.State.{after, check};
-ghost use Rattle.iol_core.specs.Core.{IsCore, FitsAt, live, live_number, permit_at, with_permit};
+ghost use Rattle.iol_core.specs.Core.{IsCore, FitsAt, live, live_number, out_at, permit_at, with_permit};
 ghost use Rattle.iol_core.specs.Submit.{is_stopped, has_failed, stopped_by, queue_fault, queued};
 
 use crate::permit::Grant;
@@ -166,10 +166,7 @@ impl<F: Name> Core<F> {
     pub(crate) fn permit(&self, port: PortId) -> Option<Grant>
         ensures { result ≡ permit_at self.now port }
     {
-        match self.permits.get(port.place()) {
-            Some(permit) => *permit,
-            None => None,
-        }
+        permit_in(&self.permits, port.place())
     }
 
     // The port's permit is out for this or, where it is none, not out.
@@ -223,6 +220,16 @@ fn memory_for(
     let queue = VecDeque::with_capacity(alloc, QUEUE_COMMANDS)?;
     let permits = vec![in alloc; None; usize::from(state.ports())]?;
     Ok((live, queue, permits))
+}
+
+// What stands at a place, if it is there.
+fn permit_in(permits: &[Option<Grant>], place: usize) -> Option<Grant>
+    ensures { result ≡ out_at (slice_get permits.now place) }
+{
+    match permits.get(place) {
+        Some(permit) => *permit,
+        None => None,
+    }
 }
 
 // Writes a place, if it is there.

@@ -1,8 +1,9 @@
 use Rattle.std.proofs.Common.{◌≡◌, ◌+◌, List, take, drop, sym, ap, ◌∙◌, subst, arith, rules}
+use mathlib.Core.List.{IsPrefix}
 use Rattle.iol_types.specs.Command.{CommandValue}
 use Rattle.iol_types.specs.State.{State, after}
 use Rattle.iol_journal.specs.Journals.{values}
-use Rattle.iol_core.specs.Batches.{IsInFlight}
+use Rattle.iol_core.specs.Batches.{IsInFlight, acknowledged}
 use Rattle.iol_core.specs.Core.{CoreView, IsCore, live}
 use Rattle.iol_core.proofs.Keeping.{acknowledged_core}
 use Rattle.iol_core.proofs.Queues.{after_parts}
@@ -64,3 +65,24 @@ returns-clause-live g c =
     let rest : values c.apply_front.new.queue.items ≡ drop i.flight queue = c.apply_front.ensures.queue in
     ap (after c.apply_front.new.durable) rest ∙ (ap (λ (s : State). after s (drop i.flight queue)) durable
     ∙ (after_parts i.durable queue i.flight ∙ ap live c.self.view_is))
+
+pub returns-clause-seen : goal.returns-clause-seen
+returns-clause-seen g c =
+    (subst (λ (v : CoreView). IsPrefix v.seen c.show.new.pass) c.self.view_is c.show.ensures.kept, c.show.ensures.shown)
+
+pub returns-clause-acknowledged : goal.returns-clause-acknowledged
+returns-clause-acknowledged g c =
+    let i = c.self.inside in
+    let front = take i.flight (values i.queue.items) in
+    let core : State → List CommandValue → CoreView =
+    λ durable queue. record {
+      durable = durable;
+      number = i.number + i.flight;
+      queue = queue;
+      flight = 0;
+      permits = i.permits.items;
+      stopped = i.stopped;
+      seen = c.show.new.pass;
+    } in
+    ap (λ (d : State). core d (values c.apply_front.new.queue.items)) c.apply_front.ensures.durable
+    ∙ (ap (core (after i.durable front)) c.apply_front.ensures.queue ∙ ap (λ (v : CoreView). acknowledged v c.show.new.pass) c.self.view_is)

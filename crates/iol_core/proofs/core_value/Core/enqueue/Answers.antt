@@ -4,7 +4,7 @@ use Rattle.iol_types.specs.Command.{CommandValue, value_of}
 use Rattle.iol_types.specs.State.{State, apply, after, check}
 use Rattle.iol_journal.specs.Journals.{values}
 use Rattle.iol_core.specs.Core.{CoreView, IsCore, live}
-use Rattle.iol_core.specs.Submit.{queue_fault}
+use Rattle.iol_core.specs.Submit.{queue_fault, queued}
 use Rattle.iol_core.proofs.Keeping.{queued_core}
 use Rattle.iol_core.proofs.Queues.{after_push}
 use Rattle.iol_core.proofs.core_value.Core.enqueue.Goals as goal
@@ -47,3 +47,22 @@ invariant_of-self g c =
           ∙ (sym (after_push i.durable queue command) ∙ ap (after i.durable) (sym more))),
       omega (arith, c.in-Ok.ensures.capacity, was.2),
     )
+
+pub returns-clause-queued : goal.returns-clause-queued
+returns-clause-queued g c =
+    let i = c.self.inside in
+    let command = value_of c.args.command in
+    ap (λ (q : List CommandValue).
+    record {
+      durable = i.durable;
+      number = i.number;
+      queue = q;
+      flight = i.flight;
+      permits = i.permits.items;
+      stopped = i.stopped;
+      seen = i.pass;
+    })
+    (ap values c.in-Ok.ensures.items
+    ∙ (map-append value_of i.queue.items (c.args.same ∷ [])
+    ∙ ap (λ (last : CommandValue). values i.queue.items ++ last ∷ []) c.requires.same))
+    ∙ ap (λ (v : CoreView). queued v command) c.self.view_is
