@@ -1,6 +1,7 @@
 -- Queues of commands: one more behind them, their first ones, and those that are left.
 use Rattle.std.proofs.Common.{◌≡◌, ◌<◌, ◌&&◌, ℕ, zero, suc, ◌+◌, true, List, [], ◌∷◌, ◌++◌, length, map, take, drop, None, Some, is_none}
-use Rattle.std.proofs.Common.{Bool, not, nat_eq, arith, get_or, replicate, slice_get, refl, sym, ap, ◌∙◌, length-append, append-nil, add-one}
+use Rattle.std.proofs.Common.{Bool, not, nat_eq, arith}
+use Rattle.std.proofs.Common.{get_or, replicate, slice_get, refl, sym, ap, ◌∙◌, length-append, append-nil, add-one}
 use Rattle.std.proofs.lemmas.Bool.{and_parts}
 use Rattle.std.proofs.lemmas.List.{length-map, map_more, take_more, take-map, take-append-drop}
 use Rattle.std.proofs.lemmas.Option.{slice_get_within, get_or_from_slice_get}

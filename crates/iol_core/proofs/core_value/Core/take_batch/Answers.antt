@@ -40,7 +40,8 @@ returns-clause-take g c =
     subst (λ (n : ℕ). 0 < n) (length-map c.self.inside.queue.items value_of)
     (subst (λ (v : CoreView). 0 < length v.queue) (sym c.self.view_is) (some_waits c.args.self.now there)) in record {
       there = there;
-      longest = subst (λ (v : CoreView). IsLongest c.args.room v.queue c.longest-count.result) c.self.view_is c.longest-count.ensures.longest;
+      longest = subst (λ (v : CoreView). IsLongest c.args.room v.queue c.longest-count.result) c.self.view_is
+          c.longest-count.ensures.longest;
       some = c.longest-count.ensures.some waits;
       first = ap (λ (v : CoreView). v.number + 1) c.self.view_is;
       commands = c.in_ok-commands.ensures ∙ ap (λ (v : CoreView). take c.longest-count.result v.queue) c.self.view_is;
