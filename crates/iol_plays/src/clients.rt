@@ -88,11 +88,25 @@ fn play<
         Err(_) => bail!("no master"),
     };
     let asked = ask::<D, F, R, W>(rt, alloc, &mut master, words, out);
+    end(rt, master, out)?;
+    asked
+}
+
+// Ends the master, and prints how.
+fn end<D: SectorDisk + Drop + Send + 'static, F: Name + 'static, R: Threads + Wait, W: Write>(
+    rt: &R,
+    master: Master<D, F>,
+    out: &mut W,
+) -> anyhow::Result<()> {
     match master.shutdown(rt) {
-        Ending::Closed(journal, _publisher) => writeln!(out, "closed behind {}", journal.number())?,
+        Ending::Closed(journal, _publisher) => {
+            let number = journal.number();
+            drop(journal);
+            writeln!(out, "closed behind {number}")?;
+        }
         Ending::Faulted(_disk, fault) => writeln!(out, "{fault}")?,
     }
-    asked
+    Ok(())
 }
 
 // Starts a client for each word, and prints what they are answered.

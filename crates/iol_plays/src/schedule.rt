@@ -3,29 +3,44 @@
 use iol_commands::{Recovered, links_of, read_playable};
 use iol_disk::{MemoryDisk, Pick};
 use iol_journal::{Journal, RecoverFault, format};
-use iol_run::{Event, RunFault, Stamped, Task, run_schedule};
+use iol_run::{Event, RunFault, Stamped, Task, Trace, run_schedule};
 use iol_script::Step;
+use iol_sim::SimLink;
 use iol_types::{Change, MasterState};
 use std::alloc::{AllocError, Global};
 
 /// Makes the steps of a script, and prints how they ended and what the disk then holds.
 pub(crate) fn play_schedule(rt: &HostRuntime, script: &[u8]) -> anyhow::Result<()> {
     let ready = read_playable(rt.alloc(), script)?;
-    let tasks = tasks_of(rt.alloc(), &ready.script.steps)?;
-    let links = links_of(rt.alloc(), &ready.script.devices, ready.geometry.ports())?;
     let mut disk = MemoryDisk::new(rt.alloc(), ready.geometry.sectors())?;
     if let Err(fault) = format(rt.alloc(), &mut disk, ready.geometry) {
         println!(rt; "no format {fault:?}")?;
         return show(rt, disk);
     }
+    let links = links_of(rt.alloc(), &ready.script.devices, ready.geometry.ports())?;
+    let disk = play(rt, &ready.script.steps, links, disk)?;
+    show(rt, disk)
+}
+
+// Makes the steps on a disk, prints how they ended, and gives the disk.
+fn play(
+    rt: &HostRuntime,
+    steps: &[Step],
+    links: Vec<SimLink>,
+    disk: MemoryDisk,
+) -> anyhow::Result<MemoryDisk> {
+    let tasks = tasks_of(rt.alloc(), steps)?;
     match run_schedule(rt.alloc(), disk, links, &tasks) {
-        Ok(trace) => {
-            tell(rt, trace.events.as_slice())?;
-            println!(rt; "ended {:?}, {} waits", trace.ended, trace.waits)?;
-            show(rt, trace.disk)
-        }
-        Err(fault) => show(rt, without_run(rt, fault)?),
+        Ok(trace) => told(rt, trace),
+        Err(fault) => without_run(rt, fault),
     }
+}
+
+// Prints what a run has told, and gives its disk.
+fn told(rt: &HostRuntime, trace: Trace<MemoryDisk, SimLink>) -> anyhow::Result<MemoryDisk> {
+    tell(rt, trace.events.as_slice())?;
+    println!(rt; "ended {:?}, {} waits", trace.ended, trace.waits)?;
+    Ok(trace.disk)
 }
 
 // The tasks of steps, in their order.

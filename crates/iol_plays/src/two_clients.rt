@@ -59,11 +59,22 @@ fn play<F: Name + 'static, R: Threads + Wait + Copy + Send + 'static, W: Write>(
         bail!("no master")
     };
     let read = ask::<F, R, W>(rt, &mut master, out);
-    match master.shutdown(rt) {
-        Ending::Closed(journal, _) => writeln!(out, "closed behind {} commands", journal.number())?,
-        Ending::Faulted(_, _) => bail!("the disk failed"),
-    }
+    end(rt, master, out)?;
     read
+}
+
+// Ends the master, and tells behind how many commands.
+fn end<F: Name + 'static, R: Threads + Wait, W: Write>(
+    rt: &R,
+    master: Master<MemoryDisk, F>,
+    out: &mut W,
+) -> anyhow::Result<()> {
+    let number = match master.shutdown(rt) {
+        Ending::Closed(journal, _) => journal.number(),
+        Ending::Faulted(_, _) => bail!("the disk failed"),
+    };
+    writeln!(out, "closed behind {number} commands")?;
+    Ok(())
 }
 
 // Two clients configure a port each, at once, and a third reads both ports behind their receipts.
@@ -72,25 +83,35 @@ fn ask<F: Name + 'static, R: Threads + Wait + Copy + Send + 'static, W: Write>(
     master: &mut Master<MemoryDisk, F>,
     out: &mut W,
 ) -> anyhow::Result<()> {
+    let (first, second) = configured::<F, R>(rt, master)?;
+    let mut third = master.client()?;
+    tell(rt, &mut third, first, out)?;
+    tell(rt, &mut third, second, out)
+}
+
+// The receipts of two clients, each of which configures a port in a thread of its own.
+fn configured<F: Name + 'static, R: Threads + Wait + Copy + Send + 'static>(
+    rt: &R,
+    master: &mut Master<MemoryDisk, F>,
+) -> anyhow::Result<(Granted<F>, Granted<F>)> {
     let first = configuring(rt, master.client()?, 1)?;
     let second = configuring(rt, master.client()?, 2)?;
-    let (Some(mut first), Some(mut second)) = (first.join(rt), second.join(rt)) else {
-        bail!("a client without a receipt")
-    };
-    let mut third = master.client()?;
-    tell(rt, &mut third, &mut first, out)?;
-    tell(rt, &mut third, &mut second, out)
+    match (first.join(rt), second.join(rt)) {
+        (Some(first), Some(second)) => Ok((first, second)),
+        _ => bail!("a client without a receipt"),
+    }
 }
 
 // Tells what a client reads of the port of a receipt, once it has met that.
 fn tell<F: Name, R: Wait, W: Write>(
     rt: &R,
     client: &mut Client<F>,
-    granted: &mut Granted<F>,
+    granted: Granted<F>,
     out: &mut W,
 ) -> anyhow::Result<()> {
+    let mut granted = granted;
     let port = granted.port();
-    let view = read_behind(rt, client, granted, port)?;
+    let view = read_behind(rt, client, &mut granted, port)?;
     let (number, revision) = (port.number(), view.port.revision());
     writeln!(out, "port {number} has revision {revision}")?;
     Ok(())
