@@ -1,6 +1,6 @@
 -- What a client reads, and why it reads nothing.
 use Rattle.std.proofs.Common.{◌≡◌, refl, ◌≤◌, ℕ, ◌+◌, ◌-◌, zero, suc, nat_le, Bool, true, false, if◌then◌else◌, List, [], ◌∷◌, length, take}
-use Rattle.std.proofs.Common.{Option, Some, None, IsNone, Result, Ok, Err, IfErr, IfOk, slice_get, sym, ap, ◌∙◌, subst, arith}
+use Rattle.std.proofs.Common.{Option, Some, None, IsNone, IfSome, Result, Ok, Err, IfErr, IfOk, OnOk, slice_get, sym, ap, ◌∙◌, subst, arith}
 use Rattle.std.specs.Option.{option_map}
 use mathlib.Core.List.{IsPrefix}
 use Rattle.iol_types.proofs.StateLemmas.{length-after}
@@ -40,6 +40,43 @@ pub view_later : (start : Start) (core : CoreView) (later : List CommandValue) (
 view_later start core later port p stands met is =
     let now = stands_later start core.seen later core.number core.durable stands met in
     (now.within, ap (λ (s : State). port_numbered s port) (sym now.state) ∙ is)
+
+-- a view tells the number, and a port that is there
+some_view : (found : Option Port) (number : ℕ) (view : View)
+    → Some view ≡ option_map (λ (p : Port). record { port = p; number = number }) found → (view.number ≡ number) × (found ≡ Some view.port)
+some_view None number view is = absurd cc
+some_view (Some p) number view is =
+    let same : view ≡ record { port = p; number = number } = cc in
+    (ap (λ (v : View). v.number) same, ap (λ (v : View). Some v.port) (sym same))
+
+-- what is answered stands in the list that the pass has seen then
+pub views : {E : Type 0} (start : Start) (core new : CoreView) (later : List CommandValue) (port : ℕ) (answer : Result (Option View) E)
+    → IfOk answer (λ (v : Option View). v ≡ view_at core port) → new ≡ record core { seen = new.seen }
+    → Stands start new.seen new.number new.durable → OnOk answer (IsPrefix new.seen later)
+    → IfOk answer (λ (found : Option View). IfSome found (λ (view : View). (view.number ≤ start.number + length later)
+    × (port_numbered (state_at start later view.number) port ≡ Some view.port)))
+views start core new later port (Err why) is others stands met = tt
+views start core new later port (Ok None) is others stands met = tt
+views start core new later port (Ok (Some view)) is others stands met =
+    let same = some_view (port_numbered core.durable port) core.number view is in
+    let number : new.number ≡ view.number = ap (λ (c : CoreView). c.number) others ∙ sym same.0 in
+    subst (λ (n : ℕ). (n ≤ start.number + length later) × (port_numbered (state_at start later n) port ≡ Some view.port)) number
+    (view_later start new later port view.port stands met (ap (λ (c : CoreView). port_numbered c.durable port) others ∙ same.1))
+
+-- two things that are said of a view are said of it one by one
+pub first_of : {E : Type 0} (P Q : View → Type 0) (answer : Result (Option View) E)
+    → IfOk answer (λ (found : Option View). IfSome found (λ (view : View). P view × Q view))
+    → IfOk answer (λ (found : Option View). IfSome found P)
+first_of P Q (Err why) both = tt
+first_of P Q (Ok None) both = tt
+first_of P Q (Ok (Some view)) both = both.0
+
+pub second_of : {E : Type 0} (P Q : View → Type 0) (answer : Result (Option View) E)
+    → IfOk answer (λ (found : Option View). IfSome found (λ (view : View). P view × Q view))
+    → IfOk answer (λ (found : Option View). IfSome found Q)
+second_of P Q (Err why) both = tt
+second_of P Q (Ok None) both = tt
+second_of P Q (Ok (Some view)) both = both.1
 
 -- a port of which there is no view is not there
 no_view : (found : Option Port) (number : ℕ) → IsNone {T = View} (option_map (λ (p : Port). record { port = p; number = number }) found)

@@ -1,7 +1,26 @@
-use Rattle.std.proofs.Common.{ap}
+use Rattle.std.proofs.Common.{◌≡◌, ◌+◌, ◌≤◌, Some, length, ap}
+use Rattle.iol_types.specs.State.{port_numbered}
+use Rattle.iol_core.specs.Standing.{state_at}
+use Rattle.iol_core.specs.declared.port.View.{View}
 use Rattle.iol_master.specs.Callers.{GuardedView}
-use Rattle.iol_master.proofs.Reading.{no_views}
+use Rattle.iol_master.proofs.Reading.{first_of, no_views, second_of, views}
 use Rattle.iol_master.proofs.client.view.Goals as goal
+
+pub returns-clause-number : goal.returns-clause-number
+returns-clause-number g c =
+    let start = g.F.Name.front.start in
+    first_of (λ (view : View). view.number ≤ start.number + length c.view.new.pass)
+    (λ (view : View). port_numbered (state_at start c.view.new.pass view.number) c.args.port ≡ Some view.port) c.view.result
+    (views start c.deref_mut.result.now.core c.view.new.self.core c.view.new.pass c.args.port c.view.result c.view.ensures.view
+    (ap (λ (v : GuardedView). v.core) c.view.ensures.others) c.view.ensures.stands c.view.ensures.met)
+
+pub returns-clause-port : goal.returns-clause-port
+returns-clause-port g c =
+    let start = g.F.Name.front.start in
+    second_of (λ (view : View). view.number ≤ start.number + length c.view.new.pass)
+    (λ (view : View). port_numbered (state_at start c.view.new.pass view.number) c.args.port ≡ Some view.port) c.view.result
+    (views start c.deref_mut.result.now.core c.view.new.self.core c.view.new.pass c.args.port c.view.result c.view.ensures.view
+    (ap (λ (v : GuardedView). v.core) c.view.ensures.others) c.view.ensures.stands c.view.ensures.met)
 
 pub returns-clause-unknown : goal.returns-clause-unknown
 returns-clause-unknown g c =
