@@ -1,11 +1,14 @@
 -- A command of a batch stands at its number.
 use Rattle.std.proofs.Common.{◌≡◌, refl, ◌<◌, ◌≤◌, ℕ, ◌+◌, ◌-◌, zero, suc, List, [], ◌∷◌, ◌++◌, length, Some, slice_get, sym, ap, ◌∙◌}
-use Rattle.std.proofs.Common.{arith, zero-add, suc-add, length-append}
+use Rattle.std.proofs.Common.{arith, zero-add, suc-add, length-append, subst}
+use Rattle.std.proofs.lemmas.List.{append-nil}
 use Rattle.std.proofs.lemmas.Option.{slice_get_within}
 use mathlib.Core.List.{IsPrefix}
-use Rattle.iol_types.specs.Command.{CommandValue}
+use Rattle.iol_types.specs.Command.{CommandValue, command_of}
+use Rattle.iol_types.specs.declared.command.Change.{Change}
 use Rattle.iol_front.specs.Fronts.{Start}
-use Rattle.iol_master.specs.Receipts.{StandsAt}
+use Rattle.iol_master.specs.Receipts.{IsReceiptFor, StandsAt}
+use Rattle.iol_master.specs.declared.client.Receipt.{Receipt}
 
 module _ {A : Type 0} where
   got_behind : (xs ys : List A) (i : ℕ) → slice_get (xs ++ ys) (length xs + i) ≡ slice_get ys i
@@ -20,6 +23,10 @@ module _ {A : Type 0} where
   -- what stands in a beginning stands in the whole
   got_in : (xs zs : List A) (i : ℕ) (x : A) → IsPrefix xs zs → slice_get xs i ≡ Some x → slice_get zs i ≡ Some x
   got_in xs zs i x (rest, whole) is = ap (λ (l : List A). slice_get l i) (sym whole) ∙ got_before xs rest i x is
+
+-- what is the same begins the other
+pub unmoved : {A : Type 0} (before after : List A) → after ≡ before → IsPrefix before after
+unmoved before after same = ([], append-nil before ∙ sym same)
 
 -- a command at a place of a batch that was seen
 pub stands_at : (start : Start) (before commands seen : List CommandValue) (number place : ℕ) (command : CommandValue)
@@ -47,3 +54,21 @@ stands_later start seen later number command at longer = record {
   above = at.above;
   there = got_in seen later (number - start.number - 1) command longer at.there;
 }
+
+-- what a notice says is a receipt, once the client has met its pass
+pub has_receipt : {F : Type 0} (start : Start) (change said : Change) (before after shown seen : List CommandValue) (number at count : ℕ)
+    → said ≡ change → at ≡ number → StandsAt start shown at (command_of said) → count ≡ start.number + length before → count < number
+    → IsPrefix shown seen → IsPrefix seen after
+    → IsReceiptFor {F = F} start change before after (record { number = number; command = said; pass = seen })
+has_receipt start change said before after shown seen number at count same here stands counts above given met =
+    let there = subst (λ (n : ℕ). StandsAt start shown n (command_of said)) here stands in
+    let stands_so = subst (λ (c : Change). StandsAt start shown number (command_of c)) same there in
+    let shows = stands_later start shown seen number (command_of change) stands_so given in
+    record {
+      command = same;
+      stands = shows;
+      above = omega (arith, counts, above);
+      within = stands_within start after number (command_of change)
+          (stands_later start seen after number (command_of change) shows met);
+      met = met;
+    }
