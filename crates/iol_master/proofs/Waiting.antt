@@ -122,6 +122,10 @@ pub not_taken : {A E : Type 0} (answer : Result A E) (why : E) → IsOk answer �
 not_taken (Ok done) why ok is = cc
 not_taken (Err fault) why ok is = cc
 
+-- there is room for one more place of as many as were kept
+pub room_left : (len count places all room was : ℕ) → len ≡ count → count < places → places ≡ all → all ≤ was → room ≡ was → len < room
+room_left len count places all room was filled below same fits kept = omega arith
+
 -- a command is taken only where the queue has room
 queue_free : (stopped : Bool) (checked : Option CommandFault) (queue : Option SubmitFault)
     → (if stopped then Some Stopped else first_cause checked queue) ≡ None → queue ≡ None
