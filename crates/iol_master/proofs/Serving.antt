@@ -1,11 +1,12 @@
--- A port that heard the reply to its call is ready again.
-use Rattle.std.proofs.Common.{◌≡◌, subst}
-use Rattle.iol_port.proofs.Keeping.{happens_hand}
+-- A port that heard what it wanted is ready again.
+use Rattle.std.proofs.Common.{◌≡◌, ℕ, true, false, refl, sym, subst}
+use Rattle.iol_port.proofs.Keeping.{fed_hand, happens_hand}
 use Rattle.iol_port.specs.Calls.{Call}
-use Rattle.iol_port.specs.Heard.{IsFed, at_stage}
-use Rattle.iol_port.specs.History.{Did}
-use Rattle.iol_port.specs.Stage.{PortValue}
-use Rattle.iol_port.specs.Wanted.{ReplyTo, wanted, after_action}
+use Rattle.iol_port.specs.Heard.{IsFed, at_stage, awaits_page}
+use Rattle.iol_port.specs.History.{ComesOf, Did, is_at_hand}
+use Rattle.iol_port.specs.Stage.{PortValue, Stage, IsStage, Paging}
+use Rattle.iol_port.specs.Wanted.{ReplyTo, ThePage, wanted, after_action}
+use Rattle.iol_port.specs.declared.action.Input.{Input}
 use Rattle.iol_port.specs.declared.action.Input.TheVariants as input
 use Rattle.iol_run.specs.PortSteps.{IsReady}
 use Rattle.iol_master.specs.Served.{HearsReply}
@@ -22,3 +23,28 @@ ready_again old asked new call ready wants after hears = record {
       );
   holds = hears.holds;
 }
+
+-- a port that waits for its device's page wants it
+record WaitsForPage (port : ℕ) (stage : Stage) (heard : Input) : Type 0 where
+  pub at_hand : is_at_hand stage ≡ true
+  pub comes : ComesOf (wanted port stage) heard
+  pub after : after_action stage ≡ stage
+
+waits_for_page : (port : ℕ) (stage : Stage) (heard : Input) → awaits_page stage ≡ true → ComesOf ThePage heard
+    → WaitsForPage port stage heard
+waits_for_page port (Paging what) heard waits comes = record { at_hand = refl; comes = comes; after = refl }
+waits_for_page port stage heard waits comes = absurd (never waits)
+  where
+    never : false ≡ true → ⊥
+    never wrong = cc
+
+pub page_ready : (old new : PortValue) (heard : Input) → awaits_page old.stage ≡ true → ComesOf ThePage heard → IsFed old heard new
+    → IsStage new.stage → IsReady new.stage
+page_ready old new heard waits comes is holds =
+    let waiting = waits_for_page old.port old.stage heard waits comes in
+    record {
+      at_hand =
+          fed_hand old new heard waiting.at_hand waiting.comes
+          (subst (λ (stage : Stage). IsFed (at_stage old stage) heard new) (sym waiting.after) is);
+      holds = holds;
+    }
