@@ -9,3 +9,8 @@ returns-in-Ended g c =
     ends disk g.F.Name.front.start c.args.charge c.turn.new.flusher.stage c.turn.new.flusher.published c.end.result
     (since_both disk (Resting c.args.charge) c.loop.flusher.stage c.turn.new.flusher.stage c.loop.invariant c.in-Ended.ensures.since)
     c.in-Ended.ensures.ended c.end.ensures.end c.end.ensures.in_step
+
+pub loop-preserved : goal.loop-preserved
+loop-preserved g c =
+    let disk = g.D.SectorDisk.disk in
+    since_both disk (Resting c.args.charge) c.loop.flusher.stage c.turn.new.flusher.stage c.loop.invariant c.in-Made.ensures.since
