@@ -1,9 +1,10 @@
-use Rattle.std.proofs.Common.{refl, ◌∷◌, [], ◌++◌, Some, List, Option, map, sym, ap, ◌∙◌, subst, arith}
+use Rattle.std.proofs.Common.{◌≡◌, refl, ◌+◌, ◌∷◌, [], ◌++◌, Some, None, List, Option, map, sym, ap, ◌∙◌, subst, arith}
 use Rattle.std.proofs.lemmas.List.{length-map, map-append}
 use Rattle.iol_types.specs.Command.{CommandValue, command_of}
 use Rattle.iol_types.specs.declared.command.Change.{Change}
-use Rattle.iol_core.specs.Core.{CoreView}
-use Rattle.iol_master.specs.Callers.{AreCallersOf, asked}
+use Rattle.iol_core.specs.Core.{CoreView, live_number}
+use Rattle.iol_core.specs.Submit.{queued, submit_fault}
+use Rattle.iol_master.specs.Callers.{AreCallersOf, GuardedView, asked}
 use Rattle.iol_master.proofs.Waiting.{as_many, not_taken, submit_room, waits_more}
 use Rattle.iol_master.proofs.guarded.Guarded.submit.Goals as goal
 
@@ -35,3 +36,27 @@ invariant_of-self-2 g c =
           (waits_more i.core.queue (map asked i.callers.items) (command_of change) (Some change) c.self.invariant.0 (refl, tt))),
       omega (arith, c.self.invariant.1, c.in-Ok.ensures.capacity),
     )
+
+-- a command that is refused changes nobody's place
+pub invariant_of-self : goal.invariant_of-self
+invariant_of-self g c = (
+  subst (λ (core : CoreView). AreCallersOf core.queue (map asked c.self.inside.callers.items)) (sym c.in_err-ticket.ensures.1)
+      c.self.invariant.0,
+  c.self.invariant.1,
+)
+
+pub returns-clause-submit : goal.returns-clause-submit
+returns-clause-submit g c =
+    let command = command_of c.args.caller.change in
+    subst (λ (core : CoreView). (submit_fault core command ≡ None) × (c.number.result ≡ live_number core + 1)
+    × (c.submit.new.self ≡ queued core command)) (ap (λ (v : GuardedView). v.core) c.self.view_is) (
+      c.in_ok-ticket.ensures.0,
+      c.number.ensures ∙ c.in_ok-ticket.ensures.1,
+      c.in_ok-ticket.ensures.2,
+    )
+
+pub returns-clause-waits : goal.returns-clause-waits
+returns-clause-waits g c =
+    ap (map asked) c.in-Ok.ensures.items
+    ∙ (map-append asked c.self.inside.callers.items (Some c.args.caller ∷ [])
+    ∙ ap (λ (v : GuardedView). v.callers ++ Some c.args.caller.change ∷ []) c.self.view_is)
