@@ -75,8 +75,12 @@ impl<F: Name> Guarded<F> {
           phase = phase.Running;
         }) }
     {
-        let callers = VecDeque::with_capacity(alloc, QUEUE_COMMANDS)?;
-        let wakes = vec![in alloc; 1; usize::from(ports)]?;
+        let Ok(callers) = VecDeque::with_capacity(alloc, QUEUE_COMMANDS) else {
+            return Err(AllocError);
+        };
+        let Ok(wakes) = vec![in alloc; 1; usize::from(ports)] else {
+            return Err(AllocError);
+        };
         Ok(Guarded {
             core,
             callers,
