@@ -3,6 +3,7 @@ use Rattle.std.proofs.Common.{◌≡◌, refl, ◌<◌, ◌≤◌, ℕ, ◌+◌,
 use Rattle.std.proofs.Common.{length}
 use Rattle.std.proofs.Common.{take, drop, Option, Some, None, Result, Ok, Err, IfOk, IfErr, IsOk, OnOk, slice_get, sym, ◌∙◌, ap, arith}
 use Rattle.std.proofs.Common.{subst, suc-add, length-append}
+use Rattle.std.proofs.lemmas.List.{append-nil, drop_all, take_all}
 use Rattle.iol_types.specs.Command.{CommandValue, command_of}
 use Rattle.iol_types.specs.declared.command.Change.{Change}
 use Rattle.iol_types.specs.State.{check}
@@ -121,6 +122,14 @@ first_behind (y ∷ ys) (suc n) x rest is = first_behind ys n x rest is
 pub not_taken : {A E : Type 0} (answer : Result A E) (why : E) → IsOk answer → answer ≡ Err why → ⊥
 not_taken (Ok done) why ok is = cc
 not_taken (Err fault) why ok is = cc
+
+-- what is written over a whole list stands there
+pub written_back : (len : ℕ) (new old : List ℕ) → length new ≡ length old → len ≡ length old
+    → take len (new ++ drop (length new) old) ≡ new
+written_back len new old same all =
+    let rest : drop (length new) old ≡ [] = drop_all (length new) old (omega (arith, same)) in
+    ap (λ (behind : List ℕ). take len (new ++ behind)) rest
+    ∙ (ap (take len) (append-nil new) ∙ take_all len new (omega (arith, same, all)))
 
 -- there is room for one more place of as many as were kept
 pub room_left : (len count places all room was : ℕ) → len ≡ count → count < places → places ≡ all → all ≤ was → room ≡ was → len < room
