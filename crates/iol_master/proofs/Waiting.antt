@@ -2,8 +2,8 @@
 use Rattle.std.proofs.Common.{◌≡◌, refl, ◌<◌, ◌≤◌, ℕ, ◌+◌, zero, suc, Bool, true, false, if◌then◌else◌, replicate, List, [], ◌∷◌, ◌++◌}
 use Rattle.std.proofs.Common.{length}
 use Rattle.std.proofs.Common.{take, drop, Option, Some, None, Result, Ok, Err, IfOk, IfErr, IsOk, OnOk, slice_get, sym, ◌∙◌, ap, arith}
-use Rattle.std.proofs.Common.{subst, suc-add, length-append}
-use Rattle.std.proofs.lemmas.List.{append-nil, drop_all, take_all}
+use Rattle.std.proofs.Common.{◌-◌, slice_index, subst, suc-add, length-append}
+use Rattle.std.proofs.lemmas.List.{append-nil, drop_all, length-set, take_all}
 use Rattle.iol_types.specs.Command.{CommandValue, command_of}
 use Rattle.iol_types.specs.declared.command.Change.{Change}
 use Rattle.iol_types.specs.State.{check}
@@ -21,6 +21,9 @@ use Rattle.iol_port.specs.Calls.{Call, Replies}
 use Rattle.iol_port.specs.declared.call.Reply.{Reply}
 use Rattle.iol_run.proofs.Changes.{Change as Made, Permits, Waits, changed, replied, room_in}
 use Rattle.iol_master.specs.Callers.{AreCallersOf}
+use Rattle.iol_master.specs.Wakes.{woken, woken_again}
+use Rattle.iol_master.specs.declared.guarded.Phase.{Phase}
+use Rattle.iol_master.specs.declared.guarded.Phase.TheVariants.{Running, Ending, Closed}
 
 -- as many places as commands
 pub as_many : (queue : List CommandValue) (callers : List (Option Change)) → AreCallersOf queue callers → length callers ≡ length queue
@@ -130,6 +133,12 @@ written_back len new old same all =
     let rest : drop (length new) old ≡ [] = drop_all (length new) old (omega (arith, same)) in
     ap (λ (behind : List ℕ). take len (new ++ behind)) rest
     ∙ (ap (take len) (append-nil new) ∙ take_all len new (omega (arith, same, all)))
+
+-- no port comes or goes where one is woken
+pub woken_as_many : (phase : Phase) (port : ℕ) (wakes : List ℕ) → length (woken phase port wakes) ≡ length wakes
+woken_as_many Running port wakes = length-set wakes (port - 1) (woken_again (slice_index wakes (port - 1)))
+woken_as_many Ending port wakes = refl
+woken_as_many Closed port wakes = refl
 
 -- there is room for one more place of as many as were kept
 pub room_left : (len count places all room was : ℕ) → len ≡ count → count < places → places ≡ all → all ≤ was → room ≡ was → len < room

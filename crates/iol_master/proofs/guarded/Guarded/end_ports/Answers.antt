@@ -1,4 +1,4 @@
-use Rattle.std.proofs.Common.{◌≡◌, ℕ, List, length, sym, ap, ◌∙◌, subst, arith}
+use Rattle.std.proofs.Common.{ℕ, List, length, sym, ap, ◌∙◌, subst, arith}
 use Rattle.iol_master.specs.Callers.{GuardedView}
 use Rattle.iol_master.specs.Wakes.{AreWoken}
 use Rattle.iol_master.proofs.Waiting.{written_back}

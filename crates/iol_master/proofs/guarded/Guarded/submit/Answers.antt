@@ -1,11 +1,12 @@
-use Rattle.std.proofs.Common.{◌≡◌, refl, ◌+◌, ◌∷◌, [], ◌++◌, Some, None, List, Option, map, sym, ap, ◌∙◌, subst, arith}
+use Rattle.std.proofs.Common.{◌≡◌, refl, ℕ, ◌+◌, ◌∷◌, [], ◌++◌, Some, None, List, Option, length, map, sym, ap, ◌∙◌, subst, arith}
 use Rattle.std.proofs.lemmas.List.{length-map, map-append}
 use Rattle.iol_types.specs.Command.{CommandValue, command_of}
 use Rattle.iol_types.specs.declared.command.Change.{Change}
 use Rattle.iol_core.specs.Core.{CoreView, live_number}
 use Rattle.iol_core.specs.Submit.{queued, submit_fault}
 use Rattle.iol_master.specs.Callers.{AreCallersOf, GuardedView, asked}
-use Rattle.iol_master.proofs.Waiting.{as_many, not_taken, submit_room, waits_more}
+use Rattle.iol_master.specs.Wakes.{port_of, woken}
+use Rattle.iol_master.proofs.Waiting.{as_many, not_taken, submit_room, waits_more, woken_as_many, written_back}
 use Rattle.iol_master.proofs.guarded.Guarded.submit.Goals as goal
 
 -- the queue has room, and so has the list of those who wait
@@ -60,3 +61,15 @@ returns-clause-waits g c =
     ap (map asked) c.in-Ok.ensures.items
     ∙ (map-append asked c.self.inside.callers.items (Some c.args.caller ∷ [])
     ∙ ap (λ (v : GuardedView). v.callers ++ Some c.args.caller.change ∷ []) c.self.view_is)
+
+pub returns-clause-woken : goal.returns-clause-woken
+returns-clause-woken g c =
+    let i = c.self.inside in
+    let port = port_of c.args.caller.change in
+    let wakes : c.wake.new.wakes ≡ woken i.phase port i.wakes.items =
+    c.wake.ensures
+    ∙ (ap (λ (p : ℕ). woken i.phase p c.deref_mut.result.now) c.port_of.ensures
+    ∙ ap (λ (ws : List ℕ). woken i.phase port ws) c.deref_mut.ensures.value) in
+    let as_many_wakes = ap length wakes ∙ woken_as_many i.phase port i.wakes.items in
+    written_back i.wakes.len c.wake.new.wakes i.wakes.items as_many_wakes (omega (arith, i.wakes.ok))
+    ∙ (wakes ∙ ap (λ (v : GuardedView). woken v.phase port v.wakes) c.self.view_is)
