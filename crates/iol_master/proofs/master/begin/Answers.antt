@@ -1,4 +1,4 @@
-use Rattle.std.proofs.Common.{◌≡◌, ap, ◌∙◌, subst}
+use Rattle.std.proofs.Common.{◌≡◌, sym, ap, ◌∙◌, subst}
 use Rattle.iol_journal.specs.Journals.{JournalView}
 use Rattle.iol_master.specs.Endings.{EndsFrom, IsEnding}
 use Rattle.iol_master.specs.declared.flushing.FromCharge.{FromCharge}
@@ -20,3 +20,11 @@ returns-else-all-clause-fault g c =
     c.disk_of.ensures c.args.charge
     (subst (λ (first : JournalView g.row.D.Denot). IsEnding g.D.SectorDisk.disk g.F.Name.front.start first c.shutdown.result) promise
     c.shutdown.ensures)
+
+pub returns-then-all-clause-started : goal.returns-then-all-clause-started
+returns-then-all-clause-started g c =
+    ap (λ (p : FromCharge g.row.D.Denot g.row.F.Denot). p.0.value) c.in-Ok.ensures.ok ∙ c.of.ensures
+
+pub spawn_with-started-requires-clause-keeps : goal.spawn_with-started-requires-clause-keeps
+spawn_with-started-requires-clause-keeps g c lifetimes outlives end ends =
+    subst (λ (first : JournalView g.row.D.Denot). EndsFrom g.D.SectorDisk.disk g.F.Name.front.start first end) (sym c.of.ensures) ends
