@@ -1,6 +1,6 @@
 -- A command of a batch stands at its number.
-use Rattle.std.proofs.Common.{◌≡◌, refl, ◌<◌, ◌≤◌, ℕ, ◌+◌, ◌-◌, zero, suc, List, [], ◌∷◌, ◌++◌, length, Some, slice_get, sym, ap, ◌∙◌}
-use Rattle.std.proofs.Common.{arith, zero-add, suc-add, length-append, subst}
+use Rattle.std.proofs.Common.{◌≡◌, ◌<◌, ◌≤◌, ℕ, ◌+◌, ◌-◌, zero, suc, List, [], ◌∷◌, ◌++◌, length, Some, slice_get, sym, ap, ◌∙◌}
+use Rattle.std.proofs.Common.{arith, zero-add, suc-add, subst}
 use Rattle.std.proofs.lemmas.List.{append-nil}
 use Rattle.std.proofs.lemmas.Option.{slice_get_within}
 use mathlib.Core.List.{IsPrefix}
@@ -8,7 +8,6 @@ use Rattle.iol_types.specs.Command.{CommandValue, command_of}
 use Rattle.iol_types.specs.declared.command.Change.{Change}
 use Rattle.iol_front.specs.Fronts.{Start}
 use Rattle.iol_master.specs.Receipts.{IsReceiptFor, StandsAt}
-use Rattle.iol_master.specs.declared.client.Receipt.{Receipt}
 
 module _ {A : Type 0} where
   got_behind : (xs ys : List A) (i : ℕ) → slice_get (xs ++ ys) (length xs + i) ≡ slice_get ys i

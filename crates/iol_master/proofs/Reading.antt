@@ -1,6 +1,6 @@
 -- What a client reads, and why it reads nothing.
 use Rattle.std.proofs.Common.{◌≡◌, refl, ◌≤◌, ℕ, ◌+◌, ◌-◌, zero, suc, nat_le, Bool, true, false, if◌then◌else◌, List, [], ◌∷◌, length, take}
-use Rattle.std.proofs.Common.{Option, Some, None, IsNone, IfSome, Result, Ok, Err, IfErr, IfOk, OnOk, slice_get, sym, ap, ◌∙◌, subst, arith}
+use Rattle.std.proofs.Common.{Option, Some, None, IsNone, IfSome, Result, Ok, Err, IfOk, OnOk, slice_get, sym, ap, ◌∙◌, subst, arith}
 use Rattle.std.specs.Option.{option_map}
 use mathlib.Core.List.{IsPrefix}
 use Rattle.iol_types.proofs.StateLemmas.{length-after}

@@ -1,4 +1,4 @@
-use Rattle.std.proofs.Common.{◌≡◌, ℕ, ◌+◌, List, length, sym, ap, ◌∙◌, refl, subst}
+use Rattle.std.proofs.Common.{◌≡◌, ℕ, ◌+◌, List, length, ap, ◌∙◌, refl, subst}
 use mathlib.Core.List.{IsPrefix}
 use Rattle.iol_types.specs.Command.{CommandValue, command_of}
 use Rattle.iol_master.specs.Faults.{IsRefused}

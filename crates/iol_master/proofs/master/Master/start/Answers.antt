@@ -1,4 +1,4 @@
-use Rattle.std.proofs.Common.{◌≡◌, ℕ, List, [], IfErr, IfOk, length, vec_len, sym, ap, ◌∙◌, subst}
+use Rattle.std.proofs.Common.{◌≡◌, ℕ, List, IfErr, IfOk, length, vec_len, sym, ap, ◌∙◌, subst}
 use Rattle.iol_types.specs.Command.{CommandValue}
 use Rattle.iol_journal.specs.Journals.{JournalView}
 use Rattle.iol_flush.specs.Stages.{HasHistory}
