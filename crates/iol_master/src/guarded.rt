@@ -75,12 +75,8 @@ impl<F: Name> Guarded<F> {
           phase = phase.Running;
         }) }
     {
-        let Ok(callers) = VecDeque::with_capacity(alloc, QUEUE_COMMANDS) else {
-            return Err(AllocError);
-        };
-        let Ok(wakes) = vec![in alloc; 1; usize::from(ports)] else {
-            return Err(AllocError);
-        };
+        let callers = VecDeque::with_capacity(alloc, QUEUE_COMMANDS)?;
+        let wakes = vec![in alloc; 1; usize::from(ports)]?;
         Ok(Guarded {
             core,
             callers,

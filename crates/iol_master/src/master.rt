@@ -81,12 +81,8 @@ impl<D: SectorDisk + Drop + Send + 'static, F: Name + 'static> Master<D, F> {
     pub fn client(&mut self) -> Result<Client<F>, AllocError>
         ensures { self.new ≡ self.old }
     {
-        let Ok(pass) = self.pass.another() else {
-            return Err(AllocError);
-        };
-        let Ok(shared) = Arc::try_clone(&self.shared) else {
-            return Err(AllocError);
-        };
+        let pass = self.pass.another()?;
+        let shared = Arc::try_clone(&self.shared)?;
         Ok(Client::new(self.alloc, shared, pass))
     }
 
@@ -140,24 +136,12 @@ impl<L: DeviceLink + Drop, F: Name> Room<L, F> {
         ensures room { IfOk result (λ room. vec_len room.served ≤ vec_capacity room.workers) }
         ensures empty { IfOk result (λ room. vec_len room.workers ≡ 0) }
     {
-        let Ok(own) = publisher.pass() else {
-            return Err(AllocError);
-        };
-        let Ok(pass) = publisher.pass() else {
-            return Err(AllocError);
-        };
-        let Ok(shared) = share(alloc, state, own, ports) else {
-            return Err(AllocError);
-        };
-        let Ok(theirs) = Arc::try_clone(&shared) else {
-            return Err(AllocError);
-        };
-        let Ok(served) = served_ports(alloc, &shared, links) else {
-            return Err(AllocError);
-        };
-        let Ok(workers) = Vec::with_capacity(alloc, served.len()) else {
-            return Err(AllocError);
-        };
+        let own = publisher.pass()?;
+        let pass = publisher.pass()?;
+        let shared = share(alloc, state, own, ports)?;
+        let theirs = Arc::try_clone(&shared)?;
+        let served = served_ports(alloc, &shared, links)?;
+        let workers = Vec::with_capacity(alloc, served.len())?;
         Ok(Room {
             pass,
             shared,
@@ -177,14 +161,9 @@ fn share<F: Name>(
 ) -> Result<Arc<Shared<F>, Global>, AllocError>
     requires { (state ≡ F.front.start.state) × (pass ≡ []) }
 {
-    let Ok(core) = Core::new(alloc, state, pass) else {
-        return Err(AllocError);
-    };
-    let Ok(guarded) = Guarded::new(alloc, core, ports) else {
-        return Err(AllocError);
-    };
+    let core = Core::new(alloc, state, pass)?;
     let shared = Shared {
-        guarded: Mutex::new(guarded),
+        guarded: Mutex::new(Guarded::new(alloc, core, ports)?),
         work: Condvar::new(),
         woken: Condvar::new(),
     };

@@ -34,18 +34,14 @@ pub(crate) fn served_ports<L: DeviceLink + Drop, F: Name>(
     shared: &Arc<Shared<F>, Global>,
     links: Vec<L>,
 ) -> Result<Vec<ServedPort<L, F>>, AllocError> {
-    let Ok(mut served) = Vec::with_capacity(alloc, links.len()) else {
-        return Err(AllocError);
-    };
+    let mut served = Vec::with_capacity(alloc, links.len())?;
     let mut number = 0;
     for link in links {
         number = u8::min(number, PORTS - 1) + 1;
         let Some(port) = PortId::new(number) else {
             unreachable!()
         };
-        let Ok(shared) = Arc::try_clone(shared) else {
-            return Err(AllocError);
-        };
+        let shared = Arc::try_clone(shared)?;
         served.push(ServedPort { port, link, shared })?;
     }
     Ok(served)
