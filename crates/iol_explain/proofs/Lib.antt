@@ -1,3 +1,4 @@
 pub mod ToldLines
 pub mod ReadRequests
 pub mod ChangedOctets
+mod Causes

@@ -1,9 +1,13 @@
 //! The lines of an event, with its words (docs/FORMATS.md, "Explained runs").
+ghost use Rattle.std.specs.Prelude.{◌++◌, codes};
 ghost use Rattle.std.specs.Fmt.{WritesOnOk};
+ghost use Rattle.iol_core.specs.Telling.{refusal_of};
+ghost use Rattle.iol_commands.specs.Texts.{refusal_name};
 ghost use Rattle.iol_port.specs.Telling.{status_told};
 ghost use Rattle.iol_run.specs.Events.{event_of};
 ghost use Rattle.iol_explain.specs.EventLines.{acknowledged_line, event_lines, exchange_lines, loss_line};
-ghost use Rattle.iol_explain.specs.EventLines.{page_line, request_line, status_line};
+ghost use Rattle.iol_explain.specs.EventLines.{page_line, request_line, status_line, with_words};
+ghost use Rattle.iol_explain.specs.Refusals.{refusal_words};
 
 use crate::answer_words::AnswerWords;
 use crate::known::Known;
@@ -12,6 +16,7 @@ use crate::refusal_words::refusal_words;
 use crate::request_words::RequestWords;
 use crate::status_words::StatusWords;
 use iol_commands::{Spaced, StatusText, refusal_name};
+use iol_core::SubmitFault;
 use iol_ident::PAGE_OCTETS;
 use iol_port::PortStatus;
 use iol_run::Event;
@@ -30,10 +35,7 @@ pub(crate) fn write_event<W: fmt::Write>(
 {
     match event {
         Event::Accepted { number, .. } => writeln!(f, "accepted {number}  # waits for the disk"),
-        Event::Refused(fault) => {
-            let (name, words) = (refusal_name(*fault), refusal_words(*fault));
-            writeln!(f, "refused {name}  # {words}")
-        }
+        Event::Refused(fault) => write_refused(f, *fault),
         Event::Page { port, octets, .. } => write_page(f, *port, octets),
         Event::Exchange { port, octets, .. } => write_exchange(
             f,
@@ -42,13 +44,16 @@ pub(crate) fn write_event<W: fmt::Write>(
             octets.request.as_slice(),
             octets.answer.as_slice(),
         ),
-        Event::Lost { port, octets, .. } => match octets {
-            Some(octets) => {
-                write_request(f, *port, octets.request.as_slice())?;
-                write_loss(f, *port)
-            }
-            None => write_loss(f, *port),
-        },
+        Event::Lost {
+            port,
+            octets: Some(octets),
+            ..
+        } => write_lost_request(f, *port, octets.request.as_slice()),
+        Event::Lost {
+            port,
+            octets: None,
+            ..
+        } => write_loss(f, *port),
         Event::Attended { .. } => Ok(()),
         Event::Status { port, status } => write_status(f, *port, *status, known),
         Event::Acknowledged { number } => write_acknowledged(f, *number),
@@ -56,6 +61,27 @@ pub(crate) fn write_event<W: fmt::Write>(
             "disk failed  # the disk call before this line failed: nothing more is written\n",
         ),
     }
+}
+
+// The line of a refusal.
+fn write_refused<W: fmt::Write>(f: &mut fmt::Formatter<W>, fault: SubmitFault) -> fmt::Result
+    ensures { WritesOnOk W.write_str_gives f.old result (codes "refused "
+        ++ (refusal_name (refusal_of fault) ++ with_words (refusal_words (refusal_of fault)))) f.new }
+{
+    let (name, words) = (refusal_name(fault), refusal_words(fault));
+    writeln!(f, "refused {name}  # {words}")
+}
+
+// The lines of a request that was lost, and of the loss.
+fn write_lost_request<W: fmt::Write>(
+    f: &mut fmt::Formatter<W>,
+    port: PortId,
+    request: &[u8],
+) -> fmt::Result
+    ensures { WritesOnOk W.write_str_gives f.old result (request_line port request.now ++ loss_line port) f.new }
+{
+    write_request(f, port, request)?;
+    write_loss(f, port)
 }
 
 // The line of an acknowledgement.

@@ -1,21 +1,32 @@
 //! The run of a script, explained in words.
-ghost use Rattle.std.specs.Prelude.{◌≡◌, ◌≤◌, ◌⊎◌, ℕ, List, All, IfErr, IfOk, OnOk, string_bytes};
+ghost use Rattle.std.specs.Prelude.{◌≡◌, ◌≤◌, ◌⊎◌, ℕ, List, All, IfErr, IfOk, OnOk, string_bytes, true};
 ghost use Rattle.std.specs.Io.KnownBytes.{Appends};
+ghost use Rattle.iol_disk.specs.FaultDisk.{inner};
 ghost use Rattle.iol_script.specs.Script.{said_of};
 ghost use Rattle.iol_commands.specs.Devices.{MayVisit};
 ghost use Rattle.iol_commands.specs.Fault.{status_of};
-ghost use Rattle.iol_commands.specs.Played.{IsSaidGeometry};
+ghost use Rattle.iol_commands.specs.Played.{IsSaidGeometry, IsStoppedAs};
 ghost use Rattle.iol_commands.specs.Runs.{CanRun, IsCause, IsSilentOver};
+ghost use Rattle.iol_explain.specs.Explained.{explained_text};
 ghost use Rattle.iol_explain.specs.Played.{ExplainsRun, IsExplained};
+ghost use Rattle.iol_explain.specs.ToldDisk.{calls_of, is_whole, told_on};
+ghost use Rattle.iol_explain.specs.declared.explained.Explained.{Explained};
 
 use crate::explained::Explained;
-use crate::told_disk::{ToldDisk, ToldEnd};
-use iol_commands::{Fault, empty_disk, make_run, print, read_playable, report, stop};
+use crate::told_disk::{ToldCall, ToldDisk, ToldEnd};
+use iol_commands::{
+    Fault, Playable, Recovered, empty_disk, make_run, print, read_playable, report, stop,
+};
+use iol_disk::{FaultDisk, MemoryDisk, Pick};
 use iol_journal::Geometry;
-use iol_run::Trace;
+use iol_run::{Stamped, Trace};
 use iol_script::Script;
+use iol_sim::SimLink;
 use std::alloc::Global;
 use std::io::Write;
+
+// The disk of a run that is explained: its calls are told.
+type PlayedDisk = ToldDisk<FaultDisk<MemoryDisk>>;
 
 /// Runs a script on a disk in memory, and returns the exit status: 0 once its trace and the recovered state are written
 /// to `out`, each line of the trace with what it says in words, and the disk calls between them (docs/FORMATS.md,
@@ -54,6 +65,18 @@ fn text_of_explained(alloc: Global, text: &[u8]) -> Result<String, Fault<'static
     ensures cause { IfErr result (IsCause text.now) }
 {
     let ready = read_playable(alloc, text)?;
+    text_of_ready(alloc, &ready)
+}
+
+// What an explained run of a script prints that can be run.
+fn text_of_ready(alloc: Global, ready: &Playable) -> Result<String, Fault<'static>>
+    requires devices { All MayVisit ready.now.script.devices.items }
+    requires numbers { IsSaidGeometry (said_of ready.now.script) ready.now.geometry }
+    ensures printed { IfOk result (λ printed. (explained : Explained) × IsExplained (said_of ready.now.script) explained
+        × (string_bytes printed ≡ explained_text explained.geometry explained.calls.items explained.events.items
+        explained.recovered.number explained.recovered.state)) }
+    ensures status { IfErr result (λ fault. status_of fault ≡ 1) }
+{
     let explained = explained_run(alloc, ready.geometry, &ready.script)?;
     Ok(explained.to_string(alloc)?)
 }
@@ -75,15 +98,56 @@ pub fn explained_run(
     let empty = empty_disk(alloc, geometry, script.fail)?;
     let given = ToldDisk::new(alloc, empty);
     let trace = make_run(alloc, given, geometry, script)?;
+    let (events, disk) = left_by(trace);
+    stopped_run(alloc, geometry, script.keep, events, disk)
+}
+
+// The events of a run and its disk.
+fn left_by(trace: Trace<PlayedDisk, SimLink>) -> (Vec<Stamped>, PlayedDisk)
+    ensures { (result.0 ≡ trace.events) × (result.1 ≡ trace.disk) }
+{
     let Trace { events, disk, .. } = trace;
-    let end = disk.end()?;
-    let ToldEnd { disk, calls } = end;
-    let recovered = stop(alloc, disk.disk(), script.keep)?;
-    Ok(Explained {
-        alloc,
-        geometry,
-        calls,
-        events,
-        recovered,
-    })
+    (events, disk)
+}
+
+// The events of a run, with the calls of its disk and what its stop leaves.
+fn stopped_run(
+    alloc: Global,
+    geometry: Geometry,
+    keep: Pick,
+    events: Vec<Stamped>,
+    disk: PlayedDisk,
+) -> Result<Explained, Fault<'static>>
+    ensures run { IfOk result (λ explained. (explained.geometry ≡ geometry) × (explained.events ≡ events)
+        × (explained.calls.items ≡ calls_of disk) × (is_whole disk ≡ true)
+        × IsStoppedAs keep (inner (told_on disk)) explained.recovered.number explained.recovered.state) }
+    ensures status { IfErr result (λ fault. status_of fault ≡ 1) }
+{
+    match told_and_recovered(alloc, keep, disk) {
+        Ok((calls, recovered)) => Ok(Explained {
+            alloc,
+            geometry,
+            calls,
+            events,
+            recovered,
+        }),
+        Err(fault) => Err(fault),
+    }
+}
+
+// The calls of a disk, and what its stop leaves.
+fn told_and_recovered(
+    alloc: Global,
+    keep: Pick,
+    disk: PlayedDisk,
+) -> Result<(Vec<ToldCall>, Recovered), Fault<'static>>
+    ensures calls { IfOk result (λ left. (left.0.items ≡ calls_of disk) × (is_whole disk ≡ true)) }
+    ensures stopped { IfOk result (λ left. IsStoppedAs keep (inner (told_on disk)) left.1.number left.1.state) }
+    ensures status { IfErr result (λ fault. status_of fault ≡ 1) }
+{
+    let ToldEnd { disk, calls } = disk.end()?;
+    match stop(alloc, disk.disk(), keep) {
+        Ok(recovered) => Ok((calls, recovered)),
+        Err(fault) => Err(fault),
+    }
 }
