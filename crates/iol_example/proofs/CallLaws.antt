@@ -11,7 +11,7 @@ use Rattle.iol_journal.specs.Journals.{JournalView}
 use Rattle.iol_journal.specs.Meaning.{Standing}
 use Rattle.iol_journal.specs.Progress.{MakesFirst, FailsFirst}
 use Rattle.iol_journal.specs.declared.place.Idle.{Idle}
-use Rattle.iol_example.specs.Store.{freeing_calls, MadeFirst, MakesCalls}
+use Rattle.iol_example.specs.Store.{freeing_calls, MakesCalls}
 use Rattle.iol_example.specs.declared.store.WriteFault.{WriteFault}
 use Rattle.iol_example.specs.declared.store.WriteFault.TheVariants.{Refused, Failed}
 

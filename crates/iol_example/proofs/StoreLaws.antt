@@ -11,6 +11,7 @@ use Rattle.iol_journal.specs.Kept.{KeptMeans, KeptEither}
 use Rattle.iol_journal.specs.Meaning.{Standing}
 use Rattle.iol_journal.specs.Runs.{Mark, Run, HasPrefix, IsMarked, IsRun, with_batch_begun}
 use Rattle.iol_journal.specs.Underway.{IsAtRest}
+use Rattle.iol_journal.specs.declared.journal.BeginCause.{BeginCause}
 use Rattle.iol_journal.specs.declared.journal.BeginCause.TheVariants.{Memory}
 use Rattle.iol_journal.specs.declared.place.Idle.{Idle}
 use Rattle.iol_journal.proofs.JournalLaws.{rest_means_its_state}
@@ -111,6 +112,25 @@ written_rests disk w number state command (Ok behind) same_number same_state sam
     (omega (arith, ap (λ (s : Standing). s.number) done, same_number, ap length same_commands))
     (ap (λ (s : Standing). s.state) done ∙ rw (same_state, same_commands) refl)
 written_rests disk w number state command (Err fault) same_number same_state same_commands done rests = cc
+
+-- the number and the state after the batch of one command
+pub written_is : {D : Type 0} (w : WritingView D) (number : ℕ) (state : State) (command : CommandValue)
+    (answer : Result (JournalView D) (WriteFault D))
+    → w.standing.number ≡ number → w.standing.state ≡ state → w.commands ≡ command ∷ []
+    → IfOk answer (λ behind. behind.standing ≡ with_batch w.standing w.commands)
+    → IfOk answer (λ behind. (behind.standing.number ≡ number + 1) × (behind.standing.state ≡ after state (command ∷ [])))
+written_is w number state command (Ok behind) same_number same_state same_commands done = (
+  omega (arith, ap (λ (s : Standing). s.number) done, same_number, ap length same_commands),
+  ap (λ (s : Standing). s.state) done ∙ rw (same_state, same_commands) refl,
+)
+written_is w number state command (Err fault) same_number same_state same_commands done = tt
+
+-- what is no refusal
+pub none_refused : {D : Type 0} (P : JournalView D → BeginCause → Type 0) (answer : Result (JournalView D) (WriteFault D))
+    → IfRefused answer (λ _ _. ⊥) → IfRefused answer P
+none_refused P (Ok behind) none = tt
+none_refused P (Err (Refused back cause)) none = absurd none
+none_refused P (Err (Failed left fault)) none = tt
 
 -- a run after the batch of its queued commands
 pub run_of_queued : {D : Type 0} (disk : D → Disk) (r : Run) (batch behind : List CommandValue) (written : Run)

@@ -1,4 +1,4 @@
-use Rattle.std.proofs.Common.{◌≡◌, List, ◌∷◌, [], ◌++◌, Err, ap, ◌∙◌, subst}
+use Rattle.std.proofs.Common.{◌≡◌, List, ◌∷◌, [], ◌++◌, Err, ap, refl, ◌∙◌, subst}
 use Rattle.std.proofs.lemmas.Result.{err_from_is_err_and}
 use Rattle.iol_types.specs.Command.{CommandValue, value_of}
 use Rattle.iol_disk.specs.Calls.{Call}
@@ -7,9 +7,9 @@ use Rattle.iol_journal.specs.Journals.{calls_left, values}
 use Rattle.iol_journal.specs.Meaning.{Standing}
 use Rattle.iol_journal.specs.Runs.{with_batch_begun}
 use Rattle.iol_journal.specs.Running.{IsRunWriting}
-use Rattle.iol_example.specs.Store.{left_disk, freeing_calls, with_slot, MakesCalls}
+use Rattle.iol_example.specs.Store.{left_disk, freeing_calls, with_slot, IsRefusal, MakesCalls, RestsAt}
 use Rattle.iol_example.proofs.CallLaws.{ended_early, then_makes}
-use Rattle.iol_example.proofs.StoreLaws.{rests_at, or_after, batch_behind, refused_as_it_was, written_rests, run_of_queued}
+use Rattle.iol_example.proofs.StoreLaws.{rests_at, or_after, batch_behind, none_refused, refused_as_it_was, written_is, written_rests, run_of_queued}
 use Rattle.iol_example.proofs.store.write.Goals as goal
 
 -- no slot was freed
@@ -48,6 +48,14 @@ returns-in_default-clause-refused g c = λ rests.
 pub returns-in_default-clause-run : goal.returns-in_default-clause-run
 returns-in_default-clause-run g c = λ r behind queued run. c.in_ok-journal.ensures.run r run
 
+pub returns-in_default-clause-calls : goal.returns-in_default-clause-calls
+returns-in_default-clause-calls g c = record {
+  first = freeing_calls c.args.journal.standing c.args.journal.idle;
+  left = batch_calls (with_slot c.args.journal.standing) (value_of c.args.command ∷ []);
+  order = refl;
+  made = c.in_ok-journal.ensures.calls;
+}
+
 -- the batch was begun
 pub returns-in-Ok-begin-clause-any_moment : goal.returns-in-Ok-begin-clause-any_moment
 returns-in-Ok-begin-clause-any_moment g c = λ rests.
@@ -60,6 +68,25 @@ returns-in-Ok-begin-clause-any_moment g c = λ rests.
     (begun.begun.4 ∙ ap values c.in-Ok.ensures.items)
     (freed.any_moment rests)
     (c.finish.ensures.any_moment (begun.underway (freed.rests rests)))
+
+pub returns-in-Ok-begin-clause-written : goal.returns-in-Ok-begin-clause-written
+returns-in-Ok-begin-clause-written g c =
+    let freed = c.in_ok-journal.ensures in
+    let begun = c.in-Ok-begin.ensures in
+    written_is c.in-Ok-begin.writing _ _ (value_of c.args.command) c.finish.result
+    (ap (λ (s : Standing). s.number) begun.begun.1 ∙ freed.same.0)
+    (ap (λ (s : Standing). s.state) begun.begun.1 ∙ freed.same.1)
+    (begun.begun.4 ∙ ap values c.in-Ok.ensures.items)
+    c.finish.ensures.done
+
+pub returns-in-Ok-begin-clause-cause : goal.returns-in-Ok-begin-clause-cause
+returns-in-Ok-begin-clause-cause g c =
+    none_refused (λ back cause. IsRefusal back.standing (value_of c.args.command) cause) c.finish.result c.finish.ensures.taken
+
+pub returns-in-Ok-begin-clause-refused : goal.returns-in-Ok-begin-clause-refused
+returns-in-Ok-begin-clause-refused g c = λ rests.
+    let s = c.args.journal.standing in
+    none_refused (λ back _. RestsAt g.D.SectorDisk.disk s.number s.state back) c.finish.result c.finish.ensures.taken
 
 pub returns-in-Ok-begin-clause-durable : goal.returns-in-Ok-begin-clause-durable
 returns-in-Ok-begin-clause-durable g c = λ rests.
@@ -111,3 +138,11 @@ returns-in-Err-clause-refused g c = λ rests.
 
 pub returns-in-Err-clause-run : goal.returns-in-Err-clause-run
 returns-in-Err-clause-run g c = λ r behind queued run. rw c.in-Err.ensures.back.0 (c.in_ok-journal.ensures.run r run)
+
+pub returns-in-Err-clause-calls : goal.returns-in-Err-clause-calls
+returns-in-Err-clause-calls g c = rw c.in-Err.ensures.back.0 (record {
+  first = freeing_calls c.args.journal.standing c.args.journal.idle;
+  left = batch_calls (with_slot c.args.journal.standing) (value_of c.args.command ∷ []);
+  order = refl;
+  made = c.in_ok-journal.ensures.calls;
+})
