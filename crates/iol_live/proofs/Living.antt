@@ -35,12 +35,12 @@ tells_what_is_meant d number state text honest means tells =
     tells.3 ∙ ap (λ (m : Meaning). recovered_text m.number m.state) m
 
 -- a master that is the one a journal was handed to ends as that journal does
-pub since : {D : Type 0} (disk : D → Disk) (start : Start) (first master last : JournalView D) (published : List CommandValue)
+since : {D : Type 0} (disk : D → Disk) (start : Start) (first master last : JournalView D) (published : List CommandValue)
     → master ≡ first → IsWhole disk start master last published → IsWhole disk start first last published
 since disk start first master last published same whole = subst (λ j. IsWhole disk start j last published) same whole
 
 -- the text of what a master left
-pub left_behind : {D : Type 0} (disk : D → Disk) (start : Start) (first last : JournalView D) (published : List CommandValue)
+left_behind : {D : Type 0} (disk : D → Disk) (start : Start) (first last : JournalView D) (published : List CommandValue)
     (receipts : ℕ) (told text : List ℕ) → ((d : D) → IsTrue (disk d).honest)
     → IsAtRest (disk first.disk) first.standing first.idle
     → start ≡ record { number = first.standing.number; state = first.standing.state }
@@ -57,6 +57,21 @@ left_behind disk start first last published receipts told text honest rest same 
     ∙ (ap (λ (n : ℕ). recovered_text n last.standing.state) number
     ∙ ap (λ (s : State). recovered_text (first.standing.number + length published) s) state) in
     (published, is ∙ ap (lived_text receipts) told_is)
+
+-- a disk is what a master with this journal left, and no call of it failed
+abbrev pub IsLeftWhole : {D : Type 0} → (D → Disk) → Start → JournalView D → D → Type 0
+IsLeftWhole {D} disk start first left =
+    (last : JournalView D) × (published : List CommandValue) × IsWhole disk start first last published × (left ≡ last.disk)
+
+-- the text of the disk that a master left
+pub told_of_left : {D : Type 0} (disk : D → Disk) (start : Start) (first master : JournalView D) (left : D) (receipts : ℕ)
+    (told text : List ℕ) → ((d : D) → IsTrue (disk d).honest) → IsAtRest (disk first.disk) first.standing first.idle
+    → start ≡ record { number = first.standing.number; state = first.standing.state } → master ≡ first
+    → IsLeftWhole disk start master left → TellsState (disk left) told → text ≡ lived_text receipts told
+    → IsAfterWhatIsThere receipts first.standing text
+told_of_left disk start first master left receipts told text honest rest from same whole tells is =
+    left_behind disk start first whole.0 whole.1 receipts told text honest rest from
+    (since disk start first master whole.0 whole.1 same whole.2) (subst (λ d. TellsState (disk d) told) whole.3 tells) is
 
 -- what is met of a disk on which a journal stands is a disk call or memory that failed
 met : {Y : Type 0} (read : Result Y Cause) (y : Y) (fault : Fault) → TellsWhy read fault → read ≡ Ok y → IsRunCause fault
@@ -76,7 +91,7 @@ met read y Script tells is = absurd tells
 met read y Geometry tells is = absurd tells
 
 -- why the disk that a master left is not recovered
-pub left_cause : {D : Type 0} (disk : D → Disk) (start : Start) (first last : JournalView D) (published : List CommandValue) (fault : Fault)
+left_cause : {D : Type 0} (disk : D → Disk) (start : Start) (first last : JournalView D) (published : List CommandValue) (fault : Fault)
     → ((d : D) → IsTrue (disk d).honest) → IsAtRest (disk first.disk) first.standing first.idle → IsWhole disk start first last published
     → Shows (disk last.disk) (λ image. TellsWhy (standing_in (disk last.disk).sectors image) fault) → IsRunCause fault
 unfolding IsKept
@@ -84,6 +99,15 @@ left_cause disk start first last published fault honest rest whole tells =
     let d = disk last.disk in
     let kept = (whole.images rest (honest last.disk) (reads d.content) (reads-is_image d.content)).0 in
     met (standing_in d.sectors (reads d.content)) kept.0 fault (tells (honest last.disk)) kept.2.stands
+
+-- why the disk that a master left whole is not recovered
+pub cause_of_left : {D : Type 0} (disk : D → Disk) (start : Start) (first master : JournalView D) (left : D) (fault : Fault)
+    → ((d : D) → IsTrue (disk d).honest) → IsAtRest (disk first.disk) first.standing first.idle → master ≡ first
+    → IsLeftWhole disk start master left → Shows (disk left) (λ image. TellsWhy (standing_in (disk left).sectors image) fault)
+    → IsRunCause fault
+cause_of_left disk start first master left fault honest rest same whole tells =
+    left_cause disk start first whole.0 whole.1 fault honest rest (since disk start first master whole.0 whole.1 same whole.2)
+    (subst (λ d. Shows (disk d) (λ image. TellsWhy (standing_in (disk d).sectors image) fault)) whole.3 tells)
 
 -- what is told of any disk is some number and state
 pub receipts_told : (d : Disk) (receipts : ℕ) (told text : List ℕ) → TellsState d told → text ≡ lived_text receipts told

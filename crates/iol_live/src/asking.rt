@@ -47,10 +47,12 @@ pub(crate) fn ask_all<
     ensures cause { IfErr result IsRunCause }
     ensures status { IfErr result (λ fault. status_of fault ≡ 1) }
 {
-    let (told, heard) = crossbeam_channel::bounded(alloc, ROOM)?;
     let mut clients = Vec::with_capacity(alloc, usize::from(PORTS))?;
+    let Ok((told, heard)) = crossbeam_channel::bounded(alloc, ROOM) else {
+        return Err(Fault::Memory);
+    };
     let started = start_clients(rt, alloc, master, changes, told, &mut clients);
-    let count = hear(rt, &heard, telling, err);
+    let count = hear(rt, heard, telling, err);
     let granted = join_all(rt, clients);
     started?;
     if granted && count == changes.len() {
@@ -81,13 +83,38 @@ fn start_clients<
     ensures status { IfErr result (λ fault. status_of fault ≡ 1) }
 {
     for number in 1..=PORTS {
-        let asked = changes_of(alloc, changes, number)?;
-        if !asked.is_empty() {
-            let told = told.clone()?;
-            clients.push(start_client(rt, master, asked, told)?)?;
-        }
+        start_at(rt, alloc, master, changes, number, &told, clients)?;
     }
     Ok(())
+}
+
+// Starts a client for the port with this number, if it is asked for something.
+//
+// # Errors
+// `Memory`, or `Thread`.
+fn start_at<
+    D: SectorDisk + Drop + Send + 'static,
+    F: Name + 'static,
+    R: Threads + Wait + Copy + Send + 'static,
+>(
+    rt: &R,
+    alloc: Global,
+    master: &mut Master<D, F>,
+    changes: &[Change],
+    number: u8,
+    told: &Sender<Told, Global>,
+    clients: &mut Asking,
+) -> Result<(), Fault<'static>>
+    ensures same { master.new ≡ master.old }
+    ensures cause { IfErr result IsRunCause }
+    ensures status { IfErr result (λ fault. status_of fault ≡ 1) }
+{
+    let asked = changes_of(alloc, changes, number)?;
+    if asked.is_empty() {
+        Ok(())
+    } else {
+        start_client(rt, master, asked, told, clients)
+    }
 }
 
 // The changes that are asked of the port with this number, in their order.
@@ -123,16 +150,50 @@ fn start_client<
     rt: &R,
     master: &mut Master<D, F>,
     asked: Vec<Change>,
-    told: Sender<Told, Global>,
-) -> Result<JoinHandle<bool>, Fault<'static>>
+    told: &Sender<Told, Global>,
+    clients: &mut Asking,
+) -> Result<(), Fault<'static>>
     ensures same { master.new ≡ master.old }
     ensures cause { IfErr result IsRunCause }
     ensures status { IfErr result (λ fault. status_of fault ≡ 1) }
 {
-    let client = master.client()?;
+    match ends_of(master, told) {
+        Ok((client, told)) => spawn_client(rt, client, asked, told, clients),
+        Err(_) => Err(Fault::Memory),
+    }
+}
+
+// A further client of a master, and what its receipts are told by.
+fn ends_of<D: SectorDisk + Drop + Send + 'static, F: Name + 'static>(
+    master: &mut Master<D, F>,
+    told: &Sender<Told, Global>,
+) -> Result<(Client<F>, Sender<Told, Global>), AllocError>
+    ensures { master.new ≡ master.old }
+{
+    let told = told.clone()?;
+    match master.client() {
+        Ok(client) => Ok((client, told)),
+        Err(fault) => Err(fault),
+    }
+}
+
+// Starts the thread of a client.
+//
+// # Errors
+// `Memory`, or `Thread`.
+fn spawn_client<F: Name + 'static, R: Threads + Wait + Copy + Send + 'static>(
+    rt: &R,
+    client: Client<F>,
+    asked: Vec<Change>,
+    told: Sender<Told, Global>,
+    clients: &mut Asking,
+) -> Result<(), Fault<'static>>
+    ensures cause { IfErr result IsRunCause }
+    ensures status { IfErr result (λ fault. status_of fault ≡ 1) }
+{
     let rt = *rt;
     match thread::spawn(&rt, move || ask(&rt, client, &asked, &told)) {
-        Ok(started) => Ok(started),
+        Ok(started) => Ok(clients.push(started)?),
         Err(_) => Err(Fault::Thread),
     }
 }
@@ -175,7 +236,7 @@ fn number_of<F: Name, R: Wait>(rt: &R, client: &mut Client<F>, change: Change) -
 // Tells each receipt as it comes, until all clients have ended, and says how many there were.
 fn hear<E: Write, R: Wait>(
     rt: &R,
-    heard: &Receiver<Told, Global>,
+    heard: Receiver<Told, Global>,
     telling: Telling,
     err: &mut E,
 ) -> usize

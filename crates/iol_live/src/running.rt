@@ -1,10 +1,14 @@
 //! A running master on a disk, and what is printed of it.
-ghost use Rattle.std.specs.Prelude.{◌≡◌, true, List, ℕ, [], vec_len, All, IfErr, IfOk, OnOk, IsTrue, Ok, string_bytes};
+ghost use Rattle.std.specs.Prelude.{◌≡◌, true, List, ℕ, [], length, vec_len, All, IfErr, IfOk, OnOk, IsTrue, Ok, string_bytes};
 ghost use Rattle.iol_disk.specs.Content.{reads};
 ghost use Rattle.iol_journal.specs.Kept.{IsKept};
 ghost use Rattle.iol_journal.specs.Meaning.{Standing, standing_in};
 ghost use Rattle.iol_journal.specs.Reading.{Shows};
 ghost use Rattle.iol_journal.specs.Underway.{IsAtRest};
+ghost use Rattle.iol_types.specs.Command.{CommandValue};
+ghost use Rattle.iol_front.specs.Fronts.{Start};
+ghost use Rattle.iol_journal.specs.Journals.{JournalView};
+ghost use Rattle.iol_master.specs.Endings.{IsEnding, IsWhole};
 ghost use Rattle.iol_commands.specs.Devices.{MayVisit};
 ghost use Rattle.iol_commands.specs.Fault.{status_of};
 ghost use Rattle.iol_commands.specs.Images.{TellsWhy};
@@ -20,6 +24,7 @@ use iol_front::{Front, Name};
 use iol_journal::Journal;
 use iol_master::{Ending, Master, StartFault};
 use iol_script::{Device, LiveScript};
+use iol_sim::SimLink;
 use iol_types::MasterState;
 use std::alloc::Global;
 use std::io::Write;
@@ -105,18 +110,87 @@ fn live_behind<
         → IfErr result IsRunCause }
     ensures status { IfErr result (λ fault. status_of fault ≡ 1) }
 {
-    let links = links_of(alloc, &script.devices, state.ports())?;
-    let publisher = front.publisher::<F>();
-    let mut master = match Master::start(rt, alloc, journal, state, publisher, links) {
-        Ok(master) => master,
-        Err(fault) => return Err(of_start(&fault)),
+    let Ok(links) = links_of(alloc, &script.devices, state.ports()) else {
+        return Err(Fault::Memory);
     };
+    match started::<D, F, R>(rt, alloc, front, journal, state, links) {
+        Ok(master) => live_with(rt, alloc, master, script, telling, err),
+        Err(fault) => Err(fault),
+    }
+}
+
+// A master over a journal that was just recovered, with a link for each port.
+//
+// # Errors
+// `Memory`, or `Thread`.
+fn started<
+    D: SectorDisk + Drop + Send + 'static,
+    F: Name + 'static,
+    R: Threads + Wait + Copy + Send + 'static,
+>(
+    rt: &R,
+    alloc: Global,
+    front: Front,
+    journal: Journal<D>,
+    state: MasterState,
+    links: Vec<SimLink>,
+) -> Result<Master<D, F>, Fault<'static>>
+    requires name { front ≡ F.front }
+    requires start { front.start ≡ record { number = journal.standing.number; state = journal.standing.state } }
+    requires state { state ≡ journal.standing.state }
+    requires history { journal.history
+        ≡ record { first = journal.standing.number; start = journal.standing.state; commands = [] } }
+    requires count { vec_len links ≡ length state }
+    ensures started { IfOk result (λ master. master ≡ journal) }
+    ensures cause { IfErr result IsRunCause }
+    ensures status { IfErr result (λ fault. status_of fault ≡ 1) }
+{
+    let publisher = front.publisher::<F>();
+    match Master::start(rt, alloc, journal, state, publisher, links) {
+        Ok(master) => Ok(master),
+        Err(fault) => Err(of_start(&fault)),
+    }
+}
+
+// Has the clients of a script ask a running master, ends it, and says what is printed.
+fn live_with<
+    D: SectorDisk + Drop + Send + 'static,
+    F: Name + 'static,
+    E: Write,
+    R: Threads + Wait + Copy + Send + 'static,
+>(
+    rt: &R,
+    alloc: Global,
+    mut master: Master<D, F>,
+    script: &LiveScript,
+    telling: Telling,
+    err: &mut E,
+) -> Result<String, Fault<'static>>
+    requires start { F.front.start ≡ record { number = master.standing.number; state = master.standing.state } }
+    ensures lived { ((d : D) → IsTrue (D.disk d).honest) → IsAtRest (D.disk master.disk) master.standing master.idle
+        → IfOk result (λ text. IsAfterWhatIsThere (vec_len script.now.changes) master.standing (string_bytes text)) }
+    ensures text { IfOk result (λ text. TellsReceipts (vec_len script.now.changes) (string_bytes text)) }
+    ensures silent { telling ≡ Telling.Nothing → err.new ≡ err.old }
+    ensures cause { ((d : D) → IsTrue (D.disk d).honest) → IsAtRest (D.disk master.disk) master.standing master.idle
+        → IfErr result IsRunCause }
+    ensures status { IfErr result (λ fault. status_of fault ≡ 1) }
+{
     let asked = ask_all(rt, alloc, &mut master, &script.changes, telling, err);
-    match master.shutdown(rt) {
-        Ending::Closed(journal, _) => {
-            asked?;
-            text_of(alloc, journal.disk(), script.changes.len())
-        }
+    let disk = left_by(master.shutdown(rt))?;
+    asked?;
+    text_of(alloc, disk, script.changes.len())
+}
+
+// The disk that a master leaves on which no call failed.
+fn left_by<D: SectorDisk + Drop, F: Name>(ending: Ending<D, F>) -> Result<D, Fault<'static>>
+    ensures left { (start : Start) (first : JournalView D) → IsEnding D.disk start first ending
+        → IfOk result (λ disk. (last : JournalView D) × (published : List CommandValue)
+        × IsWhole D.disk start first last published × (disk ≡ last.disk)) }
+    ensures cause { IfErr result IsRunCause }
+    ensures status { IfErr result (λ fault. status_of fault ≡ 1) }
+{
+    match ending {
+        Ending::Closed(journal, _) => Ok(journal.disk()),
         Ending::Faulted(_, _) => Err(Fault::Disk),
     }
 }

@@ -1,4 +1,4 @@
-use Rattle.std.proofs.Common.{◌≡◌, ◌∙◌, IfErr, IfOk, inr, string_bytes, vec_len, sym, subst, rules}
+use Rattle.std.proofs.Common.{◌∙◌, IfErr, IfOk, inr, string_bytes, vec_len, sym, subst, rules}
 use Rattle.std.proofs.lemmas.Result.{IfErr-weaker}
 use Rattle.iol_commands.specs.Images.{TellsWhy}
 use Rattle.iol_journal.specs.Meaning.{Standing, standing_in}
