@@ -6,9 +6,9 @@ ghost use Rattle.iol_journal.specs.Reading.{Shows};
 ghost use Rattle.iol_types.specs.State.{State};
 ghost use Rattle.iol_commands.specs.Fault.{status_of};
 ghost use Rattle.iol_commands.specs.Images.{TellsWhy};
-ghost use Rattle.iol_view.specs.Json.{IsSomeState, TellsStateAsJson};
+ghost use Rattle.iol_view.specs.Json.{IsSomeState, ReadsAs, TellsStateAsJson};
 
-use iol_commands::{Fault, Shown, opened, print, report, show_disk};
+use iol_commands::{Fault, Recovered, Shown, opened, print, report, show_disk};
 use iol_disk::{LockFile, SectorDisk};
 use iol_json::json_text;
 use std::alloc::Global;
@@ -55,7 +55,17 @@ pub fn json_of_disk<D: SectorDisk + Drop>(alloc: Global, disk: D) -> Result<Stri
     ensures status { IfErr result (λ fault. status_of fault ≡ 1) }
 {
     let Shown { recovered, disk: _ } = show_disk(alloc, disk);
-    let recovered = recovered?;
+    match recovered {
+        Ok(recovered) => json_of(alloc, &recovered),
+        Err(fault) => Err(fault),
+    }
+}
+
+// What is printed of a state that was recovered.
+fn json_of(alloc: Global, recovered: &Recovered) -> Result<String, Fault<'static>>
+    ensures text { IfOk result (λ text. ReadsAs recovered.now.number recovered.now.state (string_bytes text)) }
+    ensures cause { IfErr result (λ fault. fault ≡ Fault.Memory) }
+{
     let mut text = json_text(alloc, recovered.number, &recovered.state)?;
     text.push('\n')?;
     Ok(text)

@@ -6,6 +6,7 @@ ghost use Rattle.iol_view.specs.Map.{IsMapCause, IsSomeMap, TellsMap, mapped_tex
 
 use crate::map_disk::{Mapped, map_disk};
 use crate::map_drawing::Drawing;
+use crate::map_text::Map;
 use iol_commands::{Fault, opened, print, report, write_picture};
 use iol_disk::{LockFile, SectorDisk};
 use std::alloc::{AllocError, Global};
@@ -91,13 +92,50 @@ fn draw<'a, F: FileExt + OpenFile + LockFile + Drop, R: Files<File = F> + AllocG
     ensures text { IfOk result (λ text. (sectors : ℕ) × (string_bytes text ≡ mapped_text sectors)) }
     ensures status { IfErr result (λ fault. status_of fault ≡ 1) }
 {
-    let alloc = rt.alloc();
-    // The image stays open and locked while the picture is written.
-    let Mapped { map, disk: _open } = map_disk(alloc, opened(rt, path)?);
-    let map = map?;
-    let drawing = Drawing { map: &map }.to_string(alloc)?;
-    write_picture(rt, picture, drawing.as_str())?;
-    Ok(mapped(alloc, map.sectors)?)
+    draw_disk(rt, opened(rt, path)?, picture)
+}
+
+// Draws the map of a disk into the file at `picture`; what is printed of that.
+fn draw_disk<
+    'a,
+    D: SectorDisk + Drop,
+    F: FileExt + OpenFile + LockFile + Drop,
+    R: Files<File = F> + AllocGlobal,
+>(rt: &R, disk: D, picture: &'a str) -> Result<String, Fault<'a>>
+    ensures text { IfOk result (λ text. (sectors : ℕ) × (string_bytes text ≡ mapped_text sectors)) }
+    ensures status { IfErr result (λ fault. status_of fault ≡ 1) }
+{
+    // The disk stays open, and an image locked, while the picture is written.
+    let Mapped { map, disk: _open } = map_disk(rt.alloc(), disk);
+    match map {
+        Ok(map) => draw_into(rt, &map, picture),
+        Err(fault) => Err(fault),
+    }
+}
+
+// Draws a map into the file at `picture`; what is printed of that.
+fn draw_into<'a, F: FileExt + OpenFile + LockFile + Drop, R: Files<File = F> + AllocGlobal>(
+    rt: &R,
+    map: &Map,
+    picture: &'a str,
+) -> Result<String, Fault<'a>>
+    ensures text { IfOk result (λ text. (sectors : ℕ) × (string_bytes text ≡ mapped_text sectors)) }
+    ensures status { IfErr result (λ fault. status_of fault ≡ 1) }
+{
+    write_drawing(rt, map, picture)?;
+    Ok(mapped(rt.alloc(), map.sectors)?)
+}
+
+// Makes the drawing of a map all that the file at `picture` holds.
+fn write_drawing<'a, F: FileExt + OpenFile + LockFile + Drop, R: Files<File = F> + AllocGlobal>(
+    rt: &R,
+    map: &Map,
+    picture: &'a str,
+) -> Result<(), Fault<'a>>
+    ensures { IfErr result (λ fault. status_of fault ≡ 1) }
+{
+    let drawing = Drawing { map }.to_string(rt.alloc())?;
+    write_picture(rt, picture, drawing.as_str())
 }
 
 // What is printed of a picture.

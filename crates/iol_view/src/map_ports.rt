@@ -1,5 +1,5 @@
 //! The records of an area's ports, in a map.
-ghost use Rattle.std.specs.Prelude.{◌≡◌, ◌≤◌};
+ghost use Rattle.std.specs.Prelude.{◌≡◌, ◌≤◌, ◌<◌};
 ghost use Rattle.iol_disk.specs.Disk.{Same};
 ghost use Rattle.iol_journal.specs.Layout.{total};
 ghost use Rattle.iol_view.specs.Map.{record_in};
@@ -25,18 +25,38 @@ pub(crate) fn add_ports<D: SectorDisk>(
 {
     let mut octets = Vec::new(alloc);
     for place in 0..layout.ports() {
-        let first = layout.port(area, usize::from(place));
-        let sectors = layout.port_sectors();
-        let port = found(read_port(alloc, disk, first, sectors, &mut octets))?;
-        let record = Record {
-            number: usize::from(place) + 1,
-            sectors: Span::counted(first, sectors),
-            all: sectors,
-            read: octets.len() / SECTOR_OCTETS,
-        };
-        lines.add(port_line(alloc, record, port)?)?;
+        add_port(alloc, disk, layout, area, place, &mut octets, lines)?;
     }
     Ok(())
+}
+
+// Adds the line of the port at a place of an area.
+fn add_port<D: SectorDisk>(
+    alloc: Global,
+    disk: &mut D,
+    layout: Layout,
+    area: Area,
+    place: u8,
+    octets: &mut Vec<u8>,
+    lines: &mut Lines,
+) -> Result<(), RecoverCause>
+    requires within { total layout ≤ (D.disk disk.old).sectors }
+    requires place { place < layout.ports }
+    ensures { Same (D.disk disk.old) (D.disk disk.new) }
+{
+    let first = layout.port(area, usize::from(place));
+    let sectors = layout.port_sectors();
+    let port = found(read_port(alloc, disk, first, sectors, octets))?;
+    let record = Record {
+        number: usize::from(place) + 1,
+        sectors: Span::counted(first, sectors),
+        all: sectors,
+        read: octets.len() / SECTOR_OCTETS,
+    };
+    match port_line(alloc, record, port) {
+        Ok(line) => Ok(lines.add(line)?),
+        Err(_) => Err(RecoverCause::Memory),
+    }
 }
 
 // The port that was read, or none where its sectors hold no record.
