@@ -9,7 +9,8 @@ use Rattle.iol_journal.specs.Runs.{with_batch_begun}
 use Rattle.iol_journal.specs.Running.{IsRunWriting}
 use Rattle.iol_example.specs.Store.{left_disk, freeing_calls, with_slot, IsRefusal, MakesCalls, RestsAt}
 use Rattle.iol_example.proofs.CallLaws.{ended_early, then_makes}
-use Rattle.iol_example.proofs.StoreLaws.{rests_at, or_after, batch_behind, none_refused, refused_as_it_was, written_is, written_rests, run_of_queued}
+use Rattle.iol_example.proofs.StoreLaws.{rests_at, or_after, batch_behind, none_refused, refused_as_it_was}
+use Rattle.iol_example.proofs.StoreLaws.{run_of_queued, written_is, written_rests}
 use Rattle.iol_example.proofs.store.write.Goals as goal
 
 -- no slot was freed
