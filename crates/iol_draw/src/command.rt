@@ -1,14 +1,14 @@
 //! The command that draws the run of a script.
-ghost use Rattle.std.specs.Prelude.{◌≡◌, ◌≤◌, ◌⊎◌, ℕ, List, IfErr, IfOk, OnOk, string_bytes};
+ghost use Rattle.std.specs.Prelude.{◌≡◌, ◌≤◌, ◌⊎◌, ℕ, List, IfErr, IfOk, OnOk, length, string_bytes};
 ghost use Rattle.std.specs.Io.KnownBytes.{Appends};
 ghost use Rattle.iol_commands.specs.Runs.{CanRun, IsCause, IsSilentOver};
 ghost use Rattle.iol_draw.specs.Drawn.{TellsDrawn, drawn_text};
 
 use crate::numbers::numbers_of;
 use iol_commands::{Fault, print, read_playable, report, write_picture};
-use iol_disk::LockFile;
-use iol_explain::explained_run;
-use iol_picture::picture_of;
+use iol_disk::{LockFile, Pick};
+use iol_explain::{Explained, explained_run};
+use iol_picture::{Numbers, picture_of};
 use std::alloc::{AllocError, Global};
 use std::fs::OpenFile;
 use std::io::Write;
@@ -78,9 +78,22 @@ fn drawn_run(alloc: Global, script: &[u8]) -> Result<Drawn, Fault<'static>>
     let ready = read_playable(alloc, script)?;
     let explained = explained_run(alloc, ready.geometry, &ready.script)?;
     let numbers = numbers_of(alloc, ready.geometry, &ready.script)?;
+    drawing_of(alloc, &explained, ready.script.keep, numbers)
+}
+
+// The picture of a run whose stop keeps this.
+fn drawing_of(
+    alloc: Global,
+    explained: &Explained,
+    keep: Pick,
+    numbers: Numbers,
+) -> Result<Drawn, Fault<'static>>
+    ensures printed { IfOk result (λ drawn. string_bytes drawn.line ≡ drawn_text (length explained.now.events.items)) }
+    ensures cause { IfErr result (λ fault. fault ≡ Fault.Memory) }
+{
     Ok(Drawn {
         line: line_of(alloc, explained.events.len())?,
-        picture: picture_of(alloc, &explained, ready.script.keep, numbers)?,
+        picture: picture_of(alloc, explained, keep, numbers)?,
     })
 }
 
