@@ -102,12 +102,18 @@ impl Judge<'_> {
     ) -> Result<(), AllocError> {
         self.write_unlike_counts(entry, lines)?;
         for value in values_of(self.alloc, self.text, entry.value)? {
-            if !are_parameters(self.alloc, USUAL_KEY, value.of(self.text))? {
-                write_found(lines, self.text, value.start, Key::Values.name(), value)?;
-                lines.push_str(EACH_VALUE)?;
-            }
+            self.write_wrong_value(value, lines)?;
         }
         Ok(())
+    }
+
+    // Writes that a value is none, if it is none.
+    fn write_wrong_value(&self, value: Part, lines: &mut String) -> Result<(), AllocError> {
+        if are_parameters(self.alloc, USUAL_KEY, value.of(self.text))? {
+            return Ok(());
+        }
+        write_found(lines, self.text, value.start, Key::Values.name(), value)?;
+        lines.push_str(EACH_VALUE)
     }
 
     // Writes that the device of an entry has not as many values as keys, where both are arrays.
