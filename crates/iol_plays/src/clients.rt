@@ -130,8 +130,7 @@ fn ask<
         receipts,
     };
     let clients = start_all(rt, alloc, master, words, &ends)?;
-    // (what is heard ends once no client and nobody here can tell more)
-    let receipts = ends.receipts;
+    let receipts = ends.receipts();
     hear(rt, &heard, out)?;
     join_all(rt, clients);
     writeln!(out, "met at {}", meet_all(rt, &receipts))?;
@@ -156,6 +155,11 @@ impl<F: Name> Ends<F> {
             receipts: self.receipts.clone()?,
             client,
         })
+    }
+
+    // Where receipts come from. The other ends are let go, so that what is heard ends with the last client.
+    fn receipts(self) -> Receiver<Receipt<F>, Global> {
+        self.receipts
     }
 }
 
