@@ -1,5 +1,5 @@
 //! The journal on a disk.
-ghost use Rattle.std.specs.Prelude.{◌≡◌, Ok, [], IfOk, IfErr};
+ghost use Rattle.std.specs.Prelude.{◌≡◌, Ok, [], None, IfOk, IfErr};
 ghost use Rattle.iol_journal.specs.Kept.{IsKept};
 ghost use Rattle.iol_journal.specs.Meaning.{standing_in};
 ghost use Rattle.iol_journal.specs.Reading.{Shows};
@@ -26,6 +26,7 @@ pub fn recover<D: SectorDisk + Drop>(
     // On a kept image the journal is at rest.
     ensures at_rest { IfOk result (λ found. Shows (D.disk disk) (IsKept (D.disk disk).sectors)
         → IsAtRest (D.disk found.0.disk) found.0.standing found.0.idle) }
+    ensures begun { IfOk result (λ found. found.0.begun ≡ None) }
     ensures history { IfOk result (λ found. found.0.history ≡ record { first = found.0.standing.number; start = found.1; commands = [] }) }
     ensures cause { IfErr result (λ fault. Shows (D.disk disk) (λ image. TellsWhy (standing_in (D.disk disk).sectors image) fault)) }
     ensures status { IfErr result (λ fault. status_of fault ≡ 1) }

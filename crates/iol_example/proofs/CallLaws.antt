@@ -6,12 +6,12 @@ use Rattle.iol_disk.specs.Calls.{Call, Made, FailedIn}
 use Rattle.iol_disk.specs.Disk.{Disk}
 use Rattle.iol_disk.specs.declared.fault.DiskFault.{DiskFault}
 use Rattle.iol_disk.proofs.DiskLaws.{failed_first, failed_later, made_append, made_none}
-use Rattle.iol_journal.specs.Checkpoints.{checkpoint_calls}
+use Rattle.iol_journal.specs.BegunViews.{BegunView}
+use Rattle.iol_journal.specs.CheckpointViews.{begun_in, calls_of, end_in}
 use Rattle.iol_journal.specs.Journals.{JournalView}
 use Rattle.iol_journal.specs.Meaning.{Standing}
 use Rattle.iol_journal.specs.Progress.{MakesFirst, FailsFirst}
-use Rattle.iol_journal.specs.declared.place.Idle.{Idle}
-use Rattle.iol_example.specs.Store.{freeing_calls, MakesCalls}
+use Rattle.iol_example.specs.Store.{freeing_calls, with_slot, MakesCalls}
 use Rattle.iol_example.specs.declared.store.WriteFault.{WriteFault}
 use Rattle.iol_example.specs.declared.store.WriteFault.TheVariants.{Refused, Failed}
 
@@ -81,6 +81,19 @@ then_makes disk first second old between (Err (Refused back cause)) made makes =
 then_makes disk first second old between (Err (Failed left fault)) made makes =
     failed_later first second fault old between (disk left) made makes
 
+-- where a checkpoint ends, and its calls, go by how the journal stands and how far the checkpoint is
+pub same_end : (s t : Standing) (b c : BegunView) → s ≡ t → b ≡ c → end_in s b ≡ end_in t c
+same_end s t b c same same_begun = rw (same, same_begun) refl
+
+pub same_calls : (s t : Standing) (b c : BegunView) → s ≡ t → b ≡ c → calls_of s b ≡ calls_of t c
+same_calls s t b c same same_begun = rw (same, same_begun) refl
+
 -- where no slot is free, those of a checkpoint free one
-pub none_free : (s : Standing) (idle : Idle) → nat_lt s.used s.layout.slots ≡ false → checkpoint_calls s idle ≡ freeing_calls s idle
-none_free s idle full = sym (ap (λ (free : Bool). if free then [] else checkpoint_calls s idle) full)
+pub none_free : {D : Type 0} (j : JournalView D) → nat_lt j.standing.used j.standing.layout.slots ≡ false
+    → calls_of j.standing (begun_in j) ≡ freeing_calls j
+none_free j full = sym (ap (λ (free : Bool). if free then [] else calls_of j.standing (begun_in j)) full)
+
+-- where no slot is free, it stands with one behind a checkpoint
+pub full_slot : {D : Type 0} (j : JournalView D) → nat_lt j.standing.used j.standing.layout.slots ≡ false
+    → end_in j.standing (begun_in j) ≡ with_slot j
+full_slot j full = sym (ap (λ (free : Bool). if free then j.standing else end_in j.standing (begun_in j)) full)

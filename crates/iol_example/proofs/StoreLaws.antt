@@ -1,5 +1,6 @@
 -- What the public clauses of the journal and of the disk say together.
-use Rattle.std.proofs.Common.{◌≡◌, inl, ℕ, ◌+◌, List, [], ◌∷◌, ◌++◌, length, true, Result, Ok, Err, IfOk, refl, sym, ◌∙◌, ap, subst, arith}
+use Rattle.std.proofs.Common.{◌≡◌, inl, ℕ, ◌+◌, List, [], ◌∷◌, ◌++◌, length, true, None}
+use Rattle.std.proofs.Common.{Result, Ok, Err, IfOk, refl, sym, ◌∙◌, ap, subst, arith}
 use Rattle.iol_types.specs.Command.{CommandValue}
 use Rattle.iol_types.specs.State.{State, after, legal}
 use Rattle.iol_disk.specs.Content.{Image}
@@ -25,8 +26,13 @@ pub rests_at : {D : Type 0} (disk : D → Disk) (number : ℕ) (state : State) (
 rests_at disk number state j rests same_number same_state = record {
   rests = rests;
   stands = λ h. (same_number, same_state);
-  means = rw (← same_number, ← same_state) (rest_means_its_state (disk j.disk) j.standing j.idle rests);
+  means = rw (← same_number, ← same_state) (rest_means_its_state (disk j.disk) j.standing j.idle rests.0);
 }
+
+-- a journal at rest beside which no checkpoint is paused
+pub none_paused : {D : Type 0} (disk : D → Disk) (j : JournalView D) → IsAtRest (disk j.disk) j.standing j.idle
+    → j.begun ≡ None → Rests disk j
+none_paused disk j rests none = (rests, rw none tt)
 
 -- before the first call of a journal at rest
 pub from_rest : (old new : Disk) (s : Standing) (idle : Idle) → new ≡ old → IsAtRest old s idle

@@ -6,7 +6,7 @@ use Rattle.iol_disk.specs.Calls.{Call, Made, FailedIn}
 use Rattle.iol_disk.specs.Disk.{Disk}
 use Rattle.iol_journal.specs.Batches.{batch_calls}
 use Rattle.iol_journal.specs.Begin.{batch_refusal}
-use Rattle.iol_journal.specs.Checkpoints.{checkpoint_calls, checkpointed}
+use Rattle.iol_journal.specs.CheckpointViews.{begun_in, calls_of, end_in, IsPaused}
 use Rattle.iol_journal.specs.Geometry.{Geometry}
 use Rattle.iol_journal.specs.Journals.{JournalView}
 use Rattle.iol_journal.specs.Kept.{EachMeans}
@@ -20,15 +20,14 @@ use Rattle.iol_journal.specs.declared.cause.RecoverCause.TheVariants.{NotFormatt
 use Rattle.iol_journal.specs.declared.formatting.FormatFault.TheVariants.{TooSmall, AlreadyFormatted}
 use Rattle.iol_journal.specs.declared.journal.BeginCause.{BeginCause}
 use Rattle.iol_journal.specs.declared.journal.BeginCause.TheVariants.{Memory}
-use Rattle.iol_journal.specs.declared.place.Idle.{Idle}
 use Rattle.iol_example.specs.declared.store.CreateFault.{CreateFault}
 use Rattle.iol_example.specs.declared.store.CreateFault.TheVariants.{Format, Recover}
 use Rattle.iol_example.specs.declared.store.WriteFault.{WriteFault}
 use Rattle.iol_example.specs.declared.store.WriteFault.TheVariants.{Refused, Failed}
 
--- the journal of a store is at rest on its disk (own)
+-- the journal of a store is at rest on its disk, with a checkpoint that is paused, if one is (own)
 abbrev pub Rests : {D : Type 0} → (D → Disk) → JournalView D → Type 0
-Rests disk j = IsAtRest (disk j.disk) j.standing j.idle
+Rests disk j = IsAtRest (disk j.disk) j.standing j.idle × IsPaused (disk j.disk) j.standing j.begun
 
 -- a store is at rest with this number and state: on an honest disk its journal stands so, and each image means them
 -- (own)
@@ -63,15 +62,15 @@ IsRefusal s command Memory = Unit {0}
 IsRefusal s command cause = batch_refusal s (s.number + 1) (command ∷ []) ≡ Some cause
 
 -- the disk calls that free a slot where none is free, and where the journal stands with one (own)
-abbrev pub freeing_calls : Standing → Idle → List Call
-freeing_calls s idle = if nat_lt s.used s.layout.slots then [] else checkpoint_calls s idle
+abbrev pub freeing_calls : {D : Type 0} → JournalView D → List Call
+freeing_calls j = if nat_lt j.standing.used j.standing.layout.slots then [] else calls_of j.standing (begun_in j)
 
-abbrev pub with_slot : Standing → Standing
-with_slot s = if nat_lt s.used s.layout.slots then s else checkpointed s
+abbrev pub with_slot : {D : Type 0} → JournalView D → Standing
+with_slot j = if nat_lt j.standing.used j.standing.layout.slots then j.standing else end_in j.standing (begun_in j)
 
 -- the disk calls of a write: those that free a slot, and behind them those of the command's batch (own)
-abbrev pub write_calls : Standing → Idle → CommandValue → List Call
-write_calls s idle command = freeing_calls s idle ++ batch_calls (with_slot s) (command ∷ [])
+abbrev pub write_calls : {D : Type 0} → JournalView D → CommandValue → List Call
+write_calls j command = freeing_calls j ++ batch_calls (with_slot j) (command ∷ [])
 
 -- the first of the calls were made in their order, and each succeeded (own)
 pub record MadeFirst (calls : List Call) (old new : Disk) : Type 0 where

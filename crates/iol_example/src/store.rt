@@ -5,6 +5,7 @@ ghost use Rattle.iol_types.specs.Command.{CommandValue, value_of};
 ghost use Rattle.iol_types.specs.State.{State, after, empty_state};
 ghost use Rattle.iol_disk.specs.Content.{IsImage};
 ghost use Rattle.iol_disk.specs.Moments.{LeavesOnly};
+ghost use Rattle.iol_journal.specs.CheckpointViews.{IsBeside};
 ghost use Rattle.iol_journal.specs.Journals.{calls_left, with_batch};
 ghost use Rattle.iol_journal.specs.Kept.{KeptMeans, KeptEither, EachMeans};
 ghost use Rattle.iol_journal.specs.Meaning.{standing_in};
@@ -115,7 +116,7 @@ pub fn write<D: SectorDisk + Drop>(
     ensures durable { Rests D.disk journal
         → IfOk result (RestsAt D.disk (journal.standing.number + 1) (after journal.standing.state (value_of command ∷ []))) }
     // These disk calls are made, up to one that failed: its failure was counted, and its fault is told.
-    ensures calls { MakesCalls D.disk (write_calls journal.standing journal.idle (value_of command)) (D.disk journal.disk) result }
+    ensures calls { MakesCalls D.disk (write_calls journal (value_of command)) (D.disk journal.disk) result }
     // Memory ran out, or the batch of the command is refused where the journal stands.
     ensures cause { IfRefused result (λ back cause. IsRefusal back.standing (value_of command) cause) }
     // Each image means what it meant.
@@ -142,8 +143,8 @@ fn with_free_slot<D: SectorDisk + Drop>(journal: Journal<D>) -> Result<Journal<D
         (KeptMeans (D.disk journal.disk).sectors journal.standing.number journal.standing.state) }
     ensures same { IfOk result (λ freed. (freed.standing.number ≡ journal.standing.number)
         × (freed.standing.state ≡ journal.standing.state)) }
-    ensures slot { IfOk result (λ freed. freed.standing ≡ with_slot journal.standing) }
-    ensures calls { MakesCalls D.disk (freeing_calls journal.standing journal.idle) (D.disk journal.disk) result }
+    ensures slot { IfOk result (λ freed. freed.standing ≡ with_slot journal) }
+    ensures calls { MakesCalls D.disk (freeing_calls journal) (D.disk journal.disk) result }
     ensures rests { Rests D.disk journal → IfOk result (Rests D.disk) }
     ensures refused { IfRefused result (λ back cause. (back ≡ journal) × (cause ≡ BeginCause.Memory)) }
     ensures run { (r : Run) → IsRunAtRest D.disk r journal → LeavesRun D.disk r r result }
@@ -170,7 +171,8 @@ fn finish<D: SectorDisk + Drop>(mut writing: Writing<D>) -> Result<Journal<D>, W
         (KeptEither (D.disk writing.disk).sectors writing.standing.number writing.standing.state writing.commands) }
     ensures done { IfOk result (λ behind. behind.standing ≡ with_batch writing.standing writing.commands) }
     ensures calls { MakesCalls D.disk (calls_left writing) (D.disk writing.disk) result }
-    ensures rests { IsUnderway D.disk writing → IfOk result (Rests D.disk) }
+    ensures rests { IsUnderway D.disk writing → IsBeside (D.disk writing.disk) writing.standing writing.begun
+        → IfOk result (Rests D.disk) }
     ensures taken { IfRefused result (λ _ _. ⊥) }
     ensures run { (r : Run) → IsRunWriting D.disk r writing → LeavesRun D.disk r (with_batch_written r) result }
 {

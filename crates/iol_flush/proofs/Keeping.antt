@@ -1,17 +1,18 @@
 -- A run of a journal goes on with each disk call.
-use Rattle.std.proofs.Common.{◌≡◌, refl, List, [], ◌++◌, sym, ◌∙◌, ap, subst}
+use Rattle.std.proofs.Common.{◌≡◌, refl, List, [], ◌++◌, Option, None, sym, ◌∙◌, ap, subst}
 use Rattle.iol_types.specs.Command.{CommandValue}
 use Rattle.iol_disk.specs.Disk.{Disk}
 use Rattle.iol_disk.specs.declared.fault.DiskFault.{DiskFault}
 use Rattle.iol_journal.specs.CheckpointRuns.{IsRunCheckpointing}
-use Rattle.iol_journal.specs.CheckpointViews.{CheckpointingView}
+use Rattle.iol_journal.specs.BegunViews.{BegunView}
+use Rattle.iol_journal.specs.CheckpointViews.{CheckpointingView, IsPaused}
 use Rattle.iol_journal.specs.Journals.{JournalView, WritingView, values}
 use Rattle.iol_journal.specs.Runs.{Run, IsRun, with_batch_begun, with_batch_written}
 use Rattle.iol_journal.specs.Running.{IsRunAtRest, IsRunWriting}
 use Rattle.iol_journal.specs.Underway.{IsAtRest}
 use Rattle.iol_journal.specs.Written.{WrittenView}
 use Rattle.iol_journal.specs.declared.batch.Batch.{Batch}
-use Rattle.iol_flush.specs.Flushing.{run_of, KeepsRun}
+use Rattle.iol_flush.specs.Flushing.{run_of, KeepsRun, Rests}
 use Rattle.iol_flush.specs.declared.stage.Stage.{Stage}
 use Rattle.iol_flush.specs.declared.stage.Stage.TheVariants.{Given, Checkpointing, Writing, Publishing, Failed}
 
@@ -109,6 +110,11 @@ keeps_given {D} disk j k batch same journal_is batch_is =
     (subst (λ (b : Batch). KeepsRun disk (Given j batch) (Given j b)) (sym batch_is) (keeps_self disk (Given j batch)))
 
 -- a journal that comes back is at rest as before
-pub rests_still : {D : Type 0} (disk : D → Disk) (j back : JournalView D) → back ≡ j → IsAtRest (disk j.disk) j.standing j.idle
-    → IsAtRest (disk back.disk) back.standing back.idle
-rests_still {D} disk j back same rest = subst (λ (x : JournalView D). IsAtRest (disk x.disk) x.standing x.idle) (sym same) rest
+pub rests_still : {D : Type 0} (disk : D → Disk) (j back : JournalView D) → back ≡ j → Rests disk j → Rests disk back
+rests_still {D} disk j back same rest = subst (λ (x : JournalView D). Rests disk x) (sym same) rest
+
+-- behind a checkpoint none is paused
+pub rests_behind : {D : Type 0} (disk : D → Disk) (j : JournalView D) → IsAtRest (disk j.disk) j.standing j.idle → j.begun ≡ None
+    → Rests disk j
+rests_behind disk j rest none =
+    (rest, subst (λ (begun : Option BegunView). IsPaused (disk j.disk) j.standing begun) (sym none) tt)

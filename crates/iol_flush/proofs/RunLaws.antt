@@ -83,6 +83,7 @@ module _ {D : Type 0} (disk : D → Disk) (number : ℕ) (state : State) (publis
           was.1.2,
         ),
         was.2,
+        was.3,
       )
 
   -- nothing more is acknowledged at this moment than at the one before
@@ -116,6 +117,7 @@ module _ {D : Type 0} (disk : D → Disk) (number : ℕ) (state : State) (publis
         was.2.1.2,
       ),
       was.2.2,
+      was.2.3,
     ),
   )
   marked_later mark marks (Publishing j written) was =
@@ -188,13 +190,15 @@ module _ {D : Type 0} (disk : D → Disk) (number : ℕ) (state : State) (publis
       → IsFlushing disk number state published waiting marks stage
       → IsFlushing disk number state published (waiting ++ commands) marks stage
   accepts_more marks (Resting j) commands pass was =
-      (was.0, (accepts (disk j.disk) (run_of number state published [] waiting marks) commands pass was.1.0, was.1.1, was.1.2), was.2)
+      let accepted = accepts (disk j.disk) (run_of number state published [] waiting marks) commands pass was.1.0 in
+      (was.0, (accepted, was.1.1, was.1.2), was.2, was.3)
   accepts_more marks (Given j batch) commands pass was = (
     (was.0.0 ++ commands, longer (values batch.commands.items) was.0.0 commands was.0.1),
     (
       was.1.0,
       (accepts (disk j.disk) (run_of number state published [] waiting marks) commands pass was.1.1.0, was.1.1.1, was.1.1.2),
       was.1.2,
+      was.1.3,
     ),
   )
   accepts_more marks (Checkpointing c batch) commands pass was = (
@@ -217,6 +221,7 @@ module _ {D : Type 0} (disk : D → Disk) (number : ℕ) (state : State) (publis
         was.2.1.2,
       ),
       was.2.2,
+      was.2.3,
     ),
   )
   accepts_more marks (Publishing j written) commands pass was = (
@@ -234,6 +239,7 @@ module _ {D : Type 0} (disk : D → Disk) (number : ℕ) (state : State) (publis
         was.2.1.2,
       ),
       was.2.2,
+      was.2.3,
     ),
   )
   accepts_more marks (Failed left fault) commands pass was = (

@@ -10,8 +10,7 @@ use Rattle.iol_disk.specs.declared.fault.DiskFault.{DiskFault}
 use Rattle.iol_front.specs.Fronts.{Start}
 use Rattle.iol_journal.specs.Batches.{batch_calls}
 use Rattle.iol_journal.specs.Begin.{batch_refusal, is_too_large, follows}
-use Rattle.iol_journal.specs.Checkpoints.{checkpoint_calls, checkpointed}
-use Rattle.iol_journal.specs.CheckpointViews.{CheckpointingView}
+use Rattle.iol_journal.specs.CheckpointViews.{CheckpointingView, begun_in, calls_of}
 use Rattle.iol_journal.specs.Journals.{JournalView, WritingView, LeadsTo, values, calls_left, with_batch, written_behind}
 use Rattle.iol_journal.specs.Meaning.{Standing}
 use Rattle.iol_journal.specs.declared.history.History.{History}
@@ -46,43 +45,23 @@ not_full j batch none =
 next_of_batch : {D : Type 0} (j : JournalView D) (batch : Batch) → batch_refusal j.standing batch.first (values batch.commands.items) ≡ None
     → next_calls (Given j batch) ≡ batch_calls j.standing (values batch.commands.items)
 next_of_batch j batch none =
-    ap (λ (full : Bool). if full then checkpoint_calls j.standing j.idle else batch_calls j.standing (values batch.commands.items))
+    ap (λ (full : Bool). if full then calls_of j.standing (begun_in j) else batch_calls j.standing (values batch.commands.items))
     (not_full j batch none)
 
 -- a batch is as it was begun where each of its parts is
 pub as_begun : {D : Type 0} (w : WritingView D) (j : JournalView D) (commands : List CommandValue)
     → (w.disk ≡ j.disk) × (w.standing ≡ j.standing) × (w.idle ≡ j.idle) × (w.history ≡ j.history) × (w.commands ≡ commands)
-    × (w.phase ≡ Body 0)
+    × (w.phase ≡ Body 0) × (w.begun ≡ j.begun)
     → w ≡ writing_of j commands
-as_begun w j commands is =
-    ap (λ disk. record w { disk = disk }) is.0
-    ∙ (ap (λ standing. record {
-      disk = j.disk;
-      standing = standing;
-      idle = w.idle;
-      history = w.history;
-      commands = w.commands;
-      phase = w.phase;
-    }) is.1
-    ∙ (ap (λ idle. record {
-      disk = j.disk;
-      standing = j.standing;
-      idle = idle;
-      history = w.history;
-      commands = w.commands;
-      phase = w.phase;
-    }) is.2
-    ∙ (ap (λ history. record {
-      disk = j.disk;
-      standing = j.standing;
-      idle = j.idle;
-      history = history;
-      commands = w.commands;
-      phase = w.phase;
-    }) is.3
-    ∙ (ap (λ cs. record { disk = j.disk; standing = j.standing; idle = j.idle; history = j.history; commands = cs; phase = w.phase }) is.4
-    ∙ ap (λ phase. record { disk = j.disk; standing = j.standing; idle = j.idle; history = j.history; commands = commands; phase = phase })
-    is.5))))
+as_begun w j commands is = λ i. record {
+  disk = is.0 i;
+  standing = is.1 i;
+  idle = is.2 i;
+  history = is.3 i;
+  begun = is.6 i;
+  commands = is.4 i;
+  phase = is.5 i;
+}
 
 -- what a batch is before its first disk call
 pub record IsBegun {D : Type 0} (j : JournalView D) (batch : Batch) (w : WritingView D) : Type 0 where
@@ -149,10 +128,11 @@ checkpointed_in_step : {D : Type 0} (start : Start) (published : List CommandVal
 checkpointed_in_step start published c batch (Checkpointing d kept) has was =
     subst (λ s. StandsBehind start published s d.history) (sym has.0)
     (subst (λ h. StandsBehind start published c.standing h) (sym has.1) was)
-checkpointed_in_step start published c batch (Given j kept) has was =
-    subst (λ s. StandsBehind start published s j.history) (sym has.0)
-    (subst (λ h. StandsBehind start published (checkpointed c.standing) h) (sym has.1)
-    (record { history_is = was.history_is; number = was.number; state = was.state }))
+checkpointed_in_step start published c batch (Given j kept) has was = record {
+  history_is = subst (HasHistory start published) (sym has.1) was.history_is;
+  number = has.4 ∙ was.number;
+  state = has.5 ∙ was.state;
+}
 checkpointed_in_step start published c batch (Resting j) has was = absurd has
 checkpointed_in_step start published c batch (Writing w) has was = absurd has
 checkpointed_in_step start published c batch (Publishing j written) has was = absurd has

@@ -1,18 +1,22 @@
 -- Each disk call leaves fewer calls to make, and a batch of the queue is never refused for what it is.
-use Rattle.std.proofs.Common.{◌≡◌, ◌≤◌, ◌⊎◌, inl, inr, ◌+◌, ◌||◌, ℕ, Bool, true, false, if◌then◌else◌, nat_lt, List, [], length}
-use Rattle.std.proofs.Common.{Option, Some, None, zero-add, Result, Ok, Err, sym, ◌∙◌, ap, subst, arith, rules}
+use Rattle.std.proofs.Common.{◌≡◌, ◌≤◌, ◌⊎◌, inl, inr, ◌+◌, ◌*◌, ◌||◌, ℕ, Bool, true, false, if◌then◌else◌, nat_lt, List, [], length}
+use Rattle.std.proofs.Common.{Option, Some, None, zero-add, Result, Ok, Err, refl, sym, ◌∙◌, ap, subst, arith, rules}
+use Rattle.std.proofs.lemmas.Bool.Decides.{nat_tests}
 use Rattle.iol_disk.specs.Calls.{Call}
 use Rattle.iol_disk.specs.Disk.{Disk}
 use Rattle.iol_journal.specs.Batches.{batch_calls}
 use Rattle.iol_journal.specs.Begin.{is_too_large, follows}
 use Rattle.iol_journal.specs.Body.{slots_for}
-use Rattle.iol_journal.specs.CheckpointViews.{CheckpointingView, stages_left}
-use Rattle.iol_journal.specs.Checkpoints.{checkpoint_calls, checkpointed}
+use Rattle.iol_journal.specs.BegunViews.{BegunView}
+use Rattle.iol_journal.specs.CheckpointViews.{CheckpointingView, begun_in, calls_of, end_of, stages_left}
+use Rattle.iol_journal.specs.Checkpoints.{checkpointed, first_stage, stage_calls}
+use Rattle.iol_journal.specs.Layout.{Layout}
 use Rattle.iol_journal.specs.Journals.{JournalView, WritingView, values, calls_left}
 use Rattle.iol_journal.specs.Meaning.{Standing}
 use Rattle.iol_journal.specs.Progress.{MakesFirst}
 use Rattle.iol_journal.specs.declared.batch.Batch.{Batch}
 use Rattle.iol_types.specs.Command.{CommandValue}
+use Rattle.iol_types.specs.State.{State}
 use Rattle.iol_journal.specs.declared.place.Idle.{Idle}
 use Rattle.iol_journal.specs.declared.place.Idle.TheVariants.{Older, Closed}
 use Rattle.iol_journal.specs.declared.journal.BeginCause.{BeginCause}
@@ -21,7 +25,7 @@ use Rattle.iol_disk.specs.declared.fault.DiskFault.{DiskFault}
 use Rattle.iol_flush.specs.Flushing.{FitsBatch, GoesOn}
 use Rattle.iol_flush.specs.Stages.{failure_of, wants_checkpoint, disk_of, calls_owed, HasFewCalls, most_batch_calls, most_checkpoint_calls}
 use Rattle.iol_flush.specs.Steps.{HasWritten, HasCheckpointed, HasBegun, HasMade, IsDiskStep, IsUnfit, writing_of, checkpoint_of}
-use Rattle.iol_flush.specs.Turns.{calls_needed, given_calls}
+use Rattle.iol_flush.specs.Turns.{freeing_calls, given_calls, calls_again, calls_needed}
 use Rattle.iol_flush.specs.declared.fault.FlushFault.{FlushFault}
 use Rattle.iol_flush.specs.declared.fault.FlushFault.TheVariants as fault
 use Rattle.iol_flush.specs.declared.stage.Stage.{Stage}
@@ -32,23 +36,22 @@ one_less : (calls left : List Call) (old new : Disk) → MakesFirst calls left o
 one_less calls left old new made = ap length made.order ∙ omega arith
 
 -- a batch that fits an area finds room where no slot is used
-finds_room : (slots : ℕ) (commands : List CommandValue) → is_too_large slots commands ≡ false
-    → nat_lt slots (0 + slots_for commands) ≡ false
-finds_room slots commands small =
-    rw zero-add (second (nat_lt 64 (length commands)) (nat_lt slots (slots_for commands)) small)
+finds_room : (slots used : ℕ) (commands : List CommandValue) → is_too_large slots commands ≡ false → used ≡ 0
+    → nat_lt slots (used + slots_for commands) ≡ false
+finds_room slots used commands small none =
+    rw (none, zero-add) (second (nat_lt 64 (length commands)) (nat_lt slots (slots_for commands)) small)
   where
     second : (many long : Bool) → (many || long) ≡ false → long ≡ false
     second true long small = absurd cc
     second false long small = small
 
--- a checkpoint has two disk calls at least
-two_calls : (s : Standing) (idle : Idle) → 2 ≤ length (checkpoint_calls s idle)
-two_calls s Older = omega arith
-two_calls s Closed = omega arith
-
--- what a batch needs in a journal that stands so
-abbrev given_needs : Standing → List CommandValue → ℕ
-given_needs s commands = given_calls s.layout commands (wants_checkpoint s commands)
+-- a new checkpoint has two disk calls at least
+two_calls : {D : Type 0} (j : JournalView D) → j.begun ≡ None → 2 ≤ length (calls_of j.standing (begun_in j))
+two_calls j none = rw none (of j.standing j.idle)
+  where
+    of : (s : Standing) (idle : Idle) → 2 ≤ length (stage_calls (checkpointed s) [] (first_stage idle))
+    of s Older = omega arith
+    of s Closed = omega arith
 
 module _ {D : Type 0} (disk : D → Disk) where
   written_needs : (w : WritingView D) (new : Stage D) (n : ℕ) → HasWritten w new → length (calls_owed new) + 1 ≤ n → calls_needed new + 1
@@ -60,39 +63,104 @@ module _ {D : Type 0} (disk : D → Disk) where
   written_needs w (Checkpointing c b) n has le = absurd has
   written_needs w (Failed d f) n has le = absurd has
 
+  -- a checkpoint that ends with slots used may be followed by another one
+  given_again : (c : CheckpointingView D) (commands : List CommandValue) (s : Standing) (used : Bool)
+      → is_too_large c.standing.layout.slots commands ≡ false → s ≡ end_of c → s.layout ≡ c.standing.layout
+      → nat_lt 0 (end_of c).used ≡ used
+      → given_calls s.layout commands None (wants_checkpoint s commands)
+      ≤ most_batch_calls commands + 2 + (if used then most_checkpoint_calls c.standing.layout + 1 else 0)
+  given_again c commands s true small same layout again =
+      subst (λ (l : Layout). given_calls l commands None (wants_checkpoint s commands)
+      ≤ most_batch_calls commands + 2 + (most_checkpoint_calls c.standing.layout + 1)) (sym layout)
+      (either (wants_checkpoint s commands))
+    where
+      either : (full : Bool) → given_calls c.standing.layout commands None full
+          ≤ most_batch_calls commands + 2 + (most_checkpoint_calls c.standing.layout + 1)
+      either true = omega arith
+      either false = omega arith
+  given_again c commands s false small same layout again =
+      let none : s.used ≡ 0 = grind (arith, nat_tests, again, ap (λ (t : Standing). t.used) same) in
+      let free : wants_checkpoint s commands ≡ false =
+      finds_room s.layout.slots s.used commands (ap (λ (l : Layout). is_too_large l.slots commands) layout ∙ small) none in
+      rw free (omega arith)
+
   checkpointed_needs : (c : CheckpointingView D) (batch : Batch) (new : Stage D) (n : ℕ)
       → is_too_large c.standing.layout.slots (values batch.commands.items) ≡ false
       → HasCheckpointed c batch new
-      → length (calls_owed new) + 1 ≤ n → calls_needed new + 1 ≤ most_batch_calls (values batch.commands.items) + 2 + n
+      → length (calls_owed new) + 1 ≤ n → calls_needed new + 1 ≤ most_batch_calls (values batch.commands.items) + 2 + n + calls_again c
   checkpointed_needs c batch (Checkpointing d kept) n small has le =
-      omega (arith, le, ap (λ (b : Batch). most_batch_calls (values b.commands.items)) has.2)
+      omega (arith, le, ap (λ (b : Batch). most_batch_calls (values b.commands.items)) has.2, same_again)
+    where
+      same_again : calls_again d ≡ calls_again c
+      same_again =
+          ap (λ (s : Standing). if nat_lt 0 s.used then most_checkpoint_calls d.standing.layout + 1 else 0) has.4
+          ∙ ap (λ (s : Standing). if nat_lt 0 (end_of c).used then most_checkpoint_calls s.layout + 1 else 0) has.0
   checkpointed_needs c batch (Given j kept) n small has le =
       let commands = values batch.commands.items in
-      subst (λ (s : Standing). given_needs s (values kept.commands.items) + 1 ≤ most_batch_calls commands + 2 + n) (sym has.0)
-      (subst (λ (b : Batch). given_needs (checkpointed c.standing) (values b.commands.items) + 1 ≤ most_batch_calls commands + 2 + n)
-      (sym has.2)
-      (subst (λ (full : Bool). given_calls c.standing.layout commands full + 1 ≤ most_batch_calls commands + 2 + n)
-      (sym (finds_room c.standing.layout.slots commands small))
-      (omega (arith, le))))
+      let again = given_again c commands j.standing (nat_lt 0 (end_of c).used) small has.0 has.6 refl in
+      subst (λ (begun : Option BegunView). given_calls j.standing.layout (values kept.commands.items) begun
+      (wants_checkpoint j.standing (values kept.commands.items)) + 1 ≤ most_batch_calls commands + 2 + n + calls_again c) (sym has.3)
+      (subst (λ (b : Batch). given_calls j.standing.layout (values b.commands.items) None
+      (wants_checkpoint j.standing (values b.commands.items)) + 1 ≤ most_batch_calls commands + 2 + n + calls_again c) (sym has.2)
+      (omega (arith, le, again)))
   checkpointed_needs c batch (Resting j) n small has le = absurd has
   checkpointed_needs c batch (Writing w) n small has le = absurd has
   checkpointed_needs c batch (Publishing j written) n small has le = absurd has
   checkpointed_needs c batch (Failed d f) n small has le = absurd has
 
+  -- a new checkpoint carries none, so no other follows it
+  again_in : (j : JournalView D) (begun : Option BegunView) → j.begun ≡ begun
+      → most_checkpoint_calls j.standing.layout + calls_again (checkpoint_of j) + 1 ≤ freeing_calls j.standing.layout begun
+  again_in j None none = rw none (omega arith)
+  again_in j (Some b) some = either (nat_lt 0 (end_of (checkpoint_of j)).used)
+    where
+      either : (used : Bool) → most_checkpoint_calls j.standing.layout +
+          (if used then most_checkpoint_calls j.standing.layout + 1 else 0) + 1
+          ≤ 2 * (most_checkpoint_calls j.standing.layout + 1)
+      either true = omega arith
+      either false = omega arith
+
   begun_needs : (full : Bool) (j : JournalView D) (batch : Batch) (new : Stage D) (old next : Disk) → HasBegun full j batch new
       → HasFewCalls new
-      → MakesFirst (if full then checkpoint_calls j.standing j.idle else batch_calls j.standing (values batch.commands.items))
+      → MakesFirst (if full then calls_of j.standing (begun_in j) else batch_calls j.standing (values batch.commands.items))
       (calls_owed new) old next
-      → calls_needed new + 1 ≤ given_calls j.standing.layout (values batch.commands.items) full
+      → calls_needed new + 1 ≤ given_calls j.standing.layout (values batch.commands.items) j.begun full
   begun_needs true j batch (Checkpointing c kept) old next has few made =
       omega (
         arith,
         few.1,
         ap (λ (b : Batch). most_batch_calls (values b.commands.items)) has.1.2,
         ap (λ (s : Standing). most_checkpoint_calls s.layout) has.1.0,
+        again_in j j.begun refl,
+        same_again,
       )
-  begun_needs true j batch (Given k kept) old next has few made =
-      absurd (omega (arith, two_calls j.standing j.idle, one_less (checkpoint_calls j.standing j.idle) [] old next made))
+    where
+      same_again : calls_again c ≡ calls_again (checkpoint_of j)
+      same_again =
+          ap (λ (s : Standing). if nat_lt 0 s.used then most_checkpoint_calls c.standing.layout + 1 else 0) has.1.4
+          ∙ ap (λ (s : Standing). if nat_lt 0 (end_of (checkpoint_of j)).used then most_checkpoint_calls s.layout + 1 else 0) has.1.0
+  begun_needs true j batch (Given k kept) old next has few made = by_begun j.begun refl
+    where
+      by_begun : (begun : Option BegunView) → j.begun ≡ begun
+          → calls_needed (Given k kept) + 1 ≤ given_calls j.standing.layout (values batch.commands.items) begun true
+      by_begun None none =
+          absurd (omega (arith, two_calls j none, one_less (calls_of j.standing (begun_in j)) [] old next made))
+      by_begun (Some b) some =
+          subst (λ (begun : Option BegunView). given_calls k.standing.layout (values kept.commands.items) begun
+          (wants_checkpoint k.standing (values kept.commands.items)) + 1
+          ≤ given_calls j.standing.layout (values batch.commands.items) (Some b) true) (sym has.1.3)
+          (subst (λ (l : Layout). given_calls l (values kept.commands.items) None
+          (wants_checkpoint k.standing (values kept.commands.items)) + 1
+          ≤ given_calls j.standing.layout (values batch.commands.items) (Some b) true) (sym has.1.6)
+          (subst (λ (kept : Batch). given_calls j.standing.layout (values kept.commands.items) None
+          (wants_checkpoint k.standing (values kept.commands.items)) + 1
+          ≤ given_calls j.standing.layout (values batch.commands.items) (Some b) true) (sym has.1.2)
+          (either (wants_checkpoint k.standing (values batch.commands.items)))))
+        where
+          either : (full : Bool) → given_calls j.standing.layout (values batch.commands.items) None full + 1
+              ≤ given_calls j.standing.layout (values batch.commands.items) (Some b) true
+          either true = omega arith
+          either false = omega arith
   begun_needs true j batch (Resting k) old next has few made = absurd has.1
   begun_needs true j batch (Writing w) old next has few made = absurd has.1
   begun_needs true j batch (Publishing k written) old next has few made = absurd has.1
@@ -152,8 +220,22 @@ checkpointed_goes : {D : Type 0} (c : CheckpointingView D) (batch : Batch) (new 
 checkpointed_goes c batch (Checkpointing d kept) has goes =
     subst (λ (b : Batch). FitsBatch d.standing b) (sym has.2) (subst (λ (s : Standing). FitsBatch s batch) (sym has.0) goes)
 checkpointed_goes c batch (Given j kept) has goes =
-    subst (λ (b : Batch). FitsBatch j.standing b) (sym has.2)
-    (subst (λ (s : Standing). FitsBatch s batch) (sym has.0) (record { small = goes.small; next = goes.next }))
+    subst (λ (b : Batch). FitsBatch j.standing b) (sym has.2) (record {
+      small = ap (λ (l : Layout). is_too_large l.slots (values batch.commands.items)) has.6 ∙ goes.small;
+      next = ap (λ (n : ℕ). follows_at n j.standing.state) has.4 ∙ ap (follows_at c.standing.number) has.5 ∙ goes.next;
+    })
+  where
+    -- whether it follows depends on number and state alone
+    follows_at : ℕ → State → Bool
+    follows_at n state =
+        follows (record {
+          layout = j.standing.layout;
+          area = j.standing.area;
+          epoch = j.standing.epoch;
+          used = j.standing.used;
+          number = n;
+          state = state;
+        }) batch.first (values batch.commands.items)
 checkpointed_goes c batch (Resting j) has goes = absurd has
 checkpointed_goes c batch (Writing w) has goes = absurd has
 checkpointed_goes c batch (Publishing j written) has goes = absurd has

@@ -6,12 +6,12 @@ use Rattle.iol_disk.specs.Content.{Image, IsImageSince}
 use Rattle.iol_disk.specs.Disk.{Disk}
 use Rattle.iol_journal.specs.Begin.{is_too_large, follows}
 use Rattle.iol_journal.specs.CheckpointRuns.{IsRunCheckpointing}
-use Rattle.iol_journal.specs.Journals.{values}
+use Rattle.iol_journal.specs.Journals.{JournalView, values}
 use Rattle.iol_journal.specs.Meaning.{Standing}
 use Rattle.iol_journal.specs.Runs.{Run, Mark, HasPrefix, IsRun}
 use Rattle.iol_journal.specs.Running.{IsRunAtRest, IsRunWriting}
 use Rattle.iol_journal.specs.Underway.{IsAtRest, IsUnderway}
-use Rattle.iol_journal.specs.CheckpointViews.{IsCheckpointUnderway}
+use Rattle.iol_journal.specs.CheckpointViews.{IsCheckpointUnderway, IsPaused, IsBeside}
 use Rattle.iol_journal.specs.declared.batch.Batch.{Batch}
 use Rattle.iol_flush.specs.declared.stage.Stage.{Stage}
 use Rattle.iol_flush.specs.declared.stage.Stage.TheVariants.{Resting, Given, Checkpointing, Writing, Publishing, Failed}
@@ -74,12 +74,16 @@ pub record HoldsBy (d : Disk) (number : ℕ) (state : State) (commands : List Co
   pub images : All (λ mark. IsTrue d.honest → (image : Image) → IsImageSince mark.clock d.content image
       → HasPrefix d.sectors number state commands mark.acknowledged image) marks
 
+-- a journal is at rest, and the checkpoint that is paused, if one is, can be gone on with (own)
+abbrev pub Rests : {D : Type 0} → (D → Disk) → JournalView D → Type 0
+Rests disk j = IsAtRest (disk j.disk) j.standing j.idle × IsPaused (disk j.disk) j.standing j.begun
+
 -- what a stop of an honest disk may leave is kept, at each stage of a flusher: the journal is at rest, or what is on its way
 -- is underway; of a disk that failed nothing is said (own)
 abbrev pub IsSound : {D : Type 0} → (D → Disk) → Stage D → Type 0
-IsSound disk (Resting journal) = IsAtRest (disk journal.disk) journal.standing journal.idle
-IsSound disk (Given journal batch) = IsAtRest (disk journal.disk) journal.standing journal.idle
+IsSound disk (Resting journal) = Rests disk journal
+IsSound disk (Given journal batch) = Rests disk journal
 IsSound disk (Checkpointing checkpoint batch) = IsCheckpointUnderway disk checkpoint
-IsSound disk (Writing writing) = IsUnderway disk writing
-IsSound disk (Publishing journal written) = IsAtRest (disk journal.disk) journal.standing journal.idle
+IsSound disk (Writing writing) = IsUnderway disk writing × IsBeside (disk writing.disk) writing.standing writing.begun
+IsSound disk (Publishing journal written) = Rests disk journal
 IsSound disk (Failed left fault) = Unit {0}

@@ -8,8 +8,7 @@ use Rattle.iol_front.specs.Fronts.{Start}
 use Rattle.iol_journal.specs.Batches.{batch_calls}
 use Rattle.iol_journal.specs.Begin.{is_too_large, room_in}
 use Rattle.iol_journal.specs.Body.{slots_of, slots_for}
-use Rattle.iol_journal.specs.Checkpoints.{checkpoint_calls}
-use Rattle.iol_journal.specs.CheckpointViews.{stages_left}
+use Rattle.iol_journal.specs.CheckpointViews.{begun_in, calls_of, stages_left}
 use Rattle.iol_journal.specs.Layout.{Layout}
 use Rattle.iol_journal.specs.Meaning.{Standing}
 use Rattle.iol_journal.specs.Journals.{calls_left, values}
@@ -69,7 +68,7 @@ wants_checkpoint standing commands = nat_lt standing.layout.slots (standing.used
 -- (own)
 abbrev pub next_calls : {D : Type 0} → Stage D → List Call
 next_calls (Given journal batch) =
-    if wants_checkpoint journal.standing (values batch.commands.items) then checkpoint_calls journal.standing journal.idle
+    if wants_checkpoint journal.standing (values batch.commands.items) then calls_of journal.standing (begun_in journal)
     else batch_calls journal.standing (values batch.commands.items)
 next_calls stage = calls_owed stage
 
@@ -96,9 +95,10 @@ IsInStep start (Publishing journal written) published =
     × (written.first ≡ start.number + length published + 1)
 IsInStep start (Failed disk fault) published = Unit {0}
 
--- the most disk calls of a checkpoint: one for each slot, nine for each port, and nine more (own)
+-- the most disk calls of a checkpoint: one for each slot, nine for each port, nine more, and 19 for each slot that is carried
+-- (own)
 abbrev pub most_checkpoint_calls : Layout → ℕ
-most_checkpoint_calls layout = layout.slots + 9 * layout.ports + 9
+most_checkpoint_calls layout = 20 * layout.slots + 9 * layout.ports + 9
 
 -- the most disk calls of a batch: 16 for each command, which takes a slot at most, and three more (own)
 abbrev pub most_batch_calls : List CommandValue → ℕ

@@ -3,9 +3,10 @@ use Rattle.std.specs.Prelude.{◌≡◌, ◌+◌, ◌⊎◌, Bool, true, false, 
 use Rattle.iol_types.specs.Command.{CommandValue}
 use Rattle.iol_disk.specs.Disk.{Disk}
 use Rattle.iol_front.specs.Fronts.{CommittedView}
+use Rattle.std.specs.Option.{option_map}
 use Rattle.iol_journal.specs.Begin.{batch_refusal, is_too_large}
-use Rattle.iol_journal.specs.Checkpoints.{checkpointed, first_stage}
-use Rattle.iol_journal.specs.CheckpointViews.{CheckpointingView}
+use Rattle.iol_journal.specs.CheckpointViews.{CheckpointingView, begun_in, end_of}
+use Rattle.iol_journal.specs.Drafts.{begun_behind, with_owed}
 use Rattle.iol_journal.specs.Journals.{JournalView, WritingView, values, with_batch, written_behind}
 use Rattle.iol_journal.specs.Progress.{MakesFirst, FailsFirst}
 use Rattle.iol_journal.specs.declared.batch.Batch.{Batch}
@@ -30,27 +31,34 @@ writing_of journal commands = record {
   standing = journal.standing;
   idle = journal.idle;
   history = journal.history;
+  begun = journal.begun;
   commands = commands;
   phase = Body 0;
 }
 
--- a journal with a checkpoint before its first disk call (own)
+-- a journal with a checkpoint before its next disk call: the one that is paused, or a new one (own)
 abbrev pub checkpoint_of : {D : Type 0} → JournalView D → CheckpointingView D
 checkpoint_of journal =
-    record { disk = journal.disk; standing = journal.standing; history = journal.history; stage = first_stage journal.idle }
+    record { disk = journal.disk; standing = journal.standing; history = journal.history; begun = begun_in journal }
 
 -- a disk call of a batch is made: the batch is still on its way, or it is durable (own)
 abbrev pub HasWritten : {D : Type 0} → WritingView D → Stage D → Type 0
-HasWritten w (Writing v) = (v.standing ≡ w.standing) × (v.idle ≡ w.idle) × (v.history ≡ w.history) × (v.commands ≡ w.commands)
+HasWritten w (Writing v) =
+    (v.standing ≡ w.standing) × (v.idle ≡ w.idle) × (v.history ≡ w.history) × (v.commands ≡ w.commands) × (v.begun ≡ w.begun)
 HasWritten w (Publishing j written) =
     (j.standing ≡ with_batch w.standing w.commands) × (j.idle ≡ w.idle) × (j.history ≡ written_behind w.history w.commands)
     × (written.first ≡ w.standing.number + 1) × (written.commands ≡ w.commands)
+    × (j.begun ≡ option_map (with_owed w.commands) w.begun)
 HasWritten w stage = ⊥
 
 -- a disk call of a checkpoint is made: the checkpoint is still on its way, or done. The batch waits meanwhile (own)
 abbrev pub HasCheckpointed : {D : Type 0} → CheckpointingView D → Batch → Stage D → Type 0
-HasCheckpointed c batch (Checkpointing d kept) = (d.standing ≡ c.standing) × (d.history ≡ c.history) × (kept ≡ batch)
-HasCheckpointed c batch (Given j kept) = (j.standing ≡ checkpointed c.standing) × (j.history ≡ c.history) × (kept ≡ batch)
+HasCheckpointed c batch (Checkpointing d kept) =
+    (d.standing ≡ c.standing) × (d.history ≡ c.history) × (kept ≡ batch) × (begun_behind c.standing c.begun ≡ Some d.begun)
+    × (end_of d ≡ end_of c)
+HasCheckpointed c batch (Given j kept) =
+    (j.standing ≡ end_of c) × (j.history ≡ c.history) × (kept ≡ batch) × (j.begun ≡ None)
+    × (j.standing.number ≡ c.standing.number) × (j.standing.state ≡ c.standing.state) × (j.standing.layout ≡ c.standing.layout)
 HasCheckpointed c batch stage = ⊥
 
 -- the first disk call is made after a batch was given: its own or, where too few slots are free for it, of a checkpoint (own)

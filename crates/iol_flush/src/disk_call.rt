@@ -63,7 +63,7 @@ fn begin<D: SectorDisk>(journal: Journal<D>, batch: Batch) -> (Stage<D>, Result<
     }
 }
 
-// Makes the first disk call of a checkpoint, as too few slots are free.
+// Makes the next disk call of a checkpoint, as too few slots are free.
 fn begin_checkpoint<D: SectorDisk>(
     journal: Journal<D>,
     batch: Batch,

@@ -6,7 +6,7 @@ use Rattle.std.proofs.lemmas.List.{take-append-drop, drop-drop, take_more, map-a
 use Rattle.std.proofs.lemmas.Grind.{flat_map-append}
 use Rattle.std.proofs.Math.ListN.{drop_of_length-le}
 use Rattle.std.proofs.Math.Seq.{take-append_seam}
-use Rattle.std.specs.Int.{w16, w32, w64}
+use Rattle.std.specs.Int.{w16, w32, w64, to_be_bytes}
 use Rattle.std.proofs.lemmas.Nat.{from_be_bytes-to_be_bytes_2, from_be_bytes-to_be_bytes_4, from_be_bytes-to_be_bytes_8}
 use Rattle.iol_types.specs.Command.{CommandValue, value_of}
 use Rattle.iol_types.specs.declared.command.Command.{Command}
@@ -14,11 +14,14 @@ use Rattle.iol_record.specs.Record.{IsCommandRecord, command_octets}
 use Rattle.iol_record.proofs.RecordLaws.{command_at-record}
 use Rattle.iol_disk.specs.Content.{Image}
 use Rattle.iol_disk.specs.declared.disk.TheConstants.{SECTOR_OCTETS}
+use Rattle.iol_journal.specs.Batches.{sectors_for}
+use Rattle.iol_journal.specs.Meaning.{Standing}
 use Rattle.iol_journal.specs.Octets.{number_at, octets_at, padded, sectors_reached, sector_of}
 use Rattle.iol_journal.specs.Journals.{values}
 use Rattle.iol_journal.specs.Body.{commands_of, fits, head_of, batch_of, records_of, head_octets, body_octets}
 use Rattle.iol_journal.specs.declared.header.TheConstants.{LAST_NUMBER}
 use Rattle.iol_journal.specs.declared.batch.TheConstants.{MOST_COMMANDS, BODY_HEAD_OCTETS}
+use Rattle.iol_journal.specs.declared.body.TheConstants.{EPOCH_OCTETS}
 use Rattle.iol_journal.proofs.Sectors.{octets_at-add}
 
 -- in front of the records of other commands, these octets are read as these commands
@@ -150,6 +153,21 @@ length-body epoch first commands =
     length-append (head_octets epoch first (length commands) (length records)) records in
     let zeros = SECTOR_OCTETS * sectors_reached (length front) - length front in
     omega (arith, length-append front (replicate {A = ℕ} zeros 0), length-replicate {A = ℕ} zeros 0, size)
+
+-- a batch has a sector at least
+pub sectors_for-some : (s : Standing) (commands : List CommandValue) → 1 ≤ sectors_for s commands
+sectors_for-some s commands = omega (arith, length-body s.epoch (s.number + 1) commands)
+
+-- it has as many in each area
+pub sectors_for-same : (s t : Standing) (commands : List CommandValue) → sectors_for s commands ≡ sectors_for t commands
+sectors_for-same s t commands =
+    omega (arith, length-body s.epoch (s.number + 1) commands, length-body t.epoch (t.number + 1) commands)
+
+-- under another epoch a body differs in its first octets alone
+pub body_octets-under : (epoch other first : ℕ) (commands : List CommandValue)
+    → to_be_bytes w64 other ++ drop EPOCH_OCTETS (body_octets epoch first commands) ≡ body_octets other first commands
+unfolding body_octets padded
+body_octets-under epoch other first commands = refl
 
 -- whatever follows a body in its slot, it is read as its commands
 pub batch_of-body_octets : (epoch first : ℕ) (commands : List CommandValue) (rest : List ℕ) → epoch < 2 ^ 64

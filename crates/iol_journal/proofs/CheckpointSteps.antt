@@ -1,9 +1,10 @@
 -- What a step of a checkpoint makes of the disk, as its one call says.
-use Rattle.std.proofs.Common.{◌≡◌, ◌≤◌, ◌<◌, ℕ, ◌+◌, List, [], ◌∷◌, length, map, slice_get, get_or, Option, Some, None, unwrap_or, IfSome}
+use Rattle.std.proofs.Common.{◌≡◌, ◌≤◌, ◌<◌, ℕ, ◌+◌, List, [], ◌∷◌, length, map, slice_get, get_or, Option, Some, None, unwrap_or}
 use Rattle.std.proofs.Common.{IsTrue, Result, Ok, Err, refl, sym, ◌∙◌, ap, subst, arith}
 use Rattle.std.proofs.lemmas.List.{length-map}
 use Rattle.std.proofs.lemmas.Option.{slice_get-map, slice_get_read, slice_get-get_or, slice_get_within}
 use Rattle.std.specs.Option.{option_map}
+use Rattle.iol_types.specs.Command.{CommandValue}
 use Rattle.iol_types.specs.State.{State}
 use Rattle.iol_disk.specs.Calls.{Call, write, sync, content_after, Made, FailedIn}
 use Rattle.iol_disk.specs.Disk.{Disk}
@@ -12,16 +13,19 @@ use Rattle.iol_disk.specs.declared.fault.DiskFault.{DiskFault}
 use Rattle.iol_disk.proofs.DiskLaws.{HasOnTheWay, made_leaves, failed_leaves}
 use Rattle.iol_journal.specs.AreaPlans.{AreRecords, IsAreaPlan, write_of}
 use Rattle.iol_journal.specs.AreaWrites.{port_writes, IsRow}
-use Rattle.iol_journal.specs.Checkpoints.{next_area, next_header, checkpointed, snapshot_writes, call_at, next_stage, first_stage, IsStage}
-use Rattle.iol_journal.specs.Checkpoints.{stage_calls, StageHolds, IsDrafted}
+use Rattle.iol_journal.specs.Batches.{sectors_for}
+use Rattle.iol_journal.specs.Checkpoints.{target, checkpointed, with_batches, header_of_target}
+use Rattle.iol_journal.specs.Checkpoints.{first_of, snapshot_writes, call_at, next_stage}
+use Rattle.iol_journal.specs.Checkpoints.{first_stage, IsStage, log_behind, owed_behind, stage_calls}
+use Rattle.iol_journal.specs.Drafts.{MeansSame, StageHolds, stage_behind, IsDrafted}
 use Rattle.iol_journal.specs.CheckpointViews.{CheckpointingView, IsCheckpointUnderway}
 use Rattle.iol_journal.specs.Journals.{IsResting}
 use Rattle.iol_journal.specs.Kept.{KeptMeans}
-use Rattle.iol_journal.specs.Layout.{Layout, total, gate_at, header_at, port_at, slot_at}
-use Rattle.iol_journal.specs.Meaning.{Standing}
+use Rattle.iol_journal.specs.Layout.{Layout, other, total, port_at, slot_at}
+use Rattle.iol_journal.specs.Meaning.{Log, Standing}
 use Rattle.iol_journal.specs.Orders.{Makes}
 use Rattle.iol_journal.specs.Progress.{MakesFirst, FailsFirst}
-use Rattle.iol_journal.specs.Underway.{IsAtRest}
+use Rattle.iol_journal.specs.Underway.{EachKept, IsAtRest}
 use Rattle.iol_journal.specs.declared.area.Area.{Area}
 use Rattle.iol_journal.specs.declared.area.Area.TheVariants.{A, B}
 use Rattle.iol_journal.specs.declared.area_plan.AreaPlan.{AreaPlan}
@@ -30,20 +34,17 @@ use Rattle.iol_journal.specs.declared.place.Idle.{Idle}
 use Rattle.iol_journal.specs.declared.place.Idle.TheVariants.{Older, Closed}
 use Rattle.iol_journal.specs.declared.records.RecordSector.{RecordSector}
 use Rattle.iol_journal.specs.declared.stage.Stage.{Stage}
-use Rattle.iol_journal.specs.declared.stage.Stage.TheVariants.{WriteRecord}
+use Rattle.iol_journal.specs.declared.stage.Stage.TheVariants.{ClearHeader, SyncHeader, CloseGate, SyncClosed, CloseSlot, SyncSlots}
+use Rattle.iol_journal.specs.declared.stage.Stage.TheVariants.{WriteHeader, WriteRecord, SyncRecords, Carry, OpenGate, SyncOpen}
+use Rattle.iol_journal.proofs.DraftLaws.{resting_on}
 use Rattle.iol_journal.proofs.Rows.{row-wider, row-higher, row-nth}
-use Rattle.iol_journal.proofs.StageCalls.{calls_behind, first_call, in_next}
-use Rattle.iol_journal.proofs.Stages.{HoldsBehind, goes_on, on_the_way}
+use Rattle.iol_journal.proofs.StageCalls.{calls_behind, first_call}
+use Rattle.iol_journal.proofs.StageMeanings.{on_the_way}
+use Rattle.iol_journal.proofs.Stages.{HoldsBehind, none_owed, goes_on}
 
 -- ---- what a plan has
 
 module _ (layout : Layout) (a : Area) (header : Header) (state : State) (plan : AreaPlan) (is : IsAreaPlan layout a header state plan) where
-  pub gate-place : gate_at plan.layout plan.area ≡ gate_at layout a
-  gate-place = ap (λ (l : Layout). gate_at l plan.area) is.layout_is ∙ ap (gate_at layout) is.area_is
-
-  pub header-place : header_at plan.layout plan.area ≡ header_at layout a
-  header-place = ap (λ (n : ℕ). n + 1) gate-place
-
   pub length-plan : length plan.records.items ≡ length (port_writes layout a 0 state)
   length-plan = sym (length-map plan.records.items write_of) ∙ ap (λ (calls : List Call). length calls) is.records_are
 
@@ -92,138 +93,180 @@ sector-inside sectors calls i found row there =
     same_sector n m octets others e = ap sector_of_call e
 
 -- the call that writes it
-pub record-call : (s : Standing) (plan : AreaPlan) (i : ℕ) (found : RecordSector)
-    → IsAreaPlan s.layout (next_area s) (next_header s) s.state plan → i < length plan.records.items
-    → found ≡ get_or plan.records.items i found → write_of found ≡ call_at s (WriteRecord i)
-record-call s plan i found planned below is =
+pub record-call : (t : Standing) (owed : List (List CommandValue)) (plan : AreaPlan) (i : ℕ) (found : RecordSector)
+    → IsAreaPlan t.layout t.area (header_of_target t) t.state plan → i < length plan.records.items
+    → found ≡ get_or plan.records.items i found → write_of found ≡ call_at t owed (WriteRecord i)
+record-call t owed plan i found planned below is =
     sym (ap (λ (calls : List Call). unwrap_or (slice_get calls i) sync) (sym planned.records_are)
     ∙ ap (λ (call : Option Call). unwrap_or call sync) (found-there plan.records.items i found below is))
 
--- the stage that comes next, as it is told by the sizes of the plan
-pub next_is : (s : Standing) (plan : AreaPlan) (stage : Stage) (next : Option Stage) (slots records : ℕ)
-    → IsAreaPlan s.layout (next_area s) (next_header s) s.state plan
-    → slots ≡ s.layout.slots → records ≡ length plan.records.items → next ≡ next_stage slots records stage
-    → next ≡ next_stage s.layout.slots (length (snapshot_writes s)) stage
-next_is s plan stage next slots records planned same_slots same_records is =
-    is ∙ ap (λ (n : ℕ). next_stage n records stage) same_slots
-    ∙ ap (λ (n : ℕ). next_stage s.layout.slots n stage) (same_records
-    ∙ length-plan s.layout (next_area s) (next_header s) s.state plan planned)
-
 -- ---- where a checkpoint begins
 
-in_first : (slots records : ℕ) (idle : Idle) → IsStage slots records (first_stage idle)
-in_first slots records Older = tt
-in_first slots records Closed = tt
+in_first : (slots records sectors : ℕ) (idle : Idle) → IsStage slots records sectors 0 (first_stage idle)
+in_first slots records sectors Older = tt
+in_first slots records sectors Closed = tt
 
-pub drafted-first : (d : Disk) (s : Standing) (idle : Idle) → IsResting d s → 0 < s.used → AreRecords s.layout (next_area s) s.state
-    → IsDrafted d s (first_stage idle)
+pub drafted-first : (d : Disk) (s : Standing) (idle : Idle) → IsResting d s → 0 < s.used
+    → AreRecords s.layout (other s.area) s.state → IsDrafted d s (checkpointed s) [] (first_stage idle)
 drafted-first d s idle resting used records = record {
-  fits = resting.fits;
   some = omega (arith, used, resting.within);
-  near = omega (arith, resting.in_use used);
-  bound = resting.bound;
-  count = resting.count;
-  records = records;
-  in_stage = in_first s.layout.slots (length (snapshot_writes s)) idle;
+  resting = record {
+    fits = resting.fits;
+    within = omega arith;
+    bound = resting.bound;
+    begun = omega (arith, resting.in_use used);
+    in_use = λ some. absurd (omega (arith, some));
+    count = resting.count;
+  };
+  fresh = λ is. record { none = refl; records = records };
+  in_stage = in_first s.layout.slots (length (snapshot_writes (checkpointed s))) (sectors_for (checkpointed s) []) idle;
+  owed_are = tt;
+  same = (refl, refl);
+  slots = omega arith;
 }
 
 -- ---- a step
 
-module _ (s : Standing) (stage : Stage) (old new : Disk) (drafted : IsDrafted old s stage) where
-  abbrev Before : Type 0
-  Before = IsTrue old.honest → StageHolds old.sectors s stage old.content
+module _ (s : Standing) (log : Log) (owed : List (List CommandValue)) (stage : Stage) (old new : Disk)
+    (drafted : IsDrafted old s (target s log) owed stage) where
+  abbrev t : Standing
+  t = target s log
+
+  abbrev t' : Standing
+  t' = target s (log_behind log owed stage)
+
+  abbrev owed' : List (List CommandValue)
+  owed' = owed_behind owed stage
+
+  abbrev call : Call
+  call = call_at t owed stage
 
   abbrev next : Option Stage
-  next = next_stage s.layout.slots (length (snapshot_writes s)) stage
+  next = stage_behind t owed stage
 
-  behind : IsTrue old.honest → Before → HoldsBehind old.sectors s next (content_after (call_at s stage) old.content)
-  behind h holds = goes_on old.sectors s drafted.near drafted.bound drafted.records stage old.content drafted.some drafted.in_stage
-      (holds h)
+  abbrev Before : Type 0
+  Before = IsTrue old.honest → StageHolds old.sectors s t owed stage old.content
+
+  behind : IsTrue old.honest → Before → HoldsBehind old.sectors s t' owed' next (content_after call old.content)
+  behind h holds =
+      goes_on old.sectors s log owed drafted.some (omega (arith, drafted.resting.begun)) drafted.resting.bound drafted.owed_are drafted.same
+      stage old.content drafted.fresh drafted.in_stage (holds h)
 
   -- at any moment of the call
-  pub moment : (result : Result Unit DiskFault) → Makes (call_at s stage ∷ []) old new result → Before
+  pub moment : (result : Result Unit DiskFault) → Makes (call ∷ []) old new result → Before
       → LeavesOnly old new (KeptMeans old.sectors s.number s.state)
   moment result makes holds = by_result result makes
     where
-      way : IsTrue old.honest → HasOnTheWay (call_at s stage ∷ []) old.content (KeptMeans old.sectors s.number s.state)
-      way h = on_the_way old.sectors s stage next old.content (holds h) (behind h holds)
+      way : IsTrue old.honest → HasOnTheWay (call ∷ []) old.content (KeptMeans old.sectors s.number s.state)
+      way h = on_the_way old.sectors s t t' owed owed' stage next old.content (holds h) (behind h holds)
 
-      by_result : (result : Result Unit DiskFault) → Makes (call_at s stage ∷ []) old new result
+      by_result : (result : Result Unit DiskFault) → Makes (call ∷ []) old new result
           → LeavesOnly old new (KeptMeans old.sectors s.number s.state)
       by_result (Ok done) made = made_leaves _ old new _ made way
       by_result (Err told) failed = failed_leaves _ told old new _ failed way
 
   -- behind the call that succeeded
-  made-behind : Made (call_at s stage ∷ []) old new → Before → IsTrue new.honest → HoldsBehind new.sectors s next new.content
+  made-behind : Made (call ∷ []) old new → Before → IsTrue new.honest → HoldsBehind new.sectors s t' owed' next new.content
   made-behind made holds h =
       let h_old = subst IsTrue made.after.honest h in
-      subst (λ (n : ℕ). HoldsBehind n s next new.content) (sym made.after.sectors)
-      (subst (HoldsBehind old.sectors s next) (sym (made.after.content h_old)) (behind h_old holds))
+      subst (λ (n : ℕ). HoldsBehind n s t' owed' next new.content) (sym made.after.sectors)
+      (subst (HoldsBehind old.sectors s t' owed' next) (sym (made.after.content h_old)) (behind h_old holds))
 
-  pub underway : (q : Stage) → Some q ≡ next → Made (call_at s stage ∷ []) old new → Before → IsTrue new.honest
-      → StageHolds new.sectors s q new.content
+  pub underway : (q : Stage) → next ≡ Some q → Made (call ∷ []) old new → Before → IsTrue new.honest
+      → StageHolds new.sectors s t' owed' q new.content
   underway q is made holds h =
-      subst (λ (then_ : Option Stage). HoldsBehind new.sectors s then_ new.content) (sym is) (made-behind made holds h)
+      subst (λ (then_ : Option Stage). HoldsBehind new.sectors s t' owed' then_ new.content) is (made-behind made holds h)
 
-  pub durable : None ≡ next → Made (call_at s stage ∷ []) old new → Before → IsAtRest new (checkpointed s) Older
+  -- the last stage, at which no batch is owed
+  last_stage : (stage : Stage) (slots records sectors count : ℕ) → next_stage slots records sectors count stage ≡ None → stage ≡ SyncOpen
+  last_stage SyncOpen slots records sectors count is = refl
+  last_stage ClearHeader slots records sectors count is = cc
+  last_stage SyncHeader slots records sectors count is = cc
+  last_stage CloseGate slots records sectors count is = cc
+  last_stage SyncClosed slots records sectors count is = cc
+  last_stage (CloseSlot k) slots records sectors count is = cc
+  last_stage SyncSlots slots records sectors count is = cc
+  last_stage WriteHeader slots records sectors count is = cc
+  last_stage (WriteRecord i) slots records sectors count is = cc
+  last_stage SyncRecords slots records sectors count is = cc
+  last_stage (Carry p) slots records sectors count is = cc
+  last_stage OpenGate slots records sectors count is = cc
+
+  at_end : next ≡ None → stage ≡ SyncOpen
+  at_end is = last_stage stage t.layout.slots (length (snapshot_writes t)) (sectors_for t (first_of owed)) (length owed) is
+
+  unmoved : next ≡ None → log_behind log owed stage ≡ log
+  unmoved is = ap (log_behind log owed) (at_end is)
+
+  -- no batch is owed at the last call
+  pub no_batch : next ≡ None → length owed ≡ 0
+  no_batch is =
+      subst (IsStage t.layout.slots (length (snapshot_writes t)) (sectors_for t (first_of owed)) (length owed)) (at_end is) drafted.in_stage
+
+  -- so both areas mean the same
+  pub means_same : next ≡ None → MeansSame t s
+  means_same is = none_owed s t owed (no_batch is) drafted.same
+
+  pub durable : next ≡ None → Made (call ∷ []) old new → Before → IsAtRest new t Older
   durable is made holds h =
-      subst (λ (then_ : Option Stage). HoldsBehind new.sectors s then_ new.content) (sym is) (made-behind made holds h)
+      let whole = subst (λ (then_ : Option Stage). HoldsBehind new.sectors s t' owed' then_ new.content) is (made-behind made holds h) in
+      subst (λ (l : Log). EachKept new.sectors (target s l) Older new.content) (unmoved is) whole.0
 
-  -- on any disk
-  pub drafted_next : (q : Stage) → Some q ≡ next → Made (call_at s stage ∷ []) old new → IsDrafted new s q
-  drafted_next q is made = record {
-    fits = subst (λ (n : ℕ). total s.layout ≤ n) (sym made.after.sectors) drafted.fits;
-    some = drafted.some;
-    near = drafted.near;
-    bound = drafted.bound;
-    count = drafted.count;
-    records = drafted.records;
-    in_stage = subst (λ (then_ : Option Stage). IfSome then_ (IsStage s.layout.slots (length (snapshot_writes s)))) (sym is)
-        (in_next s stage drafted.some);
-  }
+  -- behind the last call
+  pub resting : Made (call ∷ []) old new → IsResting new t
+  resting made = resting_on old new t made.after.sectors drafted.resting
 
-  pub resting : Made (call_at s stage ∷ []) old new → IsResting new (checkpointed s)
-  resting made = record {
-    fits = subst (λ (n : ℕ). total s.layout ≤ n) (sym made.after.sectors) drafted.fits;
-    within = omega arith;
-    bound = drafted.bound;
-    begun = omega (arith, drafted.near);
-    in_use = λ some. absurd (omega (arith, some));
-    count = drafted.count;
-  }
+  order : stage_calls t owed stage ≡ call ∷ calls_behind t' owed' next
+  order = first_call t owed stage drafted.some drafted.in_stage
 
   -- the first of the calls that are left is made, or fails
-  pub makes_first : (q : Stage) → Some q ≡ next → Made (call_at s stage ∷ []) old new
-      → MakesFirst (stage_calls s stage) (stage_calls s q) old new
+  pub makes_first : (q : Stage) → next ≡ Some q → Made (call ∷ []) old new
+      → MakesFirst (stage_calls t owed stage) (stage_calls t' owed' q) old new
   makes_first q is made = record {
-    call = call_at s stage;
-    order = first_call s stage drafted.some drafted.in_stage
-        ∙ ap (λ (then_ : Option Stage). call_at s stage ∷ calls_behind s then_) (sym is);
+    call = call;
+    order = order ∙ ap (λ (then_ : Option Stage). call ∷ calls_behind t' owed' then_) is;
     made = made;
   }
 
-  pub makes_last : None ≡ next → Made (call_at s stage ∷ []) old new → MakesFirst (stage_calls s stage) [] old new
+  pub makes_last : next ≡ None → Made (call ∷ []) old new → MakesFirst (stage_calls t owed stage) [] old new
   makes_last is made = record {
-    call = call_at s stage;
-    order = first_call s stage drafted.some drafted.in_stage
-        ∙ ap (λ (then_ : Option Stage). call_at s stage ∷ calls_behind s then_) (sym is);
+    call = call;
+    order = order ∙ ap (λ (then_ : Option Stage). call ∷ calls_behind t' owed' then_) is;
     made = made;
   }
 
-  pub fails_first : (told : DiskFault) → FailedIn (call_at s stage ∷ []) told old new → FailsFirst (stage_calls s stage) told old new
+  pub fails_first : (told : DiskFault) → FailedIn (call ∷ []) told old new → FailsFirst (stage_calls t owed stage) told old new
   fails_first told failed = record {
-    call = call_at s stage;
-    left = calls_behind s next;
-    order = first_call s stage drafted.some drafted.in_stage;
+    call = call;
+    left = calls_behind t' owed' next;
+    order = order;
     failed = failed;
   }
 
+-- with no batch
+pub with_none : (t : Standing) (owed : List (List CommandValue)) → length owed ≡ 0 → with_batches t owed ≡ t
+with_none t [] none = refl
+with_none t (batch ∷ batches) none = absurd (omega (arith, none))
+
+-- the journal behind the last call, as it is made
+pub ends_as : (s : Standing) (log : Log) (a : Area) → a ≡ other s.area → MeansSame (target s log) s
+    → record { layout = s.layout; area = a; epoch = s.epoch + 1; used = log.used; number = s.number; state = s.state } ≡ target s log
+ends_as s log a there (number, state) = λ i. record {
+  layout = s.layout;
+  area = there i;
+  epoch = s.epoch + 1;
+  used = log.used;
+  number = sym number i;
+  state = sym state i;
+}
+
 -- the same of the checkpoint as contracts see it
 pub moment_of : {D : Type 0} (disk : D → Disk) {c v : CheckpointingView D} (left : D) (result : Result Unit DiskFault) → c ≡ v
-    → IsDrafted (disk c.disk) c.standing c.stage
-    → Makes (call_at c.standing c.stage ∷ []) (disk c.disk) (disk left) result → IsCheckpointUnderway disk v
+    → IsDrafted (disk c.disk) c.standing (target c.standing c.begun.log) c.begun.owed c.begun.stage
+    → Makes (call_at (target c.standing c.begun.log) c.begun.owed c.begun.stage ∷ []) (disk c.disk) (disk left) result
+    → IsCheckpointUnderway disk v
     → LeavesOnly (disk v.disk) (disk left) (KeptMeans (disk v.disk).sectors v.standing.number v.standing.state)
 moment_of {D = D} disk {c = c} left result view drafted makes =
     subst (λ (u : CheckpointingView D). IsCheckpointUnderway disk u
     → LeavesOnly (disk u.disk) (disk left) (KeptMeans (disk u.disk).sectors u.standing.number u.standing.state)) view
-    (moment c.standing c.stage (disk c.disk) (disk left) drafted result makes)
+    (moment c.standing c.begun.log c.begun.owed c.begun.stage (disk c.disk) (disk left) drafted result makes)

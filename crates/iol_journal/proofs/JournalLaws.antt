@@ -4,30 +4,23 @@ use Rattle.std.proofs.lemmas.Bool.Decides.{nat_tests}
 use Rattle.iol_types.specs.Command.{CommandValue}
 use Rattle.iol_disk.specs.Content.{Image, Content, IsImage}
 use Rattle.iol_disk.specs.Disk.{Disk}
-use Rattle.iol_slots.specs.Gate.{is_open}
 use Rattle.iol_journal.specs.Batches.{body_for, sectors_for}
 use Rattle.iol_journal.specs.Begin.{follows, is_too_large, batch_refusal}
 use Rattle.iol_journal.specs.Body.{slots_for}
+use Rattle.iol_journal.specs.Checkpoints.{target}
 use Rattle.iol_journal.specs.CheckpointViews.{CheckpointingView, IsCheckpointUnderway}
-use Rattle.iol_journal.specs.Journals.{WritingView, with_batch}
+use Rattle.iol_journal.specs.Journals.{WritingView}
 use Rattle.iol_journal.specs.Kept.{KeptEither, EachMeans}
-use Rattle.iol_journal.specs.Layout.{slot_at}
 use Rattle.iol_journal.specs.Meaning.{Standing}
-use Rattle.iol_journal.specs.Underway.{IsAtRest, IsUnderway, IsBetween, Holds}
+use Rattle.iol_journal.specs.Underway.{IsAtRest, IsUnderway, Holds}
 use Rattle.iol_journal.specs.declared.journal.BeginCause.TheVariants.{NeedsCheckpoint}
 use Rattle.iol_journal.specs.declared.place.Idle.{Idle}
 use Rattle.iol_journal.specs.declared.phase.Phase.{Phase}
 use Rattle.iol_journal.specs.declared.phase.Phase.TheVariants.{Body, SyncBody, Gate, SyncGate}
 use Rattle.iol_journal.proofs.Chains.{by_test}
 use Rattle.iol_journal.proofs.Frames.{kept_means}
-use Rattle.iol_journal.proofs.Stages.{stage_means}
-
--- with its gate open the slot counts, with its gate closed it does not
-pub between_means_either : (size : ℕ) (s : Standing) (idle : Idle) (commands : List CommandValue) (image : Image)
-    → IsBetween size s idle commands image → KeptEither size s.number s.state commands image
-between_means_either size s idle commands image between = by_test (is_open (image (slot_at s.layout s.area s.used))) _
-    (λ opened. inr (kept_means size (with_batch s commands) idle image (between.1 opened)))
-    (λ closed. inl (kept_means size s idle image (between.0 closed)))
+use Rattle.iol_journal.proofs.Phases.{between_means_either}
+use Rattle.iol_journal.proofs.StageMeanings.{stage_means}
 
 -- before the call of each phase
 holds_means_either : (size : ℕ) (s : Standing) (idle : Idle) (commands : List CommandValue) (body : List ℕ) (sectors : ℕ) (p : Phase)
@@ -51,7 +44,8 @@ underway_means_either disk w under h =
 pub checkpoint_means_its_state : {D : Type 0} (disk : D → Disk) (c : CheckpointingView D) → IsCheckpointUnderway disk c
     → EachMeans (disk c.disk) c.standing.number c.standing.state
 checkpoint_means_its_state disk c under h image is =
-    stage_means (disk c.disk).sectors c.standing c.stage (disk c.disk).content (under h) image is
+    stage_means (disk c.disk).sectors c.standing (target c.standing c.begun.log) c.begun.owed c.begun.stage (disk c.disk).content (under h)
+    image is
 
 -- a journal at rest means its number and state
 pub rest_means_its_state : (d : Disk) (s : Standing) (idle : Idle) → IsAtRest d s idle → EachMeans d s.number s.state

@@ -10,9 +10,17 @@ pub mod Bodies
 pub mod AreaRecords
 pub mod RecordSectors
 pub mod Phases
+pub mod Carrying
 pub mod Stages
+pub mod StageMeanings
 pub mod StageCalls
+pub mod CheckpointSizes
+pub mod DraftLaws
 pub mod CheckpointSteps
+pub mod Beside
+pub mod BegunLaws
+pub mod BegunCalls
+pub mod BesideLaws
 pub mod BatchCalls
 pub mod JournalLaws
 pub mod RunLaws

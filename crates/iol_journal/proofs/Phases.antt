@@ -20,7 +20,7 @@ use Rattle.iol_journal.specs.Kept.{IsKeptAs, KeptEither, EachMeans}
 use Rattle.iol_disk.specs.Calls.{content_after, Made}
 use Rattle.iol_disk.specs.declared.disk.TheConstants.{SECTOR_OCTETS}
 use Rattle.iol_journal.specs.Batches.{body_for, sectors_for, call_of, next_phase, IsPhase}
-use Rattle.iol_journal.specs.Journals.{standing_at, with_batch, IsPlanned}
+use Rattle.iol_journal.specs.Journals.{standing_at, with_batch, CanFollow, IsPlanned}
 use Rattle.iol_journal.specs.Underway.{EachKept, IsAtRest, HasWritten, IsBetween, Holds}
 use Rattle.iol_journal.specs.declared.place.Idle.{Idle}
 use Rattle.iol_journal.specs.declared.place.Place.{Place}
@@ -28,12 +28,19 @@ use Rattle.iol_journal.specs.declared.phase.Phase.{Phase}
 use Rattle.iol_journal.specs.declared.phase.Phase.TheVariants.{Body, SyncBody, Gate, SyncGate}
 use Rattle.iol_journal.specs.declared.geometry.TheConstants.{BODY_SECTORS}
 use Rattle.iol_journal.proofs.BatchCalls.{phase_of}
-use Rattle.iol_journal.proofs.JournalLaws.{between_means_either}
-use Rattle.iol_journal.proofs.Bodies.{octets_at-in_slot}
+use Rattle.iol_journal.proofs.Chains.{by_test}
+use Rattle.iol_journal.proofs.Bodies.{octets_at-in_slot, length-body, sectors_for-some, head_of-body_octets, batch_of-body_octets}
 use Rattle.iol_journal.proofs.Frames.{SameButSlots, kept_closed, kept_open, kept_means}
 use Rattle.iol_journal.proofs.ReachedBodies.{head_of-first}
 use Rattle.iol_journal.proofs.Spans.{slots_of-some, body_at-within, body_at-rises, body_at-no_gate}
 use Rattle.iol_journal.proofs.Rows.{left_behind}
+
+-- with its gate open the slot counts, with its gate closed it does not
+pub between_means_either : (size : ℕ) (s : Standing) (idle : Idle) (commands : List CommandValue) (image : Image)
+    → IsBetween size s idle commands image → KeptEither size s.number s.state commands image
+between_means_either size s idle commands image between = by_test (is_open (image (slot_at s.layout s.area s.used))) _
+    (λ opened. inr (kept_means size (with_batch s commands) idle image (between.1 opened)))
+    (λ closed. inl (kept_means size s idle image (between.0 closed)))
 
 -- a batch for the first free slots
 pub record IsFit (s : Standing) (commands : List CommandValue) (body : List ℕ) (sectors : ℕ) : Type 0 where
@@ -45,12 +52,25 @@ pub record IsFit (s : Standing) (commands : List CommandValue) (body : List ℕ)
   pub read_back : (rest : List ℕ) → batch_of s.epoch (s.number + 1) (body ++ rest) ≡ Some commands
   pub passes : legal s.state commands ≡ true
 
+-- one sector more of a body is written
+pub written_more : (s : Standing) (body : List ℕ) (j : ℕ) (c : Content) → HasWritten s body j c
+    → HasWritten s body (j + 1) (wrote (body_at s.layout s.area s.used j) (sector_of body j) c)
+written_more s body j c written k less = elim (cases_lt k j) [
+  | inl before ↦ reads-wrote_other (body_at s.layout s.area s.used j) (sector_of body j) c (body_at s.layout s.area s.used k)
+      (omega (arith, body_at-rises s.layout s.area s.used k j before)) ∙ written k before
+  | inr last ↦
+      let e : k ≡ j = omega arith in
+      subst (λ (i : ℕ). reads (wrote (body_at s.layout s.area s.used j) (sector_of body j) c) (body_at s.layout s.area s.used i)
+      ≡ sector_of body i) (sym e)
+      (reads-wrote_here (body_at s.layout s.area s.used j) (sector_of body j) c)
+]
+
 module _ (s : Standing) (idle : Idle) (commands : List CommandValue) (body : List ℕ) (sectors : ℕ) (fit : IsFit s commands body sectors)
   where
-    some_slot : 1 ≤ slots_for commands
+    pub some_slot : 1 ≤ slots_for commands
     some_slot = slots_of-some (length (records_of commands))
 
-    but_slots : (n : ℕ) (was image : Image) → slot_at s.layout s.area s.used ≤ n
+    pub but_slots : (n : ℕ) (was image : Image) → slot_at s.layout s.area s.used ≤ n
         → n < slot_at s.layout s.area (s.used + slots_for commands)
         → ((k : ℕ) → s.used < k → slot_at s.layout s.area k ≢ n)
         → ((i : ℕ) → i ≢ n → image i ≡ was i) → SameButSlots s (slots_for commands) was image
@@ -64,7 +84,7 @@ module _ (s : Standing) (idle : Idle) (commands : List CommandValue) (body : Lis
         away i (inr behind) = omega (arith, behind, below)
 
     -- the write of a sector of the body
-    body_kept : (size j : ℕ) → j < sectors → (was image : Image) → IsKeptAs size s idle was
+    pub body_kept : (size j : ℕ) → j < sectors → (was image : Image) → IsKeptAs size s idle was
         → ((i : ℕ) → i ≢ body_at s.layout s.area s.used j → image i ≡ was i) → IsKeptAs size s idle image
     body_kept size j below was image kept same =
         kept_closed size s (slots_for commands) idle was image fit.room some_slot
@@ -82,7 +102,7 @@ module _ (s : Standing) (idle : Idle) (commands : List CommandValue) (body : Lis
         same (body_at s.layout s.area s.used j) (λ e. body_at-no_gate s.layout s.area s.used s.used j (sym e))
         ∙ ap (λ (i : Image). i (body_at s.layout s.area s.used j)) (image-settled c was settled is) ∙ written j below
 
-    body_read : (image : Image) → ((j : ℕ) → j < sectors → image (body_at s.layout s.area s.used j) ≡ sector_of body j)
+    pub body_read : (image : Image) → ((j : ℕ) → j < sectors → image (body_at s.layout s.area s.used j) ≡ sector_of body j)
         → batch_of s.epoch (s.number + 1) (body_in s.layout s.area image s.used (slots_for commands)) ≡ Some commands
     body_read image there =
         read_at (octets_at-in_slot (λ j. image (body_at s.layout s.area s.used j)) body 0 sectors (BODY_SECTORS * slots_for commands)
@@ -98,7 +118,7 @@ module _ (s : Standing) (idle : Idle) (commands : List CommandValue) (body : Lis
             → batch_of s.epoch (s.number + 1) (body_in s.layout s.area image s.used (slots_for commands)) ≡ Some commands
         read_at (rest, at) = ap (batch_of s.epoch (s.number + 1)) at ∙ fit.read_back rest
 
-    span_read : (image : Image) → ((j : ℕ) → j < sectors → image (body_at s.layout s.area s.used j) ≡ sector_of body j)
+    pub span_read : (image : Image) → ((j : ℕ) → j < sectors → image (body_at s.layout s.area s.used j) ≡ sector_of body j)
         → span_in s.layout s.area image s.used ≡ slots_for commands
     span_read image there =
         ap (λ (octets : List ℕ). slots_of (head_of octets).octets) (there 0 fit.least)
@@ -121,23 +141,11 @@ module _ (s : Standing) (idle : Idle) (commands : List CommandValue) (body : Lis
     body_after : (size j : ℕ) (c : Content) → j < sectors → EachKept size s idle c × HasWritten s body j c
         → EachKept size s idle (wrote (body_at s.layout s.area s.used j) (sector_of body j) c)
         × HasWritten s body (j + 1) (wrote (body_at s.layout s.area s.used j) (sector_of body j) c)
-    body_after size j c below (each, written) = (λ image is. kept image is, λ k less. written_at k less)
+    body_after size j c below (each, written) = (λ image is. kept image is, written_more s body j c written)
       where
         kept : (image : Image) → IsImage (wrote (body_at s.layout s.area s.used j) (sector_of body j) c) image → IsKeptAs size s idle image
         kept image is = let w = image-wrote (body_at s.layout s.area s.used j) (sector_of body j) c image is in
             body_kept size j below w.0 image (each w.0 w.1) w.2
-
-        written_at : (k : ℕ) → k < j + 1
-            → reads (wrote (body_at s.layout s.area s.used j) (sector_of body j) c) (body_at s.layout s.area s.used k) ≡ sector_of body k
-        written_at k less = elim (cases_lt k j) [
-          | inl before ↦ reads-wrote_other (body_at s.layout s.area s.used j) (sector_of body j) c (body_at s.layout s.area s.used k)
-              (omega (arith, body_at-rises s.layout s.area s.used k j before)) ∙ written k before
-          | inr last ↦
-              let e : k ≡ j = omega arith in
-              subst (λ (i : ℕ). reads (wrote (body_at s.layout s.area s.used j) (sector_of body j) c) (body_at s.layout s.area s.used i)
-              ≡ sector_of body i) (sym e)
-              (reads-wrote_here (body_at s.layout s.area s.used j) (sector_of body j) c)
-        ]
 
     -- what holds before the call that comes next
     next_body : (size j : ℕ) (q : Phase) (c : Content) (test : Bool) → test ≡ nat_lt (j + 1) sectors → j < sectors
@@ -223,17 +231,25 @@ module _ (s : Standing) (idle : Idle) (commands : List CommandValue) (body : Lis
     on_the_way size SyncGate c in_phase holds (suc place) image is =
         inr (kept_means size (with_batch s commands) idle image (at_end size SyncGate c refl holds image (left_behind _ image place is)))
 
+-- a batch that can follow fits
+pub fit_for : (s : Standing) (commands : List CommandValue) → CanFollow s commands → s.epoch ≤ s.number + 1
+    → IsFit s commands (body_for s commands) (sectors_for s commands)
+fit_for s commands follows begun =
+    let size = length-body s.epoch (s.number + 1) commands in
+    let is = follows.batch in record {
+      room = follows.room;
+      whole = omega (arith, size);
+      least = sectors_for-some s commands;
+      short = omega (arith, size);
+      tells = head_of-body_octets s.epoch (s.number + 1) commands (omega (arith, is.short));
+      read_back = λ rest. batch_of-body_octets s.epoch (s.number + 1) commands rest (omega (arith, begun, follows.bound)) is.some is.most
+          (omega (arith, is.short)) (omega (arith, follows.bound)) is.read;
+      passes = follows.passes;
+    }
+
 pub fit_of : (d : Disk) (s : Standing) (commands : List CommandValue) (p : Phase) → IsPlanned d s commands p
     → IsFit s commands (body_for s commands) (sectors_for s commands)
-fit_of d s commands p planned = record {
-  room = planned.room;
-  whole = planned.whole;
-  least = planned.least;
-  short = planned.short;
-  tells = planned.tells;
-  read_back = planned.read_back;
-  passes = planned.passes;
-}
+fit_of d s commands p planned = fit_for s commands planned.follows planned.begun
 
 -- a journal at rest means its number and state
 pub rest_means : (d d' : Disk) (s s' : Standing) (idle idle' : Idle) → d' ≡ d → s' ≡ s → idle' ≡ idle → IsAtRest d s idle

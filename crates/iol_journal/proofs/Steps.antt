@@ -1,5 +1,6 @@
 -- What a step of a batch makes of the disk, as its one call says.
-use Rattle.std.proofs.Common.{◌≡◌, ◌≤◌, ℕ, ◌+◌, nat_lt, if◌then◌else◌, Bool, true, false, List, [], ◌∷◌, Option, Some, None, IsTrue, Result}
+use Rattle.std.proofs.Common.{◌≡◌, ◌≤◌, ℕ, ◌+◌, nat_lt, if◌then◌else◌, Bool, true, false}
+use Rattle.std.proofs.Common.{List, [], ◌∷◌, length, Option, Some, None, IsTrue, Result}
 use Rattle.std.proofs.Common.{Ok, Err, refl, sym, ◌∙◌, ap, subst, arith}
 use Rattle.std.proofs.lemmas.Bool.Decides.{nat_tests}
 use Rattle.iol_types.specs.Command.{CommandValue}
@@ -10,7 +11,7 @@ use Rattle.iol_disk.specs.Moments.{LeavesOnly}
 use Rattle.iol_disk.specs.declared.fault.DiskFault.{DiskFault}
 use Rattle.iol_disk.proofs.DiskLaws.{HasOnTheWay, made_leaves, failed_leaves}
 use Rattle.iol_journal.specs.Batches.{body_for, sectors_for, call_of, calls_from, next_phase, IsPhase}
-use Rattle.iol_journal.specs.Journals.{WritingView, IsPlanned, IsPlan, IsResting, with_batch}
+use Rattle.iol_journal.specs.Journals.{WritingView, CanFollow, IsPlanned, IsPlan, IsResting, with_batch}
 use Rattle.iol_journal.specs.Kept.{KeptEither}
 use Rattle.iol_journal.specs.Meaning.{Standing}
 use Rattle.iol_journal.specs.Orders.{Makes}
@@ -23,6 +24,18 @@ use Rattle.iol_journal.specs.declared.phase.Phase.TheVariants.{Body, SyncBody, G
 use Rattle.iol_journal.specs.declared.writing.Plan.{Plan}
 use Rattle.iol_journal.proofs.BatchCalls.{phase_of, first_call, last_call, some_call}
 use Rattle.iol_journal.proofs.Phases.{fit_of, on_the_way, next_holds, batch_durable}
+
+-- behind a batch a journal can be gone on with
+pub rests_with : (d : Disk) (s : Standing) (commands : List CommandValue) → CanFollow s commands → total s.layout ≤ d.sectors
+    → s.epoch ≤ s.number + 1 → length s.state ≡ s.layout.ports → IsResting d (with_batch s commands)
+rests_with d s commands follows fits begun count = record {
+  fits = fits;
+  within = follows.room;
+  bound = follows.bound;
+  begun = omega (arith, begun);
+  in_use = λ some. omega (arith, begun, follows.batch.some);
+  count = length-after s.state commands ∙ count;
+}
 
 -- the phase behind a phase is one
 in_next : (sectors : ℕ) (p q : Phase) → IsPhase sectors p → next_phase sectors p ≡ Some q → IsPhase sectors q
@@ -82,16 +95,8 @@ module _ (s : Standing) (idle : Idle) (commands : List CommandValue) (body : Lis
   pub planned_next : (q : Phase) → Some q ≡ next_phase sectors p → Made (call_of s body p ∷ []) old new → IsPlanned new s commands q
   planned_next q is made = record {
     fits = subst (λ (n : ℕ). total s.layout ≤ n) (sym made.after.sectors) planned.fits;
-    room = planned.room;
-    whole = planned.whole;
-    least = planned.least;
-    short = planned.short;
-    tells = planned.tells;
+    follows = planned.follows;
     in_phase = in_next (sectors_for s commands) p q planned.in_phase (sym (next_is (Some q) is));
-    read_back = planned.read_back;
-    passes = planned.passes;
-    some = planned.some;
-    bound = planned.bound;
     begun = planned.begun;
     count = planned.count;
   }
@@ -127,22 +132,16 @@ module _ (s : Standing) (idle : Idle) (commands : List CommandValue) (body : Lis
 -- the journal rests behind its last call
 pub resting_behind : (d d' : Disk) (s : Standing) (commands : List CommandValue) (p : Phase) → IsPlanned d s commands p → d'.sectors
     ≡ d.sectors → IsResting d' (with_batch s commands)
-resting_behind d d' s commands p planned same = record {
-  fits = subst (λ (n : ℕ). total s.layout ≤ n) (sym same) planned.fits;
-  within = planned.room;
-  bound = planned.bound;
-  begun = omega (arith, planned.begun);
-  in_use = λ some. omega (arith, planned.begun, planned.some);
-  count = length-after s.state commands ∙ planned.count;
-}
+resting_behind d d' s commands p planned same = rests_with d' s commands planned.follows
+    (subst (λ (n : ℕ). total s.layout ≤ n) (sym same) planned.fits) planned.begun planned.count
 
 -- the same of the batch as contracts see it
 pub moment_of : {D : Type 0} (disk : D → Disk) {w v : WritingView D} {plan : Plan} (left : D) (result : Result Unit DiskFault) → w ≡ v
     → IsPlanned (disk w.disk) w.standing w.commands w.phase → IsPlan w.standing w.commands plan
-    → Makes (call_of w.standing plan.body.items w.phase ∷ []) (disk w.disk) (disk left) result → IsUnderway disk v
+    → Makes (call_of w.standing plan.body.octets.items w.phase ∷ []) (disk w.disk) (disk left) result → IsUnderway disk v
     → LeavesOnly (disk v.disk) (disk left) (KeptEither (disk v.disk).sectors v.standing.number v.standing.state v.commands)
 moment_of {D = D} disk {w = w} {plan = plan} left result view planned is_plan makes =
     subst (λ (u : WritingView D). IsUnderway disk u
     → LeavesOnly (disk u.disk) (disk left) (KeptEither (disk u.disk).sectors u.standing.number u.standing.state u.commands)) view
-    (moment w.standing w.idle w.commands plan.body.items plan.sectors w.phase (disk w.disk) (disk left) planned is_plan.body is_plan.sectors
-    result makes)
+    (moment w.standing w.idle w.commands plan.body.octets.items plan.body.sectors w.phase (disk w.disk) (disk left) planned
+    is_plan.body.octets is_plan.body.sectors result makes)

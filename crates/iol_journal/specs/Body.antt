@@ -1,5 +1,6 @@
 -- The body of a slot: a head, and the records of a batch.
-use Rattle.std.specs.Prelude.{ℕ, zero, suc, ◌+◌, ◌-◌, ◌/◌, ◌==◌, nat_le, Bool, ◌&&◌, if◌then◌else◌, List, [], ◌∷◌, ◌++◌, length, take, drop}
+use Rattle.std.specs.Prelude.{◌≡◌, ◌≤◌, ◌<◌, ℕ, zero, suc, ◌+◌, ◌*◌, ◌-◌, ◌/◌, ◌==◌}
+use Rattle.std.specs.Prelude.{nat_le, Bool, ◌&&◌, if◌then◌else◌, List, [], ◌∷◌, ◌++◌, length, take, drop}
 use Rattle.std.specs.Prelude.{Option, Some, None, Result, Ok, Err}
 use Rattle.std.specs.Int.{w16, w32, w64, to_be_bytes}
 use Rattle.std.specs.List.{flat_map}
@@ -11,6 +12,7 @@ use Rattle.iol_journal.specs.Octets.{number_at, padded}
 use Rattle.iol_journal.specs.declared.body.Head.{Head}
 use Rattle.iol_journal.specs.declared.header.TheConstants.{LAST_NUMBER}
 use Rattle.iol_journal.specs.declared.batch.TheConstants.{MOST_COMMANDS, BODY_OCTETS, BODY_HEAD_OCTETS}
+use Rattle.iol_journal.specs.declared.geometry.TheConstants.{MOST_SLOTS}
 
 -- the head of a body: epoch 8, number of the first command 8, count 2, octets of the records 4 (format, Slots)
 unfoldable pub head_of : List ℕ → Head
@@ -57,6 +59,13 @@ batch_of epoch first body =
 -- the records of commands, one behind the other (format, Slots)
 abbrev pub records_of : List CommandValue → List ℕ
 records_of commands = flat_map command_octets commands
+
+-- commands of which a body can be made: one to 64, whose records fit the slots of an area and are read as they are (format, Slots)
+pub record IsBatch (commands : List CommandValue) : Type 0 where
+  pub some : 1 ≤ length commands
+  pub most : length commands ≤ MOST_COMMANDS
+  pub short : length (records_of commands) < BODY_OCTETS * MOST_SLOTS
+  pub read : commands_of (length commands) (records_of commands) ≡ Some commands
 
 -- how many slots commands take (format, Slots)
 abbrev pub slots_for : List CommandValue → ℕ

@@ -1,34 +1,35 @@
 -- What contracts see of a journal, of a batch on its way, and of what their calls answer.
-use Rattle.std.specs.Prelude.{◌≡◌, ◌≤◌, ◌<◌, ℕ, ◌+◌, ◌*◌, true, List, ◌++◌, length, map, Some}
+use Rattle.std.specs.Prelude.{◌≡◌, ◌≤◌, ◌<◌, ℕ, ◌+◌, true, List, ◌++◌, length, map, Option}
 use Rattle.iol_types.specs.Command.{CommandValue, value_of}
 use Rattle.iol_types.specs.State.{State, after, legal}
 use Rattle.iol_types.specs.declared.command.Command.{Command}
 use Rattle.iol_disk.specs.Disk.{Disk}
 use Rattle.iol_journal.specs.Layout.{total}
+use Rattle.iol_journal.specs.BegunViews.{BegunView}
 use Rattle.iol_journal.specs.Meaning.{Standing}
+use Rattle.iol_journal.specs.declared.body.EncodedBatch.{EncodedBatch}
 use Rattle.iol_journal.specs.declared.history.History.{History}
 use Rattle.iol_journal.specs.declared.place.Idle.{Idle}
 use Rattle.iol_journal.specs.declared.place.Place.{Place}
 use Rattle.iol_journal.specs.declared.phase.Phase.{Phase}
 use Rattle.iol_journal.specs.declared.writing.Plan.{Plan}
-use Rattle.iol_journal.specs.declared.geometry.TheConstants.{BODY_SECTORS}
 use Rattle.iol_journal.specs.declared.header.TheConstants.{LAST_NUMBER}
 use Rattle.iol_disk.specs.Calls.{Call}
 use Rattle.iol_journal.specs.Batches.{IsPhase, body_for, sectors_for, calls_from}
-use Rattle.iol_journal.specs.Body.{head_of, slots_for, records_of, batch_of}
-use Rattle.iol_disk.specs.declared.disk.TheConstants.{SECTOR_OCTETS}
+use Rattle.iol_journal.specs.Body.{IsBatch, slots_for}
 
 -- the values of commands (own)
 abbrev pub values : List Command → List CommandValue
 values commands = map value_of commands
 
--- a journal as contracts see it: its disk, how it stands, how the other area is harmless, and what it has done since
--- it was recovered (own)
+-- a journal as contracts see it: its disk, how it stands, how the other area is harmless, what it has done since it was
+-- recovered, and the checkpoint that is paused, if one is (own)
 pub record JournalView (D : Type 0) : Type 0 where
   pub disk : D
   pub standing : Standing
   pub idle : Idle
   pub history : History
+  pub begun : Option BegunView
 
 -- a batch on its way as contracts see it: the disk, how the journal stood before it, its commands and its next disk
 -- call (own)
@@ -36,8 +37,9 @@ pub record WritingView (D : Type 0) : Type 0 where
   pub disk : D
   pub standing : Standing
   pub idle : Idle
-  -- what the journal had done before the batch
+  -- what the journal had done before the batch, and the checkpoint that is paused beside it
   pub history : History
+  pub begun : Option BegunView
   -- the commands of the batch, and the disk call that comes next
   pub commands : List CommandValue
   pub phase : Phase
@@ -87,26 +89,28 @@ pub record IsResting (d : Disk) (s : Standing) : Type 0 where
   pub in_use : 0 < s.used → s.epoch ≤ s.number
   pub count : length s.state ≡ s.layout.ports
 
+-- a batch that can be written behind a journal that stands so: the free slots hold it, and each command passes (own)
+pub record CanFollow (s : Standing) (commands : List CommandValue) : Type 0 where
+  pub room : s.used + slots_for commands ≤ s.layout.slots
+  pub batch : IsBatch commands
+  pub passes : legal s.state commands ≡ true
+  pub bound : s.number + length commands ≤ LAST_NUMBER
+
 -- What holds of a batch on its way, on any disk (own)
 pub record IsPlanned (d : Disk) (s : Standing) (commands : List CommandValue) (phase : Phase) : Type 0 where
   pub fits : total s.layout ≤ d.sectors
-  pub room : s.used + slots_for commands ≤ s.layout.slots
-  pub whole : length (body_for s commands) ≡ SECTOR_OCTETS * sectors_for s commands
-  pub least : 1 ≤ sectors_for s commands
-  pub short : sectors_for s commands ≤ BODY_SECTORS * slots_for commands
-  pub tells : (head_of (body_for s commands)).octets ≡ length (records_of commands)
+  pub follows : CanFollow s commands
   pub in_phase : IsPhase (sectors_for s commands) phase
-  -- whatever follows the body in its slot, it is read as these commands, and they pass
-  pub read_back : (rest : List ℕ) → batch_of s.epoch (s.number + 1) (body_for s commands ++ rest) ≡ Some commands
-  pub passes : legal s.state commands ≡ true
-  pub some : 1 ≤ length commands
-  pub bound : s.number + length commands ≤ LAST_NUMBER
   pub begun : s.epoch ≤ s.number + 1
   pub count : length s.state ≡ s.layout.ports
 
--- A plan has the body of the batch, its slots and sectors, and the state behind it (own)
+-- a batch as it is written behind a journal that stands so (own)
+pub record IsEncoded (s : Standing) (commands : List CommandValue) (body : EncodedBatch) : Type 0 where
+  pub octets : body.octets.items ≡ body_for s commands
+  pub span : body.span ≡ slots_for commands
+  pub sectors : body.sectors ≡ sectors_for s commands
+
+-- A plan has the body of the batch, and the state behind it (own)
 pub record IsPlan (s : Standing) (commands : List CommandValue) (plan : Plan) : Type 0 where
-  pub body : plan.body.items ≡ body_for s commands
-  pub span : plan.span ≡ slots_for commands
-  pub sectors : plan.sectors ≡ sectors_for s commands
+  pub body : IsEncoded s commands plan.body
   pub next : plan.next ≡ after s.state commands

@@ -8,6 +8,7 @@ pub mod Meaning
 pub mod AreaPlans
 pub mod Kept
 pub mod Batches
+pub mod BegunViews
 pub mod Journals
 pub mod History
 pub mod Underway
@@ -15,6 +16,8 @@ pub mod Runs
 pub mod Running
 pub mod Stretches
 pub mod Checkpoints
+pub mod Drafts
+pub mod BegunParts
 pub mod Recovery
 pub mod Begin
 pub mod Written

@@ -4,6 +4,7 @@ use Rattle.iol_disk.specs.Disk.{Disk}
 use Rattle.iol_journal.specs.Journals.{JournalView, WritingView}
 use Rattle.iol_journal.specs.Meaning.{Standing}
 use Rattle.iol_journal.specs.Runs.{Run, IsRun, number_of, state_of, with_batch_written}
+use Rattle.iol_journal.specs.CheckpointViews.{IsPaused, IsBeside}
 use Rattle.iol_journal.specs.Underway.{IsAtRest, IsUnderway}
 use Rattle.iol_journal.specs.declared.writing.Progress.{Progress}
 use Rattle.iol_journal.specs.declared.writing.Progress.TheVariants.{More, Done, Failed}
@@ -12,13 +13,16 @@ use Rattle.iol_journal.specs.declared.writing.Progress.TheVariants.{More, Done, 
 abbrev pub IsRunAt : Disk → Standing → Run → Type 0
 IsRunAt d s r = IsRun d r × (s.number ≡ number_of r) × (s.state ≡ state_of r)
 
--- a run of a journal at rest: no batch is underway (own)
+-- a run of a journal at rest: no batch is underway, and a checkpoint may be paused (own)
 abbrev pub IsRunAtRest : {D : Type 0} → (D → Disk) → Run → JournalView D → Type 0
-IsRunAtRest disk r j = IsAtRest (disk j.disk) j.standing j.idle × IsRunAt (disk j.disk) j.standing r × (r.underway ≡ [])
+IsRunAtRest disk r j =
+    IsAtRest (disk j.disk) j.standing j.idle × IsRunAt (disk j.disk) j.standing r × (r.underway ≡ [])
+    × IsPaused (disk j.disk) j.standing j.begun
 
--- a run whose batch is on its way (own)
+-- a run whose batch is on its way; a checkpoint may be paused beside it (own)
 abbrev pub IsRunWriting : {D : Type 0} → (D → Disk) → Run → WritingView D → Type 0
-IsRunWriting disk r w = IsUnderway disk w × IsRunAt (disk w.disk) w.standing r × (r.underway ≡ w.commands)
+IsRunWriting disk r w =
+    IsUnderway disk w × IsRunAt (disk w.disk) w.standing r × (r.underway ≡ w.commands) × IsBeside (disk w.disk) w.standing w.begun
 
 -- a run after a step of a batch: its batch is still on its way, or it is written; a disk that failed leaves it a run
 -- (own)

@@ -1,9 +1,9 @@
 //! The body of a slot: its head, and the records of a batch.
 
-ghost use Rattle.std.specs.Prelude.{◌≡◌, ◌≤◌, ◌<◌, ◌+◌, ◌*◌, ◌^◌, ◌++◌, ℕ, List, length, Some, IfOk};
+ghost use Rattle.std.specs.Prelude.{◌≡◌, ◌≤◌, ◌<◌, ◌+◌, ◌^◌, ◌++◌, length, drop, Some, IfOk, OnOk};
+ghost use Rattle.std.specs.Int.{w64, to_be_bytes};
 ghost use Rattle.iol_journal.specs.Octets.{sectors_reached};
-ghost use Rattle.iol_journal.specs.Body.{head_of, batch_of, commands_of, records_of, slots_for, head_octets, body_octets};
-ghost use Rattle.iol_journal.specs.declared.geometry.TheConstants.{BODY_SECTORS};
+ghost use Rattle.iol_journal.specs.Body.{commands_of, records_of, slots_for, head_octets, body_octets};
 ghost use Rattle.iol_journal.specs.Journals.{values};
 
 use crate::batch::{BODY_HEAD_OCTETS, MOST_COMMANDS, slots_of};
@@ -13,6 +13,17 @@ use iol_disk::SECTOR_OCTETS;
 use iol_record::encode_command;
 use iol_types::Command;
 use std::alloc::{AllocError, Global};
+
+// The octets of an epoch, at the front of a body.
+const EPOCH_OCTETS: usize = 8;
+
+// A batch as it is written: the octets of its body, and how many slots and sectors they take.
+#[derive(Debug, Drop)]
+pub(crate) struct EncodedBatch {
+    pub octets: Vec<u8>,
+    pub span: usize,
+    pub sectors: usize,
+}
 
 /// What stands before the records in a slot's body (docs/FORMATS.md, "Slots").
 #[derive(Clone, Copy)]
@@ -84,32 +95,64 @@ fn records(alloc: Global, commands: &[Command]) -> Result<Vec<u8>, AllocError>
     Ok(octets)
 }
 
-// The body of a slot for these commands.
-pub(crate) fn body_of(
-    alloc: Global,
-    epoch: u64,
-    first: u64,
-    commands: &[Command],
-) -> Result<Vec<u8>, AllocError>
-    requires most { length commands.now ≤ MOST_COMMANDS }
-    requires small { length (records_of (values commands.now)) < 2 ^ 31 }
-    ensures octets { IfOk result (λ body. body.items ≡ body_octets epoch first (values commands.now)) }
-    ensures whole { IfOk result (λ body. length body.items ≡ SECTOR_OCTETS * sectors_reached (length body.items)) }
-    ensures short { IfOk result (λ body. (1 ≤ sectors_reached (length body.items))
-        × (sectors_reached (length body.items) ≤ BODY_SECTORS * slots_for (values commands.now))) }
-    ensures tells { IfOk result (λ body. (head_of body.items).octets ≡ length (records_of (values commands.now))) }
-    // Whatever follows it in its slot, it is read as these commands.
-    ensures sound { IfOk result (λ body. 1 ≤ length commands.now → first + length commands.now ≤ LAST_NUMBER + 1
-        → (rest : List ℕ) → batch_of epoch first (body.items ++ rest) ≡ Some (values commands.now)) }
+impl EncodedBatch {
+    // These commands, of which the first has this number, as they are written under an epoch.
+    pub(crate) fn of(
+        alloc: Global,
+        epoch: u64,
+        first: u64,
+        commands: &[Command],
+    ) -> Result<EncodedBatch, AllocError>
+        requires most { length commands.now ≤ MOST_COMMANDS }
+        requires small { length (records_of (values commands.now)) < 2 ^ 31 }
+        ensures octets { IfOk result (λ body. body.octets.items ≡ body_octets epoch first (values commands.now)) }
+        ensures span { IfOk result (λ body. body.span ≡ slots_for (values commands.now)) }
+        ensures sectors { IfOk result (λ body. body.sectors ≡ sectors_reached (length body.octets.items)) }
+        // The records are read as these commands.
+        ensures read { OnOk result (commands_of (length (values commands.now)) (records_of (values commands.now))
+            ≡ Some (values commands.now)) }
+    {
+        let records = records(alloc, commands)?;
+        let head = head_octets(epoch, first, commands.len() as u16, records.len() as u32);
+        let sectors = (BODY_HEAD_OCTETS + records.len()).div_ceil(SECTOR_OCTETS);
+        let mut octets = Vec::with_capacity(alloc, SECTOR_OCTETS * sectors)?;
+        octets.extend_from_slice(&head)?;
+        octets.extend_from_slice(records.as_slice())?;
+        octets.resize(SECTOR_OCTETS * sectors, 0)?;
+        Ok(EncodedBatch {
+            octets,
+            span: slots_of(records.len()),
+            sectors,
+        })
+    }
+
+    // The same under another epoch: its octets 0 to 7.
+    pub(crate) fn under(self, epoch: u64) -> EncodedBatch
+        requires { EPOCH_OCTETS ≤ length self.octets.items }
+        ensures octets { result.octets.items ≡ to_be_bytes w64 epoch ++ drop EPOCH_OCTETS self.octets.items }
+        ensures span { result.span ≡ self.span }
+        ensures sectors { result.sectors ≡ self.sectors }
+    {
+        let EncodedBatch {
+            mut octets,
+            span,
+            sectors,
+        } = self;
+        put_epoch(&mut octets, epoch);
+        EncodedBatch {
+            octets,
+            span,
+            sectors,
+        }
+    }
+}
+
+// Writes an epoch over the one at the front of a body.
+fn put_epoch(body: &mut [u8], epoch: u64)
+    requires { EPOCH_OCTETS ≤ length body.old }
+    ensures { body.new ≡ to_be_bytes w64 epoch ++ drop EPOCH_OCTETS body.old }
 {
-    let records = records(alloc, commands)?;
-    let head = head_octets(epoch, first, commands.len() as u16, records.len() as u32);
-    let sectors = (BODY_HEAD_OCTETS + records.len()).div_ceil(SECTOR_OCTETS);
-    let mut body = Vec::with_capacity(alloc, SECTOR_OCTETS * sectors)?;
-    body.extend_from_slice(&head)?;
-    body.extend_from_slice(records.as_slice())?;
-    body.resize(SECTOR_OCTETS * sectors, 0)?;
-    Ok(body)
+    body[..EPOCH_OCTETS].copy_from_slice(&epoch.to_be_bytes());
 }
 
 // The head of a body.

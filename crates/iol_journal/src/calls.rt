@@ -8,32 +8,32 @@ ghost use Rattle.iol_journal.specs.Layout.{total};
 ghost use Rattle.iol_journal.specs.Orders.{Makes};
 ghost use Rattle.iol_journal.specs.declared.geometry.TheConstants.{BODY_SECTORS};
 
+use crate::body::EncodedBatch;
 use crate::phase::Phase;
 use crate::place::Place;
-use crate::writing::Plan;
 use iol_disk::{DiskFault, SECTOR_OCTETS, SectorDisk};
 
 // Makes the disk call of a phase, where a body is written from the first free slot on.
 pub(crate) fn make<D: SectorDisk>(
     disk: &mut D,
     place: &Place,
-    plan: &Plan,
+    body: &EncodedBatch,
     phase: Phase,
 ) -> Result<(), DiskFault>
     requires fits { total place.now.layout ≤ (D.disk disk.old).sectors }
-    requires some { 1 ≤ plan.now.span }
-    requires room { place.now.used + plan.now.span ≤ place.now.layout.slots }
-    requires whole { length plan.now.body.items ≡ SECTOR_OCTETS * plan.now.sectors }
-    requires short { plan.now.sectors ≤ BODY_SECTORS * plan.now.span }
-    requires in_phase { IsPhase plan.now.sectors phase }
+    requires some { 1 ≤ body.now.span }
+    requires room { place.now.used + body.now.span ≤ place.now.layout.slots }
+    requires whole { length body.now.octets.items ≡ SECTOR_OCTETS * body.now.sectors }
+    requires short { body.now.sectors ≤ BODY_SECTORS * body.now.span }
+    requires in_phase { IsPhase body.now.sectors phase }
     ensures makes { (number : ℕ) (state : State)
-        → Makes (call_of (standing_at place.now number state) plan.now.body.items phase ∷ []) (D.disk disk.old) (D.disk disk.new) result }
+        → Makes (call_of (standing_at place.now number state) body.now.octets.items phase ∷ []) (D.disk disk.old) (D.disk disk.new) result }
 {
-    let slot = place.slot(plan.span);
+    let slot = place.slot(body.span);
     match phase {
         Phase::Body(j) => {
             let mut octets = [0; SECTOR_OCTETS];
-            octets.copy_from_slice(&plan.body[SECTOR_OCTETS * j..SECTOR_OCTETS * (j + 1)]);
+            octets.copy_from_slice(&body.octets[SECTOR_OCTETS * j..SECTOR_OCTETS * (j + 1)]);
             slot.write_sector(disk, j, &octets)
         }
         Phase::SyncBody => disk.sync(),

@@ -1,18 +1,17 @@
-//! A checkpoint on its way to the other area.
+//! A checkpoint on its way to the disk.
 
-use crate::area_plan::AreaPlan;
+use crate::begun::Begun;
 use crate::history::History;
 use crate::journal::Journal;
 use crate::place::{Idle, Place};
-use crate::stage::Stage;
 use crate::stage_calls::make_stage;
 use iol_disk::{DiskFault, SectorDisk};
 use iol_types::MasterState;
 use std::alloc::Global;
 use std::marker::Model;
 
-/// A checkpoint on its way: the state is written into the other area, which is then in use with all its slots free.
-/// Each [`step`](Checkpointing::step) makes one disk call.
+/// A checkpoint on its way to the disk. Each [`step`](Checkpointing::step) makes one disk call. The first part of it, up to the
+/// write of the other area's gate, may be paused, so that batches are written meanwhile.
 #[derive(Drop)]
 pub struct Checkpointing<D: SectorDisk> {
     alloc: Global,
@@ -21,23 +20,25 @@ pub struct Checkpointing<D: SectorDisk> {
     number: u64,
     state: MasterState,
     history: History,
-    plan: AreaPlan,
-    stage: Stage,
+    begun: Begun,
 }
 
 impl<D: SectorDisk> Model for Checkpointing<D> {
-    ghost use Rattle.iol_journal.specs.AreaPlans.{IsAreaPlan};
-    ghost use Rattle.iol_journal.specs.Checkpoints.{IsDrafted, next_area, next_header};
+    ghost use Rattle.iol_journal.specs.BegunParts.{view_of, IsBegun};
     ghost use Rattle.iol_journal.specs.CheckpointViews.{CheckpointingView};
-    ghost use Rattle.iol_journal.specs.Journals.{standing_at, LeadsTo};
+    ghost use Rattle.iol_journal.specs.Journals.{standing_at, IsResting, LeadsTo};
 
     ghost Value = { CheckpointingView D };
 
-    ghost view = { λ c. record { disk = c.disk; standing = standing_at c.place c.number c.state; history = c.history; stage = c.stage } };
+    ghost view = { λ c. record {
+      disk = c.disk;
+      standing = standing_at c.place c.number c.state;
+      history = c.history;
+      begun = view_of c.begun;
+    } };
 
-    ghost invariant = { λ c. IsDrafted (D.disk c.disk) (standing_at c.place c.number c.state) c.stage
-        × IsAreaPlan c.place.layout (next_area (standing_at c.place c.number c.state)) (next_header (standing_at c.place c.number c.state))
-        c.state c.plan
+    ghost invariant = { λ c. IsResting (D.disk c.disk) (standing_at c.place c.number c.state)
+        × IsBegun (D.disk c.disk) (standing_at c.place c.number c.state) c.begun
         × LeadsTo (standing_at c.place c.number c.state) c.history };
 }
 
@@ -45,7 +46,7 @@ impl<D: SectorDisk> Model for Checkpointing<D> {
 pub enum CheckpointProgress<D: SectorDisk> {
     /// Further steps are owed.
     More(Checkpointing<D>),
-    /// The other area is in use, with all its slots free.
+    /// The other area is in use, with all its slots free but those of the batches that were carried.
     Done(Journal<D>),
     /// A call of the disk failed. A disk of which a sync has failed is not gone on with: many systems drop the pages of a
     /// failed sync and answer the next with success. Behind another fault the disk may be recovered again.
@@ -53,41 +54,40 @@ pub enum CheckpointProgress<D: SectorDisk> {
 }
 
 impl<D: SectorDisk> Checkpointing<D> {
-    ghost use Rattle.std.specs.Prelude.{◌≡◌};
+    ghost use Rattle.std.specs.Prelude.{◌≡◌, true, Some, None};
     ghost use Rattle.iol_disk.specs.Moments.{LeavesOnly};
-    ghost use Rattle.iol_journal.specs.AreaPlans.{IsAreaPlan};
-    ghost use Rattle.iol_journal.specs.Checkpoints.{checkpointed, first_stage, next_area, next_header, IsDrafted};
-    ghost use Rattle.iol_journal.specs.Journals.{standing_at, LeadsTo};
-    ghost use Rattle.iol_journal.specs.CheckpointViews.{stages_left, IsCheckpointUnderway};
+    ghost use Rattle.iol_journal.specs.BegunParts.{view_of, IsBegun};
+    ghost use Rattle.iol_journal.specs.Drafts.{begun_behind, can_pause, idle_at};
+    ghost use Rattle.iol_journal.specs.Journals.{standing_at, IsResting, LeadsTo};
+    ghost use Rattle.iol_journal.specs.CheckpointViews.{end_of, stages_left, IsCheckpointUnderway, IsPaused};
     ghost use Rattle.iol_journal.specs.Checkpointing.{checkpoint_disk, IfGoesOn, IfCheckpointed, CheckpointStepMakes};
     ghost use Rattle.iol_journal.specs.CheckpointRuns.{IsRunCheckpointing, HasCheckpointed};
     ghost use Rattle.iol_journal.specs.Kept.{KeptMeans, EachMeans};
     ghost use Rattle.iol_journal.specs.Runs.{Run};
+    ghost use Rattle.iol_journal.specs.Running.{IsRunAtRest};
     ghost use Rattle.iol_journal.specs.Underway.{IsAtRest};
     ghost use Rattle.iol_journal.specs.declared.place.Idle.TheVariants.{Older};
 
-    // A checkpoint before its first step.
-    pub(crate) fn begun(
+    // A checkpoint that goes on.
+    pub(crate) fn of(
         alloc: Global,
         disk: D,
         place: Place,
         number: u64,
         state: MasterState,
         history: History,
-        plan: AreaPlan,
+        begun: Begun,
     ) -> Checkpointing<D>
-        requires drafted { IsDrafted (D.disk disk) (standing_at place number state) (first_stage place.idle) }
-        requires plan { IsAreaPlan place.layout (next_area (standing_at place number state)) (next_header (standing_at place number state))
-            state plan }
+        requires resting { IsResting (D.disk disk) (standing_at place number state) }
+        requires begun { IsBegun (D.disk disk) (standing_at place number state) begun }
         requires history { LeadsTo (standing_at place number state) history }
         ensures { result ≡ record {
           disk = disk;
           standing = standing_at place number state;
           history = history;
-          stage = first_stage place.idle;
+          begun = view_of begun;
         } }
     {
-        let stage = Stage::first(place.idle);
         Checkpointing {
             alloc,
             disk,
@@ -95,8 +95,7 @@ impl<D: SectorDisk> Checkpointing<D> {
             number,
             state,
             history,
-            plan,
-            stage,
+            begun,
         }
     }
 
@@ -111,10 +110,43 @@ impl<D: SectorDisk> Checkpointing<D> {
             number: _,
             state: _,
             history: _,
-            plan: _,
-            stage: _,
+            begun: _,
         } = self;
         disk
+    }
+
+    /// Whether it can be paused: until the gate of the other area is written.
+    pub fn can_pause(&self) -> bool
+        ensures { result ≡ can_pause self.now.begun.stage }
+    {
+        self.begun.stage.can_pause()
+    }
+
+    /// Sets it aside. Batches may then be written, until [`Journal::checkpoint`] goes on with it.
+    pub fn pause(self) -> Journal<D>
+        requires { can_pause self.begun.stage ≡ true }
+        ensures paused { (result.disk ≡ self.disk) × (result.standing ≡ self.standing) × (result.idle ≡ idle_at self.begun.stage)
+            × (result.history ≡ self.history) × (result.begun ≡ Some self.begun) }
+        // It changes no meaning.
+        ensures rest { IsCheckpointUnderway D.disk self → IsAtRest (D.disk result.disk) result.standing result.idle
+            × IsPaused (D.disk result.disk) result.standing result.begun }
+        // Each run of the journal goes on.
+        ensures run { (r : Run) → IsRunCheckpointing D.disk r self → IsRunAtRest D.disk r result }
+    {
+        let Checkpointing {
+            alloc,
+            disk,
+            place,
+            number,
+            state,
+            history,
+            begun,
+        } = self;
+        let place = Place {
+            idle: begun.stage.idle(),
+            ..place
+        };
+        Journal::at_rest(alloc, disk, place, number, state, history, Some(begun))
     }
 
     /// Makes one disk call, in the order of docs/FORMATS.md, "Orders of disk calls".
@@ -126,10 +158,13 @@ impl<D: SectorDisk> Checkpointing<D> {
         ensures underway { IsCheckpointUnderway D.disk self → IfGoesOn result (λ c. IsCheckpointUnderway D.disk c) }
         // Each run of the journal goes on: each image since a moment of it has all that was acknowledged by then.
         ensures run { (r : Run) → IsRunCheckpointing D.disk r self → HasCheckpointed D.disk r result }
-        ensures more { IfGoesOn result (λ c. (c.standing ≡ self.standing) × (c.history ≡ self.history)) }
-        // The other area is in use, under the next epoch, with no slot used.
-        ensures done { IfCheckpointed result (λ journal. (journal.standing ≡ checkpointed self.standing) × (journal.idle ≡ Older)
-            × (journal.history ≡ self.history)) }
+        ensures more { IfGoesOn result (λ c. (c.standing ≡ self.standing) × (c.history ≡ self.history)
+            × (begun_behind self.standing self.begun ≡ Some c.begun) × (end_of c ≡ end_of self)) }
+        // The other area is in use, under the next epoch, with the batches that were carried, at the same number and state.
+        ensures done { IfCheckpointed result (λ journal. (journal.standing ≡ end_of self)
+            × (journal.idle ≡ Older) × (journal.history ≡ self.history) × (journal.begun ≡ None)) }
+        ensures same { IfCheckpointed result (λ journal. (journal.standing.number ≡ self.standing.number)
+            × (journal.standing.state ≡ self.standing.state) × (journal.standing.layout ≡ self.standing.layout)) }
         ensures durable { IsCheckpointUnderway D.disk self
             → IfCheckpointed result (λ journal. IsAtRest (D.disk journal.disk) journal.standing journal.idle
             × EachMeans (D.disk journal.disk) journal.standing.number journal.standing.state) }
@@ -141,13 +176,13 @@ impl<D: SectorDisk> Checkpointing<D> {
             number,
             state,
             history,
-            plan,
-            stage,
+            begun,
         } = self;
-        if let Err(fault) = make_stage(&mut disk, &plan, stage) {
+        if let Err(fault) = make_stage(&mut disk, &place, &begun) {
             return CheckpointProgress::Failed(disk, fault);
         }
-        match stage.next(place.layout.slots(), plan.records.len()) {
+        let slots = place.layout.slots();
+        match begun.next_stage(slots) {
             Some(stage) => CheckpointProgress::More(Checkpointing {
                 alloc,
                 disk,
@@ -155,19 +190,18 @@ impl<D: SectorDisk> Checkpointing<D> {
                 number,
                 state,
                 history,
-                plan,
-                stage,
+                begun: begun.moved_to(stage, slots),
             }),
             None => {
                 let place = Place {
                     layout: place.layout,
                     area: place.area.other(),
                     epoch: place.epoch + 1,
-                    used: 0,
+                    used: begun.used,
                     idle: Idle::Older,
                 };
                 CheckpointProgress::Done(Journal::at_rest(
-                    alloc, disk, place, number, state, history,
+                    alloc, disk, place, number, state, history, None,
                 ))
             }
         }

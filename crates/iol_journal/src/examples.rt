@@ -7,8 +7,10 @@ ghost use Rattle.iol_types.specs.Examples.{example_config};
 ghost use Rattle.iol_disk.specs.Calls.{write, sync};
 ghost use Rattle.iol_journal.specs.Batches.{batch_calls};
 ghost use Rattle.iol_journal.specs.Body.{body_octets, fits, slots_of};
-ghost use Rattle.iol_journal.specs.Checkpoints.{checkpoint_calls};
-ghost use Rattle.iol_journal.specs.Examples.{two_by_four, checkpoint_of_two_by_four, first_body, first_standing, standing_of};
+ghost use Rattle.iol_journal.specs.Checkpoints.{checkpointed, checkpoint_calls, next_stage, with_batches};
+ghost use Rattle.iol_journal.specs.Drafts.{can_pause, owing};
+ghost use Rattle.iol_journal.specs.Examples.{two_by_four, carrying_checkpoint, checkpoint_of_two_by_four};
+ghost use Rattle.iol_journal.specs.Examples.{first_body, first_standing, standing_of};
 ghost use Rattle.iol_journal.specs.Geometry.{IsGeometry, geometry_of, geometry_octets};
 ghost use Rattle.iol_journal.specs.Header.{header_of, header_octets, is_sound};
 ghost use Rattle.iol_slots.specs.Gate.{open_gate, closed_gate};
@@ -25,7 +27,9 @@ ghost use Rattle.iol_journal.specs.declared.header.TheConstants.{LAST_NUMBER};
 use crate::area::Area;
 use crate::geometry::{DISK_GATE, GEOMETRY};
 use crate::journal::BeginCause;
+use crate::phase::Phase;
 use crate::place::Idle;
+use crate::stage::Stage;
 
 /// A geometry has 1 to 32 ports and 1 to 256 slots.
 pub fn geometries()
@@ -131,9 +135,33 @@ pub fn a_format()
 /// The disk calls of a checkpoint into area B, of 2 ports that were never configured and 4 slots: 13, and two more where the
 /// header of B is not older.
 pub fn a_checkpoint()
-    ensures older { checkpoint_calls (standing_of 4 4) Idle.Older ≡ checkpoint_of_two_by_four }
-    ensures closed { checkpoint_calls (standing_of 4 4) Idle.Closed ≡ write 91 (header_octets 0 0) ∷ sync ∷ checkpoint_of_two_by_four }
+    ensures older { checkpoint_calls (checkpointed (standing_of 4 4)) [] Idle.Older ≡ checkpoint_of_two_by_four }
+    ensures closed { checkpoint_calls (checkpointed (standing_of 4 4)) [] Idle.Closed
+        ≡ write 91 (header_octets 0 0) ∷ sync ∷ checkpoint_of_two_by_four }
     ensures thirteen { length checkpoint_of_two_by_four ≡ 13 }
+{}
+
+/// The disk calls of that checkpoint, where a batch was written beside it: four more.
+#[tactic(auto, unfolding(crate::specs::Body::body_octets, crate::specs::Octets::padded))]
+pub fn a_carried_batch()
+    ensures calls { checkpoint_calls (checkpointed (standing_of 3 4)) ((Configure 1 example_config ∷ []) ∷ []) Idle.Older
+        ≡ carrying_checkpoint }
+    ensures seventeen { length carrying_checkpoint ≡ 17 }
+    // It takes the first slot of area B.
+    ensures used { (with_batches (checkpointed (standing_of 3 4)) ((Configure 1 example_config ∷ []) ∷ [])).used ≡ 1 }
+    ensures number { (with_batches (checkpointed (standing_of 3 4)) ((Configure 1 example_config ∷ []) ∷ [])).number ≡ 5 }
+{}
+
+/// A checkpoint can be paused until the gate of the other area is written. A batch that is written meanwhile is carried before it.
+pub fn pauses()
+    ensures first { can_pause Stage.ClearHeader ≡ true }
+    ensures carried { can_pause (Stage.Carry Phase.Gate) ≡ true }
+    ensures closed { can_pause Stage.OpenGate ≡ true }
+    ensures open { can_pause Stage.SyncOpen ≡ false }
+    ensures before_the_records { owing (Stage.WriteRecord 1) ≡ Stage.WriteRecord 1 }
+    ensures before_the_gate { owing Stage.OpenGate ≡ Stage.Carry (Phase.Body 0) }
+    ensures behind_the_last { next_stage 4 2 1 1 (Stage.Carry Phase.SyncGate) ≡ Some Stage.OpenGate }
+    ensures behind_another { next_stage 4 2 1 2 (Stage.Carry Phase.SyncGate) ≡ Some (Stage.Carry (Phase.Body 0)) }
 {}
 
 /// Why an image means nothing: there is no gate of the disk, the disk is smaller than its geometry, no area is open, both are

@@ -32,10 +32,14 @@ enum Source<'a> {
     Begun(u64, &'a MasterState),
     // the history so far, and a batch that is written behind it
     Continued(&'a History, &'a Batch),
+    // the number and the state that a history leads to, and the commands of another one behind them
+    Ended(&'a History, &'a History),
+    // the commands of a batch alone
+    Alone(&'a Batch),
 }
 
 impl History {
-    ghost use Rattle.iol_journal.specs.History.{history_of};
+    ghost use Rattle.iol_journal.specs.History.{history_of, ended_behind};
     ghost use Rattle.iol_journal.specs.Journals.{values, written_behind};
 
     // Recovery found this number and state, and nothing is written since.
@@ -50,6 +54,20 @@ impl History {
         ensures { result ≡ written_behind self.now (values batch.now.commands.items) }
     {
         History::read_off(&Source::Continued(self, batch))
+    }
+
+    // It begins where this history leads to, behind the commands of that one.
+    pub(crate) fn behind(&self, batch: &History) -> History
+        ensures { result ≡ ended_behind self.now batch.now }
+    {
+        History::read_off(&Source::Ended(self, batch))
+    }
+
+    // The commands of a batch alone.
+    pub(crate) fn of(batch: &Batch) -> History
+        ensures { result.commands ≡ values batch.now.commands.items }
+    {
+        History::read_off(&Source::Alone(batch))
     }
 
     // Proved by hand, as no code can set what contracts alone see.

@@ -1,40 +1,50 @@
 //! A journal at rest, and which batches it takes.
 
-use crate::area_plan::AreaPlan;
 use crate::batch::{BODY_HEAD_OCTETS, BODY_OCTETS, Batch, apply_all, span_within};
-use crate::body::body_of;
-use crate::checkpointing::Checkpointing;
-use crate::header::{Header, LAST_NUMBER};
+use crate::begun::{Begun, make_room};
+use crate::body::EncodedBatch;
+use crate::header::LAST_NUMBER;
 use crate::history::History;
 use crate::place::Place;
 use crate::writing::{Plan, Writing};
-use iol_disk::{SECTOR_OCTETS, SectorDisk};
+use iol_disk::SectorDisk;
 use iol_types::MasterState;
 use std::alloc::{AllocError, Global};
 use std::marker::Model;
 use thiserror::Error;
 
-/// A journal at rest: all that it has written is durable. It owns its disk, and keeps the state that the disk means.
+/// A journal at rest: all commands that it has are durable. It owns its disk, and keeps the state that the disk means. A
+/// checkpoint of it may be paused.
 #[derive(Drop)]
 pub struct Journal<D: SectorDisk> {
-    alloc: Global,
-    disk: D,
-    place: Place,
-    number: u64,
-    state: MasterState,
-    history: History,
+    pub(crate) alloc: Global,
+    pub(crate) disk: D,
+    pub(crate) place: Place,
+    pub(crate) number: u64,
+    pub(crate) state: MasterState,
+    pub(crate) history: History,
+    // the checkpoint that is paused
+    pub(crate) begun: Option<Begun>,
 }
 
 impl<D: SectorDisk> Model for Journal<D> {
+    ghost use Rattle.std.specs.Option.{option_map};
+    ghost use Rattle.iol_journal.specs.BegunParts.{view_of, IsSetAside};
     ghost use Rattle.iol_journal.specs.Journals.{JournalView, IsResting, LeadsTo, standing_at};
 
     ghost Value = { JournalView D };
 
-    ghost view = { λ j.
-        record { disk = j.disk; standing = standing_at j.place j.number j.state; idle = j.place.idle; history = j.history } };
+    ghost view = { λ j. record {
+      disk = j.disk;
+      standing = standing_at j.place j.number j.state;
+      idle = j.place.idle;
+      history = j.history;
+      begun = option_map view_of j.begun;
+    } };
 
     ghost invariant = { λ j. IsResting (D.disk j.disk) (standing_at j.place j.number j.state)
-        × LeadsTo (standing_at j.place j.number j.state) j.history };
+        × LeadsTo (standing_at j.place j.number j.state) j.history
+        × IsSetAside (D.disk j.disk) (standing_at j.place j.number j.state) j.place.idle j.begun };
 }
 
 /// Why a batch was not begun. The causes are judged in this order.
@@ -82,16 +92,16 @@ pub struct BeginFault<D: SectorDisk> {
 }
 
 impl<D: SectorDisk> Journal<D> {
-    ghost use Rattle.std.specs.Prelude.{◌≡◌, ◌≤◌, ◌<◌, ◌+◌, ◌*◌, ◌++◌, ℕ, nat_lt, false, List, length, None, IfOk, IfErr, OnOk};
-    ghost use Rattle.iol_journal.specs.AreaPlans.{AreRecords, IsAreaPlan};
-    ghost use Rattle.iol_journal.specs.Checkpoints.{checkpoint_calls, first_stage, next_area, next_header};
-    ghost use Rattle.iol_journal.specs.CheckpointViews.{stages_left, IsCheckpointUnderway};
+    ghost use Rattle.std.specs.Prelude.{◌≡◌, ◌≤◌, ◌<◌, ◌+◌, ◌*◌, ◌++◌, ℕ, nat_lt, nat_le, true, false, List, length, None};
+    ghost use Rattle.std.specs.Prelude.{IfOk, IfErr, OnOk};
+    ghost use Rattle.std.specs.Option.{option_map};
+    ghost use Rattle.iol_journal.specs.BegunParts.{view_of, IsSetAside};
+    ghost use Rattle.iol_journal.specs.CheckpointViews.{IsPaused, IsBeside};
     ghost use Rattle.iol_journal.specs.Begin.{batch_refusal, room_in, IsBatchRefusal};
     ghost use Rattle.iol_journal.specs.Underway.{IsAtRest, IsUnderway};
     ghost use Rattle.iol_journal.specs.Batches.{batch_calls};
     ghost use Rattle.iol_journal.specs.Runs.{Run, with_batch_begun};
     ghost use Rattle.iol_journal.specs.Running.{IsRunAtRest, IsRunWriting};
-    ghost use Rattle.iol_journal.specs.CheckpointRuns.{IsRunCheckpointing};
     ghost use Rattle.iol_types.specs.Command.{CommandValue};
     ghost use Rattle.iol_journal.specs.Journals.{standing_at, values, calls_left, IsPlan, IsPlanned, IsResting, LeadsTo};
     ghost use Rattle.iol_journal.specs.Body.{slots_of, slots_for};
@@ -108,13 +118,16 @@ impl<D: SectorDisk> Journal<D> {
         number: u64,
         state: MasterState,
         history: History,
+        begun: Option<Begun>,
     ) -> Journal<D>
         requires resting { IsResting (D.disk disk) (standing_at place number state) }
         requires history { LeadsTo (standing_at place number state) history }
+        requires begun { IsSetAside (D.disk disk) (standing_at place number state) place.idle begun }
         ensures disk { result.disk ≡ disk }
         ensures standing { result.standing ≡ standing_at place number state }
         ensures idle { result.idle ≡ place.idle }
         ensures history { result.history ≡ history }
+        ensures begun { result.begun ≡ option_map view_of begun }
     {
         Journal {
             alloc,
@@ -123,6 +136,7 @@ impl<D: SectorDisk> Journal<D> {
             number,
             state,
             history,
+            begun,
         }
     }
 
@@ -142,6 +156,14 @@ impl<D: SectorDisk> Journal<D> {
         ensures used { result ≡ false → 0 < self.now.standing.used }
     {
         self.place.used < self.place.layout.slots()
+    }
+
+    /// Whether half of the slots are used, or more: a checkpoint that is begun now can be done before the others are full.
+    pub fn is_half_used(&self) -> bool
+        ensures half { result ≡ nat_le self.now.standing.layout.slots (2 * self.now.standing.used) }
+        ensures used { result ≡ true → 0 < self.now.standing.used }
+    {
+        self.place.layout.slots() <= 2 * self.place.used
     }
 
     /// The octets of records that fit the free slots, or where none is free one slot: 8,192 for each slot, less 22.
@@ -166,18 +188,20 @@ impl<D: SectorDisk> Journal<D> {
             number: _,
             state: _,
             history: _,
+            begun: _,
         } = self;
         disk
     }
 
-    /// Makes a batch ready to be written. Its steps then take no memory.
+    /// Makes a batch ready to be written. Its steps then take no memory. Where a checkpoint is paused the batch is kept, to be
+    /// carried into the other area.
     ///
     /// # Errors
     /// `TooLarge`, `NeedsCheckpoint`, `Memory` or `Misfit`, in this order; journal and batch are handed back.
     pub fn begin(self, batch: Batch) -> Result<Writing<D>, BeginFault<D>>
         ensures begun { IfOk result (λ w. (w.disk ≡ self.disk) × (w.standing ≡ self.standing) × (w.idle ≡ self.idle)
             × (w.history ≡ self.history)
-            × (w.commands ≡ values batch.commands.items) × (w.phase ≡ Body 0)) }
+            × (w.commands ≡ values batch.commands.items) × (w.phase ≡ Body 0) × (w.begun ≡ self.begun)) }
         // Its steps make these disk calls: 16 for each slot, and three more, at most.
         ensures calls { IfOk result (λ w. calls_left w ≡ batch_calls self.standing (values batch.commands.items)) }
         ensures at_most { IfOk result (λ w. length (calls_left w) ≤ BODY_SECTORS * slots_for (values batch.commands.items) + 3) }
@@ -185,6 +209,8 @@ impl<D: SectorDisk> Journal<D> {
         ensures few { IfOk result (λ w. length (calls_left w) ≤ BODY_SECTORS * length (values batch.commands.items) + 3) }
         // It changes no meaning.
         ensures underway { IsAtRest (D.disk self.disk) self.standing self.idle → IfOk result (λ w. IsUnderway D.disk w) }
+        ensures beside { IfOk result (λ w. IsPaused (D.disk self.disk) self.standing self.begun
+            → IsBeside (D.disk w.disk) w.standing w.begun) }
         // Each run of the journal goes on as one whose first queued commands are underway.
         ensures run { IfOk result (λ w. (r : Run) (behind : List CommandValue) → r.queued ≡ values batch.commands.items ++ behind
             → IsRunAtRest D.disk r self → IsRunWriting D.disk (with_batch_begun r (values batch.commands.items) behind) w) }
@@ -195,20 +221,49 @@ impl<D: SectorDisk> Journal<D> {
         ensures back { IfErr result (λ fault. (fault.journal ≡ self) × (fault.batch ≡ batch)) }
     {
         match self.plan(&batch) {
-            Ok(plan) => {
-                let Journal {
-                    alloc,
-                    disk,
-                    place,
-                    number,
-                    state,
-                    history,
-                } = self;
-                Ok(Writing::begun(alloc, disk, place, number, state, history, batch, plan))
-            }
+            Ok(plan) => self.begin_planned(batch, plan),
             Err(cause) => Err(BeginFault {
                 cause,
                 journal: self,
+                batch,
+            }),
+        }
+    }
+
+    // Makes a batch ready that was planned.
+    fn begin_planned(self, batch: Batch, plan: Plan) -> Result<Writing<D>, BeginFault<D>>
+        requires planned { IsPlanned (D.disk self.disk) self.standing (values batch.commands.items) (Body 0) }
+        requires plan { IsPlan self.standing (values batch.commands.items) plan }
+        requires first { batch.first ≡ self.standing.number + 1 }
+        ensures begun { IfOk result (λ w. w ≡ record {
+          disk = self.disk;
+          standing = self.standing;
+          idle = self.idle;
+          history = self.history;
+          begun = self.begun;
+          commands = values batch.commands.items;
+          phase = Body 0;
+        }) }
+        ensures beside { IfOk result (λ w. IsPaused (D.disk self.disk) self.standing self.begun
+            → IsBeside (D.disk w.disk) w.standing w.begun) }
+        ensures back { IfErr result (λ fault. (fault.cause ≡ BeginCause.Memory) × (fault.journal ≡ self) × (fault.batch ≡ batch)) }
+    {
+        let Journal {
+            alloc,
+            disk,
+            place,
+            number,
+            state,
+            history,
+            mut begun,
+        } = self;
+        match make_room(&mut begun) {
+            Ok(()) => Ok(Writing::begun(
+                alloc, disk, place, number, state, history, begun, batch, plan,
+            )),
+            Err(error) => Err(BeginFault {
+                cause: error.into(),
+                journal: Journal::at_rest(alloc, disk, place, number, state, history, begun),
                 batch,
             }),
         }
@@ -231,7 +286,7 @@ impl<D: SectorDisk> Journal<D> {
         if slots - self.place.used < span {
             return Err(BeginCause::NeedsCheckpoint);
         }
-        let body = body_of(self.alloc, self.place.epoch, batch.first, &batch.commands)?;
+        let body = EncodedBatch::of(self.alloc, self.place.epoch, batch.first, &batch.commands)?;
         let mut next = self.state.copy()?;
         let count = batch.commands.len() as u64;
         let Journal { number, .. } = self;
@@ -239,73 +294,9 @@ impl<D: SectorDisk> Journal<D> {
             return Err(BeginCause::Misfit);
         }
         if apply_all(&mut next, &batch.commands)? {
-            let sectors = body.len() / SECTOR_OCTETS;
-            Ok(Plan {
-                body,
-                span,
-                sectors,
-                next,
-            })
+            Ok(Plan { body, next })
         } else {
             Err(BeginCause::Misfit)
         }
-    }
-
-    /// Makes a checkpoint ready, which frees all slots. Its steps then take no memory.
-    ///
-    /// # Errors
-    /// Out of memory; the journal is handed back.
-    pub fn checkpoint(self) -> Result<Checkpointing<D>, CheckpointFault<D>>
-        requires { 0 < self.standing.used }
-        ensures begun { IfOk result (λ c. (c.disk ≡ self.disk) × (c.standing ≡ self.standing) × (c.stage ≡ first_stage self.idle)
-            × (c.history ≡ self.history)) }
-        // Its steps make these disk calls: one for each slot, nine for each port, and nine more, at most.
-        ensures calls { IfOk result (λ c. stages_left c ≡ checkpoint_calls self.standing self.idle) }
-        ensures at_most { IfOk result (λ c. length (stages_left c) ≤ self.standing.layout.slots + 9 * self.standing.layout.ports + 9) }
-        // It changes no meaning.
-        ensures underway { IsAtRest (D.disk self.disk) self.standing self.idle → IfOk result (λ c. IsCheckpointUnderway D.disk c) }
-        // Each run of the journal goes on.
-        ensures run { IfOk result (λ c. (r : Run) → IsRunAtRest D.disk r self → IsRunCheckpointing D.disk r c) }
-        ensures back { IfErr result (λ fault. fault.journal ≡ self) }
-    {
-        match self.plan_area() {
-            Ok(plan) => {
-                let Journal {
-                    alloc,
-                    disk,
-                    place,
-                    number,
-                    state,
-                    history,
-                } = self;
-                Ok(Checkpointing::begun(alloc, disk, place, number, state, history, plan))
-            }
-            Err(cause) => Err(CheckpointFault {
-                cause,
-                journal: self,
-            }),
-        }
-    }
-
-    // What a checkpoint writes into the other area.
-    fn plan_area(&self) -> Result<AreaPlan, AllocError>
-        requires { 0 < self.now.standing.used }
-        ensures plan { IfOk result
-            (IsAreaPlan self.now.standing.layout (next_area self.now.standing) (next_header self.now.standing) self.now.standing.state) }
-        ensures records { OnOk result (AreRecords self.now.standing.layout (next_area self.now.standing) self.now.standing.state) }
-        ensures sectors { OnOk result (self.now.standing.layout.port_sectors ≤ 9) }
-    {
-        let header = Header {
-            epoch: self.place.epoch + 1,
-            base: self.number,
-        };
-        let _sectors = self.place.layout.port_sectors();
-        AreaPlan::of(
-            self.alloc,
-            self.place.layout,
-            self.place.area.other(),
-            header,
-            &self.state,
-        )
     }
 }

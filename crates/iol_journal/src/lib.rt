@@ -4,13 +4,14 @@
 //! its last step is done. [`format`] makes an empty journal of a [`Geometry`], and [`erase`] makes a disk unformatted;
 //! [`Journal::recover`] finds the journal on a disk, and the state; [`Journal::begin`] takes a [`Batch`], which
 //! [`Writing::step`] writes one disk call at a time; where too few slots are free, [`Journal::checkpoint`] and
-//! [`Checkpointing::step`] write the state into the other area, which frees all. Each of these owns its disk, and hands
-//! it back.
+//! [`Checkpointing::step`] write the state into the other area, which frees all. A checkpoint may be paused
+//! ([`Checkpointing::pause`]): the batches that are then written are carried into the other area before it is put in use.
+//! Each of these owns its disk, and hands it back.
 //!
 //! Modules in reading order: where things stand (`area`, `geometry`, `layout`, `header`, `place`), what stands there
 //! (`numbers`, `batch`, `body`, `records`, `area_plan`), reading it (`cause`, `reading`, `opening`, `snapshot`, `replay`,
-//! `recovery`), and writing it (`formatting`, `erasing`, `history`, `journal`, `phase`, `calls`, `writing`, `stage`,
-//! `stage_calls`, `checkpointing`); then `survey`, places and readers for a map of a disk, `laws` and `runs`, for proofs of
+//! `recovery`), and writing it (`formatting`, `erasing`, `history`, `journal`, `phase`, `calls`, `writing`, `stage`, `begun`,
+//! `stage_calls`, `checkpoint`, `checkpointing`); then `survey`, places and readers for a map of a disk, `laws` and `runs`, for proofs of
 //! other crates, `examples`, facts with values of the layout, and `plain`, a slow reading of an image to compare a recovery
 //! with. What an image of a disk means is said in `specs/Meaning.antt`, what a run of batches and checkpoints keeps in
 //! `specs/Runs.antt`. [`Area`], [`Head`], [`Header`], [`History`], [`Idle`], [`InUse`], [`Phase`] and [`Stage`] are what
@@ -20,9 +21,11 @@
 mod area;
 mod area_plan;
 mod batch;
+mod begun;
 mod body;
 mod calls;
 mod cause;
+mod checkpoint;
 mod checkpointing;
 mod erasing;
 pub mod examples;

@@ -36,7 +36,7 @@ struct Found {
 }
 
 impl<D: SectorDisk> Journal<D> {
-    ghost use Rattle.std.specs.Prelude.{◌≡◌, ℕ, [], Ok, IsTrue, IfOk, IfErr};
+    ghost use Rattle.std.specs.Prelude.{◌≡◌, ℕ, [], None, Ok, IsTrue, IfOk, IfErr};
     ghost use Rattle.iol_types.specs.State.{State};
     ghost use Rattle.iol_journal.specs.Kept.{IsKept, EachMeans};
     ghost use Rattle.iol_journal.specs.Underway.{IsAtRest};
@@ -71,6 +71,8 @@ impl<D: SectorDisk> Journal<D> {
             × IsAtRest (D.disk found.0.disk) found.0.standing found.0.idle × EachMeans (D.disk found.0.disk) number state) }
         ensures history { IfOk result (λ found. found.0.history
             ≡ record { first = found.0.standing.number; start = found.1; commands = [] }) }
+        // A checkpoint that was paused is forgotten.
+        ensures begun { IfOk result (λ found. found.0.begun ≡ None) }
         // No image is added.
         ensures any_moment { LeavesOnly (D.disk disk) (D.disk (recovered_disk result)) (IsImage (D.disk disk).content) }
         // Each run on the disk stays one.
@@ -90,6 +92,7 @@ impl<D: SectorDisk> Journal<D> {
                     found.number,
                     found.state,
                     history,
+                    None,
                 );
                 Ok((journal, found.copy))
             }

@@ -2,6 +2,7 @@
 
 ghost use Rattle.std.specs.Prelude.{◌≡◌};
 
+use crate::phase::Phase;
 use crate::place::Idle;
 
 /// The disk call that comes next in a checkpoint (docs/FORMATS.md, "Orders of disk calls").
@@ -25,6 +26,8 @@ pub enum Stage {
     WriteRecord(usize),
     /// The sync that makes header and records durable.
     SyncRecords,
+    /// A disk call of a batch that was written beside the checkpoint and is carried into the other area.
+    Carry(Phase),
     /// The write that opens the gate of the other area.
     OpenGate,
     /// The sync that makes the open gate durable.
@@ -32,8 +35,9 @@ pub enum Stage {
 }
 
 impl Stage {
-    ghost use Rattle.std.specs.Prelude.{◌≡◌, ◌<◌, ◌^◌};
-    ghost use Rattle.iol_journal.specs.Checkpoints.{first_stage, next_stage, IsStage};
+    ghost use Rattle.std.specs.Prelude.{◌≡◌, ◌<◌};
+    ghost use Rattle.iol_journal.specs.Checkpoints.{first_stage, next_batch, next_stage, IsStage};
+    ghost use Rattle.iol_journal.specs.Drafts.{can_pause, idle_at, owing};
 
     // A torn gate may be open, so the header behind a closed one is made older first.
     pub(crate) fn first(idle: Idle) -> Stage
@@ -45,10 +49,55 @@ impl Stage {
         }
     }
 
-    // The stage after this one, with so many slots and sectors of records.
-    pub(crate) fn next(self, slots: usize, records: usize) -> Option<Stage>
-        requires { IsStage slots records self }
-        ensures { result ≡ next_stage slots records self }
+    // The stage behind the records or behind a batch, with so many batches owed.
+    fn next_batch(owed: usize) -> Stage
+        ensures { result ≡ next_batch owed }
+    {
+        if 0 < owed {
+            Stage::Carry(Phase::Body(0))
+        } else {
+            Stage::OpenGate
+        }
+    }
+
+    // Whether the gate of the other area is not yet written.
+    pub(crate) fn can_pause(self) -> bool
+        ensures { result ≡ can_pause self }
+    {
+        !matches!(self, Stage::SyncOpen)
+    }
+
+    // How the other area is harmless before the disk call.
+    pub(crate) fn idle(self) -> Idle
+        ensures { result ≡ idle_at self }
+    {
+        match self {
+            Stage::CloseGate | Stage::SyncClosed => Idle::Older,
+            _ => Idle::Closed,
+        }
+    }
+
+    // The stage where one batch more is owed.
+    pub(crate) fn owing(self) -> Stage
+        ensures { result ≡ owing self }
+    {
+        match self {
+            Stage::OpenGate => Stage::Carry(Phase::Body(0)),
+            _ => self,
+        }
+    }
+
+    // The stage after this one, with so many slots, sectors of records, sectors of the first batch that is owed, and batches owed.
+    pub(crate) fn next(
+        self,
+        slots: usize,
+        records: usize,
+        sectors: usize,
+        owed: usize,
+    ) -> Option<Stage>
+        requires stage { IsStage slots records sectors owed self }
+        requires short { sectors < 1000000 }
+        ensures { result ≡ next_stage slots records sectors owed self }
     {
         match self {
             Stage::ClearHeader => Some(Stage::SyncHeader),
@@ -62,7 +111,11 @@ impl Stage {
             Stage::WriteHeader => Some(Stage::SyncRecords),
             Stage::WriteRecord(i) if i + 1 < records => Some(Stage::WriteRecord(i + 1)),
             Stage::WriteRecord(_) => Some(Stage::SyncRecords),
-            Stage::SyncRecords => Some(Stage::OpenGate),
+            Stage::SyncRecords => Some(Stage::next_batch(owed)),
+            Stage::Carry(phase) => match phase.next(sectors) {
+                Some(phase) => Some(Stage::Carry(phase)),
+                None => Some(Stage::next_batch(owed - 1)),
+            },
             Stage::OpenGate => Some(Stage::SyncOpen),
             Stage::SyncOpen => None,
         }

@@ -1,41 +1,46 @@
 //! The disk calls of a checkpoint, by stage.
 
-ghost use Rattle.std.specs.Prelude.{◌≡◌, ◌≤◌, [], ◌∷◌, length, map};
-ghost use Rattle.iol_journal.specs.AreaPlans.{IsAreaPlan, write_of};
-ghost use Rattle.iol_journal.specs.AreaWrites.{IsRow};
-ghost use Rattle.iol_journal.specs.Checkpoints.{next_area, next_header, call_at, IsStage};
-ghost use Rattle.iol_journal.specs.Layout.{total};
-ghost use Rattle.iol_journal.specs.Meaning.{Standing};
+ghost use Rattle.std.specs.Prelude.{◌≡◌, [], ◌∷◌, ℕ};
+ghost use Rattle.iol_types.specs.State.{State};
+ghost use Rattle.iol_disk.specs.Disk.{Disk};
+ghost use Rattle.iol_journal.specs.BegunParts.{log_of, commands_owed, IsBegun};
+ghost use Rattle.iol_journal.specs.Checkpoints.{target, call_at};
+ghost use Rattle.iol_journal.specs.Journals.{standing_at};
 ghost use Rattle.iol_journal.specs.Orders.{Makes};
+ghost use Rattle.iol_journal.specs.declared.stage.Stage.TheVariants.{Carry};
 
-use crate::area_plan::AreaPlan;
+use crate::begun::Begun;
+use crate::calls::make;
 use crate::header::Header;
+use crate::phase::Phase;
+use crate::place::Place;
 use crate::reading::gate;
 use crate::stage::Stage;
 use iol_disk::{DiskFault, SectorDisk};
 
-// Makes the disk call of a stage of the checkpoint that writes this area.
+// Makes the disk call of a checkpoint of a journal that stands here.
 pub(crate) fn make_stage<D: SectorDisk>(
     disk: &mut D,
-    plan: &AreaPlan,
-    stage: Stage,
+    place: &Place,
+    begun: &Begun,
 ) -> Result<(), DiskFault>
-    requires fits { total plan.now.layout ≤ (D.disk disk.old).sectors }
-    requires row { IsRow 0 (D.disk disk.old).sectors (map write_of plan.now.records.items) }
-    requires in_stage { IsStage plan.now.layout.slots (length plan.now.records.items) stage }
-    ensures { (s : Standing) → IsAreaPlan s.layout (next_area s) (next_header s) s.state plan.now
-        → Makes (call_at s stage ∷ []) (D.disk disk.old) (D.disk disk.new) result }
+    requires { (number : ℕ) × (state : State) × IsBegun (D.disk disk.old) (standing_at place.now number state) begun.now }
+    ensures { (number : ℕ) (state : State) → IsBegun (D.disk disk.old) (standing_at place.now number state) begun.now
+        → Makes (call_at (target (standing_at place.now number state) (log_of begun.now)) (commands_owed begun.now.owed.items)
+        begun.now.stage ∷ []) (D.disk disk.old) (D.disk disk.new) result }
 {
-    let area_gate = gate(plan.layout.gate(plan.area));
-    match stage {
+    let area = place.area.other();
+    let area_gate = gate(place.layout.gate(area));
+    match begun.stage {
         Stage::ClearHeader => {
             let header = Header { epoch: 0, base: 0 };
-            disk.write(plan.layout.header(plan.area), &header.octets())
+            disk.write(place.layout.header(area), &header.octets())
         }
         Stage::CloseGate => area_gate.close_gate(disk),
-        Stage::CloseSlot(slot) => plan.close_slot(disk, slot),
-        Stage::WriteHeader => plan.write_header(disk),
-        Stage::WriteRecord(i) => plan.records[i].write(disk),
+        Stage::CloseSlot(slot) => begun.plan.close_slot(disk, slot),
+        Stage::WriteHeader => begun.plan.write_header(disk),
+        Stage::WriteRecord(i) => begun.plan.records[i].write(disk),
+        Stage::Carry(phase) => carry(disk, place, begun, phase),
         Stage::OpenGate => area_gate.open_gate(disk),
         Stage::SyncHeader => disk.sync(),
         Stage::SyncClosed => disk.sync(),
@@ -43,4 +48,28 @@ pub(crate) fn make_stage<D: SectorDisk>(
         Stage::SyncRecords => disk.sync(),
         Stage::SyncOpen => disk.sync(),
     }
+}
+
+// Makes a disk call of the first batch that is owed, in the other area.
+fn carry<D: SectorDisk>(
+    disk: &mut D,
+    place: &Place,
+    begun: &Begun,
+    phase: Phase,
+) -> Result<(), DiskFault>
+    requires stage { begun.now.stage ≡ Carry phase }
+    requires begun { (number : ℕ) × (state : State) × IsBegun (D.disk disk.old) (standing_at place.now number state) begun.now }
+    ensures { (number : ℕ) (state : State) → IsBegun (D.disk disk.old) (standing_at place.now number state) begun.now
+        → Makes (call_at (target (standing_at place.now number state) (log_of begun.now)) (commands_owed begun.now.owed.items)
+        (Carry phase) ∷ []) (D.disk disk.old) (D.disk disk.new) result }
+{
+    let Some(first) = begun.owed.front() else {
+        unreachable!()
+    };
+    let place = Place {
+        area: place.area.other(),
+        used: begun.used,
+        ..*place
+    };
+    make(disk, &place, &first.body, phase)
 }

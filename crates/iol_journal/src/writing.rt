@@ -1,6 +1,8 @@
 //! A batch on its way to the disk.
 
 use crate::batch::Batch;
+use crate::begun::{Begun, owing};
+use crate::body::EncodedBatch;
 use crate::calls::make;
 use crate::history::History;
 use crate::journal::Journal;
@@ -14,10 +16,7 @@ use std::marker::Model;
 // What a batch writes, and the state after it.
 #[derive(Drop)]
 pub(crate) struct Plan {
-    // the body, and how many slots it takes
-    pub body: Vec<u8>,
-    pub span: usize,
-    pub sectors: usize,
+    pub body: EncodedBatch,
     pub next: MasterState,
 }
 
@@ -30,6 +29,8 @@ pub struct Writing<D: SectorDisk> {
     number: u64,
     state: MasterState,
     history: History,
+    // the checkpoint that is paused
+    begun: Option<Begun>,
     batch: Batch,
     plan: Plan,
     phase: Phase,
@@ -37,7 +38,9 @@ pub struct Writing<D: SectorDisk> {
 
 impl<D: SectorDisk> Model for Writing<D> {
     ghost use Rattle.std.specs.Prelude.{◌≡◌, ◌≤◌, ◌+◌};
+    ghost use Rattle.std.specs.Option.{option_map};
     ghost use Rattle.iol_types.specs.State.{after};
+    ghost use Rattle.iol_journal.specs.BegunParts.{view_of, IsSetAside, HasRoom};
     ghost use Rattle.iol_journal.specs.Journals.{WritingView, IsPlanned};
 
     ghost Value = { WritingView D };
@@ -49,13 +52,15 @@ impl<D: SectorDisk> Model for Writing<D> {
       standing = standing_at w.place w.number w.state;
       idle = w.place.idle;
       history = w.history;
+      begun = option_map view_of w.begun;
       commands = values w.batch.commands.items;
       phase = w.phase;
     } };
 
     ghost invariant = { λ w. IsPlanned (D.disk w.disk) (standing_at w.place w.number w.state) (values w.batch.commands.items) w.phase
         × IsPlan (standing_at w.place w.number w.state) (values w.batch.commands.items) w.plan
-        × (w.batch.first ≡ w.number + 1) × LeadsTo (standing_at w.place w.number w.state) w.history };
+        × (w.batch.first ≡ w.number + 1) × LeadsTo (standing_at w.place w.number w.state) w.history
+        × IsSetAside (D.disk w.disk) (standing_at w.place w.number w.state) w.place.idle w.begun × HasRoom w.begun };
 }
 
 /// Evidence that a batch is durable: every image of the disk has it. Only [`step`](Writing::step) makes one, and it
@@ -108,7 +113,11 @@ pub enum Progress<D: SectorDisk> {
 
 impl<D: SectorDisk> Writing<D> {
     ghost use Rattle.std.specs.Prelude.{◌≡◌, ◌+◌};
+    ghost use Rattle.std.specs.Option.{option_map};
     ghost use Rattle.iol_disk.specs.Moments.{LeavesOnly};
+    ghost use Rattle.iol_journal.specs.BegunParts.{view_of, IsSetAside, HasRoom};
+    ghost use Rattle.iol_journal.specs.CheckpointViews.{IsPaused, IsBeside};
+    ghost use Rattle.iol_journal.specs.Drafts.{with_owed};
     ghost use Rattle.iol_journal.specs.Kept.{KeptEither, EachMeans};
     ghost use Rattle.iol_journal.specs.Underway.{IsAtRest, IsUnderway};
     ghost use Rattle.iol_journal.specs.Journals.{IsPlan, IsPlanned, calls_left, standing_at, with_batch, values, LeadsTo, written_behind};
@@ -125,6 +134,7 @@ impl<D: SectorDisk> Writing<D> {
         number: u64,
         state: MasterState,
         history: History,
+        begun: Option<Begun>,
         batch: Batch,
         plan: Plan,
     ) -> Writing<D>
@@ -132,11 +142,14 @@ impl<D: SectorDisk> Writing<D> {
         requires plan { IsPlan (standing_at place number state) (values batch.commands.items) plan }
         requires first { batch.first ≡ number + 1 }
         requires history { LeadsTo (standing_at place number state) history }
+        requires begun { IsSetAside (D.disk disk) (standing_at place number state) place.idle begun }
+        requires room { HasRoom begun }
         ensures { result ≡ record {
           disk = disk;
           standing = standing_at place number state;
           idle = place.idle;
           history = history;
+          begun = option_map view_of begun;
           commands = values batch.commands.items;
           phase = Body 0;
         } }
@@ -148,6 +161,7 @@ impl<D: SectorDisk> Writing<D> {
             number,
             state,
             history,
+            begun,
             batch,
             plan,
             phase: Phase::Body(0),
@@ -165,6 +179,7 @@ impl<D: SectorDisk> Writing<D> {
             number: _,
             state: _,
             history: _,
+            begun: _,
             batch: _,
             plan: _,
             phase: _,
@@ -182,15 +197,21 @@ impl<D: SectorDisk> Writing<D> {
         // Every image has the batch.
         ensures durable { IsUnderway D.disk self → IfDone result (λ journal _. IsAtRest (D.disk journal.disk) journal.standing journal.idle
             × EachMeans (D.disk journal.disk) journal.standing.number journal.standing.state) }
+        // A checkpoint that is paused stays as it is.
+        ensures beside { IsBeside (D.disk self.disk) self.standing self.begun → IfMore result (λ w.
+            IsBeside (D.disk w.disk) w.standing w.begun) }
+        ensures paused { IsUnderway D.disk self → IsBeside (D.disk self.disk) self.standing self.begun → IfDone result (λ journal _.
+            IsPaused (D.disk journal.disk) journal.standing journal.begun) }
         // Each run whose batch this is goes on: each image since a moment of it has all that was acknowledged by then.
         ensures run { (r : Run) → IsRunWriting D.disk r self → HasStepped D.disk r result }
         ensures more { IfMore result (λ w. (w.standing ≡ self.standing) × (w.idle ≡ self.idle) × (w.history ≡ self.history)
-            × (w.commands ≡ self.commands)) }
-        // The batch is behind those before it.
+            × (w.commands ≡ self.commands) × (w.begun ≡ self.begun)) }
+        // The batch is behind those before it, and owed to the checkpoint that is paused.
         ensures done { IfDone result (λ journal written. (journal.standing ≡ with_batch self.standing self.commands)
             × (journal.idle ≡ self.idle)
             × (journal.history ≡ written_behind self.history self.commands)
-            × (written.first ≡ self.standing.number + 1) × (written.commands ≡ self.commands)) }
+            × (written.first ≡ self.standing.number + 1) × (written.commands ≡ self.commands)
+            × (journal.begun ≡ option_map (with_owed self.commands) self.begun)) }
     {
         let Writing {
             alloc,
@@ -199,14 +220,15 @@ impl<D: SectorDisk> Writing<D> {
             number,
             state,
             history,
+            begun,
             batch,
             plan,
             phase,
         } = self;
-        if let Err(fault) = make(&mut disk, &place, &plan, phase) {
+        if let Err(fault) = make(&mut disk, &place, &plan.body, phase) {
             return Progress::Failed(disk, fault);
         }
-        match phase.next(plan.sectors) {
+        match phase.next(plan.body.sectors) {
             Some(phase) => Progress::More(Writing {
                 alloc,
                 disk,
@@ -214,18 +236,22 @@ impl<D: SectorDisk> Writing<D> {
                 number,
                 state,
                 history,
+                begun,
                 batch,
                 plan,
                 phase,
             }),
             None => {
+                let Plan { body, next } = plan;
+                let span = body.span;
+                let begun = owing(begun, body, place.epoch + 1, &batch);
                 let place = Place {
-                    used: place.used + plan.span,
+                    used: place.used + span,
                     ..place
                 };
                 let number = number + batch.commands.len() as u64;
                 let history = history.with_batch(&batch);
-                let journal = Journal::at_rest(alloc, disk, place, number, plan.next, history);
+                let journal = Journal::at_rest(alloc, disk, place, number, next, history, begun);
                 Progress::Done(journal, Written { batch })
             }
         }

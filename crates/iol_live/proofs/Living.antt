@@ -12,7 +12,7 @@ use Rattle.iol_journal.specs.Journals.{JournalView}
 use Rattle.iol_journal.specs.Kept.{EachMeans, IsKept}
 use Rattle.iol_journal.specs.Meaning.{Cause, Meaning, unformatted, damaged, standing_in}
 use Rattle.iol_journal.specs.Reading.{Shows}
-use Rattle.iol_journal.specs.Underway.{IsAtRest}
+use Rattle.iol_flush.specs.Flushing.{Rests}
 use Rattle.iol_commands.specs.Images.{TellsWhy}
 use Rattle.iol_commands.specs.Recovered.{TellsState, recovered_text}
 use Rattle.iol_commands.specs.declared.fault.Fault.{Fault}
@@ -42,7 +42,7 @@ since disk start first master last published same whole = subst (λ j. IsWhole d
 -- the text of what a master left
 left_behind : {D : Type 0} (disk : D → Disk) (start : Start) (first last : JournalView D) (published : List CommandValue)
     (receipts : ℕ) (told text : List ℕ) → ((d : D) → IsTrue (disk d).honest)
-    → IsAtRest (disk first.disk) first.standing first.idle
+    → Rests disk first
     → start ≡ record { number = first.standing.number; state = first.standing.state }
     → IsWhole disk start first last published → TellsState (disk last.disk) told → text ≡ lived_text receipts told
     → IsAfterWhatIsThere receipts first.standing text
@@ -65,7 +65,7 @@ IsLeftWhole {D} disk start first left =
 
 -- the text of the disk that a master left
 pub told_of_left : {D : Type 0} (disk : D → Disk) (start : Start) (first master : JournalView D) (left : D) (receipts : ℕ)
-    (told text : List ℕ) → ((d : D) → IsTrue (disk d).honest) → IsAtRest (disk first.disk) first.standing first.idle
+    (told text : List ℕ) → ((d : D) → IsTrue (disk d).honest) → Rests disk first
     → start ≡ record { number = first.standing.number; state = first.standing.state } → master ≡ first
     → IsLeftWhole disk start master left → TellsState (disk left) told → text ≡ lived_text receipts told
     → IsAfterWhatIsThere receipts first.standing text
@@ -92,7 +92,7 @@ met read y Geometry tells is = absurd tells
 
 -- why the disk that a master left is not recovered
 left_cause : {D : Type 0} (disk : D → Disk) (start : Start) (first last : JournalView D) (published : List CommandValue) (fault : Fault)
-    → ((d : D) → IsTrue (disk d).honest) → IsAtRest (disk first.disk) first.standing first.idle → IsWhole disk start first last published
+    → ((d : D) → IsTrue (disk d).honest) → Rests disk first → IsWhole disk start first last published
     → Shows (disk last.disk) (λ image. TellsWhy (standing_in (disk last.disk).sectors image) fault) → IsRunCause fault
 unfolding IsKept
 left_cause disk start first last published fault honest rest whole tells =
@@ -102,7 +102,7 @@ left_cause disk start first last published fault honest rest whole tells =
 
 -- why the disk that a master left whole is not recovered
 pub cause_of_left : {D : Type 0} (disk : D → Disk) (start : Start) (first master : JournalView D) (left : D) (fault : Fault)
-    → ((d : D) → IsTrue (disk d).honest) → IsAtRest (disk first.disk) first.standing first.idle → master ≡ first
+    → ((d : D) → IsTrue (disk d).honest) → Rests disk first → master ≡ first
     → IsLeftWhole disk start master left → Shows (disk left) (λ image. TellsWhy (standing_in (disk left).sectors image) fault)
     → IsRunCause fault
 cause_of_left disk start first master left fault honest rest same whole tells =

@@ -4,10 +4,10 @@ ghost use Rattle.iol_disk.specs.Content.{reads};
 ghost use Rattle.iol_journal.specs.Kept.{IsKept};
 ghost use Rattle.iol_journal.specs.Meaning.{Standing, standing_in};
 ghost use Rattle.iol_journal.specs.Reading.{Shows};
-ghost use Rattle.iol_journal.specs.Underway.{IsAtRest};
 ghost use Rattle.iol_types.specs.Command.{CommandValue};
 ghost use Rattle.iol_front.specs.Fronts.{Start};
 ghost use Rattle.iol_journal.specs.Journals.{JournalView};
+ghost use Rattle.iol_flush.specs.Flushing.{Rests};
 ghost use Rattle.iol_master.specs.Endings.{IsEnding, IsWhole};
 ghost use Rattle.iol_commands.specs.Devices.{MayVisit};
 ghost use Rattle.iol_commands.specs.Fault.{status_of};
@@ -102,11 +102,11 @@ fn live_behind<
     requires state { state ≡ journal.standing.state }
     requires history { journal.history
         ≡ record { first = journal.standing.number; start = journal.standing.state; commands = [] } }
-    ensures lived { ((d : D) → IsTrue (D.disk d).honest) → IsAtRest (D.disk journal.disk) journal.standing journal.idle
+    ensures lived { ((d : D) → IsTrue (D.disk d).honest) → Rests D.disk journal
         → IfOk result (λ text. IsAfterWhatIsThere (vec_len script.now.changes) journal.standing (string_bytes text)) }
     ensures text { IfOk result (λ text. TellsReceipts (vec_len script.now.changes) (string_bytes text)) }
     ensures silent { telling ≡ Telling.Nothing → err.new ≡ err.old }
-    ensures cause { ((d : D) → IsTrue (D.disk d).honest) → IsAtRest (D.disk journal.disk) journal.standing journal.idle
+    ensures cause { ((d : D) → IsTrue (D.disk d).honest) → Rests D.disk journal
         → IfErr result IsRunCause }
     ensures status { IfErr result (λ fault. status_of fault ≡ 1) }
 {
@@ -167,11 +167,11 @@ fn live_with<
     err: &mut E,
 ) -> Result<String, Fault<'static>>
     requires start { F.front.start ≡ record { number = master.standing.number; state = master.standing.state } }
-    ensures lived { ((d : D) → IsTrue (D.disk d).honest) → IsAtRest (D.disk master.disk) master.standing master.idle
+    ensures lived { ((d : D) → IsTrue (D.disk d).honest) → Rests D.disk master
         → IfOk result (λ text. IsAfterWhatIsThere (vec_len script.now.changes) master.standing (string_bytes text)) }
     ensures text { IfOk result (λ text. TellsReceipts (vec_len script.now.changes) (string_bytes text)) }
     ensures silent { telling ≡ Telling.Nothing → err.new ≡ err.old }
-    ensures cause { ((d : D) → IsTrue (D.disk d).honest) → IsAtRest (D.disk master.disk) master.standing master.idle
+    ensures cause { ((d : D) → IsTrue (D.disk d).honest) → Rests D.disk master
         → IfErr result IsRunCause }
     ensures status { IfErr result (λ fault. status_of fault ≡ 1) }
 {

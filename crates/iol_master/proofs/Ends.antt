@@ -29,7 +29,7 @@ module _ {D : Type 0} (disk : D → Disk) (start : Start) (first : JournalView D
   at_rest : (j : JournalView D) (list : List CommandValue) → IsSince disk (Resting first) (Resting j) → IsInStep start (Resting j) list
       → IsWhole disk start first j list
   at_rest j list since step =
-      record { behind = step; images = λ rest. rest_means_its_state (disk j.disk) j.standing j.idle (since.sound rest) }
+      record { behind = step; images = λ rest. rest_means_its_state (disk j.disk) j.standing j.idle (since.sound rest).0 }
 
   closed : (j back : JournalView D) (list published : List CommandValue) → IsSince disk (Resting first) (Resting j)
       → IsInStep start (Resting j) list → back ≡ j → published ≡ list → IsWhole disk start first back published

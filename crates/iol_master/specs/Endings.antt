@@ -5,7 +5,7 @@ use Rattle.iol_disk.specs.Disk.{Disk, HasFailed}
 use Rattle.iol_front.specs.Fronts.{Start}
 use Rattle.iol_journal.specs.Journals.{JournalView}
 use Rattle.iol_journal.specs.Kept.{EachMeans}
-use Rattle.iol_journal.specs.Underway.{IsAtRest}
+use Rattle.iol_flush.specs.Flushing.{Rests}
 use Rattle.iol_flush.specs.Stages.{StandsBehind, need_of}
 use Rattle.iol_flush.specs.declared.flusher.FlushEnd.{FlushEnd}
 use Rattle.iol_flush.specs.declared.flusher.FlushEnd.TheVariants as flush
@@ -28,8 +28,7 @@ MayEnd stage Ended = (need_of stage ≡ need.Batch) ⊎ (need_of stage ≡ need.
 pub record IsWhole {D : Type 0} (disk : D → Disk) (start : Start) (first last : JournalView D) (published : List CommandValue) : Type 0
   where
     pub behind : StandsBehind start published last.standing last.history
-    pub images : IsAtRest (disk first.disk) first.standing first.idle
-        → EachMeans (disk last.disk) last.standing.number last.standing.state
+    pub images : Rests disk first → EachMeans (disk last.disk) last.standing.number last.standing.state
 
 -- how a flusher ends that was given a journal: all that it wrote is published, or a disk call has failed (own)
 abbrev pub EndsFrom : {D F : Type 0} → (D → Disk) → Start → JournalView D → FlushEnd D F → Type 0

@@ -9,16 +9,17 @@ use Rattle.iol_trace.specs.Events.{Stamp}
 use Rattle.iol_run.specs.Flushed.{AllFlushed, queue_turns}
 use Rattle.iol_run.specs.declared.step.Step.{Step}
 
-within : (layout : Layout) → 1 ≤ layout.slots → layout.port_sectors ≡ 9 → queue_turns layout ≤ 128 * total layout
-within layout some nine =
+within : (layout : Layout) → 1 ≤ layout.ports → 1 ≤ layout.slots → layout.port_sectors ≡ 9 → queue_turns layout ≤ 128 * total layout
+within layout ports some nine =
     subst (λ (n : ℕ). queue_turns layout ≤ 128 * (2 + 2 * (2 + n * layout.ports + 17 * layout.slots + layout.spare_sectors))) (sym nine)
-    (omega (arith, some))
+    (omega (arith, ports, some))
 
 pub turns_within : (sectors : ℕ) (image : Image) (s : Standing) → standing_in sectors image ≡ Ok s
     → queue_turns s.layout ≤ 128 * total s.layout
 turns_within sectors image s is =
     let read = layout_in-geometry sectors image s.layout (stands_read sectors image s is).2.layout in
-    within s.layout (subst (λ (l : Layout). 1 ≤ l.slots) (sym read.2) read.1.some_slot) (ap (λ (l : Layout). l.port_sectors) read.2)
+    within s.layout (subst (λ (l : Layout). 1 ≤ l.ports) (sym read.2) read.1.some_port)
+    (subst (λ (l : Layout). 1 ≤ l.slots) (sym read.2) read.1.some_slot) (ap (λ (l : Layout). l.port_sectors) read.2)
 
 -- where fewer turns are enough, more are
 pub more_flushed : (least more : ℕ) (made : List Step) (first waits : ℕ) (events : List Stamp) → least ≤ more

@@ -111,8 +111,8 @@ module _ {D : Type 0} (layout : Layout) where
       let commands = values batch.commands.items in
       let full = wants_checkpoint j.standing commands in
       subst (λ (u : Stage D). own_turns u None + 1 ≤ batch_turns layout * length commands) (sym has)
-      (subst (λ (l : Layout). given_calls l commands full + 1 + 1 ≤ batch_turns layout * length commands) (sym same)
-      (given_turns layout commands full some))
+      (subst (λ (l : Layout). given_calls l commands j.begun full + 1 + 1 ≤ batch_turns layout * length commands) (sym same)
+      (given_turns layout commands j.begun full some))
   taken_own (Given j b) t batch has same some = absurd has
   taken_own (Checkpointing c b) t batch has same some = absurd has
   taken_own (Writing w) t batch has same some = absurd has

@@ -184,7 +184,7 @@ module _ {D : Type 0} (layout : Layout) where
   checkpointed_layout : (c : CheckpointingView D) (batch : Batch) (new : Stage D) → HasCheckpointed c batch new → c.standing.layout ≡ layout
       → HasLayout layout new
   checkpointed_layout c batch (Checkpointing d kept) has is = ap (λ (s : Standing). s.layout) has.0 ∙ is
-  checkpointed_layout c batch (Given j kept) has is = ap (λ (s : Standing). s.layout) has.0 ∙ is
+  checkpointed_layout c batch (Given j kept) has is = has.6 ∙ is
   checkpointed_layout c batch (Resting j) has is = absurd has
   checkpointed_layout c batch (Writing w) has is = absurd has
   checkpointed_layout c batch (Publishing j written) has is = absurd has

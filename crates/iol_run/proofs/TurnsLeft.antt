@@ -1,15 +1,17 @@
 -- How many turns of the flusher are left until all that waits is acknowledged.
-use Rattle.std.proofs.Common.{◌≡◌, ◌≤◌, ℕ, ◌+◌, ◌-◌, ◌*◌, Bool, true, false, if◌then◌else◌, List, length, length-append, Option, Some, None}
+use Rattle.std.proofs.Common.{◌≡◌, ◌≤◌, ℕ, ◌+◌, ◌-◌, ◌*◌, nat_lt, Bool, true}
+use Rattle.std.proofs.Common.{false, if◌then◌else◌, List, length, length-append, Option, Some, None}
 use Rattle.std.proofs.Common.{ap, sym, ◌∙◌, subst, arith}
 use Rattle.std.proofs.Math.Nat.{mul-le-mul_left, mul-add, add-mul, le-mul_of_pos_right}
 use Rattle.iol_types.specs.Command.{CommandValue}
 use Rattle.iol_core.specs.Core.{CoreView}
 use Rattle.iol_flush.specs.Stages.{HasFewCalls, most_batch_calls, most_checkpoint_calls, wants_checkpoint}
-use Rattle.iol_flush.specs.Turns.{calls_needed, given_calls}
+use Rattle.iol_flush.specs.Turns.{calls_again, calls_needed, freeing_calls, given_calls, most_freeing_calls}
 use Rattle.iol_flush.specs.declared.stage.Stage.{Stage}
 use Rattle.iol_flush.specs.declared.stage.Stage.TheVariants.{Resting, Given, Checkpointing, Writing, Publishing, Failed}
 use Rattle.iol_front.specs.Fronts.{CommittedView}
-use Rattle.iol_journal.specs.CheckpointViews.{stages_left}
+use Rattle.iol_journal.specs.BegunViews.{BegunView}
+use Rattle.iol_journal.specs.CheckpointViews.{CheckpointingView, end_of, stages_left}
 use Rattle.iol_journal.specs.Journals.{values}
 use Rattle.iol_journal.specs.Layout.{Layout}
 use Rattle.iol_journal.specs.declared.geometry.TheConstants.{BODY_SECTORS}
@@ -62,9 +64,22 @@ within_each : (most n : ℕ) → 1 ≤ n → BODY_SECTORS * n + 8 + most ≤ (24
 within_each most n some =
     subst (λ (all : ℕ). BODY_SECTORS * n + 8 + most ≤ all) (sym (add-mul 24 most n)) (omega (arith, some, le-mul_of_pos_right most some))
 
-given_within : (most n : ℕ) (full : Bool) → 1 ≤ n → BODY_SECTORS * n + 3 + 2 + (if full then most + 1 else 0) + 1 + 1 ≤ (24 + most) * n
-given_within most n true some = omega (arith, within_each most n some)
-given_within most n false some = omega (arith, within_each most n some)
+given_within : (most freeing n : ℕ) (full : Bool) → freeing ≤ most + 1 → 1 ≤ n
+    → BODY_SECTORS * n + 3 + 2 + (if full then freeing else 0) + 1 + 1 ≤ (24 + most) * n
+given_within most freeing n true le some = omega (arith, le, within_each most n some)
+given_within most freeing n false le some = omega (arith, within_each most n some)
+
+-- slots are freed by two checkpoints at most
+freeing_within : (layout : Layout) (begun : Option BegunView) → freeing_calls layout begun ≤ most_freeing_calls layout + 1
+freeing_within layout None = omega arith
+freeing_within layout (Some b) = omega arith
+
+again_within : {D : Type 0} (c : CheckpointingView D) → calls_again c ≤ most_checkpoint_calls c.standing.layout + 1
+again_within c = either (nat_lt 0 (end_of c).used)
+  where
+    either : (used : Bool) → (if used then most_checkpoint_calls c.standing.layout + 1 else 0) ≤ most_checkpoint_calls c.standing.layout + 1
+    either true = omega arith
+    either false = omega arith
 
 calls_within : (calls most n : ℕ) → 1 ≤ n → calls ≤ most → BODY_SECTORS * n + 3 + 2 + calls + 1 ≤ (24 + most) * n
 calls_within calls most n some le = omega (arith, le, within_each most n some)
@@ -87,9 +102,10 @@ fewer_behind each waits flies own most within =
         parts n m le = omega (arith, le)
 
 -- a batch that was given, with its acknowledgement, needs a turn less than one that is still to be taken
-pub given_turns : (layout : Layout) (commands : List CommandValue) (full : Bool) → 1 ≤ length commands
-    → given_calls layout commands full + 1 + 1 ≤ batch_turns layout * length commands
-given_turns layout commands full some = given_within (most_checkpoint_calls layout) (length commands) full some
+pub given_turns : (layout : Layout) (commands : List CommandValue) (begun : Option BegunView) (full : Bool) → 1 ≤ length commands
+    → given_calls layout commands begun full + 1 + 1 ≤ batch_turns layout * length commands
+given_turns layout commands begun full some =
+    given_within (most_freeing_calls layout) (freeing_calls layout begun) (length commands) full (freeing_within layout begun) some
 
 -- what is in flight is one command or more of those that wait
 pub flies_within : (core : CoreView) (commands : List CommandValue) → IsInFlight core commands → (1 ≤ core.flight)
@@ -119,7 +135,7 @@ module _ {D : Type 0} (layout : Layout) where
       → turns_left layout core stage committed ≤ batch_turns layout * length core.queue
   most_left core stage (Some committed) batch same few =
       one_with layout core committed.commands 1 batch.0
-      (few_within 1 (most_checkpoint_calls layout) (length committed.commands) batch.0.some (omega arith))
+      (few_within 1 (most_freeing_calls layout) (length committed.commands) batch.0.some (omega arith))
   most_left core (Resting j) None batch same few = none_with layout core
   most_left core (Given j b) None batch same few =
       one_with layout core commands _ batch (given_most (wants_checkpoint j.standing commands))
@@ -127,25 +143,28 @@ module _ {D : Type 0} (layout : Layout) where
       commands : List CommandValue
       commands = values b.commands.items
 
-      given_most : (full : Bool) → given_calls j.standing.layout commands full + 1 ≤ batch_turns layout * length commands
+      given_most : (full : Bool) → given_calls j.standing.layout commands j.begun full + 1 ≤ batch_turns layout * length commands
       given_most full =
-          subst (λ (l : Layout). given_calls l commands full + 1 ≤ batch_turns layout * length commands) (sym same)
-          (one_less (given_calls layout commands full + 1) (batch_turns layout * length commands)
-          (given_turns layout commands full batch.some))
+          subst (λ (l : Layout). given_calls l commands j.begun full + 1 ≤ batch_turns layout * length commands) (sym same)
+          (one_less (given_calls layout commands j.begun full + 1) (batch_turns layout * length commands)
+          (given_turns layout commands j.begun full batch.some))
   most_left core (Checkpointing c b) None batch same few = one_with layout core commands _ batch (few_most few.1)
     where
       commands : List CommandValue
       commands = values b.commands.items
 
       few_most : length (stages_left c) ≤ most_checkpoint_calls c.standing.layout
-          → most_batch_calls commands + 2 + length (stages_left c) + 1 ≤ batch_turns layout * length commands
+          → most_batch_calls commands + 2 + length (stages_left c) + calls_again c + 1 ≤ batch_turns layout * length commands
       few_most le =
-          calls_within (length (stages_left c)) (most_checkpoint_calls layout) (length commands) batch.some
-          (subst (λ (l : Layout). length (stages_left c) ≤ most_checkpoint_calls l) same le)
+          let both : length (stages_left c) + calls_again c ≤ most_freeing_calls layout =
+          subst (λ (l : Layout). length (stages_left c) + calls_again c ≤ most_freeing_calls l) same (omega (arith, le, again_within c)) in
+          let sum : most_batch_calls commands + 2 + length (stages_left c) + calls_again c ≡ most_batch_calls commands + 2
+          + (length (stages_left c) + calls_again c) = omega arith in
+          rw sum (calls_within (length (stages_left c) + calls_again c) (most_freeing_calls layout) (length commands) batch.some both)
   most_left core (Writing w) None batch same few =
       one_with layout core w.commands _ batch
-      (written_within _ (most_checkpoint_calls layout) (length w.commands) batch.some few)
+      (written_within _ (most_freeing_calls layout) (length w.commands) batch.some few)
   most_left core (Publishing j written) None batch same few =
       one_with layout core written.commands 2 batch
-      (few_within 2 (most_checkpoint_calls layout) (length written.commands) batch.some (omega arith))
+      (few_within 2 (most_freeing_calls layout) (length written.commands) batch.some (omega arith))
   most_left core (Failed d f) None batch same few = none_with layout core

@@ -1,7 +1,7 @@
 -- What turns enough of the flusher leave, and what a drain does.
 use Rattle.std.specs.Prelude.{◌≡◌, ◌≤◌, ℕ, ◌+◌, ◌*◌, List, [], ◌∷◌, ◌++◌, length, replicate}
 use Rattle.iol_core.specs.declared.core_value.TheConstants.{QUEUE_COMMANDS}
-use Rattle.iol_flush.specs.Stages.{most_checkpoint_calls}
+use Rattle.iol_flush.specs.Turns.{most_freeing_calls}
 use Rattle.iol_journal.specs.Layout.{Layout}
 use Rattle.iol_trace.specs.Events.{Stamp}
 use Rattle.iol_trace.specs.Words.{accepted, acked, HasFailure}
@@ -32,10 +32,11 @@ AllDrained tasks ended first events =
     (before : List Task) → tasks ≡ before ++ Drain ∷ [] → ended ≡ Whole → (HasFailure events → ⊥)
     → acked first events ≡ first + length (accepted events)
 
--- the most turns that a batch needs for each of its commands: it is taken, too few slots are free, its checkpoint and its disk
--- calls are made, 16 for each command and three more, it is published and acknowledged (own)
+-- the most turns that a batch needs for each of its commands: it is taken, too few slots are free, a checkpoint and another one,
+-- where the first was paused, and its disk calls are made, 16 for each command and three more, it is published and acknowledged
+-- (own)
 abbrev pub batch_turns : Layout → ℕ
-batch_turns layout = 24 + most_checkpoint_calls layout
+batch_turns layout = 24 + most_freeing_calls layout
 
 -- the most turns that a full queue needs: each command is a batch of its own (own)
 abbrev pub queue_turns : Layout → ℕ

@@ -16,6 +16,7 @@ loop-next-init g c =
       λ under. under,
       λ under. started (d w.disk) _ (underway_means_either d w under),
       λ r run. run,
+      λ beside. beside,
       none_yet (calls_left w) (calls_left w) (d w.disk) (d w.disk) refl refl,
     )
 
@@ -31,7 +32,8 @@ loop-next-preserved g c =
       λ under. c.in-More.ensures.underway (so_far.2 under),
       λ under. batch_goes_on _ _ _ _ _ _ _ so_far.0 so_far.1 (so_far.3 under) (c.in-More.ensures.any_moment (so_far.2 under)),
       λ r run. c.in-More.ensures.run r (so_far.4 r run),
-      one_more _ _ _ _ _ _ so_far.5 c.in-More.ensures.call,
+      λ beside. c.in-More.ensures.beside (so_far.5 beside),
+      one_more _ _ _ _ _ _ so_far.6 c.in-More.ensures.call,
     )
 
 pub returns-in-Done-clause-any_moment : goal.returns-in-Done-clause-any_moment
@@ -40,7 +42,9 @@ returns-in-Done-clause-any_moment g c = λ under.
     batch_goes_on _ _ _ _ _ _ _ so_far.0 so_far.1 (so_far.3 under) (c.in-Done.ensures.any_moment (so_far.2 under))
 
 pub returns-in-Done-clause-rests : goal.returns-in-Done-clause-rests
-returns-in-Done-clause-rests g c = λ under. (c.in-Done.ensures.durable (c.loop-next.invariant.2 under)).0
+returns-in-Done-clause-rests g c = λ under beside.
+    let so_far = c.loop-next.invariant in
+    ((c.in-Done.ensures.durable (so_far.2 under)).0, c.in-Done.ensures.paused (so_far.2 under) (so_far.5 beside))
 
 pub returns-in-Done-clause-run : goal.returns-in-Done-clause-run
 returns-in-Done-clause-run g c = λ r run. c.in-Done.ensures.run r (c.loop-next.invariant.4 r run)
@@ -54,7 +58,7 @@ pub returns-in-Failed-clause-run : goal.returns-in-Failed-clause-run
 returns-in-Failed-clause-run g c = λ r run. c.in-Failed.ensures.run r (c.loop-next.invariant.4 r run)
 
 pub returns-in-Done-clause-calls : goal.returns-in-Done-clause-calls
-returns-in-Done-clause-calls g c = all_made _ _ _ _ _ c.loop-next.invariant.5 c.in-Done.ensures.call
+returns-in-Done-clause-calls g c = all_made _ _ _ _ _ c.loop-next.invariant.6 c.in-Done.ensures.call
 
 pub returns-in-Failed-clause-calls : goal.returns-in-Failed-clause-calls
-returns-in-Failed-clause-calls g c = one_failed _ _ _ _ _ _ c.loop-next.invariant.5 c.in-Failed.ensures.call
+returns-in-Failed-clause-calls g c = one_failed _ _ _ _ _ _ c.loop-next.invariant.6 c.in-Failed.ensures.call

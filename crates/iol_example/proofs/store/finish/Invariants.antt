@@ -1,5 +1,6 @@
 use Rattle.std.proofs.Common.{◌≡◌, length}
 use Rattle.iol_disk.specs.Moments.{LeavesOnly}
+use Rattle.iol_journal.specs.CheckpointViews.{IsBeside}
 use Rattle.iol_journal.specs.Journals.{calls_left}
 use Rattle.iol_journal.specs.Kept.{KeptEither}
 use Rattle.iol_journal.specs.Runs.{Run}
@@ -18,6 +19,7 @@ invariant-loop-next g l =
     × (IsUnderway d w → LeavesOnly (d w.disk) (d l.writing.disk)
     (KeptEither (d w.disk).sectors w.standing.number w.standing.state w.commands))
     × ((r : Run) → IsRunWriting d r w → IsRunWriting d r l.writing)
+    × (IsBeside (d w.disk) w.standing w.begun → IsBeside (d l.writing.disk) l.writing.standing l.writing.begun)
     × IsAhead (calls_left w) (calls_left l.writing) (d w.disk) (d l.writing.disk)
 
 -- each step makes one of the disk calls that are left

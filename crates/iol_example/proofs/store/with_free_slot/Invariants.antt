@@ -1,8 +1,7 @@
 use Rattle.std.proofs.Common.{◌≡◌, length}
 use Rattle.iol_disk.specs.Moments.{LeavesOnly}
 use Rattle.iol_journal.specs.CheckpointRuns.{IsRunCheckpointing}
-use Rattle.iol_journal.specs.Checkpoints.{checkpoint_calls}
-use Rattle.iol_journal.specs.CheckpointViews.{stages_left, IsCheckpointUnderway}
+use Rattle.iol_journal.specs.CheckpointViews.{begun_in, calls_of, end_in, end_of, stages_left, IsCheckpointUnderway}
 use Rattle.iol_journal.specs.Kept.{KeptMeans}
 use Rattle.iol_journal.specs.Runs.{Run}
 use Rattle.iol_journal.specs.Running.{IsRunAtRest}
@@ -16,10 +15,11 @@ invariant-loop-next g l =
     let d = g.D.SectorDisk.disk in
     let j = l.fn.journal in
     (l.checkpointing.standing ≡ j.standing)
+    × (end_of l.checkpointing ≡ end_in j.standing (begun_in j))
     × (Rests d j → IsCheckpointUnderway d l.checkpointing)
     × (Rests d j → LeavesOnly (d j.disk) (d l.checkpointing.disk) (KeptMeans (d j.disk).sectors j.standing.number j.standing.state))
     × ((r : Run) → IsRunAtRest d r j → IsRunCheckpointing d r l.checkpointing)
-    × IsAhead (checkpoint_calls j.standing j.idle) (stages_left l.checkpointing) (d j.disk) (d l.checkpointing.disk)
+    × IsAhead (calls_of j.standing (begun_in j)) (stages_left l.checkpointing) (d j.disk) (d l.checkpointing.disk)
 
 -- each step makes one of the disk calls that are left
 abbrev pub decreases-loop-next : goal.decreases-loop-next

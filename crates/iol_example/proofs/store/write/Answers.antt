@@ -32,7 +32,7 @@ returns-in_err-journal-clause-calls g c =
     let j = c.args.journal in
     let p = err_from_is_err_and c.from_residual.result c.from_residual.ensures.1 in
     rw (p.1, p.2)
-    (ended_early d (freeing_calls j.standing j.idle) (batch_calls (with_slot j.standing) (value_of c.args.command ∷ [])) (d j.disk)
+    (ended_early d (freeing_calls j) (batch_calls (with_slot j) (value_of c.args.command ∷ [])) (d j.disk)
     c.in_err-journal.field-0.0
     c.in_err-journal.ensures.calls)
 
@@ -51,8 +51,8 @@ returns-in_default-clause-run g c = λ r behind queued run. c.in_ok-journal.ensu
 
 pub returns-in_default-clause-calls : goal.returns-in_default-clause-calls
 returns-in_default-clause-calls g c = record {
-  first = freeing_calls c.args.journal.standing c.args.journal.idle;
-  left = batch_calls (with_slot c.args.journal.standing) (value_of c.args.command ∷ []);
+  first = freeing_calls c.args.journal;
+  left = batch_calls (with_slot c.args.journal) (value_of c.args.command ∷ []);
   order = refl;
   made = c.in_ok-journal.ensures.calls;
 }
@@ -68,7 +68,7 @@ returns-in-Ok-begin-clause-any_moment g c = λ rests.
     (ap (λ (s : Standing). s.state) begun.begun.1 ∙ freed.same.1)
     (begun.begun.4 ∙ ap values c.in-Ok.ensures.items)
     (freed.any_moment rests)
-    (c.finish.ensures.any_moment (begun.underway (freed.rests rests)))
+    (c.finish.ensures.any_moment (begun.underway (freed.rests rests).0))
 
 pub returns-in-Ok-begin-clause-written : goal.returns-in-Ok-begin-clause-written
 returns-in-Ok-begin-clause-written g c =
@@ -98,7 +98,7 @@ returns-in-Ok-begin-clause-durable g c = λ rests.
     (ap (λ (s : Standing). s.state) begun.begun.1 ∙ freed.same.1)
     (begun.begun.4 ∙ ap values c.in-Ok.ensures.items)
     c.finish.ensures.done
-    (c.finish.ensures.rests (begun.underway (freed.rests rests)))
+    (c.finish.ensures.rests (begun.underway (freed.rests rests).0) (begun.beside (freed.rests rests).1))
 
 pub returns-in-Ok-begin-clause-run : goal.returns-in-Ok-begin-clause-run
 returns-in-Ok-begin-clause-run g c = λ r behind queued run.
@@ -118,8 +118,8 @@ returns-in-Ok-begin-clause-calls g c =
     let begun = c.in-Ok-begin in
     let order = begun.ensures.calls
     ∙ (ap (λ (s : Standing). batch_calls s (values c.in-Ok.commands.items)) freed.ensures.slot
-    ∙ ap (λ (cs : List CommandValue). batch_calls (with_slot j.standing) cs) (ap values c.in-Ok.ensures.items)) in
-    then_makes d (freeing_calls j.standing j.idle) (batch_calls (with_slot j.standing) (value_of c.args.command ∷ [])) (d j.disk)
+    ∙ ap (λ (cs : List CommandValue). batch_calls (with_slot j) cs) (ap values c.in-Ok.ensures.items)) in
+    then_makes d (freeing_calls j) (batch_calls (with_slot j) (value_of c.args.command ∷ [])) (d j.disk)
     (d freed.journal.disk) c.finish.result
     freed.ensures.calls
     (subst (λ (calls : List Call). MakesCalls d calls (d freed.journal.disk) c.finish.result) order
@@ -142,8 +142,8 @@ returns-in-Err-clause-run g c = λ r behind queued run. rw c.in-Err.ensures.back
 
 pub returns-in-Err-clause-calls : goal.returns-in-Err-clause-calls
 returns-in-Err-clause-calls g c = rw c.in-Err.ensures.back.0 (record {
-  first = freeing_calls c.args.journal.standing c.args.journal.idle;
-  left = batch_calls (with_slot c.args.journal.standing) (value_of c.args.command ∷ []);
+  first = freeing_calls c.args.journal;
+  left = batch_calls (with_slot c.args.journal) (value_of c.args.command ∷ []);
   order = refl;
   made = c.in_ok-journal.ensures.calls;
 })

@@ -37,7 +37,8 @@ returns-in-Misfit-clause-run g c =
     c.in-Err.ensures.back.1
 
 pub returns-in-Ok-clause-sound : goal.returns-in-Ok-clause-sound
-returns-in-Ok-clause-sound g c = λ rest. c.write.ensures.sound (c.in-Ok.ensures.underway rest)
+returns-in-Ok-clause-sound g c = λ rest.
+    c.write.ensures.sound (c.in-Ok.ensures.underway rest.0, c.in-Ok.ensures.beside rest.1)
 
 pub returns-in-NeedsCheckpoint-clause-sound : goal.returns-in-NeedsCheckpoint-clause-sound
 returns-in-NeedsCheckpoint-clause-sound g c = λ rest.

@@ -8,7 +8,7 @@ returns-in-Ok-clause-run g c =
     c.checkpoint-in-Ok.ensures.run
 
 pub returns-in-Ok-clause-sound : goal.returns-in-Ok-clause-sound
-returns-in-Ok-clause-sound g c = λ rest. c.checkpoint-in-Ok.ensures.sound (c.in-Ok.ensures.underway rest)
+returns-in-Ok-clause-sound g c = λ rest. c.checkpoint-in-Ok.ensures.sound (c.in-Ok.ensures.underway rest.0 rest.1)
 
 pub returns-in-Err-clause-run : goal.returns-in-Err-clause-run
 returns-in-Err-clause-run g c =

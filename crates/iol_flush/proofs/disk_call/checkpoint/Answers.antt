@@ -1,4 +1,4 @@
-use Rattle.iol_flush.proofs.Keeping.{still_checkpointed, is_checkpointed, not_checkpointed}
+use Rattle.iol_flush.proofs.Keeping.{still_checkpointed, is_checkpointed, not_checkpointed, rests_behind}
 use Rattle.iol_flush.proofs.disk_call.checkpoint.Goals as goal
 
 pub returns-in-More-clause-run : goal.returns-in-More-clause-run
@@ -14,4 +14,5 @@ returns-in-Failed-clause-run g c =
     not_checkpointed g.D.SectorDisk.disk c.args.checkpointing c.in-Failed.disk c.args.batch c.in-Failed.fault c.in-Failed.ensures.run
 
 pub returns-in-Done-clause-sound : goal.returns-in-Done-clause-sound
-returns-in-Done-clause-sound g c = λ sound. (c.in-Done.ensures.durable sound).0
+returns-in-Done-clause-sound g c = λ sound.
+    rests_behind g.D.SectorDisk.disk c.in-Done.journal (c.in-Done.ensures.durable sound).0 c.in-Done.ensures.done.3

@@ -13,4 +13,8 @@ pub returns-in-Failed-clause-run : goal.returns-in-Failed-clause-run
 returns-in-Failed-clause-run g c = not_written g.D.SectorDisk.disk c.args.writing c.in-Failed.disk c.in-Failed.fault c.in-Failed.ensures.run
 
 pub returns-in-Done-clause-sound : goal.returns-in-Done-clause-sound
-returns-in-Done-clause-sound g c = λ sound. (c.in-Done.ensures.durable sound).0
+returns-in-Done-clause-sound g c = λ sound.
+    ((c.in-Done.ensures.durable sound.0).0, c.in-Done.ensures.paused sound.0 sound.1)
+
+pub returns-in-More-clause-sound : goal.returns-in-More-clause-sound
+returns-in-More-clause-sound g c = λ sound. (c.in-More.ensures.underway sound.0, c.in-More.ensures.beside sound.1)

@@ -11,7 +11,7 @@ returns-in-Body g c = record {
   makes = λ number state.
       let d = g.D.SectorDisk.disk in
       let place = c.args.place.now in
-      let body = c.args.plan.now.body.items in
+      let body = c.args.body.now.octets.items in
       let j = c.in-Body.j in
       let e = c.write_sector.ensures in
       rw c.in-Body.is
@@ -52,7 +52,7 @@ write_sector-requires-clause-fits g c = let place = c.args.place.now in
     omega (
       arith,
       c.requires.fits,
-      slots-inside place.layout place.area (place.used + c.args.plan.now.span) c.requires.room,
+      slots-inside place.layout place.area (place.used + c.args.body.now.span) c.requires.room,
       c.slot-slot.ensures.gate,
       c.slot-slot.ensures.span,
     )
@@ -62,7 +62,7 @@ open_gate-requires g c = let place = c.args.place.now in
     omega (
       arith,
       c.requires.fits,
-      slots-inside place.layout place.area (place.used + c.args.plan.now.span) c.requires.room,
+      slots-inside place.layout place.area (place.used + c.args.body.now.span) c.requires.room,
       c.slot-slot.ensures.gate,
       c.requires.some,
     )

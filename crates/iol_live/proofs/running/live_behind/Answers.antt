@@ -2,7 +2,7 @@ use Rattle.std.proofs.Common.{◌∙◌, IfErr, IfOk, string_bytes, vec_len, sym
 use Rattle.std.specs.Prelude.{◌≡◌, IsTrue}
 use Rattle.iol_front.specs.Fronts.{FrontId}
 use Rattle.iol_journal.specs.Journals.{JournalView}
-use Rattle.iol_journal.specs.Underway.{IsAtRest}
+use Rattle.iol_flush.specs.Flushing.{Rests}
 use Rattle.iol_live.specs.Lived.{IsAfterWhatIsThere, IsRunCause}
 use Rattle.iol_live.proofs.running.live_behind.Goals as goal
 
@@ -18,13 +18,13 @@ live_with-requires g c =
 pub returns-in-Ok-started-clause-lived : goal.returns-in-Ok-started-clause-lived
 returns-in-Ok-started-clause-lived g c =
     let disk = g.D.SectorDisk.disk in
-    subst (λ (j : JournalView g.row.D.Denot). ((d : g.row.D.Denot) → IsTrue (disk d).honest) → IsAtRest (disk j.disk) j.standing j.idle
+    subst (λ (j : JournalView g.row.D.Denot). ((d : g.row.D.Denot) → IsTrue (disk d).honest) → Rests disk j
     → IfOk c.live_with.result (λ text. IsAfterWhatIsThere (vec_len c.args.script.now.changes) j.standing (string_bytes text)))
     c.in-Ok-started.ensures.started c.live_with.ensures.lived
 
 pub returns-in-Ok-started-clause-cause : goal.returns-in-Ok-started-clause-cause
 returns-in-Ok-started-clause-cause g c =
     let disk = g.D.SectorDisk.disk in
-    subst (λ (j : JournalView g.row.D.Denot). ((d : g.row.D.Denot) → IsTrue (disk d).honest) → IsAtRest (disk j.disk) j.standing j.idle
+    subst (λ (j : JournalView g.row.D.Denot). ((d : g.row.D.Denot) → IsTrue (disk d).honest) → Rests disk j
     → IfErr c.live_with.result IsRunCause)
     c.in-Ok-started.ensures.started c.live_with.ensures.cause

@@ -1,129 +1,43 @@
-use Rattle.std.proofs.Common.{◌≡◌, [], length, Some, None, refl, sym, ◌∙◌, ap, subst, arith}
-use Rattle.iol_journal.specs.Checkpoints.{checkpointed, next_stage, snapshot_writes, stage_calls}
-use Rattle.iol_journal.specs.CheckpointViews.{CheckpointingView, IsCheckpointUnderway, stages_left}
-use Rattle.iol_journal.specs.Journals.{standing_at}
+use Rattle.std.proofs.Common.{◌≡◌, [], Option, Some, refl, sym, ◌∙◌, ap, subst}
+use Rattle.iol_journal.specs.BegunParts.{log_of, commands_owed, view_of}
+use Rattle.iol_journal.specs.BegunViews.{BegunView}
+use Rattle.iol_journal.specs.Checkpoints.{target, with_batches}
+use Rattle.iol_journal.specs.CheckpointViews.{CheckpointingView, end_of, calls_of, stages_left, IsDrawnUp, IsCheckpointUnderway, IsPaused}
+use Rattle.iol_journal.specs.Drafts.{begun_behind, stage_behind}
+use Rattle.iol_journal.specs.Journals.{IsResting, standing_at}
 use Rattle.iol_journal.specs.Meaning.{Standing}
 use Rattle.iol_journal.specs.Progress.{MakesFirst, FailsFirst}
 use Rattle.iol_journal.specs.Underway.{IsAtRest}
 use Rattle.iol_journal.specs.declared.place.Idle.TheVariants.{Older}
-use Rattle.iol_journal.proofs.CheckpointSteps.{plan-row, next_is, moment_of, underway, durable, drafted_next, resting, makes_first}
-use Rattle.iol_journal.proofs.CheckpointSteps.{makes_last, fails_first}
+use Rattle.iol_journal.proofs.BegunLaws.{moved_view, begun_next, begun-behind, view-moved, ends-moved, stands_there, ends_there}
+use Rattle.iol_journal.proofs.CheckpointSteps.{moment_of, underway, durable, resting, makes_first, makes_last, fails_first}
+use Rattle.iol_journal.proofs.DraftLaws.{resting_on}
 use Rattle.iol_journal.proofs.Phases.{rest_means}
 use Rattle.iol_journal.proofs.RunSteps.{run_of_same_meaning}
 use Rattle.iol_journal.proofs.checkpointing.Checkpointing.step.Given
 use Rattle.iol_journal.proofs.checkpointing.Checkpointing.step.Goals as goal
 
-pub make_stage-requires-clause-row : goal.make_stage-requires-clause-row
-make_stage-requires-clause-row g c =
-    let w = c.self.inside in
-    let drafted = c.self.invariant.0 in
-    plan-row _ w.place.layout _ _ w.state w.plan drafted.fits drafted.records c.self.invariant.1
+pub make_stage-requires : goal.make_stage-requires
+make_stage-requires g c = (c.self.inside.number, c.self.inside.state, c.self.invariant.1)
+
+-- ---- the call failed
 
 pub returns-in-Err-clause-call : goal.returns-in-Err-clause-call
 returns-in-Err-clause-call g c =
     let d = g.D.SectorDisk.disk in
     let w = c.self.inside in
     let s = standing_at w.place w.number w.state in
+    let is = c.self.invariant.1 in
     subst (λ (v : CheckpointingView g.row.D.Denot). FailsFirst (stages_left v) c.in-Err.fault (d v.disk) (d c.make_stage.new.disk))
     c.self.view_is
-    (fails_first s w.stage _ _ c.self.invariant.0 c.in-Err.fault (c.in-Err.ensures s c.self.invariant.1))
+    (fails_first s (log_of w.begun) (commands_owed w.begun.owed.items) w.begun.stage _ _ is.drafted c.in-Err.fault
+    (c.in-Err.ensures w.number w.state is))
 
 pub returns-in-Err-clause-any_moment : goal.returns-in-Err-clause-any_moment
 returns-in-Err-clause-any_moment g c =
     let w = c.self.inside in
-    moment_of g.D.SectorDisk.disk c.make_stage.new.disk c.make_stage.result c.self.view_is c.self.invariant.0
-    (c.make_stage.ensures (standing_at w.place w.number w.state) c.self.invariant.1)
-
--- the stage that comes next
-next_told : (g : Given.Over) (c : goal.In-Some g)
-    → Some c.in-Some.stage
-    ≡ next_stage c.self.inside.place.layout.slots
-    (length (snapshot_writes (standing_at c.self.inside.place c.self.inside.number c.self.inside.state))) c.self.inside.stage
-next_told g c =
-    let w = c.self.inside in
-    sym c.in-Some.is
-    ∙ next_is (standing_at w.place w.number w.state) w.plan w.stage c.next.result c.slots.result c.len.result c.self.invariant.1
-    c.slots.ensures.value
-    (omega (arith, c.len.ensures, w.plan.records.ok)) c.next.ensures
-
-pub returns-in-Some-clause-call : goal.returns-in-Some-clause-call
-returns-in-Some-clause-call g c =
-    let d = g.D.SectorDisk.disk in
-    let w = c.self.inside in
-    let s = standing_at w.place w.number w.state in
-    subst (λ (v : CheckpointingView g.row.D.Denot).
-    MakesFirst (stages_left v) (stage_calls s c.in-Some.stage) (d v.disk) (d c.make_stage.new.disk)) c.self.view_is
-    (makes_first s w.stage _ _ c.self.invariant.0 c.in-Some.stage (next_told g c) (c.in_default.ensures s c.self.invariant.1))
-
-pub returns-in-Some-clause-any_moment : goal.returns-in-Some-clause-any_moment
-returns-in-Some-clause-any_moment g c =
-    let w = c.self.inside in
-    moment_of g.D.SectorDisk.disk c.make_stage.new.disk c.make_stage.result c.self.view_is c.self.invariant.0
-    (c.make_stage.ensures (standing_at w.place w.number w.state) c.self.invariant.1)
-
-pub returns-in-Some-clause-underway : goal.returns-in-Some-clause-underway
-returns-in-Some-clause-underway g c u =
-    let w = c.self.inside in
-    let s = standing_at w.place w.number w.state in
-    let under = subst (λ (v : CheckpointingView g.row.D.Denot). IsCheckpointUnderway g.D.SectorDisk.disk v) (sym c.self.view_is) u in
-    underway s w.stage _ _ c.self.invariant.0 c.in-Some.stage (next_told g c) (c.in_default.ensures s c.self.invariant.1) under
-
-pub invariant_of-result : goal.invariant_of-result
-invariant_of-result g c =
-    let w = c.self.inside in
-    let s = standing_at w.place w.number w.state in (
-      drafted_next s w.stage _ _ c.self.invariant.0 c.in-Some.stage (next_told g c) (c.in_default.ensures s c.self.invariant.1),
-      c.self.invariant.1,
-      c.self.invariant.2,
-    )
-
-pub at_rest-requires-clause-resting : goal.at_rest-requires-clause-resting
-at_rest-requires-clause-resting g c =
-    let w = c.self.inside in
-    let s = standing_at w.place w.number w.state in
-    rw c.other.ensures (resting s w.stage _ _ c.self.invariant.0 (c.in_default.ensures s c.self.invariant.1))
-
--- no stage comes next
-none_told : (g : Given.Over) (c : goal.After-drop-plan-in-None-1 g)
-    → None ≡ next_stage c.self.inside.place.layout.slots
-    (length (snapshot_writes (standing_at c.self.inside.place c.self.inside.number c.self.inside.state))) c.self.inside.stage
-none_told g c =
-    let w = c.self.inside in
-    sym c.in-None.is
-    ∙ next_is (standing_at w.place w.number w.state) w.plan w.stage c.next.result c.slots.result c.len.result c.self.invariant.1
-    c.slots.ensures.value
-    (omega (arith, c.len.ensures, w.plan.records.ok)) c.next.ensures
-
-pub returns-in-None-clause-call : goal.returns-in-None-clause-call
-returns-in-None-clause-call g c =
-    let d = g.D.SectorDisk.disk in
-    let w = c.self.inside in
-    let s = standing_at w.place w.number w.state in
-    rw c.at_rest.ensures.disk
-    (subst (λ (v : CheckpointingView g.row.D.Denot). MakesFirst (stages_left v) [] (d v.disk) (d c.make_stage.new.disk)) c.self.view_is
-    (makes_last s w.stage _ _ c.self.invariant.0 (none_told g c) (c.in_default.ensures s c.self.invariant.1)))
-
-pub returns-in-None-clause-any_moment : goal.returns-in-None-clause-any_moment
-returns-in-None-clause-any_moment g c =
-    let w = c.self.inside in
-    rw c.at_rest.ensures.disk
-    (moment_of g.D.SectorDisk.disk c.make_stage.new.disk c.make_stage.result c.self.view_is c.self.invariant.0
-    (c.make_stage.ensures (standing_at w.place w.number w.state) c.self.invariant.1))
-
--- the journal behind the last call stands in the other area
-standing_after : (g : Given.Over) (c : goal.After-drop-plan-in-None-1 g)
-    → c.at_rest.result.standing ≡ checkpointed (standing_at c.self.inside.place c.self.inside.number c.self.inside.state)
-standing_after g c = rw c.other.ensures at c.at_rest.ensures.standing
-
-pub returns-in-None-clause-durable : goal.returns-in-None-clause-durable
-returns-in-None-clause-durable g c u =
-    let d = g.D.SectorDisk.disk in
-    let w = c.self.inside in
-    let s = standing_at w.place w.number w.state in
-    let under = subst (λ (v : CheckpointingView g.row.D.Denot). IsCheckpointUnderway d v) (sym c.self.view_is) u in
-    let rests : IsAtRest (d c.make_stage.new.disk) (checkpointed s) Older =
-    durable s w.stage _ _ c.self.invariant.0 (none_told g c) (c.in_default.ensures s c.self.invariant.1) under in
-    rest_means _ _ _ _ _ _ (ap d c.at_rest.ensures.disk) (standing_after g c) c.at_rest.ensures.idle rests
+    moment_of g.D.SectorDisk.disk c.make_stage.new.disk c.make_stage.result c.self.view_is c.self.invariant.1.drafted
+    (c.make_stage.ensures w.number w.state c.self.invariant.1)
 
 pub returns-in-Err-clause-run : goal.returns-in-Err-clause-run
 returns-in-Err-clause-run g c r run =
@@ -131,6 +45,92 @@ returns-in-Err-clause-run g c r run =
     let s = c.args.self.standing in
     (run_of_same_meaning (d c.args.self.disk) (d c.make_stage.new.disk) s s r refl refl (returns-in-Err-clause-any_moment g c run.0)
     run.1).0
+
+-- ---- further calls are owed
+
+pub next_stage-requires-clause-begun : goal.next_stage-requires-clause-begun
+next_stage-requires-clause-begun g c =
+    let w = c.self.inside in
+    (g.D.SectorDisk.disk w.disk, standing_at w.place w.number w.state, c.self.invariant.1, c.slots-slots.ensures.value)
+
+pub moved_to-requires-clause-begun : goal.moved_to-requires-clause-begun
+moved_to-requires-clause-begun g c =
+    let w = c.self.inside in
+    (g.D.SectorDisk.disk w.disk, standing_at w.place w.number w.state, c.self.invariant.1, c.slots-slots.ensures.value)
+
+-- the stage that comes next
+next_told : (g : Given.Over) (c : goal.After-moved_to g)
+    → stage_behind (target (standing_at c.self.inside.place c.self.inside.number c.self.inside.state) (log_of c.self.inside.begun))
+    (commands_owed c.self.inside.begun.owed.items) c.self.inside.begun.stage ≡ Some c.in-Some.stage
+next_told g c =
+    let w = c.self.inside in
+    sym (c.next_stage.ensures (g.D.SectorDisk.disk w.disk) (standing_at w.place w.number w.state) c.self.invariant.1
+    c.slots-slots.ensures.value) ∙ c.in-Some.is
+
+-- what contracts see of the checkpoint then
+view_told : (g : Given.Over) (c : goal.After-moved_to g) → view_of c.moved_to.result ≡ moved_view c.self.inside.begun c.in-Some.stage
+view_told g c =
+    let moved = c.moved_to.ensures in
+    view-moved c.self.inside.begun c.moved_to.result c.in-Some.stage moved.log moved.owed moved.stage
+
+pub invariant_of-result : goal.invariant_of-result
+invariant_of-result g c =
+    let d = g.D.SectorDisk.disk in
+    let w = c.self.inside in
+    let s = standing_at w.place w.number w.state in
+    let is = c.self.invariant.1 in
+    let made = c.in_default.ensures w.number w.state is in
+    let moved = c.moved_to.ensures in (
+      resting_on (d w.disk) (d c.make_stage.new.disk) s made.after.sectors c.self.invariant.0,
+      begun_next (d w.disk) (d c.make_stage.new.disk) s w.begun c.moved_to.result c.in-Some.stage made.after.sectors is (next_told g c)
+          moved.plan moved.log moved.owed moved.stage,
+      c.self.invariant.2,
+    )
+
+pub returns-in-Some-clause-call : goal.returns-in-Some-clause-call
+returns-in-Some-clause-call g c =
+    let d = g.D.SectorDisk.disk in
+    let w = c.self.inside in
+    let s = standing_at w.place w.number w.state in
+    let is = c.self.invariant.1 in
+    subst (λ (v : CheckpointingView g.row.D.Denot).
+    MakesFirst (stages_left v) (calls_of s (view_of c.moved_to.result)) (d v.disk) (d c.make_stage.new.disk)) c.self.view_is
+    (subst (λ (b : BegunView). MakesFirst (calls_of s (view_of w.begun)) (calls_of s b) (d w.disk) (d c.make_stage.new.disk))
+    (sym (view_told g c))
+    (makes_first s (log_of w.begun) (commands_owed w.begun.owed.items) w.begun.stage _ _ is.drafted c.in-Some.stage (next_told g c)
+    (c.in_default.ensures w.number w.state is)))
+
+pub returns-in-Some-clause-any_moment : goal.returns-in-Some-clause-any_moment
+returns-in-Some-clause-any_moment g c =
+    let w = c.self.inside in
+    moment_of g.D.SectorDisk.disk c.make_stage.new.disk c.make_stage.result c.self.view_is c.self.invariant.1.drafted
+    (c.make_stage.ensures w.number w.state c.self.invariant.1)
+
+pub returns-in-Some-clause-underway : goal.returns-in-Some-clause-underway
+returns-in-Some-clause-underway g c u =
+    let d = g.D.SectorDisk.disk in
+    let w = c.self.inside in
+    let s = standing_at w.place w.number w.state in
+    let is = c.self.invariant.1 in
+    let under = subst (λ (v : CheckpointingView g.row.D.Denot). IsCheckpointUnderway d v) (sym c.self.view_is) u in
+    subst (IsDrawnUp (d c.make_stage.new.disk) s) (sym (view_told g c))
+    (underway s (log_of w.begun) (commands_owed w.begun.owed.items) w.begun.stage _ _ is.drafted c.in-Some.stage (next_told g c)
+    (c.in_default.ensures w.number w.state is) under)
+
+pub returns-in-Some-clause-more : goal.returns-in-Some-clause-more
+returns-in-Some-clause-more g c =
+    let w = c.self.inside in
+    let moved = c.moved_to.ensures in (
+      ap (λ (v : CheckpointingView g.row.D.Denot). v.standing) c.self.view_is,
+      ap (λ (v : CheckpointingView g.row.D.Denot). v.history) c.self.view_is,
+      subst (λ (v : CheckpointingView g.row.D.Denot). begun_behind v.standing v.begun ≡ Some (view_of c.moved_to.result)) c.self.view_is
+          (begun-behind (standing_at w.place w.number w.state) w.begun c.moved_to.result c.in-Some.stage
+          (next_told g c) moved.log moved.owed
+          moved.stage),
+      ap (λ (b : BegunView). with_batches (target (standing_at w.place w.number w.state) b.log) b.owed) (view_told g c)
+          ∙ ends-moved (g.D.SectorDisk.disk w.disk) (standing_at w.place w.number w.state) w.begun c.self.invariant.1
+          ∙ ap (λ (v : CheckpointingView g.row.D.Denot). end_of v) c.self.view_is,
+    )
 
 pub returns-in-Some-clause-run : goal.returns-in-Some-clause-run
 returns-in-Some-clause-run g c r run =
@@ -144,13 +144,99 @@ returns-in-Some-clause-run g c r run =
       run.2,
     )
 
+-- ---- it is done
+
+pub at_rest-requires-clause-resting : goal.at_rest-requires-clause-resting
+at_rest-requires-clause-resting g c =
+    let d = g.D.SectorDisk.disk in
+    let w = c.self.inside in
+    let s = standing_at w.place w.number w.state in
+    let is = c.self.invariant.1 in
+    let none = sym (c.next_stage.ensures (d w.disk) s is c.slots-slots.ensures.value) ∙ c.in-None.is in
+    subst (IsResting (d c.make_stage.new.disk)) (sym (stands_there (d w.disk) s w.begun is none c.other.result c.other.ensures))
+    (resting s (log_of w.begun) (commands_owed w.begun.owed.items) w.begun.stage _ _ is.drafted (c.in_default.ensures w.number w.state is))
+
+pub returns-in-None-clause-call : goal.returns-in-None-clause-call
+returns-in-None-clause-call g c =
+    let d = g.D.SectorDisk.disk in
+    let w = c.self.inside in
+    let s = standing_at w.place w.number w.state in
+    let is = c.self.invariant.1 in
+    let none = sym (c.next_stage.ensures (d w.disk) s is c.slots-slots.ensures.value) ∙ c.in-None.is in
+    rw c.at_rest.ensures.disk
+    (subst (λ (v : CheckpointingView g.row.D.Denot). MakesFirst (stages_left v) [] (d v.disk) (d c.make_stage.new.disk)) c.self.view_is
+    (makes_last s (log_of w.begun) (commands_owed w.begun.owed.items) w.begun.stage _ _ is.drafted none
+    (c.in_default.ensures w.number w.state is)))
+
+pub returns-in-None-clause-any_moment : goal.returns-in-None-clause-any_moment
+returns-in-None-clause-any_moment g c =
+    let w = c.self.inside in
+    rw c.at_rest.ensures.disk
+    (moment_of g.D.SectorDisk.disk c.make_stage.new.disk c.make_stage.result c.self.view_is c.self.invariant.1.drafted
+    (c.make_stage.ensures w.number w.state c.self.invariant.1))
+
+-- the journal stands in the other area
+stands_in_other : (g : Given.Over) (c : goal.After-drop-begun-in-None-2 g) → c.at_rest.result.standing
+    ≡ target (standing_at c.self.inside.place c.self.inside.number c.self.inside.state) (log_of c.self.inside.begun)
+stands_in_other g c =
+    let w = c.self.inside in
+    let s = standing_at w.place w.number w.state in
+    let is = c.self.invariant.1 in
+    let d = g.D.SectorDisk.disk w.disk in
+    let none = sym (c.next_stage.ensures d s is c.slots-slots.ensures.value) ∙ c.in-None.is in
+    c.at_rest.ensures.standing ∙ stands_there d s w.begun is none c.other.result c.other.ensures
+
+-- where no batch is owed
+stands : (g : Given.Over) (c : goal.After-drop-begun-in-None-2 g) → c.at_rest.result.standing
+    ≡ with_batches (target (standing_at c.self.inside.place c.self.inside.number c.self.inside.state) (log_of c.self.inside.begun))
+    (commands_owed c.self.inside.begun.owed.items)
+stands g c =
+    let w = c.self.inside in
+    let s = standing_at w.place w.number w.state in
+    let is = c.self.invariant.1 in
+    let d = g.D.SectorDisk.disk w.disk in
+    let none = sym (c.next_stage.ensures d s is c.slots-slots.ensures.value) ∙ c.in-None.is in
+    stands_in_other g c ∙ sym (ends_there d s w.begun is none)
+
+pub returns-in-None-clause-done : goal.returns-in-None-clause-done
+returns-in-None-clause-done g c = (
+  stands g c ∙ ap (λ (v : CheckpointingView g.row.D.Denot). end_of v) c.self.view_is,
+  c.at_rest.ensures.idle,
+  c.at_rest.ensures.history ∙ ap (λ (v : CheckpointingView g.row.D.Denot). v.history) c.self.view_is,
+  c.at_rest.ensures.begun,
+)
+
+pub returns-in-None-clause-same : goal.returns-in-None-clause-same
+returns-in-None-clause-same g c = (
+  ap (λ (t : Standing). t.number) c.at_rest.ensures.standing
+      ∙ ap (λ (v : CheckpointingView g.row.D.Denot). v.standing.number) c.self.view_is,
+  ap (λ (t : Standing). t.state) c.at_rest.ensures.standing
+      ∙ ap (λ (v : CheckpointingView g.row.D.Denot). v.standing.state) c.self.view_is,
+  ap (λ (t : Standing). t.layout) c.at_rest.ensures.standing
+      ∙ ap (λ (v : CheckpointingView g.row.D.Denot). v.standing.layout) c.self.view_is,
+)
+
+pub returns-in-None-clause-durable : goal.returns-in-None-clause-durable
+returns-in-None-clause-durable g c u =
+    let d = g.D.SectorDisk.disk in
+    let w = c.self.inside in
+    let s = standing_at w.place w.number w.state in
+    let is = c.self.invariant.1 in
+    let none = sym (c.next_stage.ensures (d w.disk) s is c.slots-slots.ensures.value) ∙ c.in-None.is in
+    let under = subst (λ (v : CheckpointingView g.row.D.Denot). IsCheckpointUnderway d v) (sym c.self.view_is) u in
+    let rests : IsAtRest (d c.make_stage.new.disk) (target s (log_of w.begun)) Older =
+    durable s (log_of w.begun) (commands_owed w.begun.owed.items) w.begun.stage _ _ is.drafted none
+    (c.in_default.ensures w.number w.state is) under in
+    rest_means _ _ _ _ _ _ (ap d c.at_rest.ensures.disk) (stands_in_other g c) c.at_rest.ensures.idle rests
+
 pub returns-in-None-clause-run : goal.returns-in-None-clause-run
 returns-in-None-clause-run g c r run =
     let d = g.D.SectorDisk.disk in
-    let standing = standing_after g c ∙ ap (λ (v : CheckpointingView g.row.D.Denot). checkpointed v.standing) c.self.view_is in (
+    let same = returns-in-None-clause-same g c in (
       (returns-in-None-clause-durable g c run.0).0,
-      run_of_same_meaning (d c.args.self.disk) (d c.at_rest.result.disk) c.args.self.standing c.at_rest.result.standing r
-          (ap (λ (t : Standing). t.number) standing) (ap (λ (t : Standing). t.state) standing) (returns-in-None-clause-any_moment g c run.0)
-          run.1,
+      run_of_same_meaning (d c.args.self.disk) (d c.at_rest.result.disk) c.args.self.standing c.at_rest.result.standing r same.0 same.1
+          (returns-in-None-clause-any_moment g c run.0) run.1,
       run.2,
+      subst (λ (begun : Option BegunView). IsPaused (d c.at_rest.result.disk) c.at_rest.result.standing begun)
+          (sym c.at_rest.ensures.begun) tt,
     )

@@ -1,34 +1,51 @@
-use Rattle.std.proofs.Common.{◌≤◌, ◌+◌, ◌*◌, length, sym, ◌∙◌, ap, subst, arith}
+use Rattle.std.proofs.Common.{◌≡◌, ◌≤◌, ◌+◌, ◌*◌, length, Result, Ok, Err, IfOk, sym, ap, subst, arith}
+use Rattle.std.proofs.lemmas.Result.{IfOk-weaker}
+use Rattle.iol_journal.specs.Batches.{batch_calls}
 use Rattle.iol_journal.specs.Body.{slots_for}
-use Rattle.iol_journal.specs.Underway.{IsAtRest, IsUnderway}
-use Rattle.iol_journal.specs.Journals.{JournalView, WritingView, IsPlanned, standing_at, calls_left, values}
-use Rattle.iol_journal.specs.declared.phase.Phase.TheVariants.{Body}
-use Rattle.iol_journal.proofs.BatchCalls.{at_most}
+use Rattle.iol_journal.specs.Journals.{WritingView, calls_left, values}
+use Rattle.iol_journal.specs.Underway.{IsUnderway}
+use Rattle.iol_journal.proofs.BatchCalls.{all_calls, at_most}
+use Rattle.iol_journal.proofs.Phases.{fit_of}
 use Rattle.iol_journal.proofs.RunSteps.{run_of_begun}
 use Rattle.iol_journal.proofs.journal.Journal.begin.Goals as goal
 
-pub returns-in-Ok-clause-underway : goal.returns-in-Ok-clause-underway
-returns-in-Ok-clause-underway g c rest =
-    let d = g.D.SectorDisk.disk in
-    let at_rest = subst (λ (v : JournalView g.row.D.Denot). IsAtRest (d v.disk) v.standing v.idle) (sym c.self.view_is) rest in
-    subst (λ (w : WritingView g.row.D.Denot). IsUnderway d w) (sym c.begun.ensures) (λ h. (at_rest h, λ j below. absurd (omega arith)))
+pub returns-in-Ok-clause-calls : goal.returns-in-Ok-clause-calls
+returns-in-Ok-clause-calls g c =
+    let commands = values c.args.batch.commands.items in
+    IfOk-weaker c.begin_planned.result _ _ (λ w is.
+    subst (λ (v : WritingView g.row.D.Denot). calls_left v ≡ batch_calls c.args.self.standing commands) (sym is)
+    (all_calls c.args.self.standing commands)) c.begin_planned.ensures.begun
 
 pub returns-in-Ok-clause-at_most : goal.returns-in-Ok-clause-at_most
 returns-in-Ok-clause-at_most g c =
-    let d = g.D.SectorDisk.disk in
     let commands = values c.args.batch.commands.items in
-    let planned = subst (λ (v : JournalView g.row.D.Denot). IsPlanned (d v.disk) v.standing commands (Body 0)) (sym c.self.view_is)
-    c.in-Ok.ensures.planned.0 in
-    subst (λ (w : WritingView g.row.D.Denot). length (calls_left w) ≤ 16 * slots_for commands + 3) (sym c.begun.ensures)
-    (at_most (standing_at c.self.inside.place c.self.inside.number c.self.inside.state) commands planned.short)
+    let fit = fit_of _ _ _ _ c.in-Ok.ensures.planned.0 in
+    IfOk-weaker c.begin_planned.result _ _ (λ w is.
+    subst (λ (v : WritingView g.row.D.Denot). length (calls_left v) ≤ 16 * slots_for commands + 3) (sym is)
+    (at_most c.args.self.standing commands fit.short)) c.begin_planned.ensures.begun
 
 pub returns-in-Ok-clause-few : goal.returns-in-Ok-clause-few
-returns-in-Ok-clause-few g c = omega (arith, returns-in-Ok-clause-at_most g c, c.in-Ok.ensures.few)
+returns-in-Ok-clause-few g c =
+    let commands = values c.args.batch.commands.items in
+    let few = c.in-Ok.ensures.few in
+    IfOk-weaker c.begin_planned.result _ _ (λ w is. omega (arith, is, few)) (returns-in-Ok-clause-at_most g c)
+
+pub returns-in-Ok-clause-underway : goal.returns-in-Ok-clause-underway
+returns-in-Ok-clause-underway g c rest =
+    IfOk-weaker c.begin_planned.result _ _ (λ w is.
+    subst (λ (v : WritingView g.row.D.Denot). IsUnderway g.D.SectorDisk.disk v) (sym is)
+    (λ h. (rest h, λ j below. absurd (omega (arith, below))))) c.begin_planned.ensures.begun
+
+-- two facts of what is answered
+both : {A E : Type 0} (r : Result A E) (P Q R : A → Type 0) → ((x : A) → P x → Q x → R x) → IfOk r P → IfOk r Q → IfOk r R
+both (Ok x) P Q R f p q = f x p q
+both (Err e) P Q R f p q = tt
 
 pub returns-in-Ok-clause-run : goal.returns-in-Ok-clause-run
-returns-in-Ok-clause-run g c r behind queued resting =
-    run_of_begun g.D.SectorDisk.disk c.args.self c.begun.result
-    (ap (λ (w : WritingView g.row.D.Denot). w.disk) c.begun.ensures ∙ ap (λ (j : JournalView g.row.D.Denot). j.disk) c.self.view_is)
-    (ap (λ (w : WritingView g.row.D.Denot). w.standing) c.begun.ensures ∙ ap (λ (j : JournalView g.row.D.Denot). j.standing) c.self.view_is)
-    (ap (λ (w : WritingView g.row.D.Denot). w.commands) c.begun.ensures)
-    (returns-in-Ok-clause-underway g c resting.0) queued resting
+returns-in-Ok-clause-run g c =
+    both c.begin_planned.result _ _ _ (λ w is beside r behind queued resting.
+    run_of_begun g.D.SectorDisk.disk c.args.self w (ap (λ (v : WritingView g.row.D.Denot). v.disk) is)
+    (ap (λ (v : WritingView g.row.D.Denot). v.standing) is) (ap (λ (v : WritingView g.row.D.Denot). v.commands) is)
+    (subst (λ (v : WritingView g.row.D.Denot). IsUnderway g.D.SectorDisk.disk v) (sym is)
+    (λ h. (resting.0 h, λ j below. absurd (omega (arith, below))))) (beside resting.3) queued resting)
+    c.begin_planned.ensures.begun c.begin_planned.ensures.beside

@@ -1,28 +1,26 @@
-use Rattle.std.proofs.Common.{◌≡◌, ◌≤◌, ◌+◌, ◌-◌, ◌*◌, ◌/◌, true, false, ℕ, length, ◌++◌, None, Some, List, ap, sym, ◌∙◌, subst, arith}
+use Rattle.std.proofs.Common.{◌≡◌, ◌≤◌, ◌+◌, ◌-◌, false, ℕ, length, None, Some, List, ap, sym, ◌∙◌, subst, arith}
+use Rattle.std.proofs.lemmas.Bool.Decides.{nat_tests}
 use Rattle.std.proofs.lemmas.List.{length-map}
 use Rattle.std.proofs.lemmas.Result.{err_from_is_err_and}
 use Rattle.iol_types.specs.Command.{CommandValue, value_of}
-use Rattle.iol_types.specs.State.{legal}
 use Rattle.iol_journal.specs.Octets.{sectors_reached}
-use Rattle.iol_journal.specs.Body.{head_of, records_of, slots_for, batch_of, body_octets}
+use Rattle.iol_journal.specs.Batches.{body_for}
+use Rattle.iol_journal.specs.Body.{records_of, slots_for, commands_of, body_octets}
 use Rattle.iol_types.specs.declared.command.Command.{Command}
-use Rattle.iol_disk.specs.declared.disk.TheConstants.{SECTOR_OCTETS}
 use Rattle.iol_journal.specs.Begin.{is_too_large, batch_refusal}
 use Rattle.iol_journal.specs.Journals.{JournalView, standing_at, values, IsPlanned, IsPlan}
+use Rattle.iol_journal.specs.declared.batch.TheConstants.{MOST_COMMANDS}
 use Rattle.iol_journal.specs.declared.journal.BeginCause.TheVariants.{Misfit}
 use Rattle.iol_journal.specs.declared.phase.Phase.TheVariants.{Body}
 use Rattle.iol_journal.specs.declared.writing.Plan.{Plan}
+use Rattle.iol_journal.proofs.Bodies.{sectors_for-some}
 use Rattle.iol_journal.proofs.Refusals.{taken, refused, out_of_memory}
-use Rattle.iol_journal.proofs.journal.Journal.plan.Given
 use Rattle.iol_journal.proofs.journal.Journal.plan.Goals as goal
 
 -- so many slots are free
 room_of : (span slots all used : ℕ) (commands : List CommandValue) → span ≡ slots_for commands → slots ≡ all → used ≤ all
     → span ≤ slots - used → used + slots_for commands ≤ all
 room_of span slots all used commands is same within free = omega (arith, is, same, within, free)
-
-passes : (g : Given.Over) (c : goal.After-len-sectors g) → legal c.self.inside.state (values c.args.batch.now.commands.items) ≡ true
-passes g c = rw (← c.in_ok-next.ensures.copy, ← c.deref-3.ensures.value, ← c.in_ok-apply_all.ensures.legal) c.if-branch.true
 
 pub returns-then-branch-clause-follows : goal.returns-then-branch-clause-follows
 returns-then-branch-clause-follows g c =
@@ -37,7 +35,8 @@ returns-then-branch-clause-follows g c =
     (room_of _ _ _ _ _
     (c.in-Some.ensures.some.0 ∙ ap (λ (commands : List Command). slots_for (values commands)) c.deref.ensures.value)
     c.slots-slots.ensures.value c.self.invariant.0.within (omega (arith, c.if-slots-self.false)))
-    (omega (arith, count)) (omega arith) (omega (arith, count)) (passes g c))
+    (omega (arith, count)) (omega arith) (omega (arith, count))
+    (rw (← c.in_ok-next.ensures.copy, ← c.deref-3.ensures.value, ← c.in_ok-apply_all.ensures.legal) c.if-branch.true))
 
 pub returns-else-branch-clause-cause : goal.returns-else-branch-clause-cause
 returns-else-branch-clause-cause g c =
@@ -54,11 +53,9 @@ returns-else-branch-clause-cause g c =
     c.slots-slots.ensures.value c.self.invariant.0.within (omega (arith, c.if-slots-self.false)))
     (rw (← c.in_ok-next.ensures.copy, ← c.deref-3.ensures.value, ← c.in_ok-apply_all.ensures.legal) c.if-branch.false))
 
--- the body that was made is that of the batch
-spelled : (g : Given.Over) (c : goal.After-len-sectors g)
-    → c.in_ok-body.body.items ≡ body_octets c.self.inside.place.epoch (c.self.inside.number + 1) (values c.args.batch.now.commands.items)
-spelled g c = let next : c.args.batch.now.first ≡ c.self.inside.number + 1 = omega arith in
-    rw (c.deref-2.ensures.value, next) at c.in_ok-body.ensures.octets
+-- there are few enough commands
+not_many : (slots : ℕ) (commands : List CommandValue) → is_too_large slots commands ≡ false → length commands ≤ MOST_COMMANDS
+not_many slots commands fits = grind (arith, nat_tests, fits)
 
 pub returns-then-branch-clause-planned : goal.returns-then-branch-clause-planned
 returns-then-branch-clause-planned g c =
@@ -67,40 +64,40 @@ returns-then-branch-clause-planned g c =
     let commands = values c.args.batch.now.commands.items in
     let count = length-map c.args.batch.now.commands.items value_of in
     let next : c.args.batch.now.first ≡ j.number + 1 = omega arith in
+    let span = c.in-Some.ensures.some.0 ∙ ap (λ (commands : List Command). slots_for (values commands)) c.deref.ensures.value in
+    let fits : is_too_large j.place.layout.slots commands ≡ false =
+    subst (λ (n : ℕ). is_too_large n commands ≡ false) c.slots-slots.ensures.value
+    (ap (λ (commands : List Command). is_too_large c.slots-slots.result (values commands)) (sym c.deref.ensures.value)
+    ∙ c.in-Some.ensures.some.1) in
     let body = c.in_ok-body.ensures in
-    let whole = subst (λ (b : List ℕ). length b ≡ SECTOR_OCTETS * sectors_reached (length b)) (spelled g c) body.whole in
+    let octets : c.in_ok-body.body.octets.items ≡ body_for s commands =
+    body.octets ∙ ap (λ (cs : List Command). body_octets j.place.epoch c.args.batch.now.first (values cs)) c.deref-2.ensures.value
+    ∙ ap (λ (first : ℕ). body_octets j.place.epoch first commands) next in
     let planned : IsPlanned (g.D.SectorDisk.disk j.disk) s commands (Body 0) = record {
       fits = c.self.invariant.0.fits;
-      room = (room_of _ _ _ _ _
-          (c.in-Some.ensures.some.0 ∙ ap (λ (commands : List Command). slots_for (values commands)) c.deref.ensures.value)
-          c.slots-slots.ensures.value c.self.invariant.0.within (omega (arith, c.if-slots-self.false)));
-      whole = whole;
-      short = subst (λ (b : List ℕ). sectors_reached (length b) ≤ 16 * slots_for commands) (spelled g c)
-          (subst (λ (cs : List Command). sectors_reached (length c.in_ok-body.body.items) ≤ 16 * slots_for (values cs))
-          c.deref-2.ensures.value body.short.1);
-      least = subst (λ (b : List ℕ). 1 ≤ sectors_reached (length b)) (spelled g c) body.short.0;
-      tells = subst (λ (b : List ℕ). (head_of b).octets ≡ length (records_of commands)) (spelled g c)
-          (body.tells ∙ ap (λ (cs : List Command). length (records_of (values cs))) c.deref-2.ensures.value);
-      in_phase = subst (λ (b : List ℕ). 1 ≤ sectors_reached (length b)) (spelled g c) body.short.0;
-      read_back = λ rest.
-          subst (λ (b : List ℕ). batch_of j.place.epoch (j.number + 1) (b ++ rest) ≡ Some commands) (spelled g c)
-          ((rw (c.deref-2.ensures.value, next) at body.sound) (omega arith) (omega arith) rest);
-      passes = passes g c;
-      some = omega (arith, count);
-      bound = omega (arith, count);
+      follows = record {
+        room = room_of _ _ _ _ _ span c.slots-slots.ensures.value c.self.invariant.0.within (omega (arith, c.if-slots-self.false));
+        batch = record {
+          some = omega (arith, count);
+          most = not_many j.place.layout.slots commands fits;
+          short = omega (arith, span, c.if-slots-self.false, c.slots-slots.ensures.bound);
+          read = subst (λ (cs : List Command). commands_of (length (values cs)) (records_of (values cs)) ≡ Some (values cs))
+              c.deref-2.ensures.value body.read;
+        };
+        passes = rw (← c.in_ok-next.ensures.copy, ← c.deref-3.ensures.value, ← c.in_ok-apply_all.ensures.legal) c.if-branch.true;
+        bound = omega (arith, count);
+      };
+      in_phase = omega (arith, sectors_for-some s commands);
       begun = c.self.invariant.0.begun;
       count = c.self.invariant.0.count;
     } in
-    let made : Plan = record {
-      body = c.in_ok-body.body;
-      span = c.in-Some.span;
-      sectors = c.len-sectors.result / SECTOR_OCTETS;
-      next = c.apply_all.new.state;
-    } in
+    let made : Plan = record { body = c.in_ok-body.body; next = c.apply_all.new.state } in
     let plan : IsPlan s commands made = record {
-      body = spelled g c;
-      span = c.in-Some.ensures.some.0 ∙ ap (λ (commands : List Command). slots_for (values commands)) c.deref.ensures.value;
-      sectors = omega (arith, c.len-sectors.ensures, c.in_ok-body.body.ok, whole, ap (λ (b : List ℕ). length b) (spelled g c));
+      body = record {
+        octets = octets;
+        span = body.span ∙ ap (λ (cs : List Command). slots_for (values cs)) c.deref-2.ensures.value;
+        sectors = body.sectors ∙ ap (λ (os : List ℕ). sectors_reached (length os)) octets;
+      };
       next = rw (← c.in_ok-next.ensures.copy, ← c.deref-3.ensures.value) (c.in_ok-apply_all.ensures.after c.if-branch.true);
     } in
     subst (λ (v : JournalView g.row.D.Denot). IsPlanned (g.D.SectorDisk.disk v.disk) v.standing commands (Body 0)

@@ -32,4 +32,5 @@ returns-in-Err-clause-run g c r =
     no_image_added (g.D.SectorDisk.disk c.args.disk) (g.D.SectorDisk.disk c.find.new.disk) r c.in-Err.ensures.any_moment
 
 pub returns-in-Ok-clause-begins : goal.returns-in-Ok-clause-begins
-returns-in-Ok-clause-begins g c kept = run_of_found g.D.SectorDisk.disk c.at_rest-journal.result (returns-in-Ok-clause-at_rest g c kept)
+returns-in-Ok-clause-begins g c kept =
+    run_of_found g.D.SectorDisk.disk c.at_rest-journal.result (returns-in-Ok-clause-at_rest g c kept) c.at_rest-journal.ensures.begun

@@ -2,13 +2,13 @@ use Rattle.std.proofs.Common.{◌≡◌, ◌+◌, ◌*◌, ◌-◌, ◌++◌, Li
 use Rattle.std.proofs.lemmas.List.{length-map}
 use Rattle.iol_types.specs.Command.{value_of}
 use Rattle.iol_disk.specs.declared.disk.TheConstants.{SECTOR_OCTETS}
-use Rattle.iol_journal.specs.Body.{head_of, batch_of, records_of, head_octets, body_octets}
+use Rattle.iol_journal.specs.Body.{records_of, head_octets, body_octets}
 use Rattle.iol_journal.specs.Journals.{values}
 use Rattle.iol_journal.specs.Octets.{sectors_reached}
 use Rattle.iol_journal.specs.declared.batch.TheConstants.{BODY_HEAD_OCTETS}
-use Rattle.iol_journal.proofs.Bodies.{batch_of-body_octets, head_of-body_octets, length-body}
+use Rattle.iol_journal.proofs.Bodies.{length-body}
 use Rattle.iol_journal.proofs.Paddings.{padded-front}
-use Rattle.iol_journal.proofs.body.body_of.Goals as goal
+use Rattle.iol_journal.proofs.body.EncodedBatch.of.Goals as goal
 
 -- how many commands and octets of records the head tells of
 counted : (c : goal.After-drop-records-2) → length (values c.args.commands.now) ≡ length c.args.commands.now
@@ -27,7 +27,7 @@ pushed c =
     let records = c.in_ok-records.records.items in
     let count = length (values c.args.commands.now) in
     let front : c.extend_from_slice.new.self.items ≡ head =
-    c.in_ok-extend_from_slice.ensures.items ∙ ap (λ (body : List ℕ). body ++ head) c.in_ok-body.ensures.items in
+    c.in_ok-extend_from_slice.ensures.items ∙ ap (λ (body : List ℕ). body ++ head) c.in_ok-octets.ensures.items in
     let both : c.extend_from_slice-2.new.self.items ≡ head ++ records =
     c.in_ok-extend_from_slice-2.ensures.items ∙ ap (λ (body : List ℕ). body ++ c.as_slice.result.now) front
     ∙ ap (λ (more : List ℕ). head ++ more) c.as_slice.ensures.value in
@@ -61,26 +61,13 @@ spelled c =
 pub returns-clause-octets : goal.returns-clause-octets
 returns-clause-octets c = spelled c
 
-pub returns-clause-whole : goal.returns-clause-whole
-returns-clause-whole c =
-    let size = ap (λ (os : List ℕ). length os) (spelled c) ∙ length-body c.args.epoch c.args.first (values c.args.commands.now) in
-    omega (arith, size)
+-- how many sectors were reached
+reached : (c : goal.After-drop-records-2) → length (body_octets c.args.epoch c.args.first (values c.args.commands.now))
+    ≡ SECTOR_OCTETS * c.div_ceil-sectors.result
+reached c = omega (arith, length-body c.args.epoch c.args.first (values c.args.commands.now), c.div_ceil-sectors.ensures, sized c)
 
-pub returns-clause-short : goal.returns-clause-short
-returns-clause-short c =
-    let size = ap (λ (os : List ℕ). length os) (spelled c) ∙ length-body c.args.epoch c.args.first (values c.args.commands.now) in
-    (omega (arith, size), omega (arith, size, sized c, c.len-2.ensures, c.in_ok-records.records.ok, c.requires.small))
+pub returns-clause-sectors : goal.returns-clause-sectors
+returns-clause-sectors c = omega (arith, reached c, ap (λ (os : List ℕ). length os) (spelled c))
 
-pub returns-clause-tells : goal.returns-clause-tells
-returns-clause-tells c =
-    ap (λ (os : List ℕ). (head_of os).octets) (spelled c)
-    ∙ head_of-body_octets c.args.epoch c.args.first (values c.args.commands.now) (omega (arith, c.requires.small))
-
-pub returns-clause-sound : goal.returns-clause-sound
-returns-clause-sound c some last rest =
-    let commands = values c.args.commands.now in
-    ap (λ (os : List ℕ). batch_of c.args.epoch c.args.first (os ++ rest)) (spelled c)
-    ∙ batch_of-body_octets c.args.epoch c.args.first commands rest c.ranges.epoch.fits (omega (arith, some, counted c))
-    (omega (arith, c.requires.most, counted c))
-    (omega (arith, sized c, c.len-2.ensures, c.in_ok-records.records.ok, c.requires.small)) (omega (arith, last, counted c))
-    (rw (counted c, ← c.in_ok-records.ensures.records) c.in_ok-records.ensures.read)
+pub returns-clause-read : goal.returns-clause-read
+returns-clause-read c = rw (counted c, ← c.in_ok-records.ensures.records) c.in_ok-records.ensures.read

@@ -1,0 +1,18 @@
+use Rattle.std.proofs.Common.{◌≤◌, ◌+◌, ◌*◌, length, subst, arith}
+use Rattle.iol_journal.specs.BegunParts.{view_of, IsSetAside}
+use Rattle.iol_journal.specs.CheckpointViews.{calls_of}
+use Rattle.iol_journal.specs.Journals.{JournalView, standing_at}
+use Rattle.iol_journal.proofs.CheckpointSizes.{begun_most}
+use Rattle.iol_journal.proofs.journal.Journal.go_on.Goals as goal
+
+pub returns-clause-carrying : goal.returns-clause-carrying
+returns-clause-carrying g c =
+    let d = g.D.SectorDisk.disk in
+    let j = c.self.inside in
+    let s = standing_at j.place j.number j.state in
+    let begun = (subst (IsSetAside (d j.disk) s j.place.idle) c.in-Some.is c.self.invariant.2).0 in
+    let few = begun_most (d j.disk) s c.in-Some.begun begun c.self.invariant.0.within
+    (omega (arith, c.port_sectors-sectors.ensures.value, c.port_sectors-sectors.ensures.bound)) in
+    rw c.of.ensures
+    (subst (λ (v : JournalView g.row.D.Denot). length (calls_of s (view_of c.in-Some.begun))
+    ≤ 20 * v.standing.layout.slots + 9 * v.standing.layout.ports + 9) c.self.view_is few)
