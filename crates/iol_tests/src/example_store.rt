@@ -8,8 +8,8 @@ use iol_types::{Command, PortId};
 use std::alloc::Global;
 use std::process::Abort;
 
-// A Configure of this port.
-fn configure<R: Abort>(rt: &R, port: u8) -> Command {
+/// A Configure of this port.
+pub fn configure<R: Abort>(rt: &R, port: u8) -> Command {
     Command::Configure {
         port: PortId::new(port).expect(rt, "a port"),
         config: config(),
@@ -31,8 +31,8 @@ pub fn store_of<R: Abort>(rt: &R, alloc: Global, configures: usize) -> Journal<M
     journal
 }
 
-// How many commands are found on a disk, and how many configured port 1.
-fn found(alloc: Global, disk: MemoryDisk) -> Option<(u64, u64)> {
+/// How many commands are found on a disk, and how many configured port 1.
+pub fn found(alloc: Global, disk: MemoryDisk) -> Option<(u64, u64)> {
     let (journal, state) = open(alloc, disk).ok()?;
     Some((journal.number(), state.port(PortId::new(1)?)?.revision()))
 }

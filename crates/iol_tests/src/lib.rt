@@ -4,6 +4,7 @@
 //!   port makes of each; `exchanges` has what is said in them.
 //! - `isdu`: the codec beside a plain reader of ISDUs. `link`: a link of which nothing is said.
 //! - `plain`: a recovery beside the journal's plain reader. `example_store`: the store of `iol_example`.
+//! - `paused`: a checkpoint that is paused while batches are written.
 //! - `largest`: the largest record of a command, and batches that do not follow behind others.
 //! - `front`, `core_reads`, `flush`: passes of two threads, a view of a port with a set, batches that do not fit.
 //! - `cut_file`: a file of which a read has failed. `no_link`: a run of a port without a link. `texts`: the texts of faults.
@@ -35,6 +36,8 @@ mod largest;
 mod link;
 #[cfg(test)]
 mod no_link;
+#[cfg(test)]
+mod paused;
 #[cfg(test)]
 mod plain;
 #[cfg(test)]
