@@ -22,9 +22,9 @@ impl<D: SectorDisk> Journal<D> {
     /// with the one that is paused, without memory. Its steps take no memory.
     ///
     /// # Errors
-    /// Out of memory; the journal is handed back.
+    /// Out of memory, where none is paused; the journal is handed back.
     pub fn checkpoint(self) -> Result<Checkpointing<D>, CheckpointFault<D>>
-        requires { 0 < self.standing.used }
+        requires { self.begun ≡ None → 0 < self.standing.used }
         ensures begun { IfOk result (λ c. (c.disk ≡ self.disk) × (c.standing ≡ self.standing) × (c.history ≡ self.history)
             × (c.begun ≡ begun_in self)) }
         // A new one makes these disk calls: one for each slot, nine for each port, and nine more, at most.
@@ -41,6 +41,8 @@ impl<D: SectorDisk> Journal<D> {
         // Each run of the journal goes on.
         ensures run { IfOk result (λ c. (r : Run) → IsRunAtRest D.disk r self → IsRunCheckpointing D.disk r c) }
         ensures back { IfErr result (λ fault. fault.journal ≡ self) }
+        // One that is gone on with takes no memory.
+        ensures memory { IfErr result (λ fault. self.begun ≡ None) }
     {
         if self.begun.is_some() {
             return Ok(self.go_on());

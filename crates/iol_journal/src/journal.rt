@@ -92,7 +92,7 @@ pub struct BeginFault<D: SectorDisk> {
 }
 
 impl<D: SectorDisk> Journal<D> {
-    ghost use Rattle.std.specs.Prelude.{◌≡◌, ◌≤◌, ◌<◌, ◌+◌, ◌*◌, ◌++◌, ℕ, nat_lt, nat_le, true, false, List, length, None};
+    ghost use Rattle.std.specs.Prelude.{◌≡◌, ◌≤◌, ◌<◌, ◌+◌, ◌*◌, ◌++◌, ℕ, nat_lt, nat_le, true, false, List, length, None, is_some};
     ghost use Rattle.std.specs.Prelude.{IfOk, IfErr, OnOk};
     ghost use Rattle.std.specs.Option.{option_map};
     ghost use Rattle.iol_journal.specs.BegunParts.{view_of, IsSetAside};
@@ -164,6 +164,13 @@ impl<D: SectorDisk> Journal<D> {
         ensures used { result ≡ true → 0 < self.now.standing.used }
     {
         self.place.layout.slots() <= 2 * self.place.used
+    }
+
+    /// Whether a checkpoint is paused.
+    pub fn is_paused(&self) -> bool
+        ensures { result ≡ is_some self.now.begun }
+    {
+        self.begun.is_some()
     }
 
     /// The octets of records that fit the free slots, or where none is free one slot: 8,192 for each slot, less 22.
