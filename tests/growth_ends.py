@@ -21,8 +21,14 @@ NOT_FORMATTED = ("", "error: the disk is not formatted\n", 1)
 UNUSED = "port {} revision 0 mode 0 validation 0 vendor 0000 device 000000 set none\n"
 EMPTY = "recovered 0\n" + UNUSED.format(1) + UNUSED.format(2)
 
+
 # The steps of schedules.
-TURNS = '[[step]]\ndo = "flush"\ntimes = 32\n'
+def turns(times):
+    """Turns of the flusher."""
+    return f'[[step]]\ndo = "flush"\ntimes = {times}\n'
+
+
+TURNS = turns(32)
 CLEAR = '[[step]]\ndo = "clear"\nport = 1\n'
 
 
@@ -66,6 +72,8 @@ SCHEDULES = {
     + backed_up(13) + configured() + configured(4) + TURNS + configured(2) + CLEAR + TURNS,
     # More batches than slots.
     "checkpoints": 10 * (configured() + TURNS),
+    # A batch between the fifth and the sixth call of a checkpoint, which carries it.
+    "carried": 2 * (configured() + turns(7)) + turns(5) + configured() + turns(7) + TURNS,
     # As many commands as may wait, and one more.
     "waiting": 65 * configured() + TURNS,
     "largest": sensor(largest("A7"), LARGEST_KEYS, "flag = true\nanswers = 26\n")

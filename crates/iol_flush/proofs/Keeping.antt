@@ -14,7 +14,7 @@ use Rattle.iol_journal.specs.Written.{WrittenView}
 use Rattle.iol_journal.specs.declared.batch.Batch.{Batch}
 use Rattle.iol_flush.specs.Flushing.{run_of, KeepsRun, Rests}
 use Rattle.iol_flush.specs.declared.stage.Stage.{Stage}
-use Rattle.iol_flush.specs.declared.stage.Stage.TheVariants.{Given, Checkpointing, Writing, Publishing, Failed}
+use Rattle.iol_flush.specs.declared.stage.Stage.TheVariants.{Resting, Opening, Given, Checkpointing, Writing, Publishing, Failed}
 
 pub keeps_self : {D : Type 0} (disk : D → Disk) (stage : Stage D) → KeepsRun disk stage stage
 keeps_self disk stage = record { goes_on = λ number state published waiting marks was. was }
@@ -102,7 +102,42 @@ begins_batch disk j w batch new same goes keeps = record {
       );
 }
 
+-- a checkpoint is gone on with for which no batch waits
+pub goes_from_rest : {D : Type 0} (disk : D → Disk) (j : JournalView D) (c : CheckpointingView D) (new : Stage D)
+    → ((r : Run) → IsRunAtRest disk r j → IsRunCheckpointing disk r c) → KeepsRun disk (Opening c) new → KeepsRun disk (Resting j) new
+goes_from_rest disk j c new goes keeps = record {
+  goes_on = λ number state published waiting marks was.
+      keeps.goes_on number state published waiting marks (goes (run_of number state published [] waiting marks) was);
+}
+
+-- it is still on its way
+pub then_keeps : {D : Type 0} (disk : D → Disk) (c d : CheckpointingView D) (new : Stage D)
+    → ((r : Run) → IsRunCheckpointing disk r c → IsRunCheckpointing disk r d) → KeepsRun disk (Opening d) new
+    → KeepsRun disk (Opening c) new
+then_keeps disk c d new goes keeps = record {
+  goes_on = λ number state published waiting marks was.
+      keeps.goes_on number state published waiting marks (goes (run_of number state published [] waiting marks) was);
+}
+
+-- it is done, or paused
+pub comes_to_rest : {D : Type 0} (disk : D → Disk) (c : CheckpointingView D) (j : JournalView D)
+    → ((r : Run) → IsRunCheckpointing disk r c → IsRunAtRest disk r j) → KeepsRun disk (Opening c) (Resting j)
+comes_to_rest disk c j goes = record {
+  goes_on = λ number state published waiting marks was. goes (run_of number state published [] waiting marks) was;
+}
+
+-- a call of it failed
+pub not_gone_on : {D : Type 0} (disk : D → Disk) (c : CheckpointingView D) (left : D) (fault : DiskFault)
+    → ((r : Run) → IsRunCheckpointing disk r c → IsRun (disk left) r) → KeepsRun disk (Opening c) (Failed left fault)
+not_gone_on disk c left fault goes = record {
+  goes_on = λ number state published waiting marks was. ([], waiting, refl, goes (run_of number state published [] waiting marks) was);
+}
+
 -- nothing changes
+pub keeps_rested : {D : Type 0} (disk : D → Disk) (j k : JournalView D) → k ≡ j → KeepsRun disk (Resting j) (Resting k)
+keeps_rested {D} disk j k same =
+    subst (λ (l : JournalView D). KeepsRun disk (Resting j) (Resting l)) (sym same) (keeps_self disk (Resting j))
+
 pub keeps_given : {D : Type 0} (disk : D → Disk) (j k : JournalView D) (batch same : Batch) → k ≡ j → same ≡ batch
     → KeepsRun disk (Given j batch) (Given k same)
 keeps_given {D} disk j k batch same journal_is batch_is =

@@ -2,3 +2,4 @@ pub mod Keeping
 pub mod Steps
 pub mod RunLaws
 pub mod Turns
+pub mod LastCalls

@@ -16,7 +16,7 @@ use Rattle.iol_flush.specs.Flushing.{run_of, AreFirst, IsFlushing, HoldsBy}
 use Rattle.iol_flush.specs.Stages.{FlusherView, disk_of}
 use Rattle.iol_flush.specs.Steps.{HasTaken, HasPublished}
 use Rattle.iol_flush.specs.declared.stage.Stage.{Stage}
-use Rattle.iol_flush.specs.declared.stage.Stage.TheVariants.{Resting, Given, Checkpointing, Writing, Publishing, Failed}
+use Rattle.iol_flush.specs.declared.stage.Stage.TheVariants.{Resting, Opening, Given, Checkpointing, Writing, Publishing, Failed}
 
 -- what a stop may leave since later, it may leave since earlier
 none_left : (n : ℕ) (image : Image) → IsImageOfSome (drop n []) image → ⊥
@@ -92,6 +92,15 @@ module _ {D : Type 0} (disk : D → Disk) (number : ℕ) (state : State) (publis
       → IsFlushing disk number state published waiting
       (record { clock = clock (disk (disk_of stage)).content; acknowledged = mark.acknowledged } ∷ mark ∷ marks) stage
   marked_later mark marks (Resting j) was = later_at_rest published [] waiting mark marks j (clock (disk j.disk).content) refl was
+  marked_later mark marks (Opening c) was = (
+    was.0,
+    (
+      later_run (disk c.disk) (run_of number state published [] waiting (mark ∷ marks)) mark marks refl was.1.0,
+      was.1.1,
+      was.1.2,
+    ),
+    was.2,
+  )
   marked_later mark marks (Given j batch) was =
       (was.0, later_at_rest published [] waiting mark marks j (clock (disk j.disk).content) refl was.1)
   marked_later mark marks (Checkpointing c batch) was = (
@@ -139,6 +148,7 @@ module _ {D : Type 0} (disk : D → Disk) (number : ℕ) (state : State) (publis
       → IsFlushing disk number state published waiting marks old → IsFlushing disk number state published waiting marks new
   gives marks (Resting j) new batch taken first was =
       subst (λ (s : Stage D). IsFlushing disk number state published waiting marks s) (sym taken) (first, was)
+  gives marks (Opening c) new batch taken first was = absurd taken
   gives marks (Given j b) new batch taken first was = absurd taken
   gives marks (Checkpointing c b) new batch taken first was = absurd taken
   gives marks (Writing w) new batch taken first was = absurd taken
@@ -157,6 +167,7 @@ module _ {D : Type 0} (disk : D → Disk) (number : ℕ) (state : State) (publis
         (subst (λ (cs : List CommandValue). IsRunAtRest disk (run_of number state (published ++ cs) [] was.0 marks) j) (sym has.2) was.2),
   )
   publishes marks (Resting j) list new committed has was = absurd has
+  publishes marks (Opening c) list new committed has was = absurd has
   publishes marks (Given j b) list new committed has was = absurd has
   publishes marks (Checkpointing c b) list new committed has was = absurd has
   publishes marks (Writing w) list new committed has was = absurd has
@@ -174,6 +185,7 @@ module _ {D : Type 0} (disk : D → Disk) (number : ℕ) (state : State) (publis
   pub holds : (marks : List Mark) (stage : Stage D) → IsFlushing disk number state published waiting marks stage
       → HoldsBy (disk (disk_of stage)) number state (published ++ waiting) marks
   holds marks (Resting j) was = holds_of (disk j.disk) published [] waiting marks refl was.1.0
+  holds marks (Opening c) was = holds_of (disk c.disk) published [] waiting marks refl was.1.0
   holds marks (Given j batch) was = holds_of (disk j.disk) published [] waiting marks refl was.1.1.0
   holds marks (Checkpointing c batch) was = holds_of (disk c.disk) published [] waiting marks refl was.1.1.0
   holds marks (Writing w) was =
@@ -192,6 +204,9 @@ module _ {D : Type 0} (disk : D → Disk) (number : ℕ) (state : State) (publis
   accepts_more marks (Resting j) commands pass was =
       let accepted = accepts (disk j.disk) (run_of number state published [] waiting marks) commands pass was.1.0 in
       (was.0, (accepted, was.1.1, was.1.2), was.2, was.3)
+  accepts_more marks (Opening c) commands pass was =
+      let accepted = accepts (disk c.disk) (run_of number state published [] waiting marks) commands pass was.1.0 in
+      (was.0, (accepted, was.1.1, was.1.2), was.2)
   accepts_more marks (Given j batch) commands pass was = (
     (was.0.0 ++ commands, longer (values batch.commands.items) was.0.0 commands was.0.1),
     (

@@ -1,5 +1,6 @@
 -- The first disk call of a batch that was given, and the published list beside each disk call.
-use Rattle.std.proofs.Common.{◌≡◌, refl, ◌+◌, ◌++◌, ℕ, Bool, true, false, if◌then◌else◌, List, length, Option, Some, None, Result, Ok, Err}
+use Rattle.std.proofs.Common.{◌≡◌, refl, ◌<◌, ◌+◌, ◌*◌, ◌||◌, nat_le, ◌++◌, ℕ, Bool, true, false, if◌then◌else◌, List, [], length}
+use Rattle.std.proofs.Common.{inl, inr, Option, Some, None, is_some, Result, Ok, Err}
 use Rattle.std.proofs.Common.{sym, ◌∙◌, ap, subst, arith, length-append, rules}
 use Rattle.std.proofs.lemmas.List.Sums.{fold-append}
 use Rattle.iol_types.specs.Command.{CommandValue}
@@ -10,7 +11,9 @@ use Rattle.iol_disk.specs.declared.fault.DiskFault.{DiskFault}
 use Rattle.iol_front.specs.Fronts.{Start}
 use Rattle.iol_journal.specs.Batches.{batch_calls}
 use Rattle.iol_journal.specs.Begin.{batch_refusal, is_too_large, follows}
-use Rattle.iol_journal.specs.CheckpointViews.{CheckpointingView, begun_in, calls_of}
+use Rattle.iol_journal.specs.BegunViews.{BegunView}
+use Rattle.iol_journal.specs.CheckpointViews.{CheckpointingView, begun_in, calls_of, end_in, end_of, stages_left}
+use Rattle.iol_journal.specs.Drafts.{begun_behind}
 use Rattle.iol_journal.specs.Journals.{JournalView, WritingView, LeadsTo, values, calls_left, with_batch, written_behind}
 use Rattle.iol_journal.specs.Meaning.{Standing}
 use Rattle.iol_journal.specs.declared.history.History.{History}
@@ -19,13 +22,15 @@ use Rattle.iol_journal.specs.declared.batch.Batch.{Batch}
 use Rattle.iol_journal.specs.declared.journal.BeginCause.{BeginCause}
 use Rattle.iol_journal.specs.declared.journal.BeginCause.TheVariants.{TooLarge, NeedsCheckpoint, Misfit}
 use Rattle.iol_journal.specs.declared.phase.Phase.TheVariants.{Body}
-use Rattle.iol_flush.specs.Stages.{wants_checkpoint, disk_of, next_calls, calls_owed, failure_of, HasHistory, StandsBehind, IsInStep}
+use Rattle.iol_flush.specs.Stages.{is_due, wants_checkpoint, disk_of, next_calls, calls_owed, failure_of, paused_calls}
+use Rattle.iol_flush.specs.Stages.{HasHistory, StandsBehind, IsInStep}
 use Rattle.iol_flush.specs.Steps.{writing_of, checkpoint_of, HasWritten, HasBegun, HasCheckpointed, HasMade, IsDiskStep}
+use Rattle.iol_flush.specs.Steps.{HasAdvanced, HasEnded, IsSetAside}
 use Rattle.iol_flush.specs.declared.need.Need.TheVariants as need
 use Rattle.iol_flush.specs.declared.fault.FlushFault.{FlushFault}
 use Rattle.iol_flush.specs.declared.fault.FlushFault.TheVariants as fault
 use Rattle.iol_flush.specs.declared.stage.Stage.{Stage}
-use Rattle.iol_flush.specs.declared.stage.Stage.TheVariants.{Resting, Given, Checkpointing, Writing, Publishing, Failed}
+use Rattle.iol_flush.specs.declared.stage.Stage.TheVariants.{Resting, Opening, Given, Checkpointing, Writing, Publishing, Failed}
 
 -- a batch that is taken finds free slots
 abbrev Refused : Bool → Bool → Bool → Option BeginCause
@@ -91,6 +96,78 @@ begun disk j batch w new (Err fault.Stopped) is step = let stopped : need.Disk �
 begun disk j batch w new (Err fault.Memory) is step = absurd step.0
 begun disk j batch w new (Err fault.Misfit) is step = absurd step.0
 
+-- a new checkpoint is begun where half of the slots are used, and one at least
+pub half_used : {D : Type 0} (j : JournalView D) (half : Bool) → half ≡ nat_le j.standing.layout.slots (2 * j.standing.used)
+    → (half ≡ true → 0 < j.standing.used) → is_due j ≡ true → j.begun ≡ None → 0 < j.standing.used
+half_used j half is used due none =
+    used (is ∙ (ap (λ (paused : Option BegunView). is_some paused || nat_le j.standing.layout.slots (2 * j.standing.used)) (sym none)
+    ∙ due))
+
+-- the checkpoint that is due is as it is gone on with where each of its parts is
+pub as_gone_on : {D : Type 0} (c : CheckpointingView D) (j : JournalView D)
+    → (c.disk ≡ j.disk) × (c.standing ≡ j.standing) × (c.history ≡ j.history) × (c.begun ≡ begun_in j) → c ≡ checkpoint_of j
+as_gone_on c j is = λ i. record { disk = is.0 i; standing = is.1 i; history = is.2 i; begun = is.3 i }
+
+next_of_due : {D : Type 0} (j : JournalView D) → is_due j ≡ true → next_calls (Resting j) ≡ calls_of j.standing (begun_in j)
+next_of_due j due = ap (λ (due : Bool). if due then calls_of j.standing (begun_in j) else []) due
+
+-- a disk call of it is made while no batch is given
+pub gone_on : {D : Type 0} (disk : D → Disk) (j : JournalView D) (c : CheckpointingView D) (new : Stage D)
+    (answer : Result Unit FlushFault)
+    → is_due j ≡ true → c ≡ checkpoint_of j → IsDiskStep disk (Opening c) new answer → IsDiskStep disk (Resting j) new answer
+gone_on {D} disk j c new (Ok done) due same step = (
+  (due, subst (λ (d : CheckpointingView D). HasAdvanced d new) same step.0),
+  subst (λ (calls : List Call). MakesFirst calls (calls_owed new) (disk j.disk) (disk (disk_of new))) (sym (next_of_due j due))
+      (subst (λ (d : CheckpointingView D). MakesFirst (stages_left d) (calls_owed new) (disk d.disk) (disk (disk_of new))) same step.1),
+)
+gone_on {D} disk j c new (Err (fault.Disk cause)) due same step = (
+  step.0,
+  subst (λ (calls : List Call). FailsFirst calls cause (disk j.disk) (disk (disk_of new))) (sym (next_of_due j due))
+      (subst (λ (d : CheckpointingView D). FailsFirst (stages_left d) cause (disk d.disk) (disk (disk_of new))) same step.1),
+)
+gone_on disk j c new (Err fault.Stopped) due same step = let stopped : need.Disk ≡ need.Stopped = step.0 in search rules
+gone_on disk j c new (Err fault.Memory) due same step = absurd step.0
+gone_on disk j c new (Err fault.Misfit) due same step = absurd step.0
+
+-- it is paused behind that disk call, where it can be
+pub set_aside_step : {D : Type 0} (disk : D → Disk) (c more : CheckpointingView D) (new : Stage D)
+    → (more.standing ≡ c.standing) × (more.history ≡ c.history) × (begun_behind c.standing c.begun ≡ Some more.begun)
+    × (end_of more ≡ end_of c)
+    → MakesFirst (stages_left c) (stages_left more) (disk c.disk) (disk more.disk) → IsSetAside more new
+    → IsDiskStep disk (Opening c) new (Ok tt)
+set_aside_step {D} disk c more (Resting j) is made aside = (
+  inr (record {
+    begun = more.begun;
+    behind = is.2;
+    paused = aside.4;
+    idle = aside.2;
+    standing = aside.1 ∙ is.0;
+    history = aside.3 ∙ is.1;
+    end = ap (λ (s : Standing). end_in s more.begun) aside.1 ∙ is.3;
+  }),
+  subst (λ (begun : Option BegunView). MakesFirst (stages_left c) (paused_calls j.standing begun) (disk c.disk) (disk j.disk))
+      (sym aside.4)
+      (subst (λ (s : Standing). MakesFirst (stages_left c) (calls_of s more.begun) (disk c.disk) (disk j.disk)) (sym aside.1)
+      (subst (λ (d : D). MakesFirst (stages_left c) (stages_left more) (disk c.disk) (disk d)) (sym aside.0) made)),
+)
+set_aside_step {D} disk c more (Opening d) is made aside =
+    subst (λ (e : CheckpointingView D). IsDiskStep disk (Opening c) (Opening e) (Ok tt)) (sym aside)
+    (record { behind = is.2; standing = is.0; history = is.1; end = is.3 }, made)
+set_aside_step disk c more (Given j b) is made aside = absurd aside
+set_aside_step disk c more (Checkpointing d b) is made aside = absurd aside
+set_aside_step disk c more (Writing w) is made aside = absurd aside
+set_aside_step disk c more (Publishing j written) is made aside = absurd aside
+set_aside_step disk c more (Failed left f) is made aside = absurd aside
+
+-- it is done
+pub ended_step : {D : Type 0} (disk : D → Disk) (c : CheckpointingView D) (j : JournalView D) → HasEnded c j
+    → MakesFirst (stages_left c) [] (disk c.disk) (disk j.disk) → IsDiskStep disk (Opening c) (Resting j) (Ok tt)
+ended_step disk c j is made = (
+  inl is,
+  subst (λ (begun : Option BegunView). MakesFirst (stages_left c) (paused_calls j.standing begun) (disk c.disk) (disk j.disk))
+      (sym is.none) made,
+)
+
 -- a journal stands behind a list, and then behind the list with a batch
 with_more : (start : Start) (published commands : List CommandValue) (s t : Standing) (h i : History) → t ≡ with_batch s commands → i
     ≡ written_behind h commands
@@ -107,17 +184,23 @@ with_more start published commands s t h i standing history was = record {
 }
 
 -- the published list stays in step
+same_in_step : (start : Start) (published : List CommandValue) (s t : Standing) (h i : History) → t ≡ s → i ≡ h
+    → StandsBehind start published s h → StandsBehind start published t i
+same_in_step start published s t h i standing history was =
+    subst (λ (u : Standing). StandsBehind start published u i) (sym standing)
+    (subst (λ (k : History). StandsBehind start published s k) (sym history) was)
+
 written_in_step : {D : Type 0} (start : Start) (published : List CommandValue) (w : WritingView D) (new : Stage D)
     → HasWritten w new → StandsBehind start published w.standing w.history → IsInStep start new published
 written_in_step start published w (Writing v) has was =
-    subst (λ s. StandsBehind start published s v.history) (sym has.0)
-    (subst (λ h. StandsBehind start published w.standing h) (sym has.2) was)
+    same_in_step start published w.standing v.standing w.history v.history has.0 has.2 was
 written_in_step start published w (Publishing j written) has was = (
   subst (λ (cs : List CommandValue). StandsBehind start (published ++ cs) j.standing j.history) (sym has.4)
       (with_more start published w.commands w.standing j.standing w.history j.history has.0 has.2 was),
   has.3 ∙ ap (λ (n : ℕ). n + 1) was.number,
 )
 written_in_step start published w (Resting j) has was = absurd has
+written_in_step start published w (Opening c) has was = absurd has
 written_in_step start published w (Given j b) has was = absurd has
 written_in_step start published w (Checkpointing c b) has was = absurd has
 written_in_step start published w (Failed d f) has was = absurd has
@@ -126,17 +209,34 @@ checkpointed_in_step : {D : Type 0} (start : Start) (published : List CommandVal
     (new : Stage D)
     → HasCheckpointed c batch new → StandsBehind start published c.standing c.history → IsInStep start new published
 checkpointed_in_step start published c batch (Checkpointing d kept) has was =
-    subst (λ s. StandsBehind start published s d.history) (sym has.0)
-    (subst (λ h. StandsBehind start published c.standing h) (sym has.1) was)
+    same_in_step start published c.standing d.standing c.history d.history has.0 has.1 was
 checkpointed_in_step start published c batch (Given j kept) has was = record {
   history_is = subst (HasHistory start published) (sym has.1) was.history_is;
   number = has.4 ∙ was.number;
   state = has.5 ∙ was.state;
 }
 checkpointed_in_step start published c batch (Resting j) has was = absurd has
+checkpointed_in_step start published c batch (Opening d) has was = absurd has
 checkpointed_in_step start published c batch (Writing w) has was = absurd has
 checkpointed_in_step start published c batch (Publishing j written) has was = absurd has
 checkpointed_in_step start published c batch (Failed d f) has was = absurd has
+
+advanced_in_step : {D : Type 0} (start : Start) (published : List CommandValue) (c : CheckpointingView D) (new : Stage D)
+    → HasAdvanced c new → StandsBehind start published c.standing c.history → IsInStep start new published
+advanced_in_step start published c (Resting j) (inl is) was = record {
+  history_is = subst (HasHistory start published) (sym is.history) was.history_is;
+  number = is.number ∙ was.number;
+  state = is.state ∙ was.state;
+}
+advanced_in_step start published c (Resting j) (inr is) was =
+    same_in_step start published c.standing j.standing c.history j.history is.standing is.history was
+advanced_in_step start published c (Opening d) is was =
+    same_in_step start published c.standing d.standing c.history d.history is.standing is.history was
+advanced_in_step start published c (Given j b) is was = absurd is
+advanced_in_step start published c (Checkpointing d b) is was = absurd is
+advanced_in_step start published c (Writing w) is was = absurd is
+advanced_in_step start published c (Publishing j written) is was = absurd is
+advanced_in_step start published c (Failed d f) is was = absurd is
 
 begun_in_step : {D : Type 0} (start : Start) (published : List CommandValue) (full : Bool) (j : JournalView D) (batch : Batch)
     (new : Stage D)
@@ -151,7 +251,8 @@ made_in_step start published (Given j batch) new has was =
     begun_in_step start published (wants_checkpoint j.standing (values batch.commands.items)) j batch new has was
 made_in_step start published (Checkpointing c batch) new has was = checkpointed_in_step start published c batch new has was
 made_in_step start published (Writing w) new has was = written_in_step start published w new has was
-made_in_step start published (Resting j) new has was = absurd has
+made_in_step start published (Resting j) new has was = advanced_in_step start published (checkpoint_of j) new has.1 was
+made_in_step start published (Opening c) new has was = advanced_in_step start published c new has was
 made_in_step start published (Publishing j written) new has was = absurd has
 made_in_step start published (Failed d f) new has was = absurd has
 
@@ -159,6 +260,7 @@ failed_in_step : {D : Type 0} (start : Start) (published : List CommandValue) (n
     ≡ Some cause → IsInStep start new published
 failed_in_step start published (Failed d f) cause is = tt
 failed_in_step start published (Resting j) cause is = search rules
+failed_in_step start published (Opening c) cause is = search rules
 failed_in_step start published (Given j b) cause is = search rules
 failed_in_step start published (Checkpointing c b) cause is = search rules
 failed_in_step start published (Writing w) cause is = search rules

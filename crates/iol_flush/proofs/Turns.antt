@@ -24,12 +24,13 @@ use Rattle.iol_journal.specs.declared.journal.BeginCause.TheVariants.{TooLarge, 
 use Rattle.iol_disk.specs.declared.fault.DiskFault.{DiskFault}
 use Rattle.iol_flush.specs.Flushing.{FitsBatch, GoesOn}
 use Rattle.iol_flush.specs.Stages.{failure_of, wants_checkpoint, disk_of, calls_owed, HasFewCalls, most_batch_calls, most_checkpoint_calls}
-use Rattle.iol_flush.specs.Steps.{HasWritten, HasCheckpointed, HasBegun, HasMade, IsDiskStep, IsUnfit, writing_of, checkpoint_of}
+use Rattle.iol_flush.specs.Steps.{HasAdvanced, HasWritten, HasCheckpointed, HasBegun, HasMade, IsDiskStep, IsUnfit}
+use Rattle.iol_flush.specs.Steps.{writing_of, checkpoint_of}
 use Rattle.iol_flush.specs.Turns.{freeing_calls, given_calls, calls_again, calls_needed}
 use Rattle.iol_flush.specs.declared.fault.FlushFault.{FlushFault}
 use Rattle.iol_flush.specs.declared.fault.FlushFault.TheVariants as fault
 use Rattle.iol_flush.specs.declared.stage.Stage.{Stage}
-use Rattle.iol_flush.specs.declared.stage.Stage.TheVariants.{Resting, Given, Checkpointing, Writing, Publishing, Failed}
+use Rattle.iol_flush.specs.declared.stage.Stage.TheVariants.{Resting, Opening, Given, Checkpointing, Writing, Publishing, Failed}
 
 -- one call less is owed
 one_less : (calls left : List Call) (old new : Disk) → MakesFirst calls left old new → length calls ≡ length left + 1
@@ -59,6 +60,7 @@ module _ {D : Type 0} (disk : D → Disk) where
   written_needs w (Writing v) n has le = omega (arith, le)
   written_needs w (Publishing j written) n has le = omega (arith, le)
   written_needs w (Resting j) n has le = absurd has
+  written_needs w (Opening c) n has le = absurd has
   written_needs w (Given j b) n has le = absurd has
   written_needs w (Checkpointing c b) n has le = absurd has
   written_needs w (Failed d f) n has le = absurd has
@@ -104,6 +106,7 @@ module _ {D : Type 0} (disk : D → Disk) where
       (wants_checkpoint j.standing (values b.commands.items)) + 1 ≤ most_batch_calls commands + 2 + n + calls_again c) (sym has.2)
       (omega (arith, le, again)))
   checkpointed_needs c batch (Resting j) n small has le = absurd has
+  checkpointed_needs c batch (Opening d) n small has le = absurd has
   checkpointed_needs c batch (Writing w) n small has le = absurd has
   checkpointed_needs c batch (Publishing j written) n small has le = absurd has
   checkpointed_needs c batch (Failed d f) n small has le = absurd has
@@ -162,6 +165,7 @@ module _ {D : Type 0} (disk : D → Disk) where
           either true = omega arith
           either false = omega arith
   begun_needs true j batch (Resting k) old next has few made = absurd has.1
+  begun_needs true j batch (Opening c) old next has few made = absurd has.1
   begun_needs true j batch (Writing w) old next has few made = absurd has.1
   begun_needs true j batch (Publishing k written) old next has few made = absurd has.1
   begun_needs true j batch (Failed d f) old next has few made = absurd has.1
@@ -171,23 +175,25 @@ module _ {D : Type 0} (disk : D → Disk) where
   begun_needs false j batch (Given k kept) old next has few made = absurd has.1
   begun_needs false j batch (Checkpointing c kept) old next has few made = absurd has.1
   begun_needs false j batch (Resting k) old next has few made = absurd has.1
+  begun_needs false j batch (Opening c) old next has few made = absurd has.1
   begun_needs false j batch (Failed d f) old next has few made = absurd has.1
 
-  -- a disk call that is made leaves at least one call less
-  pub advances : (old new : Stage D) → HasFewCalls old → HasFewCalls new → IsDiskStep disk old new (Ok tt) → calls_needed new + 1
-      ≤ calls_needed old
-  advances (Given j batch) new few_old few_new step =
+  -- a disk call that is made for a batch leaves at least one call less
+  pub advances : (old new : Stage D) → 1 ≤ calls_needed old → HasFewCalls old → HasFewCalls new → IsDiskStep disk old new (Ok tt)
+      → calls_needed new + 1 ≤ calls_needed old
+  advances (Given j batch) new some few_old few_new step =
       begun_needs (wants_checkpoint j.standing (values batch.commands.items)) j batch new (disk j.disk) (disk (disk_of new)) step.0 few_new
       step.1
-  advances (Checkpointing c batch) new few_old few_new step =
+  advances (Checkpointing c batch) new some few_old few_new step =
       checkpointed_needs c batch new (length (stages_left c)) few_old.0 step.0
       (omega (arith, one_less (stages_left c) (calls_owed new) (disk c.disk) (disk (disk_of new)) step.1))
-  advances (Writing w) new few_old few_new step =
+  advances (Writing w) new some few_old few_new step =
       written_needs w new (length (calls_left w)) step.0
       (omega (arith, one_less (calls_left w) (calls_owed new) (disk w.disk) (disk (disk_of new)) step.1))
-  advances (Resting j) new few_old few_new step = absurd step.0
-  advances (Publishing j written) new few_old few_new step = absurd step.0
-  advances (Failed d f) new few_old few_new step = absurd step.0
+  advances (Resting j) new some few_old few_new step = absurd (omega (arith, some))
+  advances (Opening c) new some few_old few_new step = absurd (omega (arith, some))
+  advances (Publishing j written) new some few_old few_new step = absurd step.0
+  advances (Failed d f) new some few_old few_new step = absurd step.0
 
 -- why a batch is refused that is not too large and goes on where the journal stands
 abbrev Refused : Bool → Bool → Bool → Option BeginCause
@@ -210,6 +216,7 @@ is_fit (Given j batch) goes unfit =
     (follows j.standing batch.first (values batch.commands.items))
     goes.small goes.next unfit
 is_fit (Resting j) goes unfit = unfit
+is_fit (Opening c) goes unfit = unfit
 is_fit (Checkpointing c batch) goes unfit = unfit
 is_fit (Writing w) goes unfit = unfit
 is_fit (Publishing j written) goes unfit = unfit
@@ -237,6 +244,7 @@ checkpointed_goes c batch (Given j kept) has goes =
           state = state;
         }) batch.first (values batch.commands.items)
 checkpointed_goes c batch (Resting j) has goes = absurd has
+checkpointed_goes c batch (Opening d) has goes = absurd has
 checkpointed_goes c batch (Writing w) has goes = absurd has
 checkpointed_goes c batch (Publishing j written) has goes = absurd has
 checkpointed_goes c batch (Failed d f) has goes = absurd has
@@ -245,9 +253,19 @@ written_goes : {D : Type 0} (w : WritingView D) (new : Stage D) → HasWritten w
 written_goes w (Writing v) has = tt
 written_goes w (Publishing j written) has = tt
 written_goes w (Resting j) has = tt
+written_goes w (Opening c) has = tt
 written_goes w (Failed d f) has = tt
 written_goes w (Given j b) has = absurd has
 written_goes w (Checkpointing c b) has = absurd has
+
+advanced_goes : {D : Type 0} (c : CheckpointingView D) (new : Stage D) → HasAdvanced c new → GoesOn new
+advanced_goes c (Resting j) has = tt
+advanced_goes c (Opening d) has = tt
+advanced_goes c (Writing w) has = tt
+advanced_goes c (Publishing j written) has = tt
+advanced_goes c (Failed d f) has = tt
+advanced_goes c (Given j b) has = absurd has
+advanced_goes c (Checkpointing d b) has = absurd has
 
 made_goes : {D : Type 0} (old new : Stage D) → HasMade old new → GoesOn old → GoesOn new
 made_goes (Given j batch) new has goes = begun_goes (wants_checkpoint j.standing (values batch.commands.items)) has
@@ -257,13 +275,15 @@ made_goes (Given j batch) new has goes = begun_goes (wants_checkpoint j.standing
     begun_goes false has = written_goes (writing_of j (values batch.commands.items)) new has.1
 made_goes (Checkpointing c batch) new has goes = checkpointed_goes c batch new has goes
 made_goes (Writing w) new has goes = written_goes w new has
-made_goes (Resting j) new has goes = absurd has
+made_goes (Resting j) new has goes = advanced_goes (checkpoint_of j) new has.1
+made_goes (Opening c) new has goes = advanced_goes c new has
 made_goes (Publishing j written) new has goes = absurd has
 made_goes (Failed d f) new has goes = absurd has
 
 failed_goes : {D : Type 0} (new : Stage D) (cause : DiskFault) → failure_of new ≡ Some cause → GoesOn new
 failed_goes (Failed d f) cause is = tt
 failed_goes (Resting j) cause is = tt
+failed_goes (Opening c) cause is = tt
 failed_goes (Writing w) cause is = tt
 failed_goes (Publishing j written) cause is = tt
 failed_goes (Given j b) cause is = search rules

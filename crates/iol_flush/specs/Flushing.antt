@@ -14,7 +14,7 @@ use Rattle.iol_journal.specs.Underway.{IsAtRest, IsUnderway}
 use Rattle.iol_journal.specs.CheckpointViews.{IsCheckpointUnderway, IsPaused, IsBeside}
 use Rattle.iol_journal.specs.declared.batch.Batch.{Batch}
 use Rattle.iol_flush.specs.declared.stage.Stage.{Stage}
-use Rattle.iol_flush.specs.declared.stage.Stage.TheVariants.{Resting, Given, Checkpointing, Writing, Publishing, Failed}
+use Rattle.iol_flush.specs.declared.stage.Stage.TheVariants.{Resting, Opening, Given, Checkpointing, Writing, Publishing, Failed}
 
 -- a run that began with a number and a state: the commands that are written, those of the batch that is underway, those
 -- that wait behind it, and moments (own)
@@ -37,6 +37,8 @@ AreFirst commands waiting = (behind : List CommandValue) × (waiting ≡ command
 abbrev pub IsFlushing : {D : Type 0} → (D → Disk) → ℕ → State → List CommandValue → List CommandValue → List Mark → Stage D → Type 0
 IsFlushing disk number state published waiting marks (Resting journal) =
     IsRunAtRest disk (run_of number state published [] waiting marks) journal
+IsFlushing disk number state published waiting marks (Opening checkpoint) =
+    IsRunCheckpointing disk (run_of number state published [] waiting marks) checkpoint
 IsFlushing disk number state published waiting marks (Given journal batch) =
     AreFirst (values batch.commands.items) waiting × IsRunAtRest disk (run_of number state published [] waiting marks) journal
 IsFlushing disk number state published waiting marks (Checkpointing checkpoint batch) =
@@ -82,6 +84,7 @@ Rests disk j = IsAtRest (disk j.disk) j.standing j.idle × IsPaused (disk j.disk
 -- is underway; of a disk that failed nothing is said (own)
 abbrev pub IsSound : {D : Type 0} → (D → Disk) → Stage D → Type 0
 IsSound disk (Resting journal) = Rests disk journal
+IsSound disk (Opening checkpoint) = IsCheckpointUnderway disk checkpoint
 IsSound disk (Given journal batch) = Rests disk journal
 IsSound disk (Checkpointing checkpoint batch) = IsCheckpointUnderway disk checkpoint
 IsSound disk (Writing writing) = IsUnderway disk writing × IsBeside (disk writing.disk) writing.standing writing.begun

@@ -1,5 +1,6 @@
 -- How far a flusher is: what it needs, its disk, and the disk calls that are owed.
-use Rattle.std.specs.Prelude.{◌≡◌, ◌≤◌, ℕ, ◌+◌, ◌*◌, nat_lt, Bool, false, if◌then◌else◌, List, [], ◌++◌, length, Option, Some, None}
+use Rattle.std.specs.Prelude.{◌≡◌, ◌≤◌, ℕ, ◌+◌, ◌*◌, nat_lt, nat_le, Bool, true, false, ◌||◌, if◌then◌else◌, List, [], ◌++◌, length}
+use Rattle.std.specs.Prelude.{Option, Some, None, is_some}
 use Rattle.iol_types.specs.Command.{CommandValue}
 use Rattle.iol_types.specs.State.{after}
 use Rattle.iol_disk.specs.Calls.{Call}
@@ -7,27 +8,45 @@ use Rattle.iol_disk.specs.declared.fault.DiskFault.{DiskFault}
 use Rattle.iol_front.specs.Fronts.{Start}
 use Rattle.iol_journal.specs.Batches.{batch_calls}
 use Rattle.iol_journal.specs.Begin.{is_too_large, room_in}
+use Rattle.iol_journal.specs.BegunViews.{BegunView}
 use Rattle.iol_journal.specs.Body.{slots_of, slots_for}
 use Rattle.iol_journal.specs.CheckpointViews.{begun_in, calls_of, stages_left}
+use Rattle.iol_journal.specs.Drafts.{can_pause}
 use Rattle.iol_journal.specs.Layout.{Layout}
 use Rattle.iol_journal.specs.Meaning.{Standing}
-use Rattle.iol_journal.specs.Journals.{calls_left, values}
+use Rattle.iol_journal.specs.Journals.{JournalView, calls_left, values}
 use Rattle.iol_journal.specs.declared.batch.TheConstants.{MOST_RECORD_OCTETS}
 use Rattle.iol_journal.specs.declared.geometry.TheConstants.{BODY_SECTORS}
 use Rattle.iol_journal.specs.declared.history.History.{History}
 use Rattle.iol_flush.specs.declared.need.Need.{Need}
 use Rattle.iol_flush.specs.declared.need.Need.TheVariants as need
 use Rattle.iol_flush.specs.declared.stage.Stage.{Stage}
-use Rattle.iol_flush.specs.declared.stage.Stage.TheVariants.{Resting, Given, Checkpointing, Writing, Publishing, Failed}
+use Rattle.iol_flush.specs.declared.stage.Stage.TheVariants.{Resting, Opening, Given, Checkpointing, Writing, Publishing, Failed}
+
+-- a checkpoint is to be gone on with, as one is paused, or to be begun, as half of the slots are used (own)
+abbrev pub is_due : {D : Type 0} → JournalView D → Bool
+is_due journal = is_some journal.begun || nat_le journal.standing.layout.slots (2 * journal.standing.used)
 
 -- the call that comes next (own)
 abbrev pub need_of : {D : Type 0} → Stage D → Need
-need_of (Resting journal) = need.Batch
+need_of (Resting journal) = if is_due journal then need.BatchOrDisk else need.Batch
+need_of (Opening checkpoint) = need.Disk
 need_of (Given journal batch) = need.Disk
 need_of (Checkpointing checkpoint batch) = need.Disk
 need_of (Writing writing) = need.Disk
 need_of (Publishing journal written) = need.Publish
 need_of (Failed disk fault) = need.Stopped
+
+-- a need names a batch, and a disk call (own)
+abbrev pub names_batch : Need → Bool
+names_batch need.Batch = true
+names_batch need.BatchOrDisk = true
+names_batch other = false
+
+abbrev pub names_disk : Need → Bool
+names_disk need.Disk = true
+names_disk need.BatchOrDisk = true
+names_disk other = false
 
 -- how the disk has failed, if it has (own)
 abbrev pub failure_of : {D : Type 0} → Stage D → Option DiskFault
@@ -48,14 +67,22 @@ FitsArea stage room = Unit {0}
 -- the disk of a flusher (own)
 abbrev pub disk_of : {D : Type 0} → Stage D → D
 disk_of (Resting journal) = journal.disk
+disk_of (Opening checkpoint) = checkpoint.disk
 disk_of (Given journal batch) = journal.disk
 disk_of (Checkpointing checkpoint batch) = checkpoint.disk
 disk_of (Writing writing) = writing.disk
 disk_of (Publishing journal written) = journal.disk
 disk_of (Failed disk fault) = disk
 
+-- the disk calls of the checkpoint that is paused, if one is (own)
+abbrev pub paused_calls : Standing → Option BegunView → List Call
+paused_calls standing None = []
+paused_calls standing (Some begun) = calls_of standing begun
+
 -- the disk calls of what is on its way that are still owed (own)
 abbrev pub calls_owed : {D : Type 0} → Stage D → List Call
+calls_owed (Resting journal) = paused_calls journal.standing journal.begun
+calls_owed (Opening checkpoint) = stages_left checkpoint
 calls_owed (Checkpointing checkpoint batch) = stages_left checkpoint
 calls_owed (Writing writing) = calls_left writing
 calls_owed stage = []
@@ -64,9 +91,10 @@ calls_owed stage = []
 abbrev pub wants_checkpoint : Standing → List CommandValue → Bool
 wants_checkpoint standing commands = nat_lt standing.layout.slots (standing.used + slots_for commands)
 
--- the disk calls that come next: those of a batch that was given or, where too few slots are free for it, of a checkpoint
--- (own)
+-- the disk calls that come next: those of a batch that was given or, where too few slots are free for it, of a checkpoint; where
+-- no batch was given, those of the checkpoint that is due (own)
 abbrev pub next_calls : {D : Type 0} → Stage D → List Call
+next_calls (Resting journal) = if is_due journal then calls_of journal.standing (begun_in journal) else []
 next_calls (Given journal batch) =
     if wants_checkpoint journal.standing (values batch.commands.items) then calls_of journal.standing (begun_in journal)
     else batch_calls journal.standing (values batch.commands.items)
@@ -87,6 +115,7 @@ pub record StandsBehind (start : Start) (commands : List CommandValue) (standing
 -- the journal's list is the list that is published, followed by the batch that is durable and not yet published (own)
 abbrev pub IsInStep : {D : Type 0} → Start → Stage D → List CommandValue → Type 0
 IsInStep start (Resting journal) published = StandsBehind start published journal.standing journal.history
+IsInStep start (Opening checkpoint) published = StandsBehind start published checkpoint.standing checkpoint.history
 IsInStep start (Given journal batch) published = StandsBehind start published journal.standing journal.history
 IsInStep start (Checkpointing checkpoint batch) published = StandsBehind start published checkpoint.standing checkpoint.history
 IsInStep start (Writing writing) published = StandsBehind start published writing.standing writing.history
@@ -104,8 +133,10 @@ most_checkpoint_calls layout = 20 * layout.slots + 9 * layout.ports + 9
 abbrev pub most_batch_calls : List CommandValue → ℕ
 most_batch_calls commands = BODY_SECTORS * length commands + 3
 
--- what is on its way has few disk calls: those of a batch, and those of a checkpoint into an area that the batch fits (own)
+-- what is on its way has few disk calls: those of a batch, those of a checkpoint into an area that the batch fits, and the last
+-- one of a checkpoint for which no batch waits (own)
 abbrev pub HasFewCalls : {D : Type 0} → Stage D → Type 0
+HasFewCalls (Opening checkpoint) = can_pause checkpoint.begun.stage ≡ false
 HasFewCalls (Checkpointing checkpoint batch) =
     (is_too_large checkpoint.standing.layout.slots (values batch.commands.items) ≡ false)
     × (length (stages_left checkpoint) ≤ most_checkpoint_calls checkpoint.standing.layout)

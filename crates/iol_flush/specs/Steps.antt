@@ -5,15 +5,17 @@ use Rattle.iol_disk.specs.Disk.{Disk}
 use Rattle.iol_front.specs.Fronts.{CommittedView}
 use Rattle.std.specs.Option.{option_map}
 use Rattle.iol_journal.specs.Begin.{batch_refusal, is_too_large}
-use Rattle.iol_journal.specs.CheckpointViews.{CheckpointingView, begun_in, end_of}
-use Rattle.iol_journal.specs.Drafts.{begun_behind, with_owed}
+use Rattle.iol_journal.specs.BegunViews.{BegunView}
+use Rattle.iol_journal.specs.CheckpointViews.{CheckpointingView, begun_in, end_in, end_of}
+use Rattle.iol_journal.specs.Drafts.{begun_behind, idle_at, with_owed}
 use Rattle.iol_journal.specs.Journals.{JournalView, WritingView, values, with_batch, written_behind}
 use Rattle.iol_journal.specs.Progress.{MakesFirst, FailsFirst}
 use Rattle.iol_journal.specs.declared.batch.Batch.{Batch}
 use Rattle.iol_journal.specs.declared.journal.BeginCause.TheVariants.{TooLarge, Misfit}
 use Rattle.iol_journal.specs.declared.phase.Phase.TheVariants.{Body}
+use Rattle.iol_journal.specs.declared.place.Idle.TheVariants.{Older}
 use Rattle.iol_journal.specs.Written.{WrittenView}
-use Rattle.iol_flush.specs.Stages.{FlusherView, wants_checkpoint, disk_of, next_calls, calls_owed, need_of, failure_of}
+use Rattle.iol_flush.specs.Stages.{FlusherView, wants_checkpoint, disk_of, next_calls, calls_owed, is_due, need_of, failure_of}
 use Rattle.iol_flush.specs.declared.need.Need.TheVariants as need
 use Rattle.iol_flush.specs.declared.fault.FlushFault.{FlushFault}
 use Rattle.iol_flush.specs.declared.fault.FlushFault.TheVariants as fault
@@ -22,7 +24,7 @@ use Rattle.iol_flush.specs.declared.fault.GiveFault.TheVariants as give
 use Rattle.iol_flush.specs.declared.flusher.FlushEnd.{FlushEnd}
 use Rattle.iol_flush.specs.declared.flusher.FlushEnd.TheVariants as end
 use Rattle.iol_flush.specs.declared.stage.Stage.{Stage}
-use Rattle.iol_flush.specs.declared.stage.Stage.TheVariants.{Resting, Given, Checkpointing, Writing, Publishing, Failed}
+use Rattle.iol_flush.specs.declared.stage.Stage.TheVariants.{Resting, Opening, Given, Checkpointing, Writing, Publishing, Failed}
 
 -- a journal with a batch before its first disk call (own)
 abbrev pub writing_of : {D : Type 0} → JournalView D → List CommandValue → WritingView D
@@ -61,6 +63,47 @@ HasCheckpointed c batch (Given j kept) =
     × (j.standing.number ≡ c.standing.number) × (j.standing.state ≡ c.standing.state) × (j.standing.layout ≡ c.standing.layout)
 HasCheckpointed c batch stage = ⊥
 
+-- a checkpoint for which no batch waits is done (own)
+pub record HasEnded {D : Type 0} (c : CheckpointingView D) (j : JournalView D) : Type 0 where
+  pub standing : j.standing ≡ end_of c
+  pub history : j.history ≡ c.history
+  pub idle : j.idle ≡ Older
+  pub none : j.begun ≡ None
+  pub number : j.standing.number ≡ c.standing.number
+  pub state : j.standing.state ≡ c.standing.state
+  pub layout : j.standing.layout ≡ c.standing.layout
+
+-- it is paused behind a disk call, and the journal at rest meanwhile (own)
+pub record HasPaused {D : Type 0} (c : CheckpointingView D) (j : JournalView D) : Type 0 where
+  pub begun : BegunView
+  pub behind : begun_behind c.standing c.begun ≡ Some begun
+  pub paused : j.begun ≡ Some begun
+  pub idle : j.idle ≡ idle_at begun.stage
+  pub standing : j.standing ≡ c.standing
+  pub history : j.history ≡ c.history
+  pub end : end_in j.standing begun ≡ end_of c
+
+-- it cannot be paused behind a disk call, which wrote its gate (own)
+pub record HasOpened {D : Type 0} (c d : CheckpointingView D) : Type 0 where
+  pub behind : begun_behind c.standing c.begun ≡ Some d.begun
+  pub standing : d.standing ≡ c.standing
+  pub history : d.history ≡ c.history
+  pub end : end_of d ≡ end_of c
+
+-- a disk call of a checkpoint is made for which no batch waits (own)
+abbrev pub HasAdvanced : {D : Type 0} → CheckpointingView D → Stage D → Type 0
+HasAdvanced c (Resting j) = HasEnded c j ⊎ HasPaused c j
+HasAdvanced c (Opening d) = HasOpened c d
+HasAdvanced c stage = ⊥
+
+-- a checkpoint is paused where it can be (own)
+abbrev pub IsSetAside : {D : Type 0} → CheckpointingView D → Stage D → Type 0
+IsSetAside c (Resting j) =
+    (j.disk ≡ c.disk) × (j.standing ≡ c.standing) × (j.idle ≡ idle_at c.begun.stage) × (j.history ≡ c.history)
+    × (j.begun ≡ Some c.begun)
+IsSetAside c (Opening d) = d ≡ c
+IsSetAside c stage = ⊥
+
 -- the first disk call is made after a batch was given: its own or, where too few slots are free for it, of a checkpoint (own)
 abbrev pub HasBegun : {D : Type 0} → Bool → JournalView D → Batch → Stage D → Type 0
 HasBegun true journal batch new =
@@ -73,6 +116,8 @@ HasBegun false journal batch new =
 -- a disk call is made, and where the flusher is then (own)
 abbrev pub HasMade : {D : Type 0} → Stage D → Stage D → Type 0
 HasMade (Given journal batch) new = HasBegun (wants_checkpoint journal.standing (values batch.commands.items)) journal batch new
+HasMade (Resting journal) new = (is_due journal ≡ true) × HasAdvanced (checkpoint_of journal) new
+HasMade (Opening checkpoint) new = HasAdvanced checkpoint new
 HasMade (Checkpointing checkpoint batch) new = HasCheckpointed checkpoint batch new
 HasMade (Writing writing) new = HasWritten writing new
 HasMade stage new = ⊥
@@ -84,10 +129,11 @@ IsUnfit (Given journal batch) =
     ⊎ (batch_refusal journal.standing batch.first (values batch.commands.items) ≡ Some Misfit)
 IsUnfit stage = ⊥
 
--- a batch was given and no disk call of it is made yet (own)
-abbrev pub IsGiven : {D : Type 0} → Stage D → Type 0
-IsGiven (Given journal batch) = is_too_large journal.standing.layout.slots (values batch.commands.items) ≡ false
-IsGiven stage = ⊥
+-- a disk call may want memory: that which begins a batch that was given, and that which begins the checkpoint that is due (own)
+abbrev pub MayWant : {D : Type 0} → Stage D → Type 0
+MayWant (Given journal batch) = is_too_large journal.standing.layout.slots (values batch.commands.items) ≡ false
+MayWant (Resting journal) = (is_due journal ≡ true) × (journal.begun ≡ None)
+MayWant stage = ⊥
 
 -- the first of the disk calls that come next is made, or fails; or none is made and nothing changes: a call failed before,
 -- memory runs out where a batch or a checkpoint is begun, or the batch does not fit (own)
@@ -96,7 +142,7 @@ IsDiskStep disk old new (Ok done) = HasMade old new × MakesFirst (next_calls ol
 IsDiskStep disk old new (Err (fault.Disk cause)) =
     (failure_of new ≡ Some cause) × FailsFirst (next_calls old) cause (disk (disk_of old)) (disk (disk_of new))
 IsDiskStep disk old new (Err fault.Stopped) = (need_of old ≡ need.Stopped) × (new ≡ old)
-IsDiskStep disk old new (Err fault.Memory) = IsGiven old × (new ≡ old)
+IsDiskStep disk old new (Err fault.Memory) = MayWant old × (new ≡ old)
 IsDiskStep disk old new (Err fault.Misfit) = IsUnfit old × (new ≡ old)
 
 -- a batch is taken; or it comes back, as a disk call has failed, and nothing changes (own)

@@ -3,8 +3,8 @@
 ghost use Rattle.std.specs.Prelude.{◌≡◌, ◌<◌, ◌⊎◌, true, false};
 ghost use Rattle.iol_journal.specs.Begin.{is_too_large};
 ghost use Rattle.iol_journal.specs.Journals.{values};
-ghost use Rattle.iol_flush.specs.Stages.{HasFewCalls, wants_checkpoint, need_of};
-ghost use Rattle.iol_flush.specs.Steps.{IsDiskStep};
+ghost use Rattle.iol_flush.specs.Stages.{HasFewCalls, is_due, names_disk, need_of, wants_checkpoint};
+ghost use Rattle.iol_flush.specs.Steps.{IsDiskStep, IsSetAside};
 ghost use Rattle.iol_flush.specs.Flushing.{KeepsRun, IsSound};
 ghost use Rattle.iol_flush.specs.declared.need.Need.TheVariants as need;
 ghost use Rattle.iol_flush.specs.declared.stage.Stage.TheVariants as stage;
@@ -22,7 +22,7 @@ pub(crate) fn make_call<D: SectorDisk>(
     stage: Stage<D>,
     _call: (),
 ) -> (Stage<D>, Result<(), FlushFault>)
-    requires needs { (need_of stage ≡ need.Disk) ⊎ (need_of stage ≡ need.Stopped) }
+    requires needs { (names_disk (need_of stage) ≡ true) ⊎ (need_of stage ≡ need.Stopped) }
     requires few { HasFewCalls stage }
     ensures step { IsDiskStep D.disk stage result.0 result.1 }
     ensures few { HasFewCalls result.0 }
@@ -30,11 +30,61 @@ pub(crate) fn make_call<D: SectorDisk>(
     ensures sound { IsSound D.disk stage → IsSound D.disk result.0 }
 {
     match stage {
+        Stage::Resting(journal) => go_on(journal),
+        Stage::Opening(checkpointing) => advance(checkpointing),
         Stage::Given(journal, batch) => begin(journal, batch),
         Stage::Checkpointing(checkpointing, batch) => checkpoint(checkpointing, batch),
         Stage::Writing(writing) => write(writing),
         Stage::Failed(disk, fault) => (Stage::Failed(disk, fault), Err(FlushFault::Stopped)),
-        Stage::Resting(_) | Stage::Publishing(..) => unreachable!(),
+        Stage::Publishing(..) => unreachable!(),
+    }
+}
+
+// Makes the next disk call of the checkpoint that is due while no batch is given.
+fn go_on<D: SectorDisk>(journal: Journal<D>) -> (Stage<D>, Result<(), FlushFault>)
+    requires due { is_due journal ≡ true }
+    ensures step { IsDiskStep D.disk (stage.Resting journal) result.0 result.1 }
+    ensures few { HasFewCalls result.0 }
+    ensures run { KeepsRun D.disk (stage.Resting journal) result.0 }
+    ensures sound { IsSound D.disk (stage.Resting journal) → IsSound D.disk result.0 }
+{
+    let _half = journal.is_half_used();
+    match journal.checkpoint() {
+        Ok(checkpointing) => advance(checkpointing),
+        Err(fault) => {
+            let CheckpointFault { cause: _, journal } = fault;
+            (Stage::Resting(journal), Err(FlushFault::Memory))
+        }
+    }
+}
+
+// Makes the next disk call of a checkpoint for which no batch waits.
+fn advance<D: SectorDisk>(checkpointing: Checkpointing<D>) -> (Stage<D>, Result<(), FlushFault>)
+    ensures step { IsDiskStep D.disk (stage.Opening checkpointing) result.0 result.1 }
+    ensures few { HasFewCalls result.0 }
+    ensures run { KeepsRun D.disk (stage.Opening checkpointing) result.0 }
+    ensures sound { IsSound D.disk (stage.Opening checkpointing) → IsSound D.disk result.0 }
+{
+    match checkpointing.step() {
+        CheckpointProgress::More(more) => (set_aside(more), Ok(())),
+        CheckpointProgress::Done(journal) => (Stage::Resting(journal), Ok(())),
+        CheckpointProgress::Failed(disk, fault) => {
+            (Stage::Failed(disk, fault), Err(FlushFault::Disk(fault)))
+        }
+    }
+}
+
+// Pauses a checkpoint, where it can be paused, so that a batch may come before its next disk call.
+fn set_aside<D: SectorDisk>(checkpointing: Checkpointing<D>) -> Stage<D>
+    ensures aside { IsSetAside checkpointing result }
+    ensures few { HasFewCalls result }
+    ensures run { KeepsRun D.disk (stage.Opening checkpointing) result }
+    ensures sound { IsSound D.disk (stage.Opening checkpointing) → IsSound D.disk result }
+{
+    if checkpointing.can_pause() {
+        Stage::Resting(checkpointing.pause())
+    } else {
+        Stage::Opening(checkpointing)
     }
 }
 

@@ -1,7 +1,8 @@
 //! The flusher, and its calls.
 
-ghost use Rattle.std.specs.Prelude.{◌≡◌, ◌≤◌, ◌⊎◌};
-ghost use Rattle.iol_flush.specs.Stages.{need_of, room_of, failure_of, FitsArea, HasHistory, HasFewCalls, IsInStep};
+ghost use Rattle.std.specs.Prelude.{◌≡◌, ◌≤◌, ◌⊎◌, true};
+ghost use Rattle.iol_flush.specs.Stages.{need_of, names_batch, names_disk, room_of, failure_of};
+ghost use Rattle.iol_flush.specs.Stages.{FitsArea, HasHistory, HasFewCalls, IsInStep};
 ghost use Rattle.iol_flush.specs.Steps.{IsDiskStep, IsGift, HasGivenUp, IsPublished, IsEnd};
 ghost use Rattle.iol_flush.specs.Flushing.{KeepsRun, IsSound};
 ghost use Rattle.iol_flush.specs.declared.need.Need.TheVariants as need;
@@ -37,9 +38,11 @@ impl<D: SectorDisk, F: Name> Model for Flusher<D, F> {
 /// What a flusher had at its end.
 #[derive(Drop)]
 pub enum FlushEnd<D: SectorDisk, F: Name> {
-    /// The journal at rest, and the publisher, which lacks the last batch where that was still to be published.
+    /// The journal at rest, and the publisher, which lacks the last batch where that was still to be published. A checkpoint that
+    /// was begun is paused in the journal.
     Closed(Journal<D>, Publisher<F>),
-    /// A batch was given and is not yet durable. The disk may be recovered again.
+    /// A batch was given and is not yet durable, or the gate of a checkpoint was written and is not yet durable. The disk may be
+    /// recovered again.
     Midway(D),
     /// A disk call had failed. A disk of which a sync has failed is not gone on with: many systems drop the pages of a
     /// failed sync and answer the next with success. Behind another fault the disk may be recovered again.
@@ -95,20 +98,21 @@ impl<D: SectorDisk, F: Name> Flusher<D, F> {
     /// # Errors
     /// `Stopped` with the batch where a disk call has failed; nothing changes.
     pub fn give(&mut self, batch: Batch) -> Result<(), GiveFault>
-        requires { (need_of self.old.stage ≡ need.Batch) ⊎ (need_of self.old.stage ≡ need.Stopped) }
+        requires { (names_batch (need_of self.old.stage) ≡ true) ⊎ (need_of self.old.stage ≡ need.Stopped) }
         ensures gift { IsGift self.old.stage batch self.new.stage result }
         ensures published { self.new.published ≡ self.old.published }
     {
         replace_with(&mut self.stage, batch, with_batch)
     }
 
-    /// Makes the journal's next disk call: of the batch that was given or, where too few slots are free for it, of a checkpoint.
+    /// Makes the journal's next disk call: of the batch that was given or, where too few slots are free for it, of a checkpoint;
+    /// where no batch was given, of the checkpoint that is due, which is then paused until the next call.
     ///
     /// # Errors
     /// `Stopped` where a disk call has failed before; `Memory` where it is out of memory, and `Misfit` where the batch does
     /// not follow the journal or is too large: nothing changes. `Disk` where this call fails.
     pub fn disk_step(&mut self) -> Result<(), FlushFault>
-        requires { (need_of self.old.stage ≡ need.Disk) ⊎ (need_of self.old.stage ≡ need.Stopped) }
+        requires { (names_disk (need_of self.old.stage) ≡ true) ⊎ (need_of self.old.stage ≡ need.Stopped) }
         ensures step { IsDiskStep D.disk self.old.stage self.new.stage result }
         ensures published { self.new.published ≡ self.old.published }
         // What is then on its way has few disk calls.
@@ -147,6 +151,7 @@ impl<D: SectorDisk, F: Name> Flusher<D, F> {
                 let _batch = written.into_batch();
                 FlushEnd::Closed(journal, publisher)
             }
+            Stage::Opening(checkpointing) => FlushEnd::Midway(checkpointing.disk()),
             Stage::Given(journal, _batch) => FlushEnd::Midway(journal.disk()),
             Stage::Checkpointing(checkpointing, _batch) => FlushEnd::Midway(checkpointing.disk()),
             Stage::Writing(writing) => FlushEnd::Midway(writing.disk()),
@@ -157,7 +162,7 @@ impl<D: SectorDisk, F: Name> Flusher<D, F> {
 
 // The stage after a batch is given.
 fn with_batch<D: SectorDisk>(stage: Stage<D>, batch: Batch) -> (Stage<D>, Result<(), GiveFault>)
-    requires { (need_of stage ≡ need.Batch) ⊎ (need_of stage ≡ need.Stopped) }
+    requires { (names_batch (need_of stage) ≡ true) ⊎ (need_of stage ≡ need.Stopped) }
     ensures { IsGift stage batch result.0 result.1 }
 {
     match stage {

@@ -70,9 +70,9 @@ pub fn acknowledges<D: SectorDisk>()
         (record { clock = clock (D.disk j.disk).content; acknowledged = acknowledged } ∷ marks) (Resting j) }
 {}
 
-/// Each disk call that is made leaves fewer calls until the batch is through.
+/// Each disk call that is made for a batch leaves fewer calls until the batch is through.
 pub fn advances<D: SectorDisk>()
-    ensures { (old new : Stage D) → HasFewCalls old → HasFewCalls new → IsDiskStep D.disk old new (Ok tt)
+    ensures { (old new : Stage D) → 1 ≤ calls_needed old → HasFewCalls old → HasFewCalls new → IsDiskStep D.disk old new (Ok tt)
         → calls_needed new + 1 ≤ calls_needed old }
 {}
 

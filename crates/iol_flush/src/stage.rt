@@ -1,7 +1,8 @@
 //! How far a flusher is.
 
 ghost use Rattle.std.specs.Prelude.{◌≡◌};
-ghost use Rattle.iol_flush.specs.Stages.{need_of, failure_of};
+ghost use Rattle.iol_flush.specs.Stages.{is_due, need_of, failure_of};
+ghost use Rattle.iol_flush.specs.declared.stage.Stage.TheVariants.{Resting};
 
 use crate::need::Need;
 use iol_disk::{DiskFault, SectorDisk};
@@ -9,8 +10,10 @@ use iol_journal::{Batch, Checkpointing, Journal, Writing, Written};
 
 /// How far a flusher is with a batch.
 pub enum Stage<D: SectorDisk> {
-    /// All that was given is published.
+    /// All that was given is published. A checkpoint may be paused.
     Resting(Journal<D>),
+    /// The gate of the other area is written, and its sync is owed. No batch waits.
+    Opening(Checkpointing<D>),
     /// A batch was given, and no disk call of it is made yet.
     Given(Journal<D>, Batch),
     /// Too few slots were free for the batch: a checkpoint is on its way.
@@ -29,8 +32,9 @@ impl<D: SectorDisk> Stage<D> {
         ensures { result ≡ need_of self.now }
     {
         match self {
-            Stage::Resting(_) => Need::Batch,
-            Stage::Given(..) | Stage::Checkpointing(..) | Stage::Writing(_) => Need::Disk,
+            Stage::Resting(journal) => need_at_rest(journal),
+            Stage::Opening(_) | Stage::Given(..) => Need::Disk,
+            Stage::Checkpointing(..) | Stage::Writing(_) => Need::Disk,
             Stage::Publishing(..) => Need::Publish,
             Stage::Failed(..) => Need::Stopped,
         }
@@ -45,4 +49,22 @@ impl<D: SectorDisk> Stage<D> {
             _ => None,
         }
     }
+}
+
+// What is needed while the journal rests.
+fn need_at_rest<D: SectorDisk>(journal: &Journal<D>) -> Need
+    ensures { result ≡ need_of (Resting journal.now) }
+{
+    if is_due(journal) {
+        Need::BatchOrDisk
+    } else {
+        Need::Batch
+    }
+}
+
+// Whether a checkpoint is to be begun, as half of the slots are used, or gone on with, as one is paused.
+fn is_due<D: SectorDisk>(journal: &Journal<D>) -> bool
+    ensures { result ≡ is_due journal.now }
+{
+    journal.is_paused() || journal.is_half_used()
 }

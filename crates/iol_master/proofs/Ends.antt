@@ -1,28 +1,28 @@
 -- How a flusher ends that has its journal since the start, and what is left of a master that did not start.
-use Rattle.std.proofs.Common.{◌≡◌, ◌⊎◌, inl, inr, List, refl, sym, ap, ◌∙◌, subst}
+use Rattle.std.proofs.Common.{◌≡◌, ◌⊎◌, inl, inr, true, false, List, refl, sym, ap, ◌∙◌, subst}
 use Rattle.iol_types.specs.Command.{CommandValue}
 use Rattle.iol_disk.specs.Disk.{Disk, HasFailed}
 use Rattle.iol_front.specs.Fronts.{Start}
 use Rattle.iol_journal.proofs.JournalLaws.{rest_means_its_state}
 use Rattle.iol_journal.specs.Journals.{JournalView}
-use Rattle.iol_flush.specs.Stages.{FlusherView, IsInStep, need_of}
+use Rattle.iol_flush.specs.Stages.{IsInStep, names_batch, need_of}
 use Rattle.iol_flush.specs.Steps.{IsEnd}
 use Rattle.iol_flush.specs.declared.flusher.FlushEnd.{FlushEnd}
 use Rattle.iol_flush.specs.declared.flusher.FlushEnd.TheVariants as flush
 use Rattle.iol_flush.specs.declared.need.Need.{Need}
 use Rattle.iol_flush.specs.declared.need.Need.TheVariants as need
 use Rattle.iol_flush.specs.declared.stage.Stage.{Stage}
-use Rattle.iol_flush.specs.declared.stage.Stage.TheVariants.{Resting, Given, Checkpointing, Writing, Publishing, Failed}
+use Rattle.iol_flush.specs.declared.stage.Stage.TheVariants.{Resting, Opening, Given, Checkpointing, Writing, Publishing, Failed}
 use Rattle.iol_master.specs.Endings.{EndsFrom, IsWhole}
 use Rattle.iol_master.specs.Since.{IsSince}
 
 -- a flusher that ends needs no disk call and has nothing to publish
-ends_on : (needs : Need) → (needs ≡ need.Batch) ⊎ (needs ≡ need.Stopped) → needs ≡ need.Disk → ⊥
-ends_on needs (inl batch) is = let wrong : need.Batch ≡ need.Disk = sym batch ∙ is in absurd cc
+ends_on : (needs : Need) → (names_batch needs ≡ true) ⊎ (needs ≡ need.Stopped) → needs ≡ need.Disk → ⊥
+ends_on needs (inl batch) is = let wrong : true ≡ false = sym batch ∙ ap names_batch is in absurd cc
 ends_on needs (inr stopped) is = let wrong : need.Stopped ≡ need.Disk = sym stopped ∙ is in absurd cc
 
-published_all : (needs : Need) → (needs ≡ need.Batch) ⊎ (needs ≡ need.Stopped) → needs ≡ need.Publish → ⊥
-published_all needs (inl batch) is = let wrong : need.Batch ≡ need.Publish = sym batch ∙ is in absurd cc
+published_all : (needs : Need) → (names_batch needs ≡ true) ⊎ (needs ≡ need.Stopped) → needs ≡ need.Publish → ⊥
+published_all needs (inl batch) is = let wrong : true ≡ false = sym batch ∙ ap names_batch is in absurd cc
 published_all needs (inr stopped) is = let wrong : need.Stopped ≡ need.Publish = sym stopped ∙ is in absurd cc
 
 module _ {D : Type 0} (disk : D → Disk) (start : Start) (first : JournalView D) where
@@ -38,9 +38,10 @@ module _ {D : Type 0} (disk : D → Disk) (start : Start) (first : JournalView D
       (subst (λ (l : List CommandValue). IsWhole disk start first j l) (sym same_list) (at_rest j list since step))
 
   pub ends : {F : Type 0} (stage : Stage D) (list : List CommandValue) (out : FlushEnd D F) → IsSince disk (Resting first) stage
-      → (need_of stage ≡ need.Batch) ⊎ (need_of stage ≡ need.Stopped) → IsEnd (record { stage = stage; published = list }) out
+      → (names_batch (need_of stage) ≡ true) ⊎ (need_of stage ≡ need.Stopped) → IsEnd (record { stage = stage; published = list }) out
       → IsInStep start stage list → EndsFrom disk start first out
   ends (Resting j) list (flush.Closed back published) since over is step = closed j back list published since step is.0 is.1
+  ends (Opening c) list (flush.Closed back published) since over is step = absurd is.0
   ends (Given j b) list (flush.Closed back published) since over is step = absurd is.0
   ends (Checkpointing k b) list (flush.Closed back published) since over is step = absurd is.0
   ends (Writing w) list (flush.Closed back published) since over is step = absurd is.0
@@ -50,6 +51,7 @@ module _ {D : Type 0} (disk : D → Disk) (start : Start) (first : JournalView D
   ends (Failed d f) list (flush.Faulted left cause) since over is step =
       subst (λ (x : D). HasFailed (disk first.disk) (disk x)) (sym is.1) (since.counts refl)
   ends (Resting j) list (flush.Faulted left cause) since over is step = absurd cc
+  ends (Opening c) list (flush.Faulted left cause) since over is step = absurd cc
   ends (Given j b) list (flush.Faulted left cause) since over is step = absurd cc
   ends (Checkpointing k b) list (flush.Faulted left cause) since over is step = absurd cc
   ends (Writing w) list (flush.Faulted left cause) since over is step = absurd cc

@@ -1,8 +1,8 @@
 -- What a flusher keeps from one stage to a later one.
-use Rattle.std.proofs.Common.{◌≡◌, ◌⊎◌, inl, inr, ◌<◌, Bool, true, false, List, [], ◌∷◌, Option, Some, None, Result, Ok, Err, refl, sym, ap}
+use Rattle.std.proofs.Common.{◌≡◌, inl, inr, Bool, true, false, List, ◌∷◌, Option, Some, None, Result, Ok, Err, refl, sym, ap}
 use Rattle.std.proofs.Common.{◌∙◌, subst, arith}
 use Rattle.iol_types.specs.Command.{CommandValue}
-use Rattle.iol_disk.specs.Calls.{Call, Made, FailedIn}
+use Rattle.iol_disk.specs.Calls.{Call}
 use Rattle.iol_disk.specs.Disk.{Disk, HasFailed}
 use Rattle.iol_disk.specs.declared.fault.DiskFault.{DiskFault}
 use Rattle.iol_front.specs.Fronts.{CommittedView}
@@ -10,15 +10,16 @@ use Rattle.iol_journal.specs.CheckpointViews.{CheckpointingView}
 use Rattle.iol_journal.specs.Journals.{JournalView, WritingView, values}
 use Rattle.iol_journal.specs.declared.batch.Batch.{Batch}
 use Rattle.iol_flush.specs.Flushing.{IsSound}
-use Rattle.iol_flush.specs.Stages.{FlusherView, calls_owed, disk_of, failure_of, wants_checkpoint, next_calls}
-use Rattle.iol_flush.specs.Steps.{HasBegun, HasCheckpointed, HasMade, HasPublished, HasTaken, HasWritten, IsDiskStep, IsGift, IsPublished}
+use Rattle.iol_flush.specs.Stages.{FlusherView, disk_of, failure_of, wants_checkpoint, next_calls}
+use Rattle.iol_flush.specs.Steps.{HasAdvanced, HasBegun, HasCheckpointed, HasMade, HasPublished}
+use Rattle.iol_flush.specs.Steps.{HasTaken, HasWritten, IsDiskStep, IsGift, IsPublished}
 use Rattle.iol_flush.specs.Steps.{checkpoint_of, writing_of}
 use Rattle.iol_flush.specs.declared.fault.FlushFault.{FlushFault}
 use Rattle.iol_flush.specs.declared.fault.FlushFault.TheVariants as fault
 use Rattle.iol_flush.specs.declared.fault.GiveFault.{GiveFault}
 use Rattle.iol_flush.specs.declared.fault.GiveFault.TheVariants as give
 use Rattle.iol_flush.specs.declared.stage.Stage.{Stage}
-use Rattle.iol_flush.specs.declared.stage.Stage.TheVariants.{Resting, Given, Checkpointing, Writing, Publishing, Failed}
+use Rattle.iol_flush.specs.declared.stage.Stage.TheVariants.{Resting, Opening, Given, Checkpointing, Writing, Publishing, Failed}
 use Rattle.iol_master.specs.Since.{CountsAs, IsSince}
 
 -- a failure that is counted from a disk with as many
@@ -71,6 +72,7 @@ module _ {D : Type 0} (disk : D → Disk) where
   checkpointed_none c batch (Given j b) has = refl
   checkpointed_none c batch (Checkpointing k b) has = refl
   checkpointed_none c batch (Resting j) has = absurd has
+  checkpointed_none c batch (Opening d) has = absurd has
   checkpointed_none c batch (Writing w) has = absurd has
   checkpointed_none c batch (Publishing j w) has = absurd has
   checkpointed_none c batch (Failed d f) has = absurd has
@@ -79,6 +81,7 @@ module _ {D : Type 0} (disk : D → Disk) where
   written_none w (Writing v) has = refl
   written_none w (Publishing j v) has = refl
   written_none w (Resting j) has = absurd has
+  written_none w (Opening c) has = absurd has
   written_none w (Given j b) has = absurd has
   written_none w (Checkpointing k b) has = absurd has
   written_none w (Failed d f) has = absurd has
@@ -87,11 +90,21 @@ module _ {D : Type 0} (disk : D → Disk) where
   begun_none true j batch new has = checkpointed_none (checkpoint_of j) batch new has.1
   begun_none false j batch new has = written_none (writing_of j (values batch.commands.items)) new has.1
 
+  advanced_none : (c : CheckpointingView D) (new : Stage D) → HasAdvanced c new → failure_of new ≡ None
+  advanced_none c (Resting j) has = refl
+  advanced_none c (Opening d) has = refl
+  advanced_none c (Given j b) has = absurd has
+  advanced_none c (Checkpointing d b) has = absurd has
+  advanced_none c (Writing w) has = absurd has
+  advanced_none c (Publishing j w) has = absurd has
+  advanced_none c (Failed d f) has = absurd has
+
   made_none : (old new : Stage D) → HasMade old new → (failure_of old ≡ None) × (failure_of new ≡ None)
   made_none (Given j b) new has = (refl, begun_none (wants_checkpoint j.standing (values b.commands.items)) j b new has)
   made_none (Checkpointing k b) new has = (refl, checkpointed_none k b new has)
   made_none (Writing w) new has = (refl, written_none w new has)
-  made_none (Resting j) new has = absurd has
+  made_none (Resting j) new has = (refl, advanced_none (checkpoint_of j) new has.1)
+  made_none (Opening c) new has = (refl, advanced_none c new has)
   made_none (Publishing j w) new has = absurd has
   made_none (Failed d f) new has = absurd has
 
@@ -100,6 +113,7 @@ module _ {D : Type 0} (disk : D → Disk) where
       → next_calls old ≡ call ∷ left → ⊥
   owes_none (Failed d f) cause call left told owes = absurd cc
   owes_none (Resting j) cause call left told owes = absurd cc
+  owes_none (Opening c) cause call left told owes = absurd cc
   owes_none (Given j b) cause call left told owes = absurd cc
   owes_none (Checkpointing k b) cause call left told owes = absurd cc
   owes_none (Writing w) cause call left told owes = absurd cc
@@ -138,6 +152,7 @@ module _ {D : Type 0} (disk : D → Disk) where
     counts = λ none. refl;
     failed = λ cause told. absurd (tells_none None cause refl told);
   })
+  given (Opening c) batch new has = absurd has
   given (Given j b) batch new has = absurd has
   given (Checkpointing k b) batch new has = absurd has
   given (Writing w) batch new has = absurd has
@@ -159,6 +174,7 @@ module _ {D : Type 0} (disk : D → Disk) where
         failed = λ cause told. absurd (tells_none None cause refl told);
       })
   published (Resting j) list new committed has = absurd has
+  published (Opening c) list new committed has = absurd has
   published (Given j b) list new committed has = absurd has
   published (Checkpointing k b) list new committed has = absurd has
   published (Writing w) list new committed has = absurd has

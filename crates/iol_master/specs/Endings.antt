@@ -1,12 +1,12 @@
 -- How the run of a flusher ends, and of a master.
-use Rattle.std.specs.Prelude.{◌≡◌, ◌≢◌, ◌⊎◌, ℕ, List, length}
+use Rattle.std.specs.Prelude.{◌≡◌, ◌≢◌, ◌⊎◌, ℕ, true, List, length}
 use Rattle.iol_types.specs.Command.{CommandValue}
 use Rattle.iol_disk.specs.Disk.{Disk, HasFailed}
 use Rattle.iol_front.specs.Fronts.{Start}
 use Rattle.iol_journal.specs.Journals.{JournalView}
 use Rattle.iol_journal.specs.Kept.{EachMeans}
 use Rattle.iol_flush.specs.Flushing.{Rests}
-use Rattle.iol_flush.specs.Stages.{StandsBehind, need_of}
+use Rattle.iol_flush.specs.Stages.{StandsBehind, names_batch, need_of}
 use Rattle.iol_flush.specs.declared.flusher.FlushEnd.{FlushEnd}
 use Rattle.iol_flush.specs.declared.flusher.FlushEnd.TheVariants as flush
 use Rattle.iol_flush.specs.declared.need.Need.TheVariants as need
@@ -18,10 +18,10 @@ use Rattle.iol_master.specs.declared.ending.Ending.TheVariants as ending
 use Rattle.iol_master.specs.declared.ending.StartFault.{StartFault}
 use Rattle.iol_master.specs.declared.ending.StartFault.TheVariants as start_fault
 
--- a flusher ends where it needs a batch, or where a disk call has failed (own)
+-- a flusher ends where it may be given a batch, or where a disk call has failed (own)
 abbrev pub MayEnd : {D : Type 0} → Stage D → Turned → Type 0
 MayEnd stage Made = Unit {0}
-MayEnd stage Ended = (need_of stage ≡ need.Batch) ⊎ (need_of stage ≡ need.Stopped)
+MayEnd stage Ended = (names_batch (need_of stage) ≡ true) ⊎ (need_of stage ≡ need.Stopped)
 
 -- all that a journal has written in this run is published; and where each image was kept at the start, each is, and means the state
 -- after what is published (own)

@@ -1,22 +1,23 @@
 //! The thread of the flusher.
 
-ghost use Rattle.std.specs.Prelude.{◌≡◌};
-ghost use Rattle.iol_flush.specs.Stages.{HasHistory, need_of};
+ghost use Rattle.std.specs.Prelude.{◌≡◌, ◌≤◌, true};
+ghost use Rattle.iol_record.specs.declared.encode.TheConstants.{LARGEST_COMMAND_RECORD};
+ghost use Rattle.iol_flush.specs.Stages.{HasHistory, names_disk, need_of};
 ghost use Rattle.iol_flush.specs.declared.need.Need.TheVariants as need;
 ghost use Rattle.iol_flush.specs.declared.stage.Stage.TheVariants as stage;
 ghost use Rattle.iol_master.specs.Endings.{EndsFrom, MayEnd};
 ghost use Rattle.iol_master.specs.Since.{IsSince};
 
 use crate::client::Shared;
-use crate::guarded::Phase;
+use crate::guarded::{Guarded, Phase};
 use iol_disk::SectorDisk;
 use iol_flush::{FlushEnd, FlushFault, Flusher, Need};
 use iol_front::{Name, Publisher};
-use iol_journal::Journal;
+use iol_journal::{Batch, Journal};
 use std::alloc::Global;
 use std::marker::Model;
 use std::snapshot::Snapshot;
-use std::sync::{Arc, Wait};
+use std::sync::{Arc, MutexGuard, Wait};
 use std::thread;
 use std::thread::Promise;
 
@@ -103,6 +104,7 @@ fn turn<D: SectorDisk, F: Name, R: Wait>(
 {
     match flusher.needs() {
         Need::Batch => take(rt, shared, flusher),
+        Need::BatchOrDisk => take_or_call(rt, shared, flusher),
         Need::Disk => call_disk(rt, shared, flusher),
         Need::Publish => publish(rt, shared, flusher),
         Need::Stopped => Turned::Ended,
@@ -115,7 +117,7 @@ fn call_disk<D: SectorDisk, F: Name, R: Wait>(
     shared: &Shared<F>,
     flusher: &mut Flusher<D, F>,
 ) -> Turned
-    requires { need_of flusher.old.stage ≡ need.Disk }
+    requires { names_disk (need_of flusher.old.stage) ≡ true }
     ensures since { IsSince D.disk flusher.old.stage flusher.new.stage }
     ensures ended { MayEnd flusher.new.stage result }
 {
@@ -143,6 +145,28 @@ fn publish<D: SectorDisk, F: Name, R: Wait>(
     Turned::Made
 }
 
+// What the flusher finds where it looks for a batch.
+enum Found {
+    Batch(Batch),
+    Nothing,
+    // Nothing, and no more comes.
+    Closed,
+    // A batch, and no memory for it.
+    NoMemory,
+}
+
+// Takes the first batch that fits, and lets go of the lock.
+fn find<F: Name>(mut guarded: MutexGuard<'_, Guarded<F>>, room: usize) -> Found
+    requires { LARGEST_COMMAND_RECORD ≤ room }
+{
+    match guarded.take_batch(room) {
+        Ok(Some(batch)) => Found::Batch(batch),
+        Ok(None) if guarded.phase() == Phase::Closed => Found::Closed,
+        Ok(None) => Found::Nothing,
+        Err(_) => Found::NoMemory,
+    }
+}
+
 // Waits for a batch, or for the end.
 fn take<D: SectorDisk, F: Name, R: Wait>(
     rt: &R,
@@ -153,21 +177,36 @@ fn take<D: SectorDisk, F: Name, R: Wait>(
     ensures since { IsSince D.disk flusher.old.stage flusher.new.stage }
     ensures ended { MayEnd flusher.new.stage result }
 {
-    let mut guarded = shared
+    let guarded = shared
         .work
         .wait_while(rt, shared.guarded.lock(rt), |guarded| guarded.is_idle());
-    let taken = guarded.take_batch(flusher.room());
-    let phase = guarded.phase();
-    drop(guarded);
-    match taken {
-        Ok(Some(batch)) => {
+    match find(guarded, flusher.room()) {
+        Found::Batch(batch) => {
             let _ = flusher.give(batch);
-            Turned::Made
         }
-        Ok(None) if phase == Phase::Closed => Turned::Ended,
-        _ => {
-            thread::yield_now();
-            Turned::Made
-        }
+        Found::Closed => return Turned::Ended,
+        Found::Nothing | Found::NoMemory => thread::yield_now(),
     }
+    Turned::Made
+}
+
+// Takes a batch, or where there is none makes the next disk call of the checkpoint that is due. At the end it is left paused.
+fn take_or_call<D: SectorDisk, F: Name, R: Wait>(
+    rt: &R,
+    shared: &Shared<F>,
+    flusher: &mut Flusher<D, F>,
+) -> Turned
+    requires { need_of flusher.old.stage ≡ need.BatchOrDisk }
+    ensures since { IsSince D.disk flusher.old.stage flusher.new.stage }
+    ensures ended { MayEnd flusher.new.stage result }
+{
+    match find(shared.guarded.lock(rt), flusher.room()) {
+        Found::Batch(batch) => {
+            let _ = flusher.give(batch);
+        }
+        Found::Nothing => return call_disk(rt, shared, flusher),
+        Found::Closed => return Turned::Ended,
+        Found::NoMemory => thread::yield_now(),
+    }
+    Turned::Made
 }

@@ -6,7 +6,6 @@ use Rattle.iol_disk.specs.Disk.{Disk}
 use Rattle.iol_core.specs.Core.{CoreView}
 use Rattle.iol_core.specs.Submit.{IsSubmit}
 use Rattle.iol_core.specs.declared.ticket.SubmitFault.{SubmitFault}
-use Rattle.iol_flush.specs.Stages.{need_of}
 use Rattle.iol_flush.specs.declared.need.Need.{Need}
 use Rattle.iol_flush.specs.declared.need.Need.TheVariants as need
 use Rattle.iol_front.specs.Fronts.{CommittedView}
@@ -26,7 +25,7 @@ use Rattle.iol_run.specs.Runs.{RunView}
 use Rattle.iol_run.specs.Schedules.{IsFresh}
 use Rattle.iol_run.specs.Tasks.{HasMade}
 use Rattle.iol_run.specs.Steps.{Does, submit_told}
-use Rattle.iol_run.specs.Turns.{Takes, HasCalled, Serves, IsTurn}
+use Rattle.iol_run.specs.Turns.{Takes, HasCalled, Serves, IsTurn, met_by}
 use Rattle.iol_run.specs.declared.core_on_disk.Turned.{Turned}
 use Rattle.iol_run.specs.declared.core_on_disk.Turned.TheVariants.{Made, Idle, Waited}
 use Rattle.iol_run.specs.declared.step.Step.{Step}
@@ -113,6 +112,7 @@ module _ (t : ℕ) {D : Type 0} where
     serves_rises need.Batch old new told turned is = takes_rises old new told turned is
     serves_rises need.Disk old new told Made is = called_rises old new told is.2
     serves_rises need.Disk old new told Idle is = absurd is
+    serves_rises need.BatchOrDisk old new told turned is = absurd is
     serves_rises need.Disk old new told Waited is = silent_rises t old.core new.core told is.2 (ap (λ (m : CoreOnDiskView D).
         m.core.number) is.1)
     serves_rises need.Publish old new told turned is = silent_rises t old.core new.core told is.1.4 (ap (λ (c : CoreView). c.number) is.1.2)
@@ -125,7 +125,7 @@ module _ (t : ℕ) {D : Type 0} where
         let number = ap (λ (c : CoreView). c.number) is.1.0 in
         subst (λ (es : List Event). Rises old.core new.core (stamped t es)) (sym is.1.3)
         (one_rises t old.core new.core (Acknowledged new.core.number) refl (omega (arith, number)))
-    turn_rises None old new told turned is = serves_rises (need_of old.flusher.stage) old new told turned is
+    turn_rises None old new told turned is = serves_rises (met_by old) old new told turned is
 
     module _ {L : Type 0} (connection : L → ℕ) (allows : L → LinkCall → LinkAnswer → L → Type 0) where
       port_rises : (there : Bool) (port : ℕ) (old new : CoreOnDiskView D) (ports last : PortsView L) (told : List Event)

@@ -18,7 +18,6 @@ use Rattle.iol_core.specs.declared.stop.StopCause.{StopCause}
 use Rattle.iol_core.specs.declared.stop.StopCause.TheVariants.{DiskFailed}
 use Rattle.iol_core.specs.declared.ticket.SubmitFault.{SubmitFault}
 use Rattle.iol_core.specs.declared.upload.FinishFault.{FinishFault}
-use Rattle.iol_flush.specs.Stages.{need_of}
 use Rattle.iol_flush.specs.declared.need.Need.{Need}
 use Rattle.iol_flush.specs.declared.need.Need.TheVariants as need
 use Rattle.iol_front.specs.Fronts.{CommittedView}
@@ -48,7 +47,7 @@ use Rattle.iol_run.specs.Runs.{RunView}
 use Rattle.iol_run.specs.Schedules.{IsFresh}
 use Rattle.iol_run.specs.Steps.{Does, submit_told}
 use Rattle.iol_run.specs.Tasks.{HasMade}
-use Rattle.iol_run.specs.Turns.{Takes, HasCalled, Serves, IsTurn}
+use Rattle.iol_run.specs.Turns.{Takes, HasCalled, Serves, IsTurn, met_by}
 use Rattle.iol_run.specs.declared.core_on_disk.Turned.{Turned}
 use Rattle.iol_run.specs.declared.core_on_disk.Turned.TheVariants.{Made, Idle, Waited}
 use Rattle.iol_run.specs.declared.step.Step.{Step}
@@ -250,6 +249,7 @@ module _ (t : ℕ) where
         serves_knows need.Batch told turned is = takes_knows told turned is
         serves_knows need.Disk told Made is = called_knows told is.2
         serves_knows need.Disk told Idle is = absurd is
+        serves_knows need.BatchOrDisk told turned is = absurd is
         serves_knows need.Disk told Waited is = stays told is.2 is.1
         serves_knows need.Publish told turned is = silent told is.1.4 (ap (λ (c : CoreView). c.stopped) is.1.2)
         serves_knows need.Stopped told turned is = stays told is.2 is.1
@@ -258,7 +258,7 @@ module _ (t : ℕ) where
             → Knows (events ++ stamped t told) new.core
         turn_knows (Some committed) told turned is =
             on told (one_on old.core new.core told _ is.1.3 (λ never. never) (ap (λ (c : CoreView). c.stopped) is.1.0))
-        turn_knows None told turned is = serves_knows (need_of old.flusher.stage) told turned is
+        turn_knows None told turned is = serves_knows (met_by old) told turned is
 
         step_knows : {L : Type 0} (number : L → ℕ) (steps : L → LinkCall → LinkAnswer → L → Type 0) (step : Step) (ports last : PortsView L)
             (told : List Event) (turned : Turned) → Does disk number steps step old new ports last told turned

@@ -18,7 +18,7 @@ use Rattle.iol_flush.specs.Stages as flush
 use Rattle.iol_flush.specs.Stages.{FlusherView, StandsBehind, FitsArea}
 use Rattle.iol_flush.specs.Steps.{HasTaken, HasPublished}
 use Rattle.iol_flush.specs.declared.stage.Stage.{Stage}
-use Rattle.iol_flush.specs.declared.stage.Stage.TheVariants.{Resting, Given, Checkpointing, Writing, Publishing, Failed}
+use Rattle.iol_flush.specs.declared.stage.Stage.TheVariants.{Resting, Opening, Given, Checkpointing, Writing, Publishing, Failed}
 use Rattle.iol_front.specs.Fronts.{Start, CommittedView}
 use Rattle.iol_journal.specs.Body.{records_of, slots_of, slots_for}
 use Rattle.iol_journal.specs.Journals.{values}
@@ -98,6 +98,7 @@ module _ {D : Type 0} where
         subst (λ (u : Stage D). GoesOn u) (sym taken)
             (taken_fits start published old new j.standing batch room stands.number stands.state durable is fits passes bound),
       )
+      given (Opening c) published t list taken same stands fits durable = absurd taken
       given (Given j b) published t list taken same stands fits durable = absurd taken
       given (Checkpointing c b) published t list taken same stands fits durable = absurd taken
       given (Writing w) published t list taken same stands fits durable = absurd taken
@@ -140,6 +141,7 @@ module _ {D : Type 0} where
         subst (λ (v : FlusherView D). IsAtRest v.stage) (sym has.0) tt,
       )
       published (Resting j) list has durable flight = absurd has
+      published (Opening c) list has durable flight = absurd has
       published (Given j b) list has durable flight = absurd has
       published (Checkpointing c b) list has durable flight = absurd has
       published (Writing w) list has durable flight = absurd has
@@ -151,6 +153,7 @@ module _ {D : Type 0} where
   list_is (Publishing j written) list new committed has =
       ap (λ (v : FlusherView D). v.published) has.0 ∙ ap (λ (cs : List CommandValue). list ++ cs) (sym has.2)
   list_is (Resting j) list new committed has = absurd has
+  list_is (Opening c) list new committed has = absurd has
   list_is (Given j b) list new committed has = absurd has
   list_is (Checkpointing c b) list new committed has = absurd has
   list_is (Writing w) list new committed has = absurd has
@@ -162,6 +165,7 @@ module _ {D : Type 0} where
       → committed.before ≡ list
   before_is (Publishing j written) list new committed has = has.1
   before_is (Resting j) list new committed has = absurd has
+  before_is (Opening c) list new committed has = absurd has
   before_is (Given j b) list new committed has = absurd has
   before_is (Checkpointing c b) list new committed has = absurd has
   before_is (Writing w) list new committed has = absurd has
@@ -224,6 +228,7 @@ module _ {D : Type 0} where
     where
       rests : (s : Stage D) → IsAtRest s → HasFlight (acknowledged core seen) s × GoesOn s
       rests (Resting j) at = (refl, tt)
+      rests (Opening c) at = absurd at
       rests (Given j b) at = absurd at
       rests (Checkpointing c b) at = absurd at
       rests (Writing w) at = absurd at

@@ -12,7 +12,7 @@ use Rattle.iol_flush.proofs.RunLaws.{accepts_more}
 use Rattle.iol_flush.specs.Flushing.{IsFlushing}
 use Rattle.iol_flush.specs.Stages.{FlusherView}
 use Rattle.iol_flush.specs.declared.stage.Stage.{Stage}
-use Rattle.iol_flush.specs.declared.stage.Stage.TheVariants.{Resting, Given, Checkpointing, Writing, Publishing, Failed}
+use Rattle.iol_flush.specs.declared.stage.Stage.TheVariants.{Resting, Opening, Given, Checkpointing, Writing, Publishing, Failed}
 use Rattle.iol_front.specs.Fronts.{Start, CommittedView}
 use Rattle.iol_journal.specs.Journals.{values}
 use Rattle.iol_port.specs.Calls.{Call, Replies, Passes}
@@ -35,6 +35,7 @@ module _ {D : Type 0} where
   pub flight_with : (core : CoreView) (permits : List (Option Grant)) (stage : Stage D) → HasFlight core stage
       → HasFlight (with_permits core permits) stage
   flight_with core permits (Resting j) is = is
+  flight_with core permits (Opening c) is = is
   flight_with core permits (Given j b) is = in_flight_with core permits (values b.commands.items) is
   flight_with core permits (Checkpointing c b) is = in_flight_with core permits (values b.commands.items) is
   flight_with core permits (Writing w) is = in_flight_with core permits w.commands is

@@ -11,7 +11,6 @@ use Rattle.iol_core.specs.Batches.{acknowledged}
 use Rattle.iol_core.specs.Core.{CoreView, live_number}
 use Rattle.iol_core.specs.Submit.{IsSubmit}
 use Rattle.iol_core.specs.declared.ticket.SubmitFault.{SubmitFault}
-use Rattle.iol_flush.specs.Stages.{need_of}
 use Rattle.iol_flush.specs.declared.need.Need.{Need}
 use Rattle.iol_flush.specs.declared.need.Need.TheVariants as need
 use Rattle.iol_front.specs.Fronts.{CommittedView}
@@ -29,7 +28,7 @@ use Rattle.iol_run.specs.Ports.{PortsView, StepsIf}
 use Rattle.iol_run.specs.Runs.{RunView}
 use Rattle.iol_run.specs.Schedules.{IsFresh}
 use Rattle.iol_run.specs.Steps.{Does, submit_told}
-use Rattle.iol_run.specs.Turns.{Takes, HasCalled, Serves, IsTurn}
+use Rattle.iol_run.specs.Turns.{Takes, HasCalled, Serves, IsTurn, met_by}
 use Rattle.iol_run.specs.declared.core_on_disk.Turned.{Turned}
 use Rattle.iol_run.specs.declared.core_on_disk.Turned.TheVariants.{Made, Idle, Waited}
 use Rattle.iol_run.specs.declared.step.Step.{Step}
@@ -222,6 +221,7 @@ module _ (first : ℕ) (start : State) where
       serves_stands need.Batch t events old new told turned is was = takes_stands t events old new told turned is was
       serves_stands need.Disk t events old new told Made is was = called_stands t events old new told is.2 was
       serves_stands need.Disk t events old new told Idle is was = absurd is
+      serves_stands need.BatchOrDisk t events old new told turned is was = absurd is
       serves_stands need.Disk t events old new told Waited is was =
           stays events (stamped t told) old.core new.core (ap (stamped t) is.2) (ap (λ (m : CoreOnDiskView D). m.core) is.1) was
       serves_stands need.Publish t events old new told turned is was =
@@ -235,7 +235,7 @@ module _ (first : ℕ) (start : State) where
       turn_stands (Some committed) t events old new told turned is was =
           subst (λ (es : List Event). Stands (events ++ stamped t es) new.core) (sym is.1.3)
           (acknowledges t events new.core.seen old.core new.core is.1.0 was)
-      turn_stands None t events old new told turned is was = serves_stands (need_of old.flusher.stage) t events old new told turned is was
+      turn_stands None t events old new told turned is was = serves_stands (met_by old) t events old new told turned is was
 
       -- a step of a run
       pub step_stands : {L : Type 0} (number : L → ℕ) (steps : L → LinkCall → LinkAnswer → L → Type 0) (step : Step) (t : ℕ)

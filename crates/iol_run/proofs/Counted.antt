@@ -7,7 +7,6 @@ use Rattle.iol_core.specs.Core.{CoreView, live_number}
 use Rattle.iol_core.specs.Submit.{IsSubmit, has_failed}
 use Rattle.iol_core.specs.Telling.{refusal_of}
 use Rattle.iol_core.specs.declared.ticket.SubmitFault.{SubmitFault}
-use Rattle.iol_flush.specs.Stages.{need_of}
 use Rattle.iol_flush.specs.declared.need.Need.{Need}
 use Rattle.iol_flush.specs.declared.need.Need.TheVariants as need
 use Rattle.iol_front.specs.Fronts.{CommittedView}
@@ -24,7 +23,7 @@ use Rattle.iol_run.proofs.TurnsLeft.{flies_within}
 use Rattle.iol_run.specs.CoreOnDisk.{CoreOnDiskView}
 use Rattle.iol_run.specs.Ports.{PortsView, StepsIf}
 use Rattle.iol_run.specs.Steps.{Does, submit_told}
-use Rattle.iol_run.specs.Turns.{Acknowledges, Takes, HasCalled, Serves, IsTurn}
+use Rattle.iol_run.specs.Turns.{Acknowledges, Takes, HasCalled, Serves, IsTurn, met_by}
 use Rattle.iol_run.specs.declared.core_on_disk.Turned.{Turned}
 use Rattle.iol_run.specs.declared.core_on_disk.Turned.TheVariants.{Made, Idle, Waited}
 use Rattle.iol_run.specs.declared.step.Step.{Step}
@@ -190,6 +189,7 @@ module _ (first t : ℕ) where
       serves_counted need.Batch old new events told turned is was = takes_counted old new events told turned is was
       serves_counted need.Disk old new events told Made is was = called_counted old new events told is.2 was
       serves_counted need.Disk old new events told Idle is was = absurd is
+      serves_counted need.BatchOrDisk old new events told turned is was = absurd is
       serves_counted need.Disk old new events told Waited is was = same_counted old new events told is.1 is.2 was
       serves_counted need.Publish old new events told turned is was =
           silent_counted old.core new.core events told is.1.4 (alike_same old.core new.core is.1.2) was
@@ -203,7 +203,7 @@ module _ (first t : ℕ) where
           acknowledged_counted old new committed events told is.1
           (subst (λ (c : Option CommittedView). IsServed layout old.core old.flusher.stage c) there served) was
       turn_counted None old new events told turned there is served was =
-          serves_counted (need_of old.flusher.stage) old new events told turned is was
+          serves_counted (met_by old) old new events told turned is was
 
       -- a step of a port: its call, and then its status
       port_counted : {L : Type 0} (number : L → ℕ) (steps : L → LinkCall → LinkAnswer → L → Type 0) (there : Bool) (port : ℕ)

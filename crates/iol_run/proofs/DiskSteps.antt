@@ -7,12 +7,12 @@ use Rattle.iol_core.specs.declared.ticket.SubmitFault.{SubmitFault}
 use Rattle.iol_disk.specs.Calls.{Call}
 use Rattle.iol_disk.specs.Disk.{Disk}
 use Rattle.iol_disk.specs.declared.fault.DiskFault.{DiskFault}
-use Rattle.iol_flush.specs.Stages.{FlusherView, disk_of, need_of}
+use Rattle.iol_flush.specs.Stages.{FlusherView, disk_of}
 use Rattle.iol_flush.specs.Steps.{HasTaken, HasPublished}
 use Rattle.iol_flush.specs.declared.need.Need.{Need}
 use Rattle.iol_flush.specs.declared.need.Need.TheVariants as need
 use Rattle.iol_flush.specs.declared.stage.Stage.{Stage}
-use Rattle.iol_flush.specs.declared.stage.Stage.TheVariants.{Resting, Given, Checkpointing, Writing, Publishing, Failed}
+use Rattle.iol_flush.specs.declared.stage.Stage.TheVariants.{Resting, Opening, Given, Checkpointing, Writing, Publishing, Failed}
 use Rattle.iol_front.specs.Fronts.{CommittedView}
 use Rattle.iol_journal.specs.Progress.{MakesFirst, FailsFirst}
 use Rattle.iol_journal.specs.declared.batch.Batch.{Batch}
@@ -26,7 +26,7 @@ use Rattle.iol_run.proofs.Quiet.{quiet_fails, stamped_both}
 use Rattle.iol_run.specs.CoreOnDisk.{CoreOnDiskView}
 use Rattle.iol_run.specs.Ports.{PortsView, StepsIf}
 use Rattle.iol_run.specs.Steps.{Does, submit_told}
-use Rattle.iol_run.specs.Turns.{Takes, HasCalled, Serves, IsTurn}
+use Rattle.iol_run.specs.Turns.{Takes, HasCalled, Serves, IsTurn, met_by}
 use Rattle.iol_run.specs.declared.core_on_disk.Turned.{Turned}
 use Rattle.iol_run.specs.declared.core_on_disk.Turned.TheVariants.{Made, Idle, Waited}
 use Rattle.iol_run.specs.declared.step.Step.{Step}
@@ -78,6 +78,7 @@ module _ {D : Type 0} (disk : D → Disk) where
 
   taken_disk : (s t : Stage D) (batch : Batch) → HasTaken s batch t → disk (disk_of t) ≡ disk (disk_of s)
   taken_disk (Resting j) t batch has = ap (λ (u : Stage D). disk (disk_of u)) has
+  taken_disk (Opening c) t batch has = absurd has
   taken_disk (Given j b) t batch has = absurd has
   taken_disk (Checkpointing c b) t batch has = absurd has
   taken_disk (Writing w) t batch has = absurd has
@@ -89,6 +90,7 @@ module _ {D : Type 0} (disk : D → Disk) where
       → disk (disk_of new.stage) ≡ disk (disk_of s)
   published_disk (Publishing j written) published new committed has = ap (λ (f : FlusherView D). disk (disk_of f.stage)) has.0
   published_disk (Resting j) published new committed has = absurd has
+  published_disk (Opening c) published new committed has = absurd has
   published_disk (Given j b) published new committed has = absurd has
   published_disk (Checkpointing c b) published new committed has = absurd has
   published_disk (Writing w) published new committed has = absurd has
@@ -110,6 +112,7 @@ module _ {D : Type 0} (disk : D → Disk) where
   serves_step need.Batch old new told turned is = takes_step old new told turned is
   serves_step need.Disk old new told Made is = called_step old new told is.2
   serves_step need.Disk old new told Idle is = absurd is
+  serves_step need.BatchOrDisk old new told turned is = absurd is
   serves_step need.Disk old new told Waited is = master_same old new told is.1 (silent told is.2)
   serves_step need.Publish old new told turned is =
       Stays (published_disk old.flusher.stage old.flusher.published new.flusher is.1.0 is.1.1) (silent told is.1.4)
@@ -119,7 +122,7 @@ module _ {D : Type 0} (disk : D → Disk) where
       → IsTurn disk committed old new told turned
       → StageStep old.flusher.stage new.flusher.stage told
   turn_step (Some committed) old new told turned is = flusher_same old new told is.1.1 (telling told _ is.1.3 (λ never. never))
-  turn_step None old new told turned is = serves_step (need_of old.flusher.stage) old new told turned is
+  turn_step None old new told turned is = serves_step (met_by old) old new told turned is
 
   module _ {L : Type 0} (connection : L → ℕ) (allows : L → LinkCall → LinkAnswer → L → Type 0) where
     port_step : (there : Bool) (port : ℕ) (old new : CoreOnDiskView D) (ports last : PortsView L) (told : List Event)

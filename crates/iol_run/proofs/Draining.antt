@@ -3,8 +3,8 @@ use Rattle.std.proofs.Common.{◌≡◌, refl, ◌≢◌, ℕ, ◌+◌, true, Li
 use Rattle.std.proofs.Common.{◌∙◌, subst, arith}
 use Rattle.std.proofs.lemmas.List.{take_all}
 use Rattle.iol_disk.specs.Disk.{Disk}
+use Rattle.iol_core.specs.Batches.{has_batch}
 use Rattle.iol_core.specs.Submit.{has_failed}
-use Rattle.iol_flush.specs.Stages.{need_of}
 use Rattle.iol_flush.specs.declared.need.Need.{Need}
 use Rattle.iol_flush.specs.declared.need.Need.TheVariants as need
 use Rattle.iol_front.specs.Fronts.{CommittedView}
@@ -22,7 +22,7 @@ use Rattle.iol_run.specs.Flushed.{AllDrained}
 use Rattle.iol_run.specs.Runs.{RunView}
 use Rattle.iol_run.specs.Schedules.{IsFresh}
 use Rattle.iol_run.specs.Tasks.{HasMade, HasDrained, HasTried, HasDoneAll, EndsAfter, HasRun}
-use Rattle.iol_run.specs.Turns.{Serves, IsTurn}
+use Rattle.iol_run.specs.Turns.{Serves, IsTurn, met_by}
 use Rattle.iol_run.specs.declared.core_on_disk.Turned.TheVariants.{Made, Idle}
 use Rattle.iol_run.specs.declared.schedule.Ended.{Ended}
 use Rattle.iol_run.specs.declared.schedule.Ended.TheVariants.{Whole}
@@ -36,17 +36,18 @@ idle_unmade same = cc
 
 module _ {D : Type 0} (layout : Layout) (disk : D → Disk) where
   -- where the flusher is served and finds nothing to do, nothing waits
-  serves_none : (need : Need) (old new : CoreOnDiskView D) (told : List Event) → need_of old.flusher.stage ≡ need
+  serves_none : (need : Need) (old new : CoreOnDiskView D) (told : List Event) → met_by old ≡ need
       → Serves disk need old new told Idle → IsServed layout old.core old.flusher.stage None → (has_failed old.core.stopped ≡ true → ⊥)
       → length new.core.queue ≡ 0
   serves_none need.Batch old new told needs is was sound =
       ap (λ (master : CoreOnDiskView D). length master.core.queue) is.1
       ∙ nothing_waits (length old.core.queue) old.core.flight (has_failed old.core.stopped) is.0
-      (resting layout old.core old.flusher.stage needs was.batch).1 sound
+      (resting layout old.core old.flusher.stage (has_batch old.core) needs was.batch).1 sound
   serves_none need.Disk old new told needs is was sound = absurd is
+  serves_none need.BatchOrDisk old new told needs is was sound = absurd is
   serves_none need.Publish old new told needs is was sound = absurd (idle_unmade is.0)
   serves_none need.Stopped old new told needs is was sound =
-      absurd (sound (stopped layout disk old.core old.flusher.stage needs was.batch))
+      absurd (sound (stopped layout disk old.core old.flusher.stage (has_batch old.core) needs was.batch))
 
   -- a turn that finds nothing to do leaves nothing that waits
   turns_none : (committed : Option CommittedView) (old new : CoreOnDiskView D) (told : List Event) → old.committed ≡ committed
@@ -54,7 +55,7 @@ module _ {D : Type 0} (layout : Layout) (disk : D → Disk) where
       → length new.core.queue ≡ 0
   turns_none (Some committed) old new told there is was sound = absurd (idle_unmade is.0)
   turns_none None old new told there is was sound =
-      serves_none (need_of old.flusher.stage) old new told refl is
+      serves_none (met_by old) old new told refl is
       (subst (λ (c : Option CommittedView). IsServed layout old.core old.flusher.stage c) there was) sound
 
 module _ {D L : Type 0} (disk : D → Disk) (connection : L → ℕ) (allows : L → LinkCall → LinkAnswer → L → Type 0) where

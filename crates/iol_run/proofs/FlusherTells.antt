@@ -1,13 +1,12 @@
 -- A turn of the flusher tells of no port.
 use Rattle.std.proofs.Common.{◌≡◌, ℕ, List, [], ◌∷◌, Option, Some, None, ap, ◌∙◌}
 use Rattle.iol_disk.specs.Disk.{Disk}
-use Rattle.iol_flush.specs.Stages.{need_of}
 use Rattle.iol_flush.specs.declared.need.Need.{Need}
 use Rattle.iol_flush.specs.declared.need.Need.TheVariants as need
 use Rattle.iol_front.specs.Fronts.{CommittedView}
 use Rattle.iol_trace.specs.Events.{Event, Acknowledged, DiskFailed}
 use Rattle.iol_run.specs.CoreOnDisk.{CoreOnDiskView}
-use Rattle.iol_run.specs.Turns.{Takes, HasCalled, Serves, IsTurn}
+use Rattle.iol_run.specs.Turns.{Takes, HasCalled, Serves, IsTurn, met_by}
 use Rattle.iol_run.specs.declared.core_on_disk.Turned.{Turned}
 use Rattle.iol_run.specs.declared.core_on_disk.Turned.TheVariants.{Made, Idle, Waited}
 
@@ -33,6 +32,7 @@ module _ {A : Type 0} (say : List Event → List A) where
     serves_says need.Batch old new told turned is = takes_says old new told turned is
     serves_says need.Disk old new told Made is = called_says old new told is.2
     serves_says need.Disk old new told Idle is = absurd is
+    serves_says need.BatchOrDisk old new told turned is = absurd is
     serves_says need.Disk old new told Waited is = ap say is.2 ∙ over.none
     serves_says need.Publish old new told turned is = ap say is.1.4 ∙ over.none
     serves_says need.Stopped old new told turned is = ap say is.2 ∙ over.none
@@ -40,4 +40,4 @@ module _ {A : Type 0} (say : List Event → List A) where
     pub turn_says : (committed : Option CommittedView) (old new : CoreOnDiskView D) (told : List Event) (turned : Turned)
         → IsTurn disk committed old new told turned → say told ≡ []
     turn_says (Some committed) old new told turned is = ap say is.1.3 ∙ over.acknowledged _
-    turn_says None old new told turned is = serves_says (need_of old.flusher.stage) old new told turned is
+    turn_says None old new told turned is = serves_says (met_by old) old new told turned is

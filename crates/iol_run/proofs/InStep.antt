@@ -16,7 +16,7 @@ use Rattle.iol_flush.proofs.RunLaws.{accepts_more}
 use Rattle.iol_flush.specs.Flushing.{IsFlushing}
 use Rattle.iol_flush.specs.Stages.{FlusherView}
 use Rattle.iol_flush.specs.declared.stage.Stage.{Stage}
-use Rattle.iol_flush.specs.declared.stage.Stage.TheVariants.{Resting, Given, Checkpointing, Writing, Publishing, Failed}
+use Rattle.iol_flush.specs.declared.stage.Stage.TheVariants.{Resting, Opening, Given, Checkpointing, Writing, Publishing, Failed}
 use Rattle.iol_front.specs.Fronts.{Start, CommittedView}
 use Rattle.iol_journal.specs.Journals.{values}
 use Rattle.iol_journal.specs.Runs.{Mark}
@@ -46,6 +46,7 @@ module _ {D : Type 0} where
   pub flight_stays : (core : CoreView) (command : CommandValue) (stage : Stage D) → HasFlight core stage
       → HasFlight (queued core command) stage
   flight_stays core command (Resting j) is = is
+  flight_stays core command (Opening c) is = is
   flight_stays core command (Given j b) is = more_waits core command (values b.commands.items) is
   flight_stays core command (Checkpointing c b) is = more_waits core command (values b.commands.items) is
   flight_stays core command (Writing w) is = more_waits core command w.commands is

@@ -8,11 +8,11 @@ use Rattle.iol_core.specs.Telling.{refusal_of}
 use Rattle.iol_core.specs.declared.ticket.SubmitFault.{SubmitFault}
 use Rattle.iol_flush.proofs.RunLaws.{marked_later, acknowledges}
 use Rattle.iol_flush.specs.Flushing.{IsFlushing}
-use Rattle.iol_flush.specs.Stages.{FlusherView, disk_of, need_of}
+use Rattle.iol_flush.specs.Stages.{FlusherView, disk_of}
 use Rattle.iol_flush.specs.declared.need.Need.{Need}
 use Rattle.iol_flush.specs.declared.need.Need.TheVariants as need
 use Rattle.iol_flush.specs.declared.stage.Stage.{Stage}
-use Rattle.iol_flush.specs.declared.stage.Stage.TheVariants.{Resting, Given, Checkpointing, Writing, Publishing, Failed}
+use Rattle.iol_flush.specs.declared.stage.Stage.TheVariants.{Resting, Opening, Given, Checkpointing, Writing, Publishing, Failed}
 use Rattle.iol_front.specs.Fronts.{Start, CommittedView}
 use Rattle.iol_journal.specs.Runs.{Mark}
 use Rattle.iol_trace.proofs.CrashPrefix.{marks-push, marks-newest}
@@ -28,7 +28,7 @@ use Rattle.iol_run.proofs.Batches.{acknowledged_in_step}
 use Rattle.iol_run.specs.CoreOnDisk.{CoreOnDiskView, IsAtRest, IsInStep, clock_of, IsRunning}
 use Rattle.iol_run.specs.Ports.{PortsView, StepsIf}
 use Rattle.iol_run.specs.Steps.{Does, submit_told}
-use Rattle.iol_run.specs.Turns.{Acknowledges, Takes, HasCalled, Serves, IsTurn}
+use Rattle.iol_run.specs.Turns.{Acknowledges, Takes, HasCalled, Serves, IsTurn, met_by}
 use Rattle.iol_run.specs.declared.core_on_disk.Turned.{Turned}
 use Rattle.iol_run.specs.declared.core_on_disk.Turned.TheVariants.{Made, Idle, Waited}
 use Rattle.iol_run.specs.declared.step.Step.{Step}
@@ -107,6 +107,7 @@ module _ {D : Type 0} (disk : D → Disk) (start : Start) (begun : ℕ) where
       → IsFlushing disk start.number start.state published waiting marks s
       → IsFlushing disk start.number start.state published waiting (mark (clock (disk (disk_of s)).content) n ∷ marks) s
   rest_mark published waiting marks n (Resting j) at le was = acknowledges disk start.number start.state published waiting marks n j le was
+  rest_mark published waiting marks n (Opening c) at le was = absurd at
   rest_mark published waiting marks n (Given j b) at le was = absurd at
   rest_mark published waiting marks n (Checkpointing c b) at le was = absurd at
   rest_mark published waiting marks n (Writing w) at le was = absurd at
@@ -149,6 +150,7 @@ module _ {D : Type 0} (disk : D → Disk) (start : Start) (begun : ℕ) where
   serves_mark need.Batch old new events told turned is was = takes_mark old new events told turned is was
   serves_mark need.Disk old new events told Made is was = called_mark old new events told is.2 was
   serves_mark need.Disk old new events told Idle is was = absurd is
+  serves_mark need.BatchOrDisk old new events told turned is was = absurd is
   serves_mark need.Disk old new events told Waited is was = silent_mark new events told is.2 was
   serves_mark need.Publish old new events told turned is was = silent_mark new events told is.1.4 was
   serves_mark need.Stopped old new events told turned is was = silent_mark new events told is.2 was
@@ -157,7 +159,7 @@ module _ {D : Type 0} (disk : D → Disk) (start : Start) (begun : ℕ) where
       → IsInStep start old.core old.flusher committed → IsTurn disk committed old new told turned → Marked new events
       → Marked new (events ++ stamped (clock_of disk new) told)
   turn_mark (Some committed) old new events told turned step is was = acknowledged_mark old new committed events told is.1 step was
-  turn_mark None old new events told turned step is was = serves_mark (need_of old.flusher.stage) old new events told turned is was
+  turn_mark None old new events told turned step is was = serves_mark (met_by old) old new events told turned is was
 
   submit_mark : (new : CoreOnDiskView D) (command : CommandValue) (events : List Stamp) (told : List Event) (answer : Result ℕ SubmitFault)
       → told ≡ submit_told command answer → Marked new events → Marked new (events ++ stamped (clock_of disk new) told)

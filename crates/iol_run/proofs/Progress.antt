@@ -1,20 +1,25 @@
 -- Each turn of the flusher that has not to wait leaves fewer turns.
-use Rattle.std.proofs.Common.{◌≡◌, refl, ◌≤◌, ℕ, zero, suc, ◌+◌, ◌-◌, ◌*◌, ◌&&◌, nat_eq, not, Bool, true, false, List, []}
+use Rattle.std.proofs.Common.{◌≡◌, refl, ◌≤◌, ◌⊎◌, inl, inr, ℕ, zero, suc, ◌+◌, ◌-◌, ◌*◌, ◌&&◌, nat_eq, nat_lt, not, Bool, true, false}
+use Rattle.std.proofs.Common.{if◌then◌else◌, List, [], Ok}
 use Rattle.std.proofs.Common.{◌∷◌, length, Option, Some, None, ap, sym, ◌∙◌, subst, arith, rules, length-drop}
+use Rattle.std.proofs.lemmas.Bool.Decides.{nat_tests}
 use Rattle.std.proofs.Math.Nat.{mul-le-mul_right, mul-zero, one-mul}
 use Rattle.iol_disk.specs.Disk.{Disk}
+use Rattle.iol_core.specs.Batches.{has_batch}
 use Rattle.iol_core.specs.Core.{CoreView}
 use Rattle.iol_core.specs.Submit.{has_failed}
 use Rattle.iol_flush.proofs.Turns.{advances}
-use Rattle.iol_flush.specs.Stages.{FlusherView, HasFewCalls, wants_checkpoint, room_of, need_of}
-use Rattle.iol_flush.specs.Steps.{HasTaken, HasPublished}
+use Rattle.iol_flush.proofs.LastCalls.{none_behind}
+use Rattle.iol_flush.specs.Stages.{FlusherView, HasFewCalls, is_due, wants_checkpoint, room_of, need_of}
+use Rattle.iol_flush.specs.Steps.{checkpoint_of, HasAdvanced, HasTaken, HasPublished, IsDiskStep}
 use Rattle.iol_flush.specs.Turns.{calls_needed, given_calls}
 use Rattle.iol_flush.specs.declared.need.Need.{Need}
 use Rattle.iol_flush.specs.declared.need.Need.TheVariants as need
 use Rattle.iol_flush.specs.declared.stage.Stage.{Stage}
-use Rattle.iol_flush.specs.declared.stage.Stage.TheVariants.{Resting, Given, Checkpointing, Writing, Publishing, Failed}
+use Rattle.iol_flush.specs.declared.stage.Stage.TheVariants.{Resting, Opening, Given, Checkpointing, Writing, Publishing, Failed}
 use Rattle.iol_front.specs.Fronts.{CommittedView}
 use Rattle.iol_types.specs.Command.{CommandValue}
+use Rattle.iol_journal.specs.CheckpointViews.{CheckpointingView}
 use Rattle.iol_journal.specs.Layout.{Layout}
 use Rattle.iol_journal.specs.Journals.{values}
 use Rattle.iol_journal.specs.declared.batch.Batch.{Batch}
@@ -26,7 +31,7 @@ use Rattle.iol_run.proofs.TurnsLeft.{HasBatch, HasLayout, own_turns, turns_behin
 use Rattle.iol_run.specs.CoreOnDisk.{CoreOnDiskView, IsInFlight, HasFlight, IsAtRest}
 use Rattle.iol_run.specs.Flushed.{batch_turns}
 use Rattle.iol_run.specs.Tasks.{waits_of}
-use Rattle.iol_run.specs.Turns.{Acknowledges, Takes, HasCalled, Publishes, Serves, IsTurn}
+use Rattle.iol_run.specs.Turns.{need_met, met_by, Acknowledges, Takes, HasCalled, Publishes, Serves, IsTurn}
 use Rattle.iol_run.specs.declared.core_on_disk.Turned.{Turned}
 use Rattle.iol_run.specs.declared.core_on_disk.Turned.TheVariants.{Made, Idle, Waited}
 
@@ -47,30 +52,65 @@ nothing_waits (suc n) flies true none rests sound = absurd (sound refl)
 nothing_waits (suc n) zero false none rests sound = search rules
 nothing_waits (suc n) (suc flies) false none rests sound = absurd (omega (arith, rests))
 
+-- the last call of a checkpoint is a turn where something waits
+last_turn : (waits : ℕ) (some : Bool) → nat_lt 0 waits ≡ some → 1 ≤ waits → 1 ≤ (if some then 1 else 0)
+last_turn waits true is le = omega arith
+last_turn waits false is le = let none : waits ≡ 0 = grind (arith, nat_tests, is) in absurd (omega (arith, none, le))
+
+-- where the need of a disk call is met beside a batch, no batch may be taken
+none_there : (due there : Bool) → need_met (if due then need.BatchOrDisk else need.Batch) there ≡ need.Disk → there ≡ false
+none_there true true met = search rules
+none_there true false met = refl
+none_there false there met = search rules
+
 module _ {D : Type 0} where
-  rests_own : (stage : Stage D) → IsAtRest stage → own_turns stage None ≡ 0
-  rests_own (Resting j) at = refl
-  rests_own (Given j b) at = absurd at
-  rests_own (Checkpointing c b) at = absurd at
-  rests_own (Writing w) at = absurd at
-  rests_own (Publishing j written) at = absurd at
-  rests_own (Failed d f) at = absurd at
+  rests_own : (waits : ℕ) (stage : Stage D) → IsAtRest stage → own_turns waits stage None ≡ 0
+  rests_own waits (Resting j) at = refl
+  rests_own waits (Opening c) at = absurd at
+  rests_own waits (Given j b) at = absurd at
+  rests_own waits (Checkpointing c b) at = absurd at
+  rests_own waits (Writing w) at = absurd at
+  rests_own waits (Publishing j written) at = absurd at
+  rests_own waits (Failed d f) at = absurd at
 
-  own_calls : (stage : Stage D) → own_turns stage None ≤ calls_needed stage + 1
-  own_calls (Resting j) = omega arith
-  own_calls (Given j b) = omega arith
-  own_calls (Checkpointing c b) = omega arith
-  own_calls (Writing w) = omega arith
-  own_calls (Publishing j written) = omega arith
-  own_calls (Failed d f) = omega arith
+  own_calls : (waits : ℕ) (stage : Stage D) → own_turns waits stage None ≤ calls_needed stage + 1
+  own_calls waits (Resting j) = omega arith
+  own_calls waits (Opening c) = one (nat_lt 0 waits)
+    where
+      one : (last : Bool) → (if last then 1 else 0) ≤ 1
+      one true = omega arith
+      one false = omega arith
+  own_calls waits (Given j b) = omega arith
+  own_calls waits (Checkpointing c b) = omega arith
+  own_calls waits (Writing w) = omega arith
+  own_calls waits (Publishing j written) = omega arith
+  own_calls waits (Failed d f) = omega arith
 
-  disk_calls : (stage : Stage D) → need_of stage ≡ need.Disk → own_turns stage None ≡ calls_needed stage + 1
-  disk_calls (Given j b) is = refl
-  disk_calls (Checkpointing c b) is = refl
-  disk_calls (Writing w) is = refl
-  disk_calls (Resting j) is = search rules
-  disk_calls (Publishing j written) is = search rules
-  disk_calls (Failed d f) is = search rules
+  -- while nothing waits, a checkpoint for which no batch waits counts no turns
+  advanced_own : (c : CheckpointingView D) (stage : Stage D) → HasAdvanced c stage → own_turns 0 stage None ≡ 0
+  advanced_own c (Resting j) has = refl
+  advanced_own c (Opening d) has = refl
+  advanced_own c (Given j b) has = absurd has
+  advanced_own c (Checkpointing d b) has = absurd has
+  advanced_own c (Writing w) has = absurd has
+  advanced_own c (Publishing j written) has = absurd has
+  advanced_own c (Failed d f) has = absurd has
+
+  -- behind its last call it counts none
+  ended_own : (waits : ℕ) (c : CheckpointingView D) (stage : Stage D) → HasFewCalls (Opening c) → HasAdvanced c stage
+      → own_turns waits stage None ≡ 0
+  ended_own waits c (Resting j) few has = refl
+  ended_own waits c (Opening d) few has = absurd (none_behind c.standing c.begun d.begun few has.behind)
+  ended_own waits c (Given j b) few has = absurd has
+  ended_own waits c (Checkpointing d b) few has = absurd has
+  ended_own waits c (Writing w) few has = absurd has
+  ended_own waits c (Publishing j written) few has = absurd has
+  ended_own waits c (Failed d f) few has = absurd has
+
+  -- fewer turns are left behind a disk call, or nothing waits
+  abbrev IsLess : ℕ → Stage D → Stage D → Type 0
+  IsLess waits old new =
+      (own_turns waits new None + 1 ≤ own_turns waits old None) ⊎ ((waits ≡ 0) × (own_turns waits new None ≡ 0))
 
 module _ {D : Type 0} (layout : Layout) where
   -- the turns that are left of a master
@@ -84,17 +124,18 @@ module _ {D : Type 0} (layout : Layout) where
   acknowledged_fewer : (old new : CoreOnDiskView D) (committed : CommittedView) (told : List Event) → old.committed ≡ Some committed
       → Acknowledges old new told → IsAtRest old.flusher.stage → IsFewer old new
   acknowledged_fewer old new committed told there is at =
-      less_own (own_turns old.flusher.stage old.committed) (own_turns new.flusher.stage new.committed) (turns_behind layout old.core)
-      (turns_behind layout new.core)
+      less_own (own_turns (length old.core.queue) old.flusher.stage old.committed)
+      (own_turns (length new.core.queue) new.flusher.stage new.committed) (turns_behind layout old.core) (turns_behind layout new.core)
       (omega (arith, before, after)) (ap (λ (n : ℕ). batch_turns layout * n) behind)
     where
-      before : own_turns old.flusher.stage old.committed ≡ 1
-      before = ap (own_turns old.flusher.stage) there
+      before : own_turns (length old.core.queue) old.flusher.stage old.committed ≡ 1
+      before = ap (own_turns (length old.core.queue) old.flusher.stage) there
 
-      after : own_turns new.flusher.stage new.committed ≡ 0
+      after : own_turns (length new.core.queue) new.flusher.stage new.committed ≡ 0
       after =
-          ap (own_turns new.flusher.stage) is.2
-          ∙ (ap (λ (f : FlusherView D). own_turns f.stage None) is.1 ∙ rests_own old.flusher.stage at)
+          ap (own_turns (length new.core.queue) new.flusher.stage) is.2
+          ∙ (ap (λ (f : FlusherView D). own_turns (length new.core.queue) f.stage None) is.1
+          ∙ rests_own (length new.core.queue) old.flusher.stage at)
 
       behind : length new.core.queue - new.core.flight ≡ length old.core.queue - old.core.flight
       behind =
@@ -105,47 +146,53 @@ module _ {D : Type 0} (layout : Layout) where
             length-drop old.core.flight old.core.queue,
           )
 
-  taken_own : (s t : Stage D) (batch : Batch) → HasTaken s batch t → HasLayout layout s → 1 ≤ length (values batch.commands.items)
-      → own_turns t None + 1 ≤ batch_turns layout * length (values batch.commands.items)
-  taken_own (Resting j) t batch has same some =
+  taken_own : (waits : ℕ) (s t : Stage D) (batch : Batch) → HasTaken s batch t → HasLayout layout s
+      → 1 ≤ length (values batch.commands.items)
+      → own_turns waits t None + 1 ≤ batch_turns layout * length (values batch.commands.items)
+  taken_own waits (Resting j) t batch has same some =
       let commands = values batch.commands.items in
       let full = wants_checkpoint j.standing commands in
-      subst (λ (u : Stage D). own_turns u None + 1 ≤ batch_turns layout * length commands) (sym has)
+      subst (λ (u : Stage D). own_turns waits u None + 1 ≤ batch_turns layout * length commands) (sym has)
       (subst (λ (l : Layout). given_calls l commands j.begun full + 1 + 1 ≤ batch_turns layout * length commands) (sym same)
       (given_turns layout commands j.begun full some))
-  taken_own (Given j b) t batch has same some = absurd has
-  taken_own (Checkpointing c b) t batch has same some = absurd has
-  taken_own (Writing w) t batch has same some = absurd has
-  taken_own (Publishing j written) t batch has same some = absurd has
-  taken_own (Failed d f) t batch has same some = absurd has
+  taken_own waits (Opening c) t batch has same some = absurd has
+  taken_own waits (Given j b) t batch has same some = absurd has
+  taken_own waits (Checkpointing c b) t batch has same some = absurd has
+  taken_own waits (Writing w) t batch has same some = absurd has
+  taken_own waits (Publishing j written) t batch has same some = absurd has
+  taken_own waits (Failed d f) t batch has same some = absurd has
 
-  pub resting : (core : CoreView) (stage : Stage D) → need_of stage ≡ need.Batch → HasFlight core stage → (own_turns stage None ≡ 0)
-      × (core.flight ≡ 0)
-  resting core (Resting j) is flight = (refl, flight)
-  resting core (Given j b) is flight = search rules
-  resting core (Checkpointing c b) is flight = search rules
-  resting core (Writing w) is flight = search rules
-  resting core (Publishing j written) is flight = search rules
-  resting core (Failed d f) is flight = search rules
+  pub resting : (core : CoreView) (stage : Stage D) (there : Bool) → need_met (need_of stage) there ≡ need.Batch → HasFlight core stage
+      → IsAtRest stage × (core.flight ≡ 0)
+  resting core (Resting j) there is flight = (tt, flight)
+  resting core (Opening c) there is flight = search rules
+  resting core (Given j b) there is flight = search rules
+  resting core (Checkpointing c b) there is flight = search rules
+  resting core (Writing w) there is flight = search rules
+  resting core (Publishing j written) there is flight = search rules
+  resting core (Failed d f) there is flight = search rules
 
-  takes_fewer : (old new : CoreOnDiskView D) (told : List Event) (turned : Turned) → old.committed ≡ None → need_of old.flusher.stage
-      ≡ need.Batch
+  takes_fewer : (old new : CoreOnDiskView D) (told : List Event) (turned : Turned) → old.committed ≡ None → met_by old ≡ need.Batch
       → Takes old new told turned → IsServed layout old.core old.flusher.stage None → waits_of turned ≡ 0
       → (has_failed old.core.stopped ≡ true → ⊥)
       → IsFewer old new
   takes_fewer old new told Made none needs is was waits sound =
       subst (λ (n : ℕ). left_of new ≤ n + turns_behind layout old.core - 1) (sym before)
-      (less_behind (own_turns new.flusher.stage new.committed) (turns_behind layout old.core) (turns_behind layout new.core)
-      (subst (λ (n : ℕ). own_turns new.flusher.stage new.committed + 1 + turns_behind layout new.core ≤ n)
+      (less_behind own_new (turns_behind layout old.core) (turns_behind layout new.core)
+      (subst (λ (n : ℕ). own_new + 1 + turns_behind layout new.core ≤ n)
       (ap (λ (n : ℕ). batch_turns layout * n) waiting)
-      (fewer_behind (batch_turns layout) (length new.core.queue) new.core.flight (own_turns new.flusher.stage new.committed + 1)
+      (fewer_behind (batch_turns layout) (length new.core.queue) new.core.flight (own_new + 1)
       own (flies_within new.core commands flight).1)))
     where
-      rest : (own_turns old.flusher.stage None ≡ 0) × (old.core.flight ≡ 0)
-      rest = resting old.core old.flusher.stage needs was.batch
+      own_new : ℕ
+      own_new = own_turns (length new.core.queue) new.flusher.stage new.committed
 
-      before : own_turns old.flusher.stage old.committed ≡ 0
-      before = ap (own_turns old.flusher.stage) none ∙ rest.0
+      rest : IsAtRest old.flusher.stage × (old.core.flight ≡ 0)
+      rest = resting old.core old.flusher.stage (has_batch old.core) needs was.batch
+
+      before : own_turns (length old.core.queue) old.flusher.stage old.committed ≡ 0
+      before =
+          ap (own_turns (length old.core.queue) old.flusher.stage) none ∙ rests_own (length old.core.queue) old.flusher.stage rest.0
 
       commands : List CommandValue
       commands = values is.0.commands.items
@@ -153,18 +200,19 @@ module _ {D : Type 0} (layout : Layout) where
       flight : IsInFlight new.core commands
       flight = taken_flight old.core new.core (room_of old.flusher.stage) is.0 is.1
 
-      own : own_turns new.flusher.stage new.committed + 1 ≤ batch_turns layout * new.core.flight
+      own : own_new + 1 ≤ batch_turns layout * new.core.flight
       own =
-          subst (λ (n : ℕ). own_turns new.flusher.stage new.committed + 1 ≤ batch_turns layout * n) (sym flight.flight)
-          (subst (λ (c : Option CommittedView). own_turns new.flusher.stage c + 1 ≤ batch_turns layout * length commands) (sym is.4)
-          (taken_own old.flusher.stage new.flusher.stage is.0 is.2 was.layout_is flight.some))
+          subst (λ (n : ℕ). own_new + 1 ≤ batch_turns layout * n) (sym flight.flight)
+          (subst (λ (c : Option CommittedView).
+          own_turns (length new.core.queue) new.flusher.stage c + 1 ≤ batch_turns layout * length commands) (sym is.4)
+          (taken_own (length new.core.queue) old.flusher.stage new.flusher.stage is.0 is.2 was.layout_is flight.some))
 
       waiting : length new.core.queue ≡ length old.core.queue - old.core.flight
       waiting = omega (arith, ap (λ (c : CoreView). length c.queue) is.1.others, rest.1)
   takes_fewer old new told Idle none needs is was waits sound = omega (arith, after)
     where
-      rest : (own_turns old.flusher.stage None ≡ 0) × (old.core.flight ≡ 0)
-      rest = resting old.core old.flusher.stage needs was.batch
+      rest : IsAtRest old.flusher.stage × (old.core.flight ≡ 0)
+      rest = resting old.core old.flusher.stage (has_batch old.core) needs was.batch
 
       empty : length old.core.queue ≡ 0
       empty = nothing_waits (length old.core.queue) old.core.flight (has_failed old.core.stopped) is.0 rest.1 sound
@@ -177,75 +225,134 @@ module _ {D : Type 0} (layout : Layout) where
           ap left_of is.1
           ∙ omega (
             arith,
-            ap (own_turns old.flusher.stage) none,
-            rest.0,
+            ap (own_turns (length old.core.queue) old.flusher.stage) none,
+            rests_own (length old.core.queue) old.flusher.stage rest.0,
             ap (λ (n : ℕ). batch_turns layout * n) behind
                 ∙ mul-zero (batch_turns layout),
           )
   takes_fewer old new told Waited none needs is was waits sound = absurd (omega (arith, waits))
 
   module _ (disk : D → Disk) where
-    called_fewer : (old new : CoreOnDiskView D) (told : List Event) → old.committed ≡ None → new.committed ≡ None
-        → need_of old.flusher.stage ≡ need.Disk
-        → HasCalled disk old new told → HasFewCalls old.flusher.stage → (has_failed new.core.stopped ≡ true → ⊥) → IsFewer old new
-    called_fewer old new [] none after needs is few sound =
-        less_own (own_turns old.flusher.stage old.committed) (own_turns new.flusher.stage new.committed) (turns_behind layout old.core)
-        (turns_behind layout new.core)
+    -- a disk call
+    called_less : (waits : ℕ) (old new : Stage D) → (IsAtRest old → waits ≡ 0) → HasFewCalls old → HasFewCalls new
+        → IsDiskStep disk old new (Ok tt) → IsLess waits old new
+    called_less waits (Resting j) new none few_old few_new step =
+        inr (none tt, ap (λ (n : ℕ). own_turns n new None) (none tt) ∙ advanced_own (checkpoint_of j) new step.0.1)
+    called_less zero (Opening c) new none few_old few_new step = inr (refl, advanced_own c new step.0)
+    called_less (suc n) (Opening c) new none few_old few_new step =
+        let last : 1 ≤ own_turns (suc n) (Opening c) None = last_turn (suc n) (nat_lt 0 (suc n)) refl (omega arith) in
+        inl (omega (arith, last, ended_own (suc n) c new few_old step.0))
+    called_less waits (Given j b) new none few_old few_new step =
+        inl (omega (arith, own_calls waits new, advances disk (Given j b) new (omega arith) few_old few_new step))
+    called_less waits (Checkpointing c b) new none few_old few_new step =
+        inl (omega (arith, own_calls waits new, advances disk (Checkpointing c b) new (omega arith) few_old few_new step))
+    called_less waits (Writing w) new none few_old few_new step =
+        inl (omega (arith, own_calls waits new, advances disk (Writing w) new (omega arith) few_old few_new step))
+    called_less waits (Publishing j written) new none few_old few_new step = absurd step.0
+    called_less waits (Failed d f) new none few_old few_new step = absurd step.0
+
+    -- a flusher at rest makes one where no batch may be taken: none waits
+    none_at_rest : (core : CoreView) (stage : Stage D) → need_met (need_of stage) (has_batch core) ≡ need.Disk → HasFlight core stage
+        → (has_failed core.stopped ≡ true → ⊥) → IsAtRest stage → length core.queue ≡ 0
+    none_at_rest core (Resting j) met flight sound at =
+        nothing_waits (length core.queue) core.flight (has_failed core.stopped) (none_there (is_due j) (has_batch core) met) flight sound
+    none_at_rest core (Opening c) met flight sound at = absurd at
+    none_at_rest core (Given j b) met flight sound at = absurd at
+    none_at_rest core (Checkpointing c b) met flight sound at = absurd at
+    none_at_rest core (Writing w) met flight sound at = absurd at
+    none_at_rest core (Publishing j written) met flight sound at = absurd at
+    none_at_rest core (Failed d f) met flight sound at = absurd at
+
+    -- none is left where nothing waits
+    less_left : (old new : CoreOnDiskView D) → old.committed ≡ None → new.committed ≡ None → new.core ≡ old.core
+        → IsLess (length old.core.queue) old.flusher.stage new.flusher.stage → IsFewer old new
+    less_left old new none after same (inl less) =
+        less_own (own_turns (length old.core.queue) old.flusher.stage old.committed)
+        (own_turns (length new.core.queue) new.flusher.stage new.committed) (turns_behind layout old.core) (turns_behind layout new.core)
         (omega (
           arith,
-          ap (own_turns old.flusher.stage) none,
-          ap (own_turns new.flusher.stage) after,
-          disk_calls old.flusher.stage needs,
-          own_calls new.flusher.stage,
-          advances disk old.flusher.stage new.flusher.stage few is.2 (is.1.0, is.1.1),
+          less,
+          ap (own_turns (length old.core.queue) old.flusher.stage) none,
+          ap (own_turns (length new.core.queue) new.flusher.stage) after,
+          ap (λ (c : CoreView). own_turns (length c.queue) new.flusher.stage None) same,
         ))
-        (ap (turns_behind layout) is.0)
-    called_fewer old new (e ∷ told) none after needs is few sound =
+        (ap (turns_behind layout) same)
+    less_left old new none after same (inr rests) = omega (arith, own, behind)
+      where
+        own : own_turns (length new.core.queue) new.flusher.stage new.committed ≡ 0
+        own =
+            ap (own_turns (length new.core.queue) new.flusher.stage) after
+            ∙ (ap (λ (c : CoreView). own_turns (length c.queue) new.flusher.stage None) same ∙ rests.1)
+
+        empty : length new.core.queue - new.core.flight ≡ 0
+        empty = omega (arith, ap (λ (c : CoreView). length c.queue) same, rests.0)
+
+        behind : turns_behind layout new.core ≡ 0
+        behind = ap (λ (n : ℕ). batch_turns layout * n) empty ∙ mul-zero (batch_turns layout)
+
+    called_fewer : (old new : CoreOnDiskView D) (told : List Event) → old.committed ≡ None → new.committed ≡ None
+        → met_by old ≡ need.Disk
+        → HasCalled disk old new told → IsServed layout old.core old.flusher.stage None → (has_failed old.core.stopped ≡ true → ⊥)
+        → (has_failed new.core.stopped ≡ true → ⊥) → IsFewer old new
+    called_fewer old new [] none after met is was before sound =
+        less_left old new none after is.0
+        (called_less (length old.core.queue) old.flusher.stage new.flusher.stage
+        (none_at_rest old.core old.flusher.stage met was.batch before) was.few_calls is.2 is.1)
+    called_fewer old new (e ∷ told) none after met is was before sound =
         absurd (sound (ap (λ (c : CoreView). has_failed c.stopped) is.2 ∙ knows (has_failed old.core.stopped)))
 
-    publishing : (stage : Stage D) (published : List CommandValue) (new : FlusherView D) (committed : CommittedView)
+    publishing : (waits : ℕ) (stage : Stage D) (published : List CommandValue) (new : FlusherView D) (committed : CommittedView)
         → HasPublished stage published new committed
-        → own_turns stage None ≡ 2
-    publishing (Publishing j written) published new committed has = refl
-    publishing (Resting j) published new committed has = absurd has
-    publishing (Given j b) published new committed has = absurd has
-    publishing (Checkpointing c b) published new committed has = absurd has
-    publishing (Writing w) published new committed has = absurd has
-    publishing (Failed d f) published new committed has = absurd has
+        → own_turns waits stage None ≡ 2
+    publishing waits (Publishing j written) published new committed has = refl
+    publishing waits (Opening c) published new committed has = absurd has
+    publishing waits (Resting j) published new committed has = absurd has
+    publishing waits (Given j b) published new committed has = absurd has
+    publishing waits (Checkpointing c b) published new committed has = absurd has
+    publishing waits (Writing w) published new committed has = absurd has
+    publishing waits (Failed d f) published new committed has = absurd has
 
     publishes_fewer : (old new : CoreOnDiskView D) (told : List Event) → old.committed ≡ None → Publishes old new told → IsFewer old new
     publishes_fewer old new told none is =
-        less_own (own_turns old.flusher.stage old.committed) (own_turns new.flusher.stage new.committed) (turns_behind layout old.core)
-        (turns_behind layout new.core)
+        less_own (own_turns (length old.core.queue) old.flusher.stage old.committed)
+        (own_turns (length new.core.queue) new.flusher.stage new.committed) (turns_behind layout old.core) (turns_behind layout new.core)
         (omega (
           arith,
-          ap (own_turns old.flusher.stage) none,
-          ap (own_turns new.flusher.stage) is.3,
-          publishing old.flusher.stage old.flusher.published new.flusher is.0 is.1,
+          ap (own_turns (length old.core.queue) old.flusher.stage) none,
+          ap (own_turns (length new.core.queue) new.flusher.stage) is.3,
+          publishing (length old.core.queue) old.flusher.stage old.flusher.published new.flusher is.0 is.1,
         ))
         (ap (turns_behind layout) is.2)
 
-    pub stopped : (core : CoreView) (stage : Stage D) → need_of stage ≡ need.Stopped → HasFlight core stage → has_failed core.stopped ≡ true
-    stopped core (Failed d f) needs flight = flight
-    stopped core (Resting j) needs flight = search rules
-    stopped core (Given j b) needs flight = search rules
-    stopped core (Checkpointing c b) needs flight = search rules
-    stopped core (Writing w) needs flight = search rules
-    stopped core (Publishing j written) needs flight = search rules
+    pub stopped : (core : CoreView) (stage : Stage D) (there : Bool) → need_met (need_of stage) there ≡ need.Stopped
+        → HasFlight core stage → has_failed core.stopped ≡ true
+    stopped core (Failed d f) there met flight = flight
+    stopped core (Resting j) there met flight = absurd (never (is_due j) there met)
+      where
+        never : (due there : Bool) → need_met (if due then need.BatchOrDisk else need.Batch) there ≡ need.Stopped → ⊥
+        never true true met = search rules
+        never true false met = search rules
+        never false there met = search rules
+    stopped core (Opening c) there met flight = search rules
+    stopped core (Given j b) there met flight = search rules
+    stopped core (Checkpointing c b) there met flight = search rules
+    stopped core (Writing w) there met flight = search rules
+    stopped core (Publishing j written) there met flight = search rules
 
-    serves_fewer : (need : Need) (old new : CoreOnDiskView D) (told : List Event) (turned : Turned) → need_of old.flusher.stage ≡ need
+    serves_fewer : (need : Need) (old new : CoreOnDiskView D) (told : List Event) (turned : Turned) → met_by old ≡ need
         → old.committed ≡ None
         → Serves disk need old new told turned → IsServed layout old.core old.flusher.stage None → waits_of turned ≡ 0
         → (has_failed old.core.stopped ≡ true → ⊥) → (has_failed new.core.stopped ≡ true → ⊥) → IsFewer old new
     serves_fewer need.Batch old new told turned needs none is was waits before after =
         takes_fewer old new told turned none needs is was waits before
     serves_fewer need.Disk old new told Made needs none is was waits before after =
-        called_fewer old new told none is.1 needs is.2 was.few_calls after
+        called_fewer old new told none is.1 needs is.2 was before after
     serves_fewer need.Disk old new told Idle needs none is was waits before after = absurd is
+    serves_fewer need.BatchOrDisk old new told turned needs none is was waits before after = absurd is
     serves_fewer need.Disk old new told Waited needs none is was waits before after = absurd (omega (arith, waits))
     serves_fewer need.Publish old new told turned needs none is was waits before after = publishes_fewer old new told none is.1
     serves_fewer need.Stopped old new told turned needs none is was waits before after =
-        absurd (before (stopped old.core old.flusher.stage needs was.batch))
+        absurd (before (stopped old.core old.flusher.stage (has_batch old.core) needs was.batch))
 
     -- a turn that has not to wait leaves fewer, while the disk does not fail
     pub turn_fewer : (committed : Option CommittedView) (old new : CoreOnDiskView D) (told : List Event) (turned : Turned) → old.committed
@@ -256,7 +363,7 @@ module _ {D : Type 0} (layout : Layout) where
         acknowledged_fewer old new committed told there is.1
         (subst (λ (c : Option CommittedView). IsServed layout old.core old.flusher.stage c) there was).batch.1
     turn_fewer None old new told turned there is was waits before after =
-        serves_fewer (need_of old.flusher.stage) old new told turned refl there is
+        serves_fewer (met_by old) old new told turned refl there is
         (subst (λ (c : Option CommittedView). IsServed layout old.core old.flusher.stage c) there was) waits before after
 
 -- commands that need a turn each at least are none where no turn is left
@@ -276,6 +383,12 @@ module _ {D : Type 0} (layout : Layout) where
   none_left core stage (Some committed) batch sound none = absurd (omega (arith, none))
   none_left core (Resting j) None batch sound none =
       no_turns (batch_turns layout) (length core.queue) core.flight (omega arith) (omega (arith, none)) batch
+  none_left core (Opening c) None batch sound none = last (length core.queue) refl
+    where
+      last : (waits : ℕ) → length core.queue ≡ waits → length core.queue ≡ 0
+      last zero is = is
+      last (suc n) is =
+          absurd (omega (arith, ap {B = ℕ} (λ waits. if nat_lt 0 waits then 1 else 0) is, none))
   none_left core (Given j b) None batch sound none = absurd (omega (arith, none))
   none_left core (Checkpointing c b) None batch sound none = absurd (omega (arith, none))
   none_left core (Writing w) None batch sound none = absurd (omega (arith, none))

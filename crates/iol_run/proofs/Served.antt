@@ -1,6 +1,6 @@
 -- What each step keeps of a master: what is in flight is with the flusher, whose journal keeps its layout, and few wait.
 use Rattle.std.proofs.Common.{◌≡◌, refl, ◌≤◌, ℕ, ◌+◌, nat_le, Bool, true, false, if◌then◌else◌, List, [], ◌∷◌, length, Option, Some, None}
-use Rattle.std.proofs.Common.{Result, Ok, Err, ap, sym, ◌∙◌, subst, arith, rules, length-append, length-drop}
+use Rattle.std.proofs.Common.{inl, inr, Result, Ok, Err, ap, sym, ◌∙◌, subst, arith, rules, length-append, length-drop}
 use Rattle.iol_types.specs.Command.{CommandValue, command_of}
 use Rattle.iol_types.specs.State.{check}
 use Rattle.iol_types.specs.declared.command.CommandFault.{CommandFault}
@@ -13,12 +13,13 @@ use Rattle.iol_core.specs.declared.permit.Grant.{Grant}
 use Rattle.iol_core.specs.declared.core_value.TheConstants.{QUEUE_COMMANDS}
 use Rattle.iol_core.specs.declared.ticket.SubmitFault.{SubmitFault}
 use Rattle.iol_core.specs.declared.ticket.SubmitFault.TheVariants as fault
-use Rattle.iol_flush.specs.Stages.{FlusherView, HasFewCalls, wants_checkpoint, room_of, need_of, failure_of}
-use Rattle.iol_flush.specs.Steps.{HasWritten, HasCheckpointed, HasBegun, HasMade, HasTaken, HasPublished, writing_of, checkpoint_of}
+use Rattle.iol_flush.specs.Stages.{FlusherView, HasFewCalls, wants_checkpoint, room_of, failure_of}
+use Rattle.iol_flush.specs.Steps.{HasAdvanced, HasWritten, HasCheckpointed, HasBegun, HasMade, HasTaken, HasPublished}
+use Rattle.iol_flush.specs.Steps.{writing_of, checkpoint_of}
 use Rattle.iol_flush.specs.declared.need.Need.{Need}
 use Rattle.iol_flush.specs.declared.need.Need.TheVariants as need
 use Rattle.iol_flush.specs.declared.stage.Stage.{Stage}
-use Rattle.iol_flush.specs.declared.stage.Stage.TheVariants.{Resting, Given, Checkpointing, Writing, Publishing, Failed}
+use Rattle.iol_flush.specs.declared.stage.Stage.TheVariants.{Resting, Opening, Given, Checkpointing, Writing, Publishing, Failed}
 use Rattle.iol_front.specs.Fronts.{CommittedView}
 use Rattle.iol_journal.specs.CheckpointViews.{CheckpointingView}
 use Rattle.iol_journal.specs.Journals.{JournalView, WritingView, values}
@@ -37,7 +38,7 @@ use Rattle.iol_run.proofs.TurnsLeft.{HasBatch, HasLayout}
 use Rattle.iol_run.specs.CoreOnDisk.{CoreOnDiskView, IsInFlight, HasFlight, IsAtRest}
 use Rattle.iol_run.specs.Ports.{PortsView, StepsIf}
 use Rattle.iol_run.specs.Steps.{Does}
-use Rattle.iol_run.specs.Turns.{Acknowledges, Takes, HasCalled, Publishes, Serves, IsTurn}
+use Rattle.iol_run.specs.Turns.{Acknowledges, Takes, HasCalled, Publishes, Serves, IsTurn, met_by}
 use Rattle.iol_run.specs.declared.core_on_disk.Turned.{Turned}
 use Rattle.iol_run.specs.declared.core_on_disk.Turned.TheVariants.{Made, Idle, Waited}
 use Rattle.iol_run.specs.declared.step.Step.{Step}
@@ -127,6 +128,7 @@ module _ {D : Type 0} (layout : Layout) where
     where
       rests : (s : Stage D) → IsAtRest s → HasFlight new.core s
       rests (Resting j) at = ap (λ (c : CoreView). c.flight) is.0
+      rests (Opening c) at = absurd at
       rests (Given j b) at = absurd at
       rests (Checkpointing c b) at = absurd at
       rests (Writing w) at = absurd at
@@ -147,6 +149,7 @@ module _ {D : Type 0} (layout : Layout) where
         few_wait = subst (λ (cs : List CommandValue). length cs ≤ QUEUE_COMMANDS) (sym (ap (λ (c : CoreView). c.queue) is.others))
             was.few_wait;
       })
+  taken_served old new (Opening c) t batch room is has was = absurd has
   taken_served old new (Given j b) t batch room is has was = absurd has
   taken_served old new (Checkpointing c b) t batch room is has was = absurd has
   taken_served old new (Writing w) t batch room is has was = absurd has
@@ -177,6 +180,7 @@ module _ {D : Type 0} (layout : Layout) where
   written_layout w (Writing v) has is = ap (λ (s : Standing). s.layout) has.0 ∙ is
   written_layout w (Publishing j written) has is = ap (λ (s : Standing). s.layout) has.0 ∙ is
   written_layout w (Resting j) has is = absurd has
+  written_layout w (Opening c) has is = absurd has
   written_layout w (Given j b) has is = absurd has
   written_layout w (Checkpointing c b) has is = absurd has
   written_layout w (Failed d f) has is = absurd has
@@ -186,6 +190,7 @@ module _ {D : Type 0} (layout : Layout) where
   checkpointed_layout c batch (Checkpointing d kept) has is = ap (λ (s : Standing). s.layout) has.0 ∙ is
   checkpointed_layout c batch (Given j kept) has is = has.6 ∙ is
   checkpointed_layout c batch (Resting j) has is = absurd has
+  checkpointed_layout c batch (Opening d) has is = absurd has
   checkpointed_layout c batch (Writing w) has is = absurd has
   checkpointed_layout c batch (Publishing j written) has is = absurd has
   checkpointed_layout c batch (Failed d f) has is = absurd has
@@ -195,17 +200,29 @@ module _ {D : Type 0} (layout : Layout) where
   begun_layout true j batch new has is = checkpointed_layout (checkpoint_of j) batch new has.1 is
   begun_layout false j batch new has is = written_layout (writing_of j (values batch.commands.items)) new has.1 is
 
+  advanced_layout : (c : CheckpointingView D) (new : Stage D) → HasAdvanced c new → c.standing.layout ≡ layout → HasLayout layout new
+  advanced_layout c (Resting j) (inl has) is = has.layout ∙ is
+  advanced_layout c (Resting j) (inr has) is = ap (λ (s : Standing). s.layout) has.standing ∙ is
+  advanced_layout c (Opening d) has is = ap (λ (s : Standing). s.layout) has.standing ∙ is
+  advanced_layout c (Given j b) has is = absurd has
+  advanced_layout c (Checkpointing d b) has is = absurd has
+  advanced_layout c (Writing w) has is = absurd has
+  advanced_layout c (Publishing j written) has is = absurd has
+  advanced_layout c (Failed d f) has is = absurd has
+
   made_layout : (old new : Stage D) → HasMade old new → HasLayout layout old → HasLayout layout new
   made_layout (Given j batch) new has is = begun_layout (wants_checkpoint j.standing (values batch.commands.items)) j batch new has is
   made_layout (Checkpointing c batch) new has is = checkpointed_layout c batch new has is
   made_layout (Writing w) new has is = written_layout w new has is
-  made_layout (Resting j) new has is = absurd has
+  made_layout (Resting j) new has is = advanced_layout (checkpoint_of j) new has.1 is
+  made_layout (Opening c) new has is = advanced_layout c new has is
   made_layout (Publishing j written) new has is = absurd has
   made_layout (Failed d f) new has is = absurd has
 
   failed_layout : (new : Stage D) (why : DiskFault) → failure_of new ≡ Some why → HasLayout layout new × HasFewCalls new
   failed_layout (Failed d f) why is = (tt, tt)
   failed_layout (Resting j) why is = search rules
+  failed_layout (Opening c) why is = search rules
   failed_layout (Given j b) why is = search rules
   failed_layout (Checkpointing c b) why is = search rules
   failed_layout (Writing w) why is = search rules
@@ -241,6 +258,7 @@ module _ {D : Type 0} (layout : Layout) where
           few_wait = was.few_wait;
         })
     published_served core (Resting j) published new committed has was = absurd has
+    published_served core (Opening c) published new committed has was = absurd has
     published_served core (Given j b) published new committed has was = absurd has
     published_served core (Checkpointing c b) published new committed has was = absurd has
     published_served core (Writing w) published new committed has was = absurd has
@@ -259,6 +277,7 @@ module _ {D : Type 0} (layout : Layout) where
     serves_served need.Batch old new told turned none is was = takes_served old new told turned none is was
     serves_served need.Disk old new told Made none is was = none_served old new none is.1 (called_served old new told is.2) was
     serves_served need.Disk old new told Idle none is was = absurd is
+    serves_served need.BatchOrDisk old new told turned none is was = absurd is
     serves_served need.Disk old new told Waited none is was = same_served old new is.1 was
     serves_served need.Publish old new told turned none is was = publishes_served old new told none is.1 was
     serves_served need.Stopped old new told turned none is was = same_served old new is.1 was
@@ -269,7 +288,7 @@ module _ {D : Type 0} (layout : Layout) where
     turn_served (Some committed) old new told turned there is was =
         acknowledged_served old new committed told is.1
         (subst (λ (c : Option CommittedView). IsServed layout old.core old.flusher.stage c) there was)
-    turn_served None old new told turned there is was = serves_served (need_of old.flusher.stage) old new told turned there is was
+    turn_served None old new told turned there is was = serves_served (met_by old) old new told turned there is was
 
     -- a step of a port
     port_served : {L : Type 0} (number : L → ℕ) (steps : L → LinkCall → LinkAnswer → L → Type 0) (there : Bool) (port : ℕ)

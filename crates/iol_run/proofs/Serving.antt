@@ -10,10 +10,10 @@ use Rattle.iol_core.specs.declared.stop.StopCause.TheVariants as cause
 use Rattle.iol_flush.proofs.Turns.{goes_on}
 use Rattle.iol_flush.specs.Flushing.{IsFlushing, KeepsRun}
 use Rattle.iol_flush.specs.Stages.{FlusherView, wants_checkpoint, failure_of}
-use Rattle.iol_flush.specs.Steps.{HasWritten, HasCheckpointed, HasBegun, HasMade, IsDiskStep, writing_of, checkpoint_of}
+use Rattle.iol_flush.specs.Steps.{HasAdvanced, HasWritten, HasCheckpointed, HasBegun, HasMade, IsDiskStep, writing_of, checkpoint_of}
 use Rattle.iol_flush.specs.declared.fault.FlushFault.TheVariants as fault
 use Rattle.iol_flush.specs.declared.stage.Stage.{Stage}
-use Rattle.iol_flush.specs.declared.stage.Stage.TheVariants.{Resting, Given, Checkpointing, Writing, Publishing, Failed}
+use Rattle.iol_flush.specs.declared.stage.Stage.TheVariants.{Resting, Opening, Given, Checkpointing, Writing, Publishing, Failed}
 use Rattle.iol_front.specs.Fronts.{Start}
 use Rattle.iol_journal.specs.CheckpointViews.{CheckpointingView}
 use Rattle.iol_journal.specs.Journals.{JournalView, WritingView, values}
@@ -33,6 +33,7 @@ module _ {D : Type 0} where
   written_flight core w (Writing v) has is = subst (λ (cs : List CommandValue). IsInFlight core cs) (sym has.3) is
   written_flight core w (Publishing j written) has is = subst (λ (cs : List CommandValue). IsInFlight core cs) (sym has.4) is
   written_flight core w (Resting j) has is = absurd has
+  written_flight core w (Opening c) has is = absurd has
   written_flight core w (Given j b) has is = absurd has
   written_flight core w (Checkpointing c b) has is = absurd has
   written_flight core w (Failed d f) has is = absurd has
@@ -43,6 +44,7 @@ module _ {D : Type 0} where
       subst (λ (b : Batch). IsInFlight core (values b.commands.items)) (sym has.2) is
   checkpointed_flight core c batch (Given j kept) has is = subst (λ (b : Batch). IsInFlight core (values b.commands.items)) (sym has.2) is
   checkpointed_flight core c batch (Resting j) has is = absurd has
+  checkpointed_flight core c batch (Opening d) has is = absurd has
   checkpointed_flight core c batch (Writing w) has is = absurd has
   checkpointed_flight core c batch (Publishing j written) has is = absurd has
   checkpointed_flight core c batch (Failed d f) has is = absurd has
@@ -52,18 +54,30 @@ module _ {D : Type 0} where
   begun_flight core true j batch new has is = checkpointed_flight core (checkpoint_of j) batch new has.1 is
   begun_flight core false j batch new has is = written_flight core (writing_of j (values batch.commands.items)) new has.1 is
 
+  -- nothing is in flight during a checkpoint for which no batch waits
+  advanced_flight : (core : CoreView) (c : CheckpointingView D) (new : Stage D) → HasAdvanced c new → core.flight ≡ 0 → HasFlight core new
+  advanced_flight core c (Resting j) has is = is
+  advanced_flight core c (Opening d) has is = is
+  advanced_flight core c (Given j b) has is = absurd has
+  advanced_flight core c (Checkpointing d b) has is = absurd has
+  advanced_flight core c (Writing w) has is = absurd has
+  advanced_flight core c (Publishing j written) has is = absurd has
+  advanced_flight core c (Failed d f) has is = absurd has
+
   pub made_flight : (core : CoreView) (old new : Stage D) → HasMade old new → HasFlight core old → HasFlight core new
   made_flight core (Given j batch) new has is =
       begun_flight core (wants_checkpoint j.standing (values batch.commands.items)) j batch new has is
   made_flight core (Checkpointing c batch) new has is = checkpointed_flight core c batch new has is
   made_flight core (Writing w) new has is = written_flight core w new has is
-  made_flight core (Resting j) new has is = absurd has
+  made_flight core (Resting j) new has is = advanced_flight core (checkpoint_of j) new has.1 is
+  made_flight core (Opening c) new has is = advanced_flight core c new has is
   made_flight core (Publishing j written) new has is = absurd has
   made_flight core (Failed d f) new has is = absurd has
 
   pub failed_flight : (core : CoreView) (new : Stage D) (why : DiskFault) → failure_of new ≡ Some why → HasFlight (failed_core core) new
   failed_flight core (Failed d f) why is = knows (has_failed core.stopped)
   failed_flight core (Resting j) why is = search rules
+  failed_flight core (Opening c) why is = search rules
   failed_flight core (Given j b) why is = search rules
   failed_flight core (Checkpointing c b) why is = search rules
   failed_flight core (Writing w) why is = search rules

@@ -10,7 +10,6 @@ use Rattle.iol_core.specs.Submit.{IsSubmit, is_stopped, queue_fault, first_cause
 use Rattle.iol_core.specs.declared.stop.StopCause.{StopCause}
 use Rattle.iol_core.specs.declared.ticket.SubmitFault.{SubmitFault}
 use Rattle.iol_core.specs.declared.ticket.SubmitFault.TheVariants as fault
-use Rattle.iol_flush.specs.Stages.{need_of}
 use Rattle.iol_flush.specs.declared.need.Need.{Need}
 use Rattle.iol_flush.specs.declared.need.Need.TheVariants as need
 use Rattle.iol_front.specs.Fronts.{CommittedView}
@@ -31,7 +30,7 @@ use Rattle.iol_run.specs.Schedules.{IsFresh}
 use Rattle.iol_run.specs.Tasks.{HasMade}
 use Rattle.iol_run.specs.Steps.{Does, submit_told}
 use Rattle.iol_run.specs.Stopped.{NoneOnceFailed}
-use Rattle.iol_run.specs.Turns.{Takes, HasCalled, Serves, IsTurn}
+use Rattle.iol_run.specs.Turns.{Takes, HasCalled, Serves, IsTurn, met_by}
 use Rattle.iol_run.specs.declared.core_on_disk.Turned.{Turned}
 use Rattle.iol_run.specs.declared.core_on_disk.Turned.TheVariants.{Made, Idle, Waited}
 use Rattle.iol_run.specs.declared.step.Step.{Step}
@@ -161,6 +160,7 @@ module _ (t : ℕ) {D : Type 0} where
     serves_heeds need.Batch old new told turned is = takes_heeds old new told turned is
     serves_heeds need.Disk old new told Made is = called_heeds old new told is.2
     serves_heeds need.Disk old new told Idle is = absurd is
+    serves_heeds need.BatchOrDisk old new told turned is = absurd is
     serves_heeds need.Disk old new told Waited is =
         silent_heeds t old.core new.core told is.2 (ap (λ (m : CoreOnDiskView D). m.core.stopped) is.1)
     serves_heeds need.Publish old new told turned is =
@@ -174,7 +174,7 @@ module _ (t : ℕ) {D : Type 0} where
         subst (λ (es : List Event). Heeds old.core new.core (stamped t es)) (sym is.1.3)
         (one_heeds t old.core new.core (Acknowledged new.core.number) (ap (λ (c : CoreView). c.stopped) is.1.0) (λ never. never) (λ failed.
         refl))
-    turn_heeds None old new told turned is = serves_heeds (need_of old.flusher.stage) old new told turned is
+    turn_heeds None old new told turned is = serves_heeds (met_by old) old new told turned is
 
     module _ {L : Type 0} (connection : L → ℕ) (allows : L → LinkCall → LinkAnswer → L → Type 0) where
       port_heeds : (there : Bool) (port : ℕ) (old new : CoreOnDiskView D) (ports last : PortsView L) (told : List Event)

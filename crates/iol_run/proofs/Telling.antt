@@ -7,7 +7,7 @@ use Rattle.iol_core.specs.Core.{CoreView, live_number}
 use Rattle.iol_core.specs.Submit.{IsSubmit, queued}
 use Rattle.iol_core.specs.Telling.{refusal_of}
 use Rattle.iol_core.specs.declared.ticket.SubmitFault.{SubmitFault}
-use Rattle.iol_flush.specs.Stages.{FlusherView, need_of}
+use Rattle.iol_flush.specs.Stages.{FlusherView}
 use Rattle.iol_flush.specs.declared.need.Need.{Need}
 use Rattle.iol_flush.specs.declared.need.Need.TheVariants as need
 use Rattle.iol_front.specs.Fronts.{Start, CommittedView}
@@ -18,7 +18,7 @@ use Rattle.iol_run.specs.CoreOnDisk.{CoreOnDiskView, IsInFlight, IsInStep, waiti
 use Rattle.iol_run.specs.Ports.{PortsView, StepsIf}
 use Rattle.iol_run.specs.Runs.{IsTold}
 use Rattle.iol_run.specs.Steps.{Does, submit_told}
-use Rattle.iol_run.specs.Turns.{Acknowledges, Takes, HasCalled, Publishes, Serves, IsTurn}
+use Rattle.iol_run.specs.Turns.{Acknowledges, Takes, HasCalled, Publishes, Serves, IsTurn, met_by}
 use Rattle.iol_run.specs.declared.core_on_disk.Turned.{Turned}
 use Rattle.iol_run.specs.declared.core_on_disk.Turned.TheVariants.{Made, Idle, Waited}
 use Rattle.iol_run.specs.declared.step.Step.{Step}
@@ -228,6 +228,7 @@ module _ {D : Type 0} (start : Start) (t : ℕ) where
   serves_told disk need.Batch old new events told turned none step is was = takes_told old new events told turned none is was
   serves_told disk need.Disk old new events told Made none step is was = called_told disk old new events told none is.1 is.0 is.2 was
   serves_told disk need.Disk old new events told Idle none step is was = absurd is
+  serves_told disk need.BatchOrDisk old new events told turned none step is was = absurd is
   serves_told disk need.Disk old new events told Waited none step is was = same_told old new events told is.1 is.2 was
   serves_told disk need.Publish old new events told turned none step is was = publishes_told old new events told none step is.1 was
   serves_told disk need.Stopped old new events told turned none step is was = same_told old new events told is.1 is.2 was
@@ -239,7 +240,7 @@ module _ {D : Type 0} (start : Start) (t : ℕ) where
   turn_told disk (Some committed) old new events told turned there step is was =
       acknowledged_told old new committed events told there step.2 is.1 was
   turn_told disk None old new events told turned there step is was =
-      serves_told disk (need_of old.flusher.stage) old new events told turned there step is was
+      serves_told disk (met_by old) old new events told turned there step is was
 
   -- what a step tells is what happened
   pub step_told : {L : Type 0} (disk : D → Disk) (number : L → ℕ) (steps : L → LinkCall → LinkAnswer → L → Type 0) (step : Step)

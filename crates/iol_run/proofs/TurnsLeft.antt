@@ -8,7 +8,7 @@ use Rattle.iol_core.specs.Core.{CoreView}
 use Rattle.iol_flush.specs.Stages.{HasFewCalls, most_batch_calls, most_checkpoint_calls, wants_checkpoint}
 use Rattle.iol_flush.specs.Turns.{calls_again, calls_needed, freeing_calls, given_calls, most_freeing_calls}
 use Rattle.iol_flush.specs.declared.stage.Stage.{Stage}
-use Rattle.iol_flush.specs.declared.stage.Stage.TheVariants.{Resting, Given, Checkpointing, Writing, Publishing, Failed}
+use Rattle.iol_flush.specs.declared.stage.Stage.TheVariants.{Resting, Opening, Given, Checkpointing, Writing, Publishing, Failed}
 use Rattle.iol_front.specs.Fronts.{CommittedView}
 use Rattle.iol_journal.specs.BegunViews.{BegunView}
 use Rattle.iol_journal.specs.CheckpointViews.{CheckpointingView, end_of, stages_left}
@@ -26,32 +26,43 @@ HasBatch core stage (Some committed) = IsInFlight core committed.commands × IsA
 -- the journal has this layout
 abbrev pub HasLayout : {D : Type 0} → Layout → Stage D → Type 0
 HasLayout layout (Resting journal) = journal.standing.layout ≡ layout
+HasLayout layout (Opening checkpoint) = checkpoint.standing.layout ≡ layout
 HasLayout layout (Given journal batch) = journal.standing.layout ≡ layout
 HasLayout layout (Checkpointing checkpoint batch) = checkpoint.standing.layout ≡ layout
 HasLayout layout (Writing writing) = writing.standing.layout ≡ layout
 HasLayout layout (Publishing journal written) = journal.standing.layout ≡ layout
 HasLayout layout (Failed disk fault) = Unit {0}
 
--- the turns of the batch that is with the flusher: its calls, and its acknowledgement
-abbrev pub own_turns : {D : Type 0} → Stage D → Option CommittedView → ℕ
-own_turns stage (Some committed) = 1
-own_turns (Resting journal) None = 0
-own_turns (Given journal batch) None = calls_needed (Given journal batch) + 1
-own_turns (Checkpointing checkpoint batch) None = calls_needed (Checkpointing checkpoint batch) + 1
-own_turns (Writing writing) None = calls_needed (Writing writing) + 1
-own_turns (Publishing journal written) None = 2
-own_turns (Failed disk fault) None = 0
+-- the turns of the batch that is with the flusher: its calls, and its acknowledgement. Where it has none but so many commands wait,
+-- a checkpoint whose gate is written makes its last call before one is taken
+abbrev pub own_turns : {D : Type 0} → ℕ → Stage D → Option CommittedView → ℕ
+own_turns waits stage (Some committed) = 1
+own_turns waits (Resting journal) None = 0
+own_turns waits (Opening checkpoint) None = if nat_lt 0 waits then 1 else 0
+own_turns waits (Given journal batch) None = calls_needed (Given journal batch) + 1
+own_turns waits (Checkpointing checkpoint batch) None = calls_needed (Checkpointing checkpoint batch) + 1
+own_turns waits (Writing writing) None = calls_needed (Writing writing) + 1
+own_turns waits (Publishing journal written) None = 2
+own_turns waits (Failed disk fault) None = 0
 
 -- the turns of the commands behind it, each in a batch of its own
 abbrev pub turns_behind : Layout → CoreView → ℕ
 turns_behind layout core = batch_turns layout * (length core.queue - core.flight)
 
 abbrev pub turns_left : {D : Type 0} → Layout → CoreView → Stage D → Option CommittedView → ℕ
-turns_left layout core stage committed = own_turns stage committed + turns_behind layout core
+turns_left layout core stage committed = own_turns (length core.queue) stage committed + turns_behind layout core
 
 -- ---- sums of turns, as numbers: the turns of a batch are not unfolded in them
-none_more : (turns all : ℕ) → turns ≤ all → 0 + turns ≤ all
+none_more : (turns all : ℕ) → turns ≤ all → 0 + turns ≤ all + 1
 none_more turns all le = omega (arith, le)
+
+-- one more, where a checkpoint still owes its last call
+last_more : (last : Bool) (turns all : ℕ) → turns ≤ all → (if last then 1 else 0) + turns ≤ all + 1
+last_more true turns all le = omega (arith, le)
+last_more false turns all le = omega (arith, le)
+
+or_one_more : (turns all : ℕ) → turns ≤ all → turns ≤ all + 1
+or_one_more turns all le = omega (arith, le)
 
 add_within : (turns most more : ℕ) → turns ≤ most → turns + more ≤ most + more
 add_within turns most more le = omega (arith, le)
@@ -114,25 +125,30 @@ flies_within core commands is =
     (omega (arith, is.flight, is.some), omega (arith, is.flight, ap length is.queue, length-append commands is.behind))
 
 module _ (layout : Layout) where
-  none_with : (core : CoreView) → 0 + turns_behind layout core ≤ batch_turns layout * length core.queue
-  none_with core =
-      none_more (turns_behind layout core) (batch_turns layout * length core.queue)
-      (mul-le-mul_left (batch_turns layout) (less (length core.queue) core.flight))
+  behind_within : (core : CoreView) → turns_behind layout core ≤ batch_turns layout * length core.queue
+  behind_within core = mul-le-mul_left (batch_turns layout) (less (length core.queue) core.flight)
     where
       less : (n m : ℕ) → n - m ≤ n
       less n m = omega arith
 
+  none_with : (core : CoreView) → 0 + turns_behind layout core ≤ batch_turns layout * length core.queue + 1
+  none_with core = none_more (turns_behind layout core) (batch_turns layout * length core.queue) (behind_within core)
+
   one_with : (core : CoreView) (commands : List CommandValue) (own : ℕ) → IsInFlight core commands
-      → own ≤ batch_turns layout * length commands → own + turns_behind layout core ≤ batch_turns layout * length core.queue
+      → own ≤ batch_turns layout * length commands → own + turns_behind layout core ≤ batch_turns layout * length core.queue + 1
   one_with core commands own is most =
-      fewer_behind (batch_turns layout) (length core.queue) core.flight own
-      (subst (λ (n : ℕ). own ≤ batch_turns layout * n) (sym is.flight) most) (flies_within core commands is).1
+      or_one_more (own + turns_behind layout core) (batch_turns layout * length core.queue)
+      (fewer_behind (batch_turns layout) (length core.queue) core.flight own
+      (subst (λ (n : ℕ). own ≤ batch_turns layout * n) (sym is.flight) most) (flies_within core commands is).1)
 
 module _ {D : Type 0} (layout : Layout) where
-  -- as many turns are left at most as each command that waits needs in a batch of its own
+  -- as many turns are left at most as each command that waits needs in a batch of its own, and one
   pub most_left : (core : CoreView) (stage : Stage D) (committed : Option CommittedView) → HasBatch core stage committed
       → HasLayout layout stage → HasFewCalls stage
-      → turns_left layout core stage committed ≤ batch_turns layout * length core.queue
+      → turns_left layout core stage committed ≤ batch_turns layout * length core.queue + 1
+  most_left core (Opening c) None batch same few =
+      last_more (nat_lt 0 (length core.queue)) (turns_behind layout core) (batch_turns layout * length core.queue)
+      (behind_within layout core)
   most_left core stage (Some committed) batch same few =
       one_with layout core committed.commands 1 batch.0
       (few_within 1 (most_freeing_calls layout) (length committed.commands) batch.0.some (omega arith))

@@ -9,7 +9,7 @@ use Rattle.iol_core.specs.Submit.{has_failed}
 use Rattle.iol_flush.specs.Flushing.{GoesOn, IsFlushing}
 use Rattle.iol_flush.specs.Stages.{FlusherView, disk_of}
 use Rattle.iol_flush.specs.declared.stage.Stage.{Stage}
-use Rattle.iol_flush.specs.declared.stage.Stage.TheVariants.{Resting, Given, Checkpointing, Writing, Publishing, Failed}
+use Rattle.iol_flush.specs.declared.stage.Stage.TheVariants.{Resting, Opening, Given, Checkpointing, Writing, Publishing, Failed}
 use Rattle.iol_front.specs.Fronts.{Start, CommittedView}
 use Rattle.iol_journal.specs.Journals.{values}
 use Rattle.iol_journal.specs.Runs.{Mark}
@@ -33,10 +33,11 @@ pub record IsDurable (start : Start) (core : CoreView) (list : List CommandValue
   pub number : core.number ≡ start.number + length list
   pub state : core.durable ≡ after start.state list
 
--- what is in flight is with the flusher: nothing where it rests, and else its batch. Once a disk call has failed, the core
--- knows it (own)
+-- what is in flight is with the flusher: its batch, or nothing where it has none. Once a disk call has failed, the core knows it
+-- (own)
 abbrev pub HasFlight : {D : Type 0} → CoreView → Stage D → Type 0
 HasFlight core (Resting journal) = core.flight ≡ 0
+HasFlight core (Opening checkpoint) = core.flight ≡ 0
 HasFlight core (Given journal batch) = IsInFlight core (values batch.commands.items)
 HasFlight core (Checkpointing checkpoint batch) = IsInFlight core (values batch.commands.items)
 HasFlight core (Writing writing) = IsInFlight core writing.commands

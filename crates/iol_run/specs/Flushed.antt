@@ -38,6 +38,7 @@ AllDrained tasks ended first events =
 abbrev pub batch_turns : Layout → ℕ
 batch_turns layout = 24 + most_freeing_calls layout
 
--- the most turns that a full queue needs: each command is a batch of its own (own)
+-- the most turns that a full queue needs: each command is a batch of its own, and a checkpoint that is under way may still owe its
+-- last call (own)
 abbrev pub queue_turns : Layout → ℕ
-queue_turns layout = batch_turns layout * QUEUE_COMMANDS
+queue_turns layout = batch_turns layout * QUEUE_COMMANDS + 1

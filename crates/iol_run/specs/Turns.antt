@@ -1,5 +1,5 @@
 -- What a turn of the flusher does.
-use Rattle.std.specs.Prelude.{◌≡◌, false, true, List, [], ◌∷◌, Option, Some, None, Ok, Err}
+use Rattle.std.specs.Prelude.{◌≡◌, Bool, false, true, if◌then◌else◌, List, [], ◌∷◌, Option, Some, None, Ok, Err}
 use Rattle.iol_disk.specs.Disk.{Disk}
 use Rattle.iol_disk.specs.declared.fault.DiskFault.{DiskFault}
 use Rattle.iol_core.specs.Batches.{IsTaken, has_batch, acknowledged}
@@ -7,7 +7,7 @@ use Rattle.iol_core.specs.Core.{CoreView}
 use Rattle.iol_core.specs.Submit.{stopped_by}
 use Rattle.iol_core.specs.declared.stop.StopCause.TheVariants as cause
 use Rattle.iol_flush.specs.Stages.{need_of, room_of, HasFewCalls}
-use Rattle.iol_flush.specs.Steps.{IsDiskStep, HasTaken, HasPublished, IsGiven}
+use Rattle.iol_flush.specs.Steps.{IsDiskStep, HasTaken, HasPublished, MayWant}
 use Rattle.iol_flush.specs.declared.fault.FlushFault.TheVariants as fault
 use Rattle.iol_flush.specs.declared.need.Need.{Need}
 use Rattle.iol_flush.specs.declared.need.Need.TheVariants as need
@@ -51,7 +51,7 @@ abbrev pub CallsDisk : {D : Type 0} → (D → Disk) → CoreOnDiskView D → Co
 CallsDisk disk old new told Made =
     (new.flusher.published ≡ old.flusher.published) × (new.committed ≡ None) × HasCalled disk old new told
 CallsDisk disk old new told Idle = ⊥
-CallsDisk disk old new told Waited = IsGiven old.flusher.stage × (new ≡ old) × (told ≡ [])
+CallsDisk disk old new told Waited = MayWant old.flusher.stage × (new ≡ old) × (told ≡ [])
 
 -- the batch that is durable is published, and is to be acknowledged (own)
 abbrev pub Publishes : {D : Type 0} → CoreOnDiskView D → CoreOnDiskView D → List Event → Type 0
@@ -59,15 +59,24 @@ Publishes old new told =
     (committed : CommittedView) × HasPublished old.flusher.stage old.flusher.published new.flusher committed
     × (new.core ≡ old.core) × (new.committed ≡ Some committed) × (told ≡ [])
 
--- where no batch is to be acknowledged, what the flusher needs is done: a batch is taken, a disk call made, a batch published;
+-- the need that a turn meets: of a batch or a disk call it is the batch where one may be taken, and else the disk call (own)
+abbrev pub need_met : Need → Bool → Need
+need_met need.BatchOrDisk waits = if waits then need.Batch else need.Disk
+need_met other waits = other
+
+abbrev pub met_by : {D : Type 0} → CoreOnDiskView D → Need
+met_by master = need_met (need_of master.flusher.stage) (has_batch master.core)
+
+-- where no batch is to be acknowledged, the need that a turn meets is met: a batch is taken, a disk call made, a batch published;
 -- after a failure nothing (own)
 abbrev pub Serves : {D : Type 0} → (D → Disk) → Need → CoreOnDiskView D → CoreOnDiskView D → List Event → Turned → Type 0
 Serves disk need.Batch old new told turned = Takes old new told turned
 Serves disk need.Disk old new told turned = CallsDisk disk old new told turned
+Serves disk need.BatchOrDisk old new told turned = ⊥
 Serves disk need.Publish old new told turned = (turned ≡ Made) × Publishes old new told
 Serves disk need.Stopped old new told turned = (turned ≡ Idle) × (new ≡ old) × (told ≡ [])
 
 -- a turn of the flusher: a published batch is acknowledged, and where there is none what the flusher needs is done (own)
 abbrev pub IsTurn : {D : Type 0} → (D → Disk) → Option CommittedView → CoreOnDiskView D → CoreOnDiskView D → List Event → Turned → Type 0
 IsTurn disk (Some committed) old new told turned = (turned ≡ Made) × Acknowledges old new told
-IsTurn disk None old new told turned = Serves disk (need_of old.flusher.stage) old new told turned
+IsTurn disk None old new told turned = Serves disk (met_by old) old new told turned

@@ -5,13 +5,13 @@ ghost use Rattle.iol_types.specs.Command.{command_of};
 ghost use Rattle.iol_core.specs.Submit.{IsSubmit};
 ghost use Rattle.iol_flush.specs.declared.stage.Stage.TheVariants as stage;
 ghost use Rattle.iol_flush.specs.Stages as flush;
-ghost use Rattle.iol_flush.specs.Stages.{need_of, disk_of};
+ghost use Rattle.iol_flush.specs.Stages.{need_of, names_batch, names_disk, disk_of};
 ghost use Rattle.iol_flush.specs.declared.need.Need.TheVariants as need;
 ghost use Rattle.iol_port.specs.Calls.{MayBeMade, Replies, IsReplyTo, call_of};
 ghost use Rattle.iol_port.specs.Ending.{ended};
 ghost use Rattle.iol_run.specs.CoreOnDisk.{IsInStep, KeepsRunning};
 ghost use Rattle.iol_run.specs.Events.{event_of, told_of};
-ghost use Rattle.iol_run.specs.Turns.{IsTurn, Takes, CallsDisk, Publishes};
+ghost use Rattle.iol_run.specs.Turns.{IsTurn, Takes, CallsDisk, Publishes, Serves, met_by};
 
 use crate::event::Event;
 use iol_core::{Core, StopCause, SubmitFault, Ticket};
@@ -188,7 +188,8 @@ impl<D: SectorDisk, F: Name> CoreOnDisk<D, F> {
     }
 
     /// One turn of the flusher. A batch that is published is acknowledged; where there is none the flusher's next need is
-    /// met: a batch of the core is taken, one disk call made, or the batch that is durable published.
+    /// met: a batch of the core is taken, one disk call made, or the batch that is durable published. While a checkpoint is due, a
+    /// batch goes before its next disk call.
     pub fn turn(&mut self) -> Turn
         ensures turn { IsTurn D.disk self.old.committed self.old self.new (told_of result.event) result.turned }
         ensures run { KeepsRunning D.disk F.front.start self.old self.new }
@@ -198,6 +199,7 @@ impl<D: SectorDisk, F: Name> CoreOnDisk<D, F> {
         }
         match self.flusher.needs() {
             Need::Batch => self.take(),
+            Need::BatchOrDisk => self.take_or_call(),
             Need::Disk => self.call_disk(),
             Need::Publish => self.publish(),
             Need::Stopped => Turn::silent(Turned::Idle),
@@ -221,7 +223,7 @@ impl<D: SectorDisk, F: Name> CoreOnDisk<D, F> {
 
     // Takes a batch of the core, and gives it to the flusher.
     fn take(&mut self) -> Turn
-        requires needs { (self.old.committed ≡ None) × (need_of self.old.flusher.stage ≡ need.Batch) }
+        requires needs { (self.old.committed ≡ None) × (names_batch (need_of self.old.flusher.stage) ≡ true) }
         requires stands { flush.IsInStep F.front.start self.old.flusher.stage self.old.flusher.published }
         ensures turn { Takes self.old self.new (told_of result.event) result.turned }
         ensures run { KeepsRunning D.disk F.front.start self.old self.new }
@@ -238,9 +240,23 @@ impl<D: SectorDisk, F: Name> CoreOnDisk<D, F> {
         }
     }
 
+    // Takes a batch of the core, or where there is none makes the next disk call of the checkpoint that is due.
+    fn take_or_call(&mut self) -> Turn
+        requires needs { (self.old.committed ≡ None) × (need_of self.old.flusher.stage ≡ need.BatchOrDisk) }
+        requires stands { flush.IsInStep F.front.start self.old.flusher.stage self.old.flusher.published }
+        ensures turn { Serves D.disk (met_by self.old) self.old self.new (told_of result.event) result.turned }
+        ensures run { KeepsRunning D.disk F.front.start self.old self.new }
+    {
+        let turn = self.take();
+        match turn.turned {
+            Turned::Idle => self.call_disk(),
+            Turned::Made | Turned::Waited => turn,
+        }
+    }
+
     // Makes the next disk call.
     fn call_disk(&mut self) -> Turn
-        requires { (self.old.committed ≡ None) × (need_of self.old.flusher.stage ≡ need.Disk) }
+        requires { (self.old.committed ≡ None) × (names_disk (need_of self.old.flusher.stage) ≡ true) }
         ensures turn { CallsDisk D.disk self.old self.new (told_of result.event) result.turned }
         ensures run { KeepsRunning D.disk F.front.start self.old self.new }
     {

@@ -45,3 +45,31 @@ pub returns-in-Writing-clause-sound : goal.returns-in-Writing-clause-sound
 returns-in-Writing-clause-sound g c =
     subst (λ stage. IsSound g.D.SectorDisk.disk stage → IsSound g.D.SectorDisk.disk c.write.result.0) (sym c.in-Writing.is)
     c.write.ensures.sound
+
+-- a checkpoint is due, and no batch was given
+pub returns-in-Resting-clause-step : goal.returns-in-Resting-clause-step
+returns-in-Resting-clause-step g c =
+    subst (λ stage. IsDiskStep g.D.SectorDisk.disk stage c.go_on.result.0 c.go_on.result.1) (sym c.in-Resting.is) c.go_on.ensures.step
+
+pub returns-in-Resting-clause-run : goal.returns-in-Resting-clause-run
+returns-in-Resting-clause-run g c =
+    subst (λ stage. KeepsRun g.D.SectorDisk.disk stage c.go_on.result.0) (sym c.in-Resting.is) c.go_on.ensures.run
+
+pub returns-in-Resting-clause-sound : goal.returns-in-Resting-clause-sound
+returns-in-Resting-clause-sound g c =
+    subst (λ stage. IsSound g.D.SectorDisk.disk stage → IsSound g.D.SectorDisk.disk c.go_on.result.0) (sym c.in-Resting.is)
+    c.go_on.ensures.sound
+
+-- the gate of a checkpoint is written
+pub returns-in-Opening-clause-step : goal.returns-in-Opening-clause-step
+returns-in-Opening-clause-step g c =
+    subst (λ stage. IsDiskStep g.D.SectorDisk.disk stage c.advance.result.0 c.advance.result.1) (sym c.in-Opening.is) c.advance.ensures.step
+
+pub returns-in-Opening-clause-run : goal.returns-in-Opening-clause-run
+returns-in-Opening-clause-run g c =
+    subst (λ stage. KeepsRun g.D.SectorDisk.disk stage c.advance.result.0) (sym c.in-Opening.is) c.advance.ensures.run
+
+pub returns-in-Opening-clause-sound : goal.returns-in-Opening-clause-sound
+returns-in-Opening-clause-sound g c =
+    subst (λ stage. IsSound g.D.SectorDisk.disk stage → IsSound g.D.SectorDisk.disk c.advance.result.0) (sym c.in-Opening.is)
+    c.advance.ensures.sound

@@ -1,0 +1,41 @@
+use Rattle.iol_flush.proofs.Keeping.{then_keeps, comes_to_rest, not_gone_on, rests_behind}
+use Rattle.iol_flush.proofs.Steps.{set_aside_step, ended_step}
+use Rattle.iol_flush.proofs.disk_call.advance.Goals as goal
+
+pub returns-in-More-clause-step : goal.returns-in-More-clause-step
+returns-in-More-clause-step g c =
+    set_aside_step g.D.SectorDisk.disk c.args.checkpointing c.in-More.more c.set_aside.result c.in-More.ensures.more
+    c.in-More.ensures.call c.set_aside.ensures.aside
+
+pub returns-in-More-clause-run : goal.returns-in-More-clause-run
+returns-in-More-clause-run g c =
+    then_keeps g.D.SectorDisk.disk c.args.checkpointing c.in-More.more c.set_aside.result c.in-More.ensures.run c.set_aside.ensures.run
+
+pub returns-in-More-clause-sound : goal.returns-in-More-clause-sound
+returns-in-More-clause-sound g c = λ sound. c.set_aside.ensures.sound (c.in-More.ensures.underway sound)
+
+pub returns-in-Done-clause-step : goal.returns-in-Done-clause-step
+returns-in-Done-clause-step g c =
+    let done = c.in-Done.ensures.done in
+    let same = c.in-Done.ensures.same in
+    ended_step g.D.SectorDisk.disk c.args.checkpointing c.in-Done.journal (record {
+      standing = done.0;
+      idle = done.1;
+      history = done.2;
+      none = done.3;
+      number = same.0;
+      state = same.1;
+      layout = same.2;
+    }) c.in-Done.ensures.call
+
+pub returns-in-Done-clause-run : goal.returns-in-Done-clause-run
+returns-in-Done-clause-run g c =
+    comes_to_rest g.D.SectorDisk.disk c.args.checkpointing c.in-Done.journal c.in-Done.ensures.run
+
+pub returns-in-Done-clause-sound : goal.returns-in-Done-clause-sound
+returns-in-Done-clause-sound g c = λ sound.
+    rests_behind g.D.SectorDisk.disk c.in-Done.journal (c.in-Done.ensures.durable sound).0 c.in-Done.ensures.done.3
+
+pub returns-in-Failed-clause-run : goal.returns-in-Failed-clause-run
+returns-in-Failed-clause-run g c =
+    not_gone_on g.D.SectorDisk.disk c.args.checkpointing c.in-Failed.disk c.in-Failed.fault c.in-Failed.ensures.run
