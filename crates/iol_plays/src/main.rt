@@ -9,6 +9,8 @@
 //!   client, `-` waits for a line of standard input.
 //! - `iol_plays two_clients` plays an example to read (`two_clients`).
 //! - `iol_plays measure FOLDER ROUNDS` times a journal on files in a folder (`measures`); `bench/run` makes medians of it.
+//! - `iol_plays longest FOLDER TURNS` times commits with so many turns of the flusher between two of them; `bench/longest` shows the
+//!   median and the longest.
 #![tactic(auto)]
 
 mod asking;
@@ -24,7 +26,7 @@ use anyhow::bail;
 use clients::{links_of, play_clients};
 use iol_commands::opened;
 use live::text_of_live;
-use measures::measure;
+use measures::{measure, time_commits};
 use schedule::play_schedule;
 use two_clients::play_two_clients;
 
@@ -41,7 +43,12 @@ fn main(rt: HostRuntime) -> anyhow::Result<()> {
             print!(&rt; "{text}")?;
             Ok(())
         }
-        [_, _measure, folder, rounds] => measure(&rt, folder.as_str(), rounds.as_str().parse()?),
+        [_, play, folder, count] => {
+            if play.as_str() == "longest" {
+                return time_commits(&rt, folder.as_str(), count.as_str().parse()?);
+            }
+            measure(&rt, folder.as_str(), count.as_str().parse()?)
+        }
         [_, _, path, links, pages, clients @ ..] => {
             let Ok(disk) = opened(&rt, path.as_str()) else {
                 bail!("no image")

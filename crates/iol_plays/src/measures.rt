@@ -1,17 +1,19 @@
 //! What durable commits, checkpoints, stores and recoveries of a journal on an image file cost, beside the same calls of a plain file in
 //! the same folder. Nothing is promised of times.
 //!
-//! Modules in reading order: `commits`, `stores` and `recovery`, the three measurements; `commands`, what is written; `plain`, the calls
-//! of a plain file.
+//! Modules in reading order: `commits`, `stores`, `recovery` and `longest`, the four measurements; `commands`, what is written; `plain`,
+//! the calls of a plain file.
 
 mod commands;
 mod commits;
+mod longest;
 mod plain;
 mod recovery;
 mod stores;
 
 use anyhow::bail;
 use commits::measure_commits;
+pub(crate) use longest::time_commits;
 use plain::Files;
 use recovery::measure_recovery;
 use stores::measure_stores;

@@ -6,8 +6,8 @@ use iol_types::{
 };
 use std::alloc::Global;
 
-// IOL_MANUAL with Backup and Restore, vendor 500, device 43981.
-fn config() -> anyhow::Result<PortConfig> {
+/// IOL_MANUAL with Backup and Restore, vendor 500, device 43981.
+pub(crate) fn config() -> anyhow::Result<PortConfig> {
     Ok(PortConfig {
         mode: PortMode::IolManual,
         validation: Validation::BackupAndRestore,
