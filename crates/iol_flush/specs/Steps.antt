@@ -15,7 +15,7 @@ use Rattle.iol_journal.specs.declared.journal.BeginCause.TheVariants.{TooLarge, 
 use Rattle.iol_journal.specs.declared.phase.Phase.TheVariants.{Body}
 use Rattle.iol_journal.specs.declared.place.Idle.TheVariants.{Older}
 use Rattle.iol_journal.specs.Written.{WrittenView}
-use Rattle.iol_flush.specs.Stages.{FlusherView, wants_checkpoint, disk_of, next_calls, calls_owed, is_due, need_of, failure_of}
+use Rattle.iol_flush.specs.Stages.{FlusherView, wants_checkpoint, disk_of, next_calls, calls_owed, is_due, names_batch, need_of, failure_of}
 use Rattle.iol_flush.specs.declared.need.Need.TheVariants as need
 use Rattle.iol_flush.specs.declared.fault.FlushFault.{FlushFault}
 use Rattle.iol_flush.specs.declared.fault.FlushFault.TheVariants as fault
@@ -129,9 +129,12 @@ IsUnfit (Given journal batch) =
     ⊎ (batch_refusal journal.standing batch.first (values batch.commands.items) ≡ Some Misfit)
 IsUnfit stage = ⊥
 
--- a disk call may want memory: that which begins a batch that was given, and that which begins the checkpoint that is due (own)
+-- a disk call may want memory: that which begins a batch that was given, and that which begins a checkpoint; one that goes on with
+-- a checkpoint that is paused takes none (own)
 abbrev pub MayWant : {D : Type 0} → Stage D → Type 0
-MayWant (Given journal batch) = is_too_large journal.standing.layout.slots (values batch.commands.items) ≡ false
+MayWant (Given journal batch) =
+    (is_too_large journal.standing.layout.slots (values batch.commands.items) ≡ false)
+    × (wants_checkpoint journal.standing (values batch.commands.items) ≡ true → journal.begun ≡ None)
 MayWant (Resting journal) = (is_due journal ≡ true) × (journal.begun ≡ None)
 MayWant stage = ⊥
 
@@ -180,6 +183,8 @@ HasJournal stage back = ⊥
 
 -- what is handed back: the journal and the publisher where no batch is on its way, and else the disk (own)
 abbrev pub IsEnd : {D F : Type 0} → FlusherView D → FlushEnd D F → Type 0
-IsEnd flusher (end.Closed journal publisher) = HasJournal flusher.stage journal × (publisher ≡ flusher.published)
+IsEnd flusher (end.Closed journal publisher) =
+    HasJournal flusher.stage journal × (publisher ≡ flusher.published)
+    × ((names_batch (need_of flusher.stage) ≡ true) ⊎ (need_of flusher.stage ≡ need.Publish))
 IsEnd flusher (end.Midway disk) = (need_of flusher.stage ≡ need.Disk) × (disk ≡ disk_of flusher.stage)
 IsEnd flusher (end.Faulted disk cause) = (failure_of flusher.stage ≡ Some cause) × (disk ≡ disk_of flusher.stage)

@@ -1,7 +1,7 @@
 //! Laws of a flusher, which no code calls: what it does to a run of its journal beside its disk calls, and how soon a batch
 //! is through. Proofs of other crates cite them from `proofs/RunLaws.antt` and `proofs/Turns.antt`, under the same names.
 
-ghost use Rattle.std.specs.Prelude.{◌≡◌, ◌≤◌, ℕ, ◌+◌, true, List, ◌∷◌, ◌++◌, length, Result, Ok};
+ghost use Rattle.std.specs.Prelude.{◌≡◌, ◌≤◌, ◌<◌, ◌⊎◌, ℕ, ◌+◌, ◌*◌, true, List, ◌∷◌, ◌++◌, length, Result, Ok, None, is_some};
 ghost use Rattle.iol_types.specs.Command.{CommandValue};
 ghost use Rattle.iol_types.specs.State.{State, after, legal};
 ghost use Rattle.iol_disk.specs.Content.{clock};
@@ -10,10 +10,11 @@ ghost use Rattle.iol_journal.specs.Journals.{JournalView, values};
 ghost use Rattle.iol_journal.specs.Runs.{Mark};
 ghost use Rattle.iol_journal.specs.declared.batch.Batch.{Batch};
 ghost use Rattle.iol_flush.specs.Flushing.{AreFirst, IsFlushing, GoesOn, HoldsBy};
-ghost use Rattle.iol_flush.specs.Stages.{FlusherView, HasFewCalls, disk_of};
+ghost use Rattle.iol_flush.specs.Stages.{FlusherView, HasFewCalls, disk_of, need_of};
 ghost use Rattle.iol_flush.specs.Steps.{HasTaken, HasPublished, IsDiskStep, IsUnfit};
 ghost use Rattle.iol_flush.specs.Turns.{calls_needed};
 ghost use Rattle.iol_flush.specs.declared.fault.FlushFault.{FlushFault};
+ghost use Rattle.iol_flush.specs.declared.need.Need.TheVariants as need;
 ghost use Rattle.iol_flush.specs.declared.stage.Stage.{Stage};
 ghost use Rattle.iol_flush.specs.declared.stage.Stage.TheVariants.{Resting};
 
@@ -84,4 +85,12 @@ pub fn is_fit<D: SectorDisk>()
 /// After a disk call the batch that is still to be begun goes on where the journal stands.
 pub fn goes_on<D: SectorDisk>()
     ensures { (old new : Stage D) (answer : Result Unit FlushFault) → IsDiskStep D.disk old new answer → GoesOn old → GoesOn new }
+{}
+
+/// While the journal rests a disk call is named beside the batch exactly where a checkpoint is paused, or half of the slots are used.
+pub fn due_at_half<D: SectorDisk>()
+    ensures batch { (j : JournalView D) → need_of (Resting j) ≡ need.Batch
+        → (j.begun ≡ None) × (2 * j.standing.used < j.standing.layout.slots) }
+    ensures either { (j : JournalView D) → need_of (Resting j) ≡ need.BatchOrDisk
+        → (is_some j.begun ≡ true) ⊎ (j.standing.layout.slots ≤ 2 * j.standing.used) }
 {}

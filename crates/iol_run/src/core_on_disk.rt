@@ -1,6 +1,6 @@
 //! A core, and the flusher that brings its batches to the disk, on one thread.
 
-ghost use Rattle.std.specs.Prelude.{◌≡◌, true, [], ◌∷◌, None, is_some, length, replicate, IfOk, IfErr};
+ghost use Rattle.std.specs.Prelude.{◌≡◌, ◌⊎◌, true, [], ◌∷◌, None, is_some, length, replicate, IfOk, IfErr};
 ghost use Rattle.iol_types.specs.Command.{command_of};
 ghost use Rattle.iol_core.specs.Submit.{IsSubmit};
 ghost use Rattle.iol_flush.specs.declared.stage.Stage.TheVariants as stage;
@@ -193,6 +193,9 @@ impl<D: SectorDisk, F: Name> CoreOnDisk<D, F> {
     pub fn turn(&mut self) -> Turn
         ensures turn { IsTurn D.disk self.old.committed self.old self.new (told_of result.event) result.turned }
         ensures run { KeepsRunning D.disk F.front.start self.old self.new }
+        // While a checkpoint is due there is always something to do.
+        ensures idle { result.turned ≡ Turned.Idle
+            → (need_of self.old.flusher.stage ≡ need.Batch) ⊎ (need_of self.old.flusher.stage ≡ need.Stopped) }
     {
         if self.committed.is_some() {
             return self.acknowledge();
