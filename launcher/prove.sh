@@ -1,6 +1,8 @@
 # Proves and builds the program, two crates at a time where neither waits for the other. Part of `iolmaster`.
 at_once=2
 usual_gigabytes=6
+# Crates of tests and of other programs that are proved beside the program, where `tests/proofs` asks for them.
+also=${PROVED_TOO:-}
 
 # What a crate's proof took where it was measured: its functions, and its seconds. Of these only the share of each crate counts.
 measured() {
@@ -40,16 +42,21 @@ say_progress_in_time() {
     [ "$(($(date +%s) - told))" -lt "$every" ] || say_progress
 }
 
-# The crates of the program that a crate names.
+# All crates that are proved.
+wanted_crates() {
+    for wanted in "$main" $also; do crates_of "$wanted"; done | awk '!seen[$0]++'
+}
+
+# Those of them that a crate names.
 named_by() {
     for named in $(sed -n "s/^$1\( [^:]*\)*: *\([^#]*\).*/\2/p" "$top/crates.txt"); do
         case " $crates " in *" $named "*) echo "$named" ;; esac
     done
 }
 
-# The crates of the program, that first behind which the longest row of proofs waits.
+# All of them, that first behind which the longest row of proofs waits.
 in_order() {
-    awk -v wanted="$(crates_of "$main" | tr '\n' ' ')" '
+    awk -v wanted="$(wanted_crates | tr '\n' ' ')" '
         BEGIN { count = split(wanted, order, " ") }
         NR == FNR { seconds[$1] = $3; next }
         { sub(/#.*/, ""); colon = index($0, ":") }
@@ -107,11 +114,19 @@ give_back() {
     rm -rf "$room"
 }
 
-# Proves and builds a crate with so many jobs; `built/CRATE` then holds the status, which is 0 where it worked. What other crates
-# load of it are its statements alone, which are read sooner than its proofs.
+# The words for `rt` that prove and build a crate with so many jobs. What other crates load of it are its statements alone, which are
+# read sooner than its proofs.
+words_of() {
+    case " $main $also " in
+        *" $1 "*) if [ -e "$top/crates/$1/src/main.rt" ]; then echo "run -- --help"; else echo test; fi ;;
+        *) echo "lib --jobs $2 --statements" ;;
+    esac
+}
+
+# Proves and builds a crate with so many jobs; `built/CRATE` then holds the status, which is 0 where it worked.
 build_crate() {
     crate=$1
-    if [ "$crate" = "$main" ]; then set -- run -- --help; else set -- lib --jobs "$2" --statements; fi
+    set -- $(words_of "$crate" "$2")
     (make_room "$crate" && cd "$(room_of "$crate")/crates/$crate" && exec rt "$@") </dev/null >"$out/build.$crate.log" 2>&1 &
     child=$!
     trap 'kill "$child" 2>/dev/null; wait "$child"; give_back "$crate"; exit 1' HUP INT TERM
