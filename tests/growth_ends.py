@@ -72,8 +72,9 @@ SCHEDULES = {
     + backed_up(13) + configured() + configured(4) + TURNS + configured(2) + CLEAR + TURNS,
     # More batches than slots.
     "checkpoints": 10 * (configured() + TURNS),
-    # A batch between the fifth and the sixth call of a checkpoint, which carries it.
-    "carried": 2 * (configured() + turns(7)) + turns(5) + configured() + turns(7) + TURNS,
+    # A batch between two calls of a checkpoint, which carries it. A batch has a turn to spare, so that one that finds no memory is
+    # made up for.
+    "carried": 2 * (configured() + turns(8)) + turns(4) + configured() + turns(8) + TURNS,
     # As many commands as may wait, and one more.
     "waiting": 65 * configured() + TURNS,
     "largest": sensor(largest("A7"), LARGEST_KEYS, "flag = true\nanswers = 26\n")
