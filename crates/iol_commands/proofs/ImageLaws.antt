@@ -1,13 +1,12 @@
 -- What a format leaves, where an erasure came before it.
 use Rattle.std.proofs.Common.{◌≡◌, ◌⊎◌, inl, inr, IsTrue, Bool, true, false, ◌&&◌, ℕ, sym, subst}
 use Rattle.iol_disk.specs.Content.{Image, IsImage, reads}
-use Rattle.iol_disk.specs.Disk.{Disk}
+use Rattle.iol_disk.specs.Disk.{Disk, Shows}
 use Rattle.iol_disk.specs.Moments.{LeavesOnly}
 use Rattle.iol_disk.proofs.DiskLaws.{and_then, each_now, weaker}
 use Rattle.iol_journal.specs.Erasing.{MeansAsBeforeOrNothing}
 use Rattle.iol_journal.specs.Formatting.{IsEmptyJournalOf, IsEmptyOrUnformatted}
 use Rattle.iol_journal.specs.Geometry.{Geometry}
-use Rattle.iol_journal.specs.Reading.{Shows}
 
 -- at a moment of a forced format: as before, or nothing, or an empty journal
 abbrev pub IsOnTheWay : Geometry → Disk → Image → Type 0

@@ -1,7 +1,5 @@
 -- The run of a script begins with an empty journal, and what is recovered behind its stop holds all that was acknowledged.
-use Rattle.std.proofs.Common.{◌≡◌, ◌≤◌, ◌+◌, ℕ, IsTrue, List, length, take, inr, Result, Ok, ap, sym, ◌∙◌}
-use Rattle.std.proofs.Common.{subst}
-use Rattle.std.proofs.Common.{arith}
+use Rattle.std.proofs.Common.{◌≡◌, ◌≤◌, ◌+◌, ℕ, IsTrue, List, length, take, inr, Result, Ok, ap, sym, ◌∙◌, subst, arith}
 use Rattle.std.proofs.lemmas.List.{take_all, length-replicate}
 use Rattle.iol_types.specs.State.{State, after, empty_state, blank}
 use Rattle.iol_disk.proofs.Images.{reads-is_image}

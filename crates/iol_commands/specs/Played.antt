@@ -3,7 +3,7 @@ use Rattle.std.specs.Prelude.{◌≡◌, ◌≤◌, ℕ, pos, List, length, take
 use Rattle.iol_types.specs.State.{State, after, empty_state}
 use Rattle.iol_disk.specs.Content.{IsImage, reads}
 use Rattle.iol_disk.specs.Disk.{Disk}
-use Rattle.iol_disk.specs.FaultDisk.{as_disk, inner, kind_of, due_of}
+use Rattle.iol_disk.specs.FaultDisk.{failing_disk, inner, kind_of, due_of}
 use Rattle.iol_disk.specs.Memory as memory
 use Rattle.iol_disk.specs.Stops.{IsAfterStop}
 use Rattle.iol_disk.specs.declared.fault_disk.FaultDisk.{FaultDisk}
@@ -29,7 +29,7 @@ use Rattle.iol_commands.specs.declared.run.Report.{Report}
 
 -- the disk of a run, as contracts see it: in memory, and one call of it may fail (own)
 abbrev pub run_disk : FaultDisk MemoryDisk → Disk
-run_disk disk = as_disk memory.as_disk disk
+run_disk disk = failing_disk memory.memory_disk disk
 
 -- a geometry has the numbers that a script says (format, Scripts)
 pub record IsSaidGeometry (said : Said) (geometry : Geometry) : Type 0 where
@@ -53,9 +53,9 @@ pub record IsRunOf {D : Type 0} (disk : D → Disk) (said : Said) (geometry : Ge
 -- the power was stopped as a script says: what it left is an image of the disk, and means this number and state (format, Scripts)
 pub record IsStoppedAs (keep : Pick) (last : MemoryDisk) (number : ℕ) (state : State) : Type 0 where
   pub stopped : MemoryDisk
-  pub power : IsAfterStop keep (memory.as_disk last) (memory.as_disk stopped)
-  pub left : IsImage (memory.as_disk last).content (reads (memory.as_disk stopped).content)
-  pub means : meaning (memory.as_disk stopped).sectors (reads (memory.as_disk stopped).content)
+  pub power : IsAfterStop keep (memory.memory_disk last) (memory.memory_disk stopped)
+  pub left : IsImage (memory.memory_disk last).content (reads (memory.memory_disk stopped).content)
+  pub means : meaning (memory.memory_disk stopped).sectors (reads (memory.memory_disk stopped).content)
       ≡ Ok (record { number = number; state = state })
 
 -- a state is that after the first of the commands that were accepted, from an empty state on: so many that those that were

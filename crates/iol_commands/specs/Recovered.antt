@@ -7,9 +7,8 @@ use Rattle.iol_types.specs.Config.{mode_octet, validation_octet}
 use Rattle.iol_types.specs.DataSet.{Entry, octets_of}
 use Rattle.iol_types.specs.State.{Stored, Port, State}
 use Rattle.iol_types.specs.declared.config.PortConfig.{PortConfig}
-use Rattle.iol_disk.specs.Disk.{Disk}
+use Rattle.iol_disk.specs.Disk.{Disk, Shows}
 use Rattle.iol_journal.specs.Meaning.{meaning}
-use Rattle.iol_journal.specs.Reading.{Shows}
 use Rattle.iol_commands.specs.Texts.{hex_of, hex_digits}
 
 -- the octets of a parameter behind a space, without spaces between them; nothing where there are none (format, Texts)

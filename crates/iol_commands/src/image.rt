@@ -5,7 +5,7 @@ ghost use Rattle.iol_disk.specs.Moments.{LeavesOnly};
 ghost use Rattle.iol_journal.specs.Erasing.{MeansAsBeforeOrNothing};
 ghost use Rattle.iol_journal.specs.Formatting.{EachIsEmptyJournal, IsEmptyJournalOf};
 ghost use Rattle.iol_journal.specs.Meaning.{is_formatted, meaning, standing_in};
-ghost use Rattle.iol_journal.specs.Reading.{Shows};
+ghost use Rattle.iol_disk.specs.Disk.{Shows};
 ghost use Rattle.iol_commands.specs.Fault.{status_of};
 ghost use Rattle.iol_commands.specs.Images.{IsFileCause, TellsWhy, formatted_text};
 ghost use Rattle.iol_commands.specs.Recovered.{TellsState};

@@ -2,8 +2,8 @@
 ghost use Rattle.std.specs.Prelude.{◌≡◌, Ok, [], None, IfOk, IfErr};
 ghost use Rattle.iol_journal.specs.Kept.{IsKept};
 ghost use Rattle.iol_journal.specs.Meaning.{standing_in};
-ghost use Rattle.iol_journal.specs.Reading.{Shows};
-ghost use Rattle.iol_journal.specs.Underway.{IsAtRest};
+ghost use Rattle.iol_disk.specs.Disk.{Shows};
+ghost use Rattle.iol_journal.specs.Phases.{IsAtRest};
 ghost use Rattle.iol_commands.specs.Fault.{status_of};
 ghost use Rattle.iol_commands.specs.Images.{TellsWhy};
 

@@ -8,7 +8,7 @@ use mathlib.Core.List.{IsPrefix}
 use Rattle.iol_types.specs.Command.{CommandValue}
 use Rattle.iol_types.specs.State.{State, after, check}
 use Rattle.iol_types.proofs.StateLemmas.{length-after}
-use Rattle.iol_journal.specs.declared.header.TheConstants.{LAST_NUMBER}
+use Rattle.iol_journal.specs.Numbers.{LAST_NUMBER}
 use Rattle.iol_front.specs.Fronts.{Start, CommittedView}
 use Rattle.iol_core.specs.Batches.{IsInFlight, acknowledged}
 use Rattle.iol_core.specs.Core.{CoreView, IsCore, FitsAt, live, live_number, permit_at, with_permit}

@@ -10,12 +10,10 @@ use Rattle.std.specs.List.{flat_map}
 use Rattle.std.proofs.lemmas.Grind.{flat_map-append}
 use Rattle.iol_types.specs.declared.command.Command.{Command}
 use Rattle.iol_record.specs.Record.{command_octets}
-use Rattle.iol_journal.specs.Body.{records_of}
-use Rattle.iol_core.specs.Core.{CoreView}
+use Rattle.iol_journal.specs.Body.{records_of, values}
+use Rattle.iol_core.specs.Core.{CoreView, out_at}
 use Rattle.iol_core.specs.Batches.{has_batch}
 use Rattle.iol_core.specs.Submit.{has_failed}
-use Rattle.iol_journal.specs.Journals.{values}
-use Rattle.iol_core.specs.Core.{out_at}
 use Rattle.iol_types.specs.Command.{CommandValue, value_of}
 use Rattle.iol_types.specs.State.{State, check, apply, after, legal}
 use Rattle.iol_types.proofs.StateLemmas.{legal-append}

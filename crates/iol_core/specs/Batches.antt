@@ -2,9 +2,8 @@
 use Rattle.std.specs.Prelude.{◌≡◌, ◌<◌, ◌≤◌, ℕ, ◌+◌, false, true, Bool, ◌&&◌, not, List, length, take, drop, Option, Some, None, nat_eq}
 use Rattle.iol_types.specs.Command.{CommandValue}
 use Rattle.iol_types.specs.State.{after}
-use Rattle.iol_journal.specs.Body.{records_of}
-use Rattle.iol_journal.specs.Journals.{values}
-use Rattle.iol_journal.specs.declared.batch.Batch.{Batch}
+use Rattle.iol_journal.specs.Body.{records_of, values}
+use Rattle.iol_journal.specs.Batch.{Batch}
 use Rattle.iol_front.specs.Fronts.{Start, CommittedView}
 use Rattle.iol_core.specs.Core.{CoreView}
 use Rattle.iol_core.specs.declared.batches.AckFault.{AckFault}

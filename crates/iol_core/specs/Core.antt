@@ -5,7 +5,7 @@ use Rattle.iol_types.specs.Command.{CommandValue}
 use Rattle.iol_types.specs.Config.{may_store_set}
 use Rattle.iol_types.specs.State.{State, Port, after, legal, port_numbered}
 use Rattle.iol_types.specs.declared.config.PortConfig.{PortConfig}
-use Rattle.iol_journal.specs.declared.header.TheConstants.{LAST_NUMBER}
+use Rattle.iol_journal.specs.Numbers.{LAST_NUMBER}
 use Rattle.iol_front.specs.Fronts.{Start}
 use Rattle.iol_core.specs.Standing.{Stands}
 use Rattle.iol_core.specs.declared.core_value.TheConstants.{QUEUE_COMMANDS}

@@ -6,8 +6,8 @@ ghost use mathlib.Core.List.{IsPrefix};
 ghost use Rattle.iol_types.specs.Command.{value_of};
 ghost use Rattle.iol_types.specs.State.{after, legal};
 ghost use Rattle.iol_record.specs.declared.encode.TheConstants.{LARGEST_COMMAND_RECORD};
-ghost use Rattle.iol_journal.specs.Journals.{values};
-ghost use Rattle.iol_journal.specs.declared.header.TheConstants.{LAST_NUMBER};
+ghost use Rattle.iol_journal.specs.Body.{values};
+ghost use Rattle.iol_journal.specs.Numbers.{LAST_NUMBER};
 ghost use Rattle.iol_core.specs.Core.{live};
 ghost use Rattle.iol_core.specs.Batches.{IsLongest, IsTake, IsInFlight, has_batch, IsStranger, acknowledged};
 

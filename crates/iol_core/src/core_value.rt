@@ -3,7 +3,7 @@
 ghost use Rattle.std.specs.Prelude.{◌≡◌, ◌≤◌, ◌+◌, [], length, replicate, slice_get, slice_set, None, IfOk, Some};
 ghost use Rattle.std.specs.VecDeque.{deque_capacity};
 ghost use Rattle.iol_types.specs.Command.{value_of};
-ghost use Rattle.iol_journal.specs.Journals.{values};
+ghost use Rattle.iol_journal.specs.Body.{values};
 ghost use Rattle.iol_types.specs.State.{after, check};
 ghost use Rattle.iol_core.specs.Core.{IsCore, FitsAt, live, live_number, out_at, permit_at, with_permit};
 ghost use Rattle.iol_core.specs.Submit.{is_stopped, has_failed, stopped_by, queue_fault, queued};
@@ -42,7 +42,7 @@ impl<F: Name> Model for Core<F> {
     ghost use Rattle.std.specs.Prelude.{◌≡◌, ◌≤◌};
     ghost use Rattle.std.specs.VecDeque.{deque_capacity};
     ghost use Rattle.iol_types.specs.State.{after};
-    ghost use Rattle.iol_journal.specs.Journals.{values};
+    ghost use Rattle.iol_journal.specs.Body.{values};
     ghost use Rattle.iol_core.specs.Core.{CoreView, IsCore};
     ghost use Rattle.iol_core.specs.declared.core_value.TheConstants.{QUEUE_COMMANDS};
 

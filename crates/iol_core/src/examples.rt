@@ -4,7 +4,7 @@ ghost use Rattle.std.specs.Prelude.{◌≡◌, ◌-◌, ◌^◌, [], ◌∷◌, 
 ghost use Rattle.iol_types.specs.Command.{Configure, Clear};
 ghost use Rattle.iol_types.specs.Examples.{example_config, example_port, one_port};
 ghost use Rattle.iol_types.specs.declared.command.CommandFault.TheVariants.{UnknownPort};
-ghost use Rattle.iol_journal.specs.declared.header.TheConstants.{LAST_NUMBER};
+ghost use Rattle.iol_journal.specs.Numbers.{LAST_NUMBER};
 ghost use Rattle.iol_core.specs.Batches.{has_batch, acknowledged};
 ghost use Rattle.iol_core.specs.Core.{with_permit, live_number};
 ghost use Rattle.iol_core.specs.Downloads.{download_fault};

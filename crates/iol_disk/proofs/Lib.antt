@@ -6,3 +6,6 @@ pub mod Syncs
 pub mod Orders
 pub mod DiskLaws
 pub mod FaultDisks
+pub mod Making
+pub mod Synced
+pub mod Unchanged

@@ -1,5 +1,5 @@
 -- Orders of disk calls: what calls made one behind the other do to a disk, and where one of them failed.
-use Rattle.std.specs.Prelude.{◌≡◌, ℕ, List, [], ◌∷◌, Some, slice_get, take}
+use Rattle.std.specs.Prelude.{◌≡◌, ℕ, List, [], ◌∷◌, Some, slice_get, take, Result, Ok, Err}
 use Rattle.iol_disk.specs.Content.{Content, wrote, synced}
 use Rattle.iol_disk.specs.Disk.{Disk, After, Same, WroteSome, HasFailed}
 use Rattle.iol_disk.specs.declared.fault.DiskFault.{DiskFault}
@@ -49,3 +49,22 @@ pub record FailedIn (calls : List Call) (fault : DiskFault) (old new : Disk) : T
   pub at_place : slice_get calls place ≡ Some call
   pub before : Made (take place calls) old between
   pub failed : Failed call fault between new
+
+-- the calls were made in their order: each with success, or up to one that failed with this fault (format, Orders of
+-- disk calls)
+abbrev pub Makes : List Call → Disk → Disk → Result Unit DiskFault → Type 0
+Makes calls old new (Ok done) = Made calls old new
+Makes calls old new (Err fault) = FailedIn calls fault old new
+
+-- the first of the calls was made, and these are left (own)
+pub record MakesFirst (calls left : List Call) (old new : Disk) : Type 0 where
+  pub call : Call
+  pub order : calls ≡ call ∷ left
+  pub made : Made (call ∷ []) old new
+
+-- the first of the calls failed, with this fault (own)
+pub record FailsFirst (calls : List Call) (fault : DiskFault) (old new : Disk) : Type 0 where
+  pub call : Call
+  pub left : List Call
+  pub order : calls ≡ call ∷ left
+  pub failed : FailedIn (call ∷ []) fault old new

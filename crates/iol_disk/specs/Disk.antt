@@ -1,6 +1,6 @@
 -- A disk as contracts see it, and what its calls do to it.
 use Rattle.std.specs.Prelude.{◌≡◌, ◌<◌, ◌≤◌, ◌⊎◌, ◌-◌, ◌^◌, ℕ, Bool, IsTrue, List, Result, Ok, Err}
-use Rattle.iol_disk.specs.Content.{Content, wrote}
+use Rattle.iol_disk.specs.Content.{Content, wrote, Image, reads}
 use Rattle.iol_disk.specs.declared.fault.DiskFault.{DiskFault}
 
 -- a disk as contracts see it: its size, whether it is honest, how often a call has failed, and its content, which
@@ -37,3 +37,7 @@ HasFailed old new = (old.failures < new.failures) ⊎ (2 ^ 64 - 1 ≤ new.failur
 abbrev pub FailsOnlyAs : {T : Type 0} → DiskFault → Disk → Disk → Result T DiskFault → Type 0
 FailsOnlyAs fault old new (Ok x) = new.failures ≡ old.failures
 FailsOnlyAs fault old new (Err e) = (e ≡ fault) × HasFailed old new
+
+-- of an honest disk, what it reads as has this property (own)
+abbrev pub Shows : Disk → (Image → Type 0) → Type 0
+Shows d P = IsTrue d.honest → P (reads d.content)

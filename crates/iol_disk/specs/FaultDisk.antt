@@ -59,8 +59,8 @@ abbrev pub due_of : {D : Type 0} → FaultDisk D → Due
 due_of disk = disk.due
 
 -- a disk of which one call fails, as contracts see it: that disk, with the call counted that was made to fail (own)
-abbrev pub as_disk : {D : Type 0} → (D → Disk) → FaultDisk D → Disk
-as_disk see disk = record {
+abbrev pub failing_disk : {D : Type 0} → (D → Disk) → FaultDisk D → Disk
+failing_disk see disk = record {
   sectors = (see disk.disk).sectors;
   honest = (see disk.disk).honest;
   failures = (see disk.disk).failures + made_to_fail disk.due;

@@ -13,8 +13,8 @@ abbrev pub unknown_content : Content
 unknown_content = record { durable = λ i. []; written = λ i. None; past = [] }
 
 -- an image file as contracts see it: not honest, with the whole sectors of its octets (format, Image files)
-abbrev pub as_disk : {F : Type 0} → ImageFile F → Disk
-as_disk file = record {
+abbrev pub file_disk : {F : Type 0} → ImageFile F → Disk
+file_disk file = record {
   sectors = file.octets / SECTOR_OCTETS;
   honest = false;
   failures = file.failures;

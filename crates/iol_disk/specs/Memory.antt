@@ -5,8 +5,8 @@ use Rattle.iol_disk.specs.Undo.{content_of, undos}
 use Rattle.iol_disk.specs.declared.memory.MemoryDisk.{MemoryDisk}
 
 -- a disk in memory as contracts see it: honest, with as many sectors as it has cells (own)
-abbrev pub as_disk : MemoryDisk → Disk
-as_disk d = record {
+abbrev pub memory_disk : MemoryDisk → Disk
+memory_disk d = record {
   sectors = length d.cells;
   honest = true;
   failures = d.failures;

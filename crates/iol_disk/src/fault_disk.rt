@@ -88,9 +88,9 @@ impl<D: SectorDisk> SectorDisk for FaultDisk<D> {
     ghost use Rattle.std.specs.Prelude.{◌≡◌, ◌<◌, true, false, Err, IsTrue, OnOk, OnErr};
     ghost use Rattle.iol_disk.specs.Content.{reads, wrote, synced};
     ghost use Rattle.iol_disk.specs.Disk.{After, Same, WroteSome, FailsOnlyAs};
-    ghost use Rattle.iol_disk.specs.FaultDisk.{as_disk, inner, kind_of, due_of, fails_now, counted, IsWriteMade};
+    ghost use Rattle.iol_disk.specs.FaultDisk.{failing_disk, inner, kind_of, due_of, fails_now, counted, IsWriteMade};
 
-    ghost disk = { as_disk D.disk };
+    ghost disk = { failing_disk D.disk };
 
     fn sectors(&self) -> usize {
         self.disk.sectors()
@@ -98,11 +98,12 @@ impl<D: SectorDisk> SectorDisk for FaultDisk<D> {
 
     /// Reads the sector `n`, or fails where the read is due to.
     fn read(&mut self, n: usize, octets: &mut [u8; SECTOR_OCTETS]) -> Result<(), DiskFault>
-        requires { n < (as_disk D.disk self.old).sectors }
-        ensures read { OnOk result (IsTrue (as_disk D.disk self.old).honest → octets.new ≡ reads (as_disk D.disk self.old).content n) }
+        requires { n < (failing_disk D.disk self.old).sectors }
+        ensures read { OnOk result (IsTrue (failing_disk D.disk self.old).honest
+            → octets.new ≡ reads (failing_disk D.disk self.old).content n) }
         ensures kept { OnErr result (octets.new ≡ octets.old) }
-        ensures same { Same (as_disk D.disk self.old) (as_disk D.disk self.new) }
-        ensures fault { FailsOnlyAs DiskFault.Read (as_disk D.disk self.old) (as_disk D.disk self.new) result }
+        ensures same { Same (failing_disk D.disk self.old) (failing_disk D.disk self.new) }
+        ensures fault { FailsOnlyAs DiskFault.Read (failing_disk D.disk self.old) (failing_disk D.disk self.new) result }
         ensures counted { due_of self.new ≡ counted (kind_of self.old) (due_of self.old) DiskFault.Read }
         ensures due { fails_now (kind_of self.old) (due_of self.old) DiskFault.Read ≡ true → result ≡ Err DiskFault.Read }
         ensures not_made { fails_now (kind_of self.old) (due_of self.old) DiskFault.Read ≡ true → inner self.new ≡ inner self.old }
@@ -117,10 +118,10 @@ impl<D: SectorDisk> SectorDisk for FaultDisk<D> {
 
     /// Writes the sector `n`. Where the write is due to fail it is made, and `Write` is answered.
     fn write(&mut self, n: usize, octets: &[u8; SECTOR_OCTETS]) -> Result<(), DiskFault>
-        requires { n < (as_disk D.disk self.old).sectors }
-        ensures wrote { OnOk result (After (wrote n octets.now) (as_disk D.disk self.old) (as_disk D.disk self.new)) }
-        ensures wrote_some { OnErr result (WroteSome n (as_disk D.disk self.old) (as_disk D.disk self.new)) }
-        ensures fault { FailsOnlyAs DiskFault.Write (as_disk D.disk self.old) (as_disk D.disk self.new) result }
+        requires { n < (failing_disk D.disk self.old).sectors }
+        ensures wrote { OnOk result (After (wrote n octets.now) (failing_disk D.disk self.old) (failing_disk D.disk self.new)) }
+        ensures wrote_some { OnErr result (WroteSome n (failing_disk D.disk self.old) (failing_disk D.disk self.new)) }
+        ensures fault { FailsOnlyAs DiskFault.Write (failing_disk D.disk self.old) (failing_disk D.disk self.new) result }
         ensures counted { due_of self.new ≡ counted (kind_of self.old) (due_of self.old) DiskFault.Write }
         ensures due { fails_now (kind_of self.old) (due_of self.old) DiskFault.Write ≡ true → result ≡ Err DiskFault.Write }
         ensures made { fails_now (kind_of self.old) (due_of self.old) DiskFault.Write ≡ true
@@ -137,9 +138,9 @@ impl<D: SectorDisk> SectorDisk for FaultDisk<D> {
 
     /// Makes durable all that was written, or fails where the sync is due to.
     fn sync(&mut self) -> Result<(), DiskFault>
-        ensures synced { OnOk result (After synced (as_disk D.disk self.old) (as_disk D.disk self.new)) }
-        ensures same { OnErr result (Same (as_disk D.disk self.old) (as_disk D.disk self.new)) }
-        ensures fault { FailsOnlyAs DiskFault.Sync (as_disk D.disk self.old) (as_disk D.disk self.new) result }
+        ensures synced { OnOk result (After synced (failing_disk D.disk self.old) (failing_disk D.disk self.new)) }
+        ensures same { OnErr result (Same (failing_disk D.disk self.old) (failing_disk D.disk self.new)) }
+        ensures fault { FailsOnlyAs DiskFault.Sync (failing_disk D.disk self.old) (failing_disk D.disk self.new) result }
         ensures counted { due_of self.new ≡ counted (kind_of self.old) (due_of self.old) DiskFault.Sync }
         ensures due { fails_now (kind_of self.old) (due_of self.old) DiskFault.Sync ≡ true → result ≡ Err DiskFault.Sync }
         ensures not_made { fails_now (kind_of self.old) (due_of self.old) DiskFault.Sync ≡ true → inner self.new ≡ inner self.old }

@@ -30,7 +30,7 @@ impl<F: FileExt + OpenFile + LockFile + Drop> ImageFile<F> {
     ghost use Rattle.iol_disk.specs.Disk.{Same, FailsOnlyAs};
     ghost use Rattle.iol_disk.specs.declared.disk.TheConstants.{SECTOR_OCTETS};
     ghost use Rattle.iol_disk.specs.declared.image_fault.ImageFault.TheVariants.{Open};
-    ghost use Rattle.iol_disk.specs.ImageFile.{as_disk, IsUnknown, IsCreateFault, IsOpenFault};
+    ghost use Rattle.iol_disk.specs.ImageFile.{file_disk, IsUnknown, IsCreateFault, IsOpenFault};
 
     /// Makes the file at `path`, of so many sectors of zeros, and settles it, so that a later sync has no more than
     /// octets to make durable. A file that is there is left alone.
@@ -44,9 +44,9 @@ impl<F: FileExt + OpenFile + LockFile + Drop> ImageFile<F> {
         path: &str,
         sectors: usize,
     ) -> Result<ImageFile<F>, ImageFault>
-        ensures sectors { IfOk result (λ made. (as_disk made).sectors ≡ sectors) }
+        ensures sectors { IfOk result (λ made. (file_disk made).sectors ≡ sectors) }
         ensures too_many { 2 ^ 63 ≤ sectors * SECTOR_OCTETS → result ≡ Err Open }
-        ensures unknown { IfOk result (λ made. IsUnknown (as_disk made)) }
+        ensures unknown { IfOk result (λ made. IsUnknown (file_disk made)) }
         ensures fault { IfErr result IsCreateFault }
     {
         let octets = octets_of(sectors).ok_or(ImageFault::Open)?;
@@ -74,7 +74,7 @@ impl<F: FileExt + OpenFile + LockFile + Drop> ImageFile<F> {
     /// `Open` where it cannot be opened, as where there is none, or `Memory`; `InUse` where it is open already, here or in
     /// another process; `Disk` of `Read` where its length cannot be read.
     pub fn open<R: Files<File = F>>(rt: &R, path: &str) -> Result<ImageFile<F>, ImageFault>
-        ensures unknown { IfOk result (λ opened. IsUnknown (as_disk opened)) }
+        ensures unknown { IfOk result (λ opened. IsUnknown (file_disk opened)) }
         ensures fault { IfErr result IsOpenFault }
     {
         let file = match File::options().read(true).write(true).open(rt, path) {
@@ -95,7 +95,7 @@ impl<F: FileExt + OpenFile + LockFile + Drop> ImageFile<F> {
 
     // Where a sector begins in the file.
     fn first_octet(&self, n: usize) -> u64
-        requires { n < (as_disk self.now).sectors }
+        requires { n < (file_disk self.now).sectors }
         ensures { result ≡ n * SECTOR_OCTETS }
     {
         n as u64 * SECTOR_OCTETS as u64
@@ -103,8 +103,8 @@ impl<F: FileExt + OpenFile + LockFile + Drop> ImageFile<F> {
 
     // What a disk call answers whose call of the file ended so; a failure is counted.
     fn counted(&mut self, ended: io::Result<()>, fault: DiskFault) -> Result<(), DiskFault>
-        ensures same { Same (as_disk self.old) (as_disk self.new) }
-        ensures fault { FailsOnlyAs fault (as_disk self.old) (as_disk self.new) result }
+        ensures same { Same (file_disk self.old) (file_disk self.new) }
+        ensures fault { FailsOnlyAs fault (file_disk self.old) (file_disk self.new) result }
     {
         match ended {
             Ok(()) => Ok(()),
@@ -117,9 +117,9 @@ impl<F: FileExt + OpenFile + LockFile + Drop> ImageFile<F> {
 }
 
 impl<F: FileExt + OpenFile + LockFile + Drop> SectorDisk for ImageFile<F> {
-    ghost use Rattle.iol_disk.specs.ImageFile.{as_disk};
+    ghost use Rattle.iol_disk.specs.ImageFile.{file_disk};
 
-    ghost disk = { as_disk };
+    ghost disk = { file_disk };
 
     fn sectors(&self) -> usize {
         (self.octets / SECTOR_OCTETS as u64) as usize

@@ -25,11 +25,11 @@ impl MemoryDisk {
     ghost use Rattle.iol_disk.specs.Content.{Image, IsImage, reads};
     ghost use Rattle.iol_disk.specs.Fresh.{IsFresh};
     ghost use Rattle.iol_disk.specs.Stops.{IsAfterStop};
-    ghost use Rattle.iol_disk.specs.Memory.{as_disk};
+    ghost use Rattle.iol_disk.specs.Memory.{memory_disk};
 
     /// A disk of so many sectors of zeros. It fails where memory does.
     pub fn new(alloc: Global, sectors: usize) -> Result<MemoryDisk, AllocError>
-        ensures { IfOk result (λ disk. IsFresh sectors (as_disk disk)) }
+        ensures { IfOk result (λ disk. IsFresh sectors (memory_disk disk)) }
     {
         Ok(MemoryDisk {
             alloc,
@@ -41,10 +41,10 @@ impl MemoryDisk {
 
     /// The disk after a power stop, which leaves of each sector written since the last sync what `pick` says.
     pub fn stop(self, pick: Pick) -> MemoryDisk
-        ensures stopped { IsAfterStop pick (as_disk self) (as_disk result) }
+        ensures stopped { IsAfterStop pick (memory_disk self) (memory_disk result) }
         // What it reads as then is an image of the disk before, and from then on the only one.
-        ensures image { IsImage (as_disk self).content (reads (as_disk result).content) }
-        ensures only { (image : Image) → IsImage (as_disk result).content image → image ≡ reads (as_disk result).content }
+        ensures image { IsImage (memory_disk self).content (reads (memory_disk result).content) }
+        ensures only { (image : Image) → IsImage (memory_disk result).content image → image ≡ reads (memory_disk result).content }
     {
         let MemoryDisk {
             alloc,
@@ -67,9 +67,9 @@ impl SectorDisk for MemoryDisk {
     ghost use Rattle.iol_disk.specs.Content.{reads, wrote};
     ghost use Rattle.iol_disk.specs.Disk.{After, Same, WroteSome, FailsOnlyAs};
     ghost use Rattle.iol_disk.specs.declared.fault.DiskFault.{DiskFault};
-    ghost use Rattle.iol_disk.specs.Memory.{as_disk};
+    ghost use Rattle.iol_disk.specs.Memory.{memory_disk};
 
-    ghost disk = { as_disk };
+    ghost disk = { memory_disk };
 
     fn sectors(&self) -> usize {
         self.cells.len()
@@ -77,12 +77,12 @@ impl SectorDisk for MemoryDisk {
 
     /// Reads the sector `n`, and never fails.
     fn read(&mut self, n: usize, octets: &mut [u8; SECTOR_OCTETS]) -> Result<(), DiskFault>
-        requires { n < (as_disk self.old).sectors }
+        requires { n < (memory_disk self.old).sectors }
         ensures works { IsOk result }
-        ensures read { OnOk result (IsTrue (as_disk self.old).honest → octets.new ≡ reads (as_disk self.old).content n) }
+        ensures read { OnOk result (IsTrue (memory_disk self.old).honest → octets.new ≡ reads (memory_disk self.old).content n) }
         ensures kept { OnErr result (octets.new ≡ octets.old) }
-        ensures same { Same (as_disk self.old) (as_disk self.new) }
-        ensures fault { FailsOnlyAs DiskFault.Read (as_disk self.old) (as_disk self.new) result }
+        ensures same { Same (memory_disk self.old) (memory_disk self.new) }
+        ensures fault { FailsOnlyAs DiskFault.Read (memory_disk self.old) (memory_disk self.new) result }
     {
         *octets = self.cells.read(n);
         Ok(())
@@ -90,11 +90,11 @@ impl SectorDisk for MemoryDisk {
 
     /// Writes the sector `n`, takes no memory, and never fails.
     fn write(&mut self, n: usize, octets: &[u8; SECTOR_OCTETS]) -> Result<(), DiskFault>
-        requires { n < (as_disk self.old).sectors }
+        requires { n < (memory_disk self.old).sectors }
         ensures works { IsOk result }
-        ensures wrote { OnOk result (After (wrote n octets.now) (as_disk self.old) (as_disk self.new)) }
-        ensures wrote_some { OnErr result (WroteSome n (as_disk self.old) (as_disk self.new)) }
-        ensures fault { FailsOnlyAs DiskFault.Write (as_disk self.old) (as_disk self.new) result }
+        ensures wrote { OnOk result (After (wrote n octets.now) (memory_disk self.old) (memory_disk self.new)) }
+        ensures wrote_some { OnErr result (WroteSome n (memory_disk self.old) (memory_disk self.new)) }
+        ensures fault { FailsOnlyAs DiskFault.Write (memory_disk self.old) (memory_disk self.new) result }
     {
         self.cells.write(n, octets);
         Ok(())

@@ -2,15 +2,15 @@
 use Rattle.std.proofs.Common.{◌≡◌, Bool, false, if◌then◌else◌, List, [], ◌∷◌, ◌++◌, Result, Ok, Err, refl, sym, ◌∙◌, ap, subst, arith}
 use Rattle.std.specs.Prelude.{nat_lt}
 use mathlib.Core.List.{append_assoc, append-nil}
-use Rattle.iol_disk.specs.Calls.{Call, Made, FailedIn}
+use Rattle.iol_disk.specs.Calls.{Call, Made, FailedIn, MakesFirst, FailsFirst}
 use Rattle.iol_disk.specs.Disk.{Disk}
 use Rattle.iol_disk.specs.declared.fault.DiskFault.{DiskFault}
 use Rattle.iol_disk.proofs.DiskLaws.{failed_first, failed_later, made_append, made_none}
 use Rattle.iol_journal.specs.BegunViews.{BegunView}
-use Rattle.iol_journal.specs.CheckpointViews.{begun_in, calls_of, end_in}
+use Rattle.iol_journal.specs.CheckpointViews.{begun_in}
+use Rattle.iol_journal.specs.Pauses.{calls_of, end_in}
 use Rattle.iol_journal.specs.Journals.{JournalView}
 use Rattle.iol_journal.specs.Meaning.{Standing}
-use Rattle.iol_journal.specs.Progress.{MakesFirst, FailsFirst}
 use Rattle.iol_example.specs.Store.{freeing_calls, with_slot, MakesCalls}
 use Rattle.iol_example.specs.declared.store.WriteFault.{WriteFault}
 use Rattle.iol_example.specs.declared.store.WriteFault.TheVariants.{Refused, Failed}

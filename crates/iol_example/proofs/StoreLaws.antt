@@ -7,14 +7,15 @@ use Rattle.iol_disk.specs.Content.{Image}
 use Rattle.iol_disk.specs.Disk.{Disk}
 use Rattle.iol_disk.specs.Moments.{LeavesOnly}
 use Rattle.iol_disk.proofs.DiskLaws.{started, and_then, weaker}
-use Rattle.iol_journal.specs.Journals.{JournalView, WritingView, with_batch}
+use Rattle.iol_journal.specs.Journals.{JournalView, WritingView}
+use Rattle.iol_journal.specs.Standings.{with_batch}
 use Rattle.iol_journal.specs.Kept.{KeptMeans, KeptEither}
 use Rattle.iol_journal.specs.Meaning.{Standing}
 use Rattle.iol_journal.specs.Runs.{Mark, Run, HasPrefix, IsMarked, IsRun, with_batch_begun}
-use Rattle.iol_journal.specs.Underway.{IsAtRest}
-use Rattle.iol_journal.specs.declared.journal.BeginCause.{BeginCause}
-use Rattle.iol_journal.specs.declared.journal.BeginCause.TheVariants.{Memory}
-use Rattle.iol_journal.specs.declared.place.Idle.{Idle}
+use Rattle.iol_journal.specs.Phases.{IsAtRest}
+use Rattle.iol_journal.specs.BeginCause.{BeginCause}
+use Rattle.iol_journal.specs.BeginCause.TheVariants.{Memory}
+use Rattle.iol_journal.specs.Idle.{Idle}
 use Rattle.iol_journal.proofs.JournalLaws.{rest_means_its_state}
 use Rattle.iol_example.specs.Store.{Rests, RestsAt, IfRefused, LeavesRun}
 use Rattle.iol_example.specs.declared.store.WriteFault.{WriteFault}

@@ -3,23 +3,23 @@ use Rattle.std.specs.Prelude.{◌≡◌, ◌<◌, ℕ, ◌+◌, nat_lt, if◌the
 use Rattle.iol_types.specs.Command.{CommandValue}
 use Rattle.iol_types.specs.State.{State}
 use Rattle.iol_disk.specs.Calls.{Call, Made, FailedIn}
-use Rattle.iol_disk.specs.Disk.{Disk}
+use Rattle.iol_disk.specs.Disk.{Disk, Shows}
 use Rattle.iol_journal.specs.Batches.{batch_calls}
 use Rattle.iol_journal.specs.Begin.{batch_refusal}
-use Rattle.iol_journal.specs.CheckpointViews.{begun_in, calls_of, end_in, IsPaused}
+use Rattle.iol_journal.specs.CheckpointViews.{begun_in}
+use Rattle.iol_journal.specs.Pauses.{calls_of, end_in, IsPaused}
 use Rattle.iol_journal.specs.Geometry.{Geometry}
 use Rattle.iol_journal.specs.Journals.{JournalView}
 use Rattle.iol_journal.specs.Kept.{EachMeans}
 use Rattle.iol_journal.specs.Layout.{layout_of, total}
 use Rattle.iol_journal.specs.Meaning.{Standing, is_formatted}
-use Rattle.iol_journal.specs.Reading.{Shows}
 use Rattle.iol_journal.specs.Runs.{Run, IsRun}
 use Rattle.iol_journal.specs.Running.{IsRunAtRest}
-use Rattle.iol_journal.specs.Underway.{IsAtRest}
-use Rattle.iol_journal.specs.declared.cause.RecoverCause.TheVariants.{NotFormatted, Damaged}
-use Rattle.iol_journal.specs.declared.formatting.FormatFault.TheVariants.{TooSmall, AlreadyFormatted}
-use Rattle.iol_journal.specs.declared.journal.BeginCause.{BeginCause}
-use Rattle.iol_journal.specs.declared.journal.BeginCause.TheVariants.{Memory}
+use Rattle.iol_journal.specs.Phases.{IsAtRest}
+use Rattle.iol_journal.specs.RecoverCause.TheVariants.{NotFormatted, Damaged}
+use Rattle.iol_journal.specs.FormatFault.TheVariants.{TooSmall, AlreadyFormatted}
+use Rattle.iol_journal.specs.BeginCause.{BeginCause}
+use Rattle.iol_journal.specs.BeginCause.TheVariants.{Memory}
 use Rattle.iol_example.specs.declared.store.CreateFault.{CreateFault}
 use Rattle.iol_example.specs.declared.store.CreateFault.TheVariants.{Format, Recover}
 use Rattle.iol_example.specs.declared.store.WriteFault.{WriteFault}

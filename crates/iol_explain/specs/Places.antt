@@ -3,8 +3,8 @@ use Rattle.std.specs.Prelude.{ℕ, ◌+◌, ◌-◌, ◌*◌, ◌/◌, ◌%◌, 
 use Rattle.std.specs.Fmt.{decimal}
 use Rattle.iol_journal.specs.Geometry.{Geometry as Shape}
 use Rattle.iol_journal.specs.Layout.{area_sectors, layout_of}
-use Rattle.iol_journal.specs.declared.area.Area.{Area}
-use Rattle.iol_journal.specs.declared.area.Area.TheVariants.{A, B}
+use Rattle.iol_journal.specs.Area.{Area}
+use Rattle.iol_journal.specs.Area.TheVariants.{A, B}
 use Rattle.iol_explain.specs.declared.place.Place.{Place}
 use Rattle.iol_explain.specs.declared.place.Place.TheVariants.{Geometry, DiskGate, AreaGate, Header, Record, SlotGate, Body, Behind}
 

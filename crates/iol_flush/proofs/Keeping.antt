@@ -5,18 +5,20 @@ use Rattle.iol_disk.specs.Disk.{Disk}
 use Rattle.iol_disk.specs.declared.fault.DiskFault.{DiskFault}
 use Rattle.iol_journal.specs.CheckpointRuns.{IsRunCheckpointing}
 use Rattle.iol_journal.specs.BegunViews.{BegunView}
-use Rattle.iol_journal.specs.CheckpointViews.{CheckpointingView, IsPaused}
-use Rattle.iol_journal.specs.Journals.{JournalView, WritingView, values}
+use Rattle.iol_journal.specs.CheckpointViews.{CheckpointingView}
+use Rattle.iol_journal.specs.Pauses.{IsPaused}
+use Rattle.iol_journal.specs.Journals.{JournalView, WritingView}
+use Rattle.iol_journal.specs.Body.{values}
 use Rattle.iol_journal.specs.Runs.{Run, IsRun, with_batch_begun, with_batch_written}
 use Rattle.iol_journal.specs.Running.{IsRunAtRest, IsRunWriting}
-use Rattle.iol_journal.specs.Underway.{IsAtRest}
+use Rattle.iol_journal.specs.Phases.{IsAtRest}
 use Rattle.iol_journal.specs.Written.{WrittenView}
-use Rattle.iol_journal.specs.declared.batch.Batch.{Batch}
+use Rattle.iol_journal.specs.Batch.{Batch}
 use Rattle.iol_flush.specs.Flushing.{run_of, KeepsRun, Rests}
-use Rattle.iol_flush.specs.declared.stage.Stage.{Stage}
-use Rattle.iol_flush.specs.declared.stage.Stage.TheVariants.{Resting, Opening, Given, Checkpointing, Writing, Publishing, Failed}
+use Rattle.iol_flush.specs.declared.stage.FlushStage.{FlushStage}
+use Rattle.iol_flush.specs.declared.stage.FlushStage.TheVariants.{Resting, Opening, Given, Checkpointing, Writing, Publishing, Failed}
 
-pub keeps_self : {D : Type 0} (disk : D → Disk) (stage : Stage D) → KeepsRun disk stage stage
+pub keeps_self : {D : Type 0} (disk : D → Disk) (stage : FlushStage D) → KeepsRun disk stage stage
 keeps_self disk stage = record { goes_on = λ number state published waiting marks was. was }
 
 -- a batch is still on its way
@@ -78,7 +80,7 @@ not_checkpointed disk c left batch fault goes = record {
 }
 
 -- a checkpoint is begun, for which a batch waits
-pub begins_checkpoint : {D : Type 0} (disk : D → Disk) (j : JournalView D) (c : CheckpointingView D) (batch : Batch) (new : Stage D)
+pub begins_checkpoint : {D : Type 0} (disk : D → Disk) (j : JournalView D) (c : CheckpointingView D) (batch : Batch) (new : FlushStage D)
     → ((r : Run) → IsRunAtRest disk r j → IsRunCheckpointing disk r c) → KeepsRun disk (Checkpointing c batch) new
     → KeepsRun disk (Given j batch) new
 begins_checkpoint disk j c batch new goes keeps = record {
@@ -87,7 +89,7 @@ begins_checkpoint disk j c batch new goes keeps = record {
 }
 
 -- a batch is begun
-pub begins_batch : {D : Type 0} (disk : D → Disk) (j : JournalView D) (w : WritingView D) (batch : Batch) (new : Stage D) → w.commands
+pub begins_batch : {D : Type 0} (disk : D → Disk) (j : JournalView D) (w : WritingView D) (batch : Batch) (new : FlushStage D) → w.commands
     ≡ values batch.commands.items
     → ((r : Run) (behind : List CommandValue) → r.queued ≡ values batch.commands.items ++ behind → IsRunAtRest disk r j
     → IsRunWriting disk (with_batch_begun r (values batch.commands.items) behind) w)
@@ -103,7 +105,7 @@ begins_batch disk j w batch new same goes keeps = record {
 }
 
 -- a checkpoint is gone on with for which no batch waits
-pub goes_from_rest : {D : Type 0} (disk : D → Disk) (j : JournalView D) (c : CheckpointingView D) (new : Stage D)
+pub goes_from_rest : {D : Type 0} (disk : D → Disk) (j : JournalView D) (c : CheckpointingView D) (new : FlushStage D)
     → ((r : Run) → IsRunAtRest disk r j → IsRunCheckpointing disk r c) → KeepsRun disk (Opening c) new → KeepsRun disk (Resting j) new
 goes_from_rest disk j c new goes keeps = record {
   goes_on = λ number state published waiting marks was.
@@ -111,7 +113,7 @@ goes_from_rest disk j c new goes keeps = record {
 }
 
 -- it is still on its way
-pub then_keeps : {D : Type 0} (disk : D → Disk) (c d : CheckpointingView D) (new : Stage D)
+pub then_keeps : {D : Type 0} (disk : D → Disk) (c d : CheckpointingView D) (new : FlushStage D)
     → ((r : Run) → IsRunCheckpointing disk r c → IsRunCheckpointing disk r d) → KeepsRun disk (Opening d) new
     → KeepsRun disk (Opening c) new
 then_keeps disk c d new goes keeps = record {

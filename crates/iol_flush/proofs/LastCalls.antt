@@ -5,9 +5,9 @@ use Rattle.iol_journal.specs.BegunViews.{BegunView}
 use Rattle.iol_journal.specs.Checkpoints.{target}
 use Rattle.iol_journal.specs.Drafts.{begun_behind, can_pause, stage_behind}
 use Rattle.iol_journal.specs.Meaning.{Standing}
-use Rattle.iol_journal.specs.declared.stage.Stage.{Stage}
-use Rattle.iol_journal.specs.declared.stage.Stage.TheVariants.{ClearHeader, SyncHeader, CloseGate, SyncClosed, CloseSlot, SyncSlots}
-use Rattle.iol_journal.specs.declared.stage.Stage.TheVariants.{WriteHeader, WriteRecord, SyncRecords, Carry, OpenGate, SyncOpen}
+use Rattle.iol_journal.specs.Stage.{Stage}
+use Rattle.iol_journal.specs.Stage.TheVariants.{ClearHeader, SyncHeader, CloseGate, SyncClosed, CloseSlot, SyncSlots}
+use Rattle.iol_journal.specs.Stage.TheVariants.{WriteHeader, WriteRecord, SyncRecords, Carry, OpenGate, SyncOpen}
 
 -- a checkpoint that cannot be paused is at its last sync
 last_stage : (stage : Stage) → can_pause stage ≡ false → stage ≡ SyncOpen

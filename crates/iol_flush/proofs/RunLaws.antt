@@ -8,15 +8,16 @@ use Rattle.iol_disk.specs.Disk.{Disk}
 use Rattle.iol_front.specs.Fronts.{CommittedView}
 use Rattle.iol_journal.proofs.RunLaws.{accepts}
 use Rattle.iol_journal.proofs.RunSteps.{marked_at_rest}
-use Rattle.iol_journal.specs.Journals.{JournalView, values}
+use Rattle.iol_journal.specs.Journals.{JournalView}
+use Rattle.iol_journal.specs.Body.{values}
 use Rattle.iol_journal.specs.Runs.{Run, Mark, IsMarked, IsRun, with_mark}
 use Rattle.iol_journal.specs.Running.{IsRunAtRest}
-use Rattle.iol_journal.specs.declared.batch.Batch.{Batch}
+use Rattle.iol_journal.specs.Batch.{Batch}
 use Rattle.iol_flush.specs.Flushing.{run_of, AreFirst, IsFlushing, HoldsBy}
 use Rattle.iol_flush.specs.Stages.{FlusherView, disk_of}
 use Rattle.iol_flush.specs.Steps.{HasTaken, HasPublished}
-use Rattle.iol_flush.specs.declared.stage.Stage.{Stage}
-use Rattle.iol_flush.specs.declared.stage.Stage.TheVariants.{Resting, Opening, Given, Checkpointing, Writing, Publishing, Failed}
+use Rattle.iol_flush.specs.declared.stage.FlushStage.{FlushStage}
+use Rattle.iol_flush.specs.declared.stage.FlushStage.TheVariants.{Resting, Opening, Given, Checkpointing, Writing, Publishing, Failed}
 
 -- what a stop may leave since later, it may leave since earlier
 none_left : (n : ℕ) (image : Image) → IsImageOfSome (drop n []) image → ⊥
@@ -87,7 +88,7 @@ module _ {D : Type 0} (disk : D → Disk) (number : ℕ) (state : State) (publis
       )
 
   -- nothing more is acknowledged at this moment than at the one before
-  pub marked_later : (mark : Mark) (marks : List Mark) (stage : Stage D)
+  pub marked_later : (mark : Mark) (marks : List Mark) (stage : FlushStage D)
       → IsFlushing disk number state published waiting (mark ∷ marks) stage
       → IsFlushing disk number state published waiting
       (record { clock = clock (disk (disk_of stage)).content; acknowledged = mark.acknowledged } ∷ mark ∷ marks) stage
@@ -143,11 +144,11 @@ module _ {D : Type 0} (disk : D → Disk) (number : ℕ) (state : State) (publis
   passes_in front behind more same pass = subst (λ (cs : List CommandValue). legal (after state (published ++ cs)) more ≡ true) same pass
 
   -- a batch is given: the first of those that wait
-  pub gives : (marks : List Mark) (old new : Stage D) (batch : Batch) → HasTaken old batch new
+  pub gives : (marks : List Mark) (old new : FlushStage D) (batch : Batch) → HasTaken old batch new
       → AreFirst (values batch.commands.items) waiting
       → IsFlushing disk number state published waiting marks old → IsFlushing disk number state published waiting marks new
   gives marks (Resting j) new batch taken first was =
-      subst (λ (s : Stage D). IsFlushing disk number state published waiting marks s) (sym taken) (first, was)
+      subst (λ (s : FlushStage D). IsFlushing disk number state published waiting marks s) (sym taken) (first, was)
   gives marks (Opening c) new batch taken first was = absurd taken
   gives marks (Given j b) new batch taken first was = absurd taken
   gives marks (Checkpointing c b) new batch taken first was = absurd taken
@@ -156,7 +157,7 @@ module _ {D : Type 0} (disk : D → Disk) (number : ℕ) (state : State) (publis
   gives marks (Failed left fault) new batch taken first was = absurd taken
 
   -- the batch that is durable is published: it is the first of those that wait, and waits no more
-  pub publishes : (marks : List Mark) (old : Stage D) (list : List CommandValue) (new : FlusherView D) (committed : CommittedView)
+  pub publishes : (marks : List Mark) (old : FlushStage D) (list : List CommandValue) (new : FlusherView D) (committed : CommittedView)
       → HasPublished old list new committed → IsFlushing disk number state published waiting marks old
       → (behind : List CommandValue) × (waiting ≡ committed.commands ++ behind)
       × IsFlushing disk number state (published ++ committed.commands) behind marks new.stage
@@ -182,7 +183,7 @@ module _ {D : Type 0} (disk : D → Disk) (number : ℕ) (state : State) (publis
       (record { passes = run.passes; images = λ k mark below. (run.marks k mark below).each })
 
   -- what a stop leaves
-  pub holds : (marks : List Mark) (stage : Stage D) → IsFlushing disk number state published waiting marks stage
+  pub holds : (marks : List Mark) (stage : FlushStage D) → IsFlushing disk number state published waiting marks stage
       → HoldsBy (disk (disk_of stage)) number state (published ++ waiting) marks
   holds marks (Resting j) was = holds_of (disk j.disk) published [] waiting marks refl was.1.0
   holds marks (Opening c) was = holds_of (disk c.disk) published [] waiting marks refl was.1.0
@@ -197,7 +198,7 @@ module _ {D : Type 0} (disk : D → Disk) (number : ℕ) (state : State) (publis
       holds_of (disk left) published was.0 was.1 marks (ap (λ (cs : List CommandValue). published ++ cs) was.2) was.3
 
   -- more commands are accepted, each of which passes in the state that it meets
-  pub accepts_more : (marks : List Mark) (stage : Stage D) (commands : List CommandValue)
+  pub accepts_more : (marks : List Mark) (stage : FlushStage D) (commands : List CommandValue)
       → legal (after state (published ++ waiting)) commands ≡ true
       → IsFlushing disk number state published waiting marks stage
       → IsFlushing disk number state published (waiting ++ commands) marks stage

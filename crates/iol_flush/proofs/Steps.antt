@@ -1,36 +1,38 @@
 -- The first disk call of a batch that was given, and the published list beside each disk call.
 use Rattle.std.proofs.Common.{◌≡◌, refl, ◌<◌, ◌+◌, ◌*◌, ◌||◌, nat_le, ◌++◌, ℕ, Bool, true, false, if◌then◌else◌, List, [], length}
-use Rattle.std.proofs.Common.{inl, inr, Option, Some, None, is_some, Result, Ok, Err}
-use Rattle.std.proofs.Common.{sym, ◌∙◌, ap, subst, arith, length-append, rules}
+use Rattle.std.proofs.Common.{inl, inr, Option, Some, None, is_some, Result, Ok, Err, sym, ◌∙◌, ap, subst, arith, length-append, rules}
 use Rattle.std.proofs.lemmas.List.Sums.{fold-append}
 use Rattle.iol_types.specs.Command.{CommandValue}
 use Rattle.iol_types.specs.State.{State, apply, after}
-use Rattle.iol_disk.specs.Calls.{Call}
+use Rattle.iol_disk.specs.Calls.{Call, MakesFirst, FailsFirst}
 use Rattle.iol_disk.specs.Disk.{Disk}
 use Rattle.iol_disk.specs.declared.fault.DiskFault.{DiskFault}
 use Rattle.iol_front.specs.Fronts.{Start}
 use Rattle.iol_journal.specs.Batches.{batch_calls}
 use Rattle.iol_journal.specs.Begin.{batch_refusal, is_too_large, follows}
 use Rattle.iol_journal.specs.BegunViews.{BegunView}
-use Rattle.iol_journal.specs.CheckpointViews.{CheckpointingView, begun_in, calls_of, end_in, end_of, stages_left}
+use Rattle.iol_journal.specs.CheckpointViews.{CheckpointingView, begun_in, end_of, stages_left}
+use Rattle.iol_journal.specs.Pauses.{calls_of, end_in}
 use Rattle.iol_journal.specs.Drafts.{begun_behind}
-use Rattle.iol_journal.specs.Journals.{JournalView, WritingView, LeadsTo, values, calls_left, with_batch, written_behind}
+use Rattle.iol_journal.specs.Journals.{JournalView, WritingView, calls_left}
+use Rattle.iol_journal.specs.Planned.{LeadsTo, written_behind}
+use Rattle.iol_journal.specs.Body.{values}
+use Rattle.iol_journal.specs.Standings.{with_batch}
 use Rattle.iol_journal.specs.Meaning.{Standing}
-use Rattle.iol_journal.specs.declared.history.History.{History}
-use Rattle.iol_journal.specs.Progress.{MakesFirst, FailsFirst}
-use Rattle.iol_journal.specs.declared.batch.Batch.{Batch}
-use Rattle.iol_journal.specs.declared.journal.BeginCause.{BeginCause}
-use Rattle.iol_journal.specs.declared.journal.BeginCause.TheVariants.{TooLarge, NeedsCheckpoint, Misfit}
-use Rattle.iol_journal.specs.declared.phase.Phase.TheVariants.{Body}
+use Rattle.iol_journal.specs.History.{History}
+use Rattle.iol_journal.specs.Batch.{Batch}
+use Rattle.iol_journal.specs.BeginCause.{BeginCause}
+use Rattle.iol_journal.specs.BeginCause.TheVariants.{TooLarge, NeedsCheckpoint, Misfit}
+use Rattle.iol_journal.specs.Phase.TheVariants.{Body}
 use Rattle.iol_flush.specs.Stages.{is_due, wants_checkpoint, disk_of, next_calls, calls_owed, failure_of, paused_calls}
 use Rattle.iol_flush.specs.Stages.{HasHistory, StandsBehind, IsInStep}
-use Rattle.iol_flush.specs.Steps.{writing_of, checkpoint_of, HasWritten, HasBegun, HasCheckpointed, HasMade, IsDiskStep}
-use Rattle.iol_flush.specs.Steps.{HasAdvanced, HasEnded, IsSetAside}
+use Rattle.iol_flush.specs.Steps.{writing_of, checkpoint_of, HasMadeOfBatch, HasBegun, HasMadeOfCheckpoint, HasMade, IsDiskStep}
+use Rattle.iol_flush.specs.Steps.{HasAdvanced, HasEnded, IsLeftPaused}
 use Rattle.iol_flush.specs.declared.need.Need.TheVariants as need
 use Rattle.iol_flush.specs.declared.fault.FlushFault.{FlushFault}
 use Rattle.iol_flush.specs.declared.fault.FlushFault.TheVariants as fault
-use Rattle.iol_flush.specs.declared.stage.Stage.{Stage}
-use Rattle.iol_flush.specs.declared.stage.Stage.TheVariants.{Resting, Opening, Given, Checkpointing, Writing, Publishing, Failed}
+use Rattle.iol_flush.specs.declared.stage.FlushStage.{FlushStage}
+use Rattle.iol_flush.specs.declared.stage.FlushStage.TheVariants.{Resting, Opening, Given, Checkpointing, Writing, Publishing, Failed}
 
 -- a batch that is taken finds free slots
 abbrev Refused : Bool → Bool → Bool → Option BeginCause
@@ -74,12 +76,12 @@ pub record IsBegun {D : Type 0} (j : JournalView D) (batch : Batch) (w : Writing
   pub refusal : batch_refusal j.standing batch.first (values batch.commands.items) ≡ None
   pub calls : calls_left w ≡ batch_calls j.standing (values batch.commands.items)
 
-pub begun : {D : Type 0} (disk : D → Disk) (j : JournalView D) (batch : Batch) (w : WritingView D) (new : Stage D)
+pub begun : {D : Type 0} (disk : D → Disk) (j : JournalView D) (batch : Batch) (w : WritingView D) (new : FlushStage D)
     (answer : Result Unit FlushFault)
     → IsBegun j batch w → IsDiskStep disk (Writing w) new answer → IsDiskStep disk (Given j batch) new answer
 begun {D} disk j batch w new (Ok done) is step = (
   subst (λ (full : Bool). HasBegun full j batch new) (sym (not_full j batch is.refusal))
-      (is.refusal, subst (λ (v : WritingView D). HasWritten v new) is.same step.0),
+      (is.refusal, subst (λ (v : WritingView D). HasMadeOfBatch v new) is.same step.0),
   subst (λ (calls : List Call). MakesFirst calls (calls_owed new) (disk j.disk) (disk (disk_of new))) (is.calls
       ∙ sym (next_of_batch j batch is.refusal))
       (subst (λ (d : D). MakesFirst (calls_left w) (calls_owed new) (disk d) (disk (disk_of new)))
@@ -112,7 +114,7 @@ next_of_due : {D : Type 0} (j : JournalView D) → is_due j ≡ true → next_ca
 next_of_due j due = ap (λ (due : Bool). if due then calls_of j.standing (begun_in j) else []) due
 
 -- a disk call of it is made while no batch is given
-pub gone_on : {D : Type 0} (disk : D → Disk) (j : JournalView D) (c : CheckpointingView D) (new : Stage D)
+pub gone_on : {D : Type 0} (disk : D → Disk) (j : JournalView D) (c : CheckpointingView D) (new : FlushStage D)
     (answer : Result Unit FlushFault)
     → is_due j ≡ true → c ≡ checkpoint_of j → IsDiskStep disk (Opening c) new answer → IsDiskStep disk (Resting j) new answer
 gone_on {D} disk j c new (Ok done) due same step = (
@@ -130,10 +132,10 @@ gone_on disk j c new (Err fault.Memory) due same step = absurd step.0
 gone_on disk j c new (Err fault.Misfit) due same step = absurd step.0
 
 -- it is paused behind that disk call, where it can be
-pub set_aside_step : {D : Type 0} (disk : D → Disk) (c more : CheckpointingView D) (new : Stage D)
+pub set_aside_step : {D : Type 0} (disk : D → Disk) (c more : CheckpointingView D) (new : FlushStage D)
     → (more.standing ≡ c.standing) × (more.history ≡ c.history) × (begun_behind c.standing c.begun ≡ Some more.begun)
     × (end_of more ≡ end_of c)
-    → MakesFirst (stages_left c) (stages_left more) (disk c.disk) (disk more.disk) → IsSetAside more new
+    → MakesFirst (stages_left c) (stages_left more) (disk c.disk) (disk more.disk) → IsLeftPaused more new
     → IsDiskStep disk (Opening c) new (Ok tt)
 set_aside_step {D} disk c more (Resting j) is made aside = (
   inr (record {
@@ -190,8 +192,8 @@ same_in_step start published s t h i standing history was =
     subst (λ (u : Standing). StandsBehind start published u i) (sym standing)
     (subst (λ (k : History). StandsBehind start published s k) (sym history) was)
 
-written_in_step : {D : Type 0} (start : Start) (published : List CommandValue) (w : WritingView D) (new : Stage D)
-    → HasWritten w new → StandsBehind start published w.standing w.history → IsInStep start new published
+written_in_step : {D : Type 0} (start : Start) (published : List CommandValue) (w : WritingView D) (new : FlushStage D)
+    → HasMadeOfBatch w new → StandsBehind start published w.standing w.history → IsInStep start new published
 written_in_step start published w (Writing v) has was =
     same_in_step start published w.standing v.standing w.history v.history has.0 has.2 was
 written_in_step start published w (Publishing j written) has was = (
@@ -206,8 +208,8 @@ written_in_step start published w (Checkpointing c b) has was = absurd has
 written_in_step start published w (Failed d f) has was = absurd has
 
 checkpointed_in_step : {D : Type 0} (start : Start) (published : List CommandValue) (c : CheckpointingView D) (batch : Batch)
-    (new : Stage D)
-    → HasCheckpointed c batch new → StandsBehind start published c.standing c.history → IsInStep start new published
+    (new : FlushStage D)
+    → HasMadeOfCheckpoint c batch new → StandsBehind start published c.standing c.history → IsInStep start new published
 checkpointed_in_step start published c batch (Checkpointing d kept) has was =
     same_in_step start published c.standing d.standing c.history d.history has.0 has.1 was
 checkpointed_in_step start published c batch (Given j kept) has was = record {
@@ -221,7 +223,7 @@ checkpointed_in_step start published c batch (Writing w) has was = absurd has
 checkpointed_in_step start published c batch (Publishing j written) has was = absurd has
 checkpointed_in_step start published c batch (Failed d f) has was = absurd has
 
-advanced_in_step : {D : Type 0} (start : Start) (published : List CommandValue) (c : CheckpointingView D) (new : Stage D)
+advanced_in_step : {D : Type 0} (start : Start) (published : List CommandValue) (c : CheckpointingView D) (new : FlushStage D)
     → HasAdvanced c new → StandsBehind start published c.standing c.history → IsInStep start new published
 advanced_in_step start published c (Resting j) (inl is) was = record {
   history_is = subst (HasHistory start published) (sym is.history) was.history_is;
@@ -239,13 +241,13 @@ advanced_in_step start published c (Publishing j written) is was = absurd is
 advanced_in_step start published c (Failed d f) is was = absurd is
 
 begun_in_step : {D : Type 0} (start : Start) (published : List CommandValue) (full : Bool) (j : JournalView D) (batch : Batch)
-    (new : Stage D)
+    (new : FlushStage D)
     → HasBegun full j batch new → StandsBehind start published j.standing j.history → IsInStep start new published
 begun_in_step start published true j batch new has was = checkpointed_in_step start published (checkpoint_of j) batch new has.1 was
 begun_in_step start published false j batch new has was =
     written_in_step start published (writing_of j (values batch.commands.items)) new has.1 was
 
-made_in_step : {D : Type 0} (start : Start) (published : List CommandValue) (old new : Stage D) → HasMade old new
+made_in_step : {D : Type 0} (start : Start) (published : List CommandValue) (old new : FlushStage D) → HasMade old new
     → IsInStep start old published → IsInStep start new published
 made_in_step start published (Given j batch) new has was =
     begun_in_step start published (wants_checkpoint j.standing (values batch.commands.items)) j batch new has was
@@ -256,7 +258,7 @@ made_in_step start published (Opening c) new has was = advanced_in_step start pu
 made_in_step start published (Publishing j written) new has was = absurd has
 made_in_step start published (Failed d f) new has was = absurd has
 
-failed_in_step : {D : Type 0} (start : Start) (published : List CommandValue) (new : Stage D) (cause : DiskFault) → failure_of new
+failed_in_step : {D : Type 0} (start : Start) (published : List CommandValue) (new : FlushStage D) (cause : DiskFault) → failure_of new
     ≡ Some cause → IsInStep start new published
 failed_in_step start published (Failed d f) cause is = tt
 failed_in_step start published (Resting j) cause is = search rules
@@ -266,17 +268,17 @@ failed_in_step start published (Checkpointing c b) cause is = search rules
 failed_in_step start published (Writing w) cause is = search rules
 failed_in_step start published (Publishing j written) cause is = search rules
 
-pub stays_in_step : {D : Type 0} (disk : D → Disk) (start : Start) (published : List CommandValue) (old new : Stage D)
+pub stays_in_step : {D : Type 0} (disk : D → Disk) (start : Start) (published : List CommandValue) (old new : FlushStage D)
     (answer : Result Unit FlushFault)
     → IsDiskStep disk old new answer → IsInStep start old published → IsInStep start new published
 stays_in_step disk start published old new (Ok done) step was = made_in_step start published old new step.0 was
 stays_in_step disk start published old new (Err (fault.Disk cause)) step was = failed_in_step start published new cause step.0
 stays_in_step {D} disk start published old new (Err fault.Stopped) step was =
-    subst (λ (s : Stage D). IsInStep start s published) (sym step.1) was
+    subst (λ (s : FlushStage D). IsInStep start s published) (sym step.1) was
 stays_in_step {D} disk start published old new (Err fault.Memory) step was =
-    subst (λ (s : Stage D). IsInStep start s published) (sym step.1) was
+    subst (λ (s : FlushStage D). IsInStep start s published) (sym step.1) was
 stays_in_step {D} disk start published old new (Err fault.Misfit) step was =
-    subst (λ (s : Stage D). IsInStep start s published) (sym step.1) was
+    subst (λ (s : FlushStage D). IsInStep start s published) (sym step.1) was
 
 -- what a journal has done leads to where it stands
 pub stands_behind : (start : Start) (commands : List CommandValue) (s : Standing) (h : History) → HasHistory start commands h → LeadsTo s h

@@ -2,35 +2,35 @@
 use Rattle.std.proofs.Common.{◌≡◌, ◌≤◌, ◌⊎◌, inl, inr, ◌+◌, ◌*◌, ◌||◌, ℕ, Bool, true, false, if◌then◌else◌, nat_lt, List, [], length}
 use Rattle.std.proofs.Common.{Option, Some, None, zero-add, Result, Ok, Err, refl, sym, ◌∙◌, ap, subst, arith, rules}
 use Rattle.std.proofs.lemmas.Bool.Decides.{nat_tests}
-use Rattle.iol_disk.specs.Calls.{Call}
+use Rattle.iol_disk.specs.Calls.{Call, MakesFirst}
 use Rattle.iol_disk.specs.Disk.{Disk}
 use Rattle.iol_journal.specs.Batches.{batch_calls}
 use Rattle.iol_journal.specs.Begin.{is_too_large, follows}
-use Rattle.iol_journal.specs.Body.{slots_for}
+use Rattle.iol_journal.specs.Body.{slots_for, values}
 use Rattle.iol_journal.specs.BegunViews.{BegunView}
-use Rattle.iol_journal.specs.CheckpointViews.{CheckpointingView, begun_in, calls_of, end_of, stages_left}
+use Rattle.iol_journal.specs.CheckpointViews.{CheckpointingView, begun_in, end_of, stages_left}
+use Rattle.iol_journal.specs.Pauses.{calls_of}
 use Rattle.iol_journal.specs.Checkpoints.{checkpointed, first_stage, stage_calls}
 use Rattle.iol_journal.specs.Layout.{Layout}
-use Rattle.iol_journal.specs.Journals.{JournalView, WritingView, values, calls_left}
+use Rattle.iol_journal.specs.Journals.{JournalView, WritingView, calls_left}
 use Rattle.iol_journal.specs.Meaning.{Standing}
-use Rattle.iol_journal.specs.Progress.{MakesFirst}
-use Rattle.iol_journal.specs.declared.batch.Batch.{Batch}
+use Rattle.iol_journal.specs.Batch.{Batch}
 use Rattle.iol_types.specs.Command.{CommandValue}
 use Rattle.iol_types.specs.State.{State}
-use Rattle.iol_journal.specs.declared.place.Idle.{Idle}
-use Rattle.iol_journal.specs.declared.place.Idle.TheVariants.{Older, Closed}
-use Rattle.iol_journal.specs.declared.journal.BeginCause.{BeginCause}
-use Rattle.iol_journal.specs.declared.journal.BeginCause.TheVariants.{TooLarge, NeedsCheckpoint, Misfit}
+use Rattle.iol_journal.specs.Idle.{Idle}
+use Rattle.iol_journal.specs.Idle.TheVariants.{Older, Closed}
+use Rattle.iol_journal.specs.BeginCause.{BeginCause}
+use Rattle.iol_journal.specs.BeginCause.TheVariants.{TooLarge, NeedsCheckpoint, Misfit}
 use Rattle.iol_disk.specs.declared.fault.DiskFault.{DiskFault}
 use Rattle.iol_flush.specs.Flushing.{FitsBatch, GoesOn}
 use Rattle.iol_flush.specs.Stages.{failure_of, wants_checkpoint, disk_of, calls_owed, HasFewCalls, most_batch_calls, most_checkpoint_calls}
-use Rattle.iol_flush.specs.Steps.{HasAdvanced, HasWritten, HasCheckpointed, HasBegun, HasMade, IsDiskStep, IsUnfit}
+use Rattle.iol_flush.specs.Steps.{HasAdvanced, HasMadeOfBatch, HasMadeOfCheckpoint, HasBegun, HasMade, IsDiskStep, IsUnfit}
 use Rattle.iol_flush.specs.Steps.{writing_of, checkpoint_of}
 use Rattle.iol_flush.specs.Turns.{freeing_calls, given_calls, calls_again, calls_needed}
 use Rattle.iol_flush.specs.declared.fault.FlushFault.{FlushFault}
 use Rattle.iol_flush.specs.declared.fault.FlushFault.TheVariants as fault
-use Rattle.iol_flush.specs.declared.stage.Stage.{Stage}
-use Rattle.iol_flush.specs.declared.stage.Stage.TheVariants.{Resting, Opening, Given, Checkpointing, Writing, Publishing, Failed}
+use Rattle.iol_flush.specs.declared.stage.FlushStage.{FlushStage}
+use Rattle.iol_flush.specs.declared.stage.FlushStage.TheVariants.{Resting, Opening, Given, Checkpointing, Writing, Publishing, Failed}
 
 -- one call less is owed
 one_less : (calls left : List Call) (old new : Disk) → MakesFirst calls left old new → length calls ≡ length left + 1
@@ -55,7 +55,8 @@ two_calls j none = rw none (of j.standing j.idle)
     of s Closed = omega arith
 
 module _ {D : Type 0} (disk : D → Disk) where
-  written_needs : (w : WritingView D) (new : Stage D) (n : ℕ) → HasWritten w new → length (calls_owed new) + 1 ≤ n → calls_needed new + 1
+  written_needs : (w : WritingView D) (new : FlushStage D) (n : ℕ) → HasMadeOfBatch w new → length (calls_owed new) + 1 ≤ n
+      → calls_needed new + 1
       ≤ 1 + n
   written_needs w (Writing v) n has le = omega (arith, le)
   written_needs w (Publishing j written) n has le = omega (arith, le)
@@ -86,9 +87,9 @@ module _ {D : Type 0} (disk : D → Disk) where
       finds_room s.layout.slots s.used commands (ap (λ (l : Layout). is_too_large l.slots commands) layout ∙ small) none in
       rw free (omega arith)
 
-  checkpointed_needs : (c : CheckpointingView D) (batch : Batch) (new : Stage D) (n : ℕ)
+  checkpointed_needs : (c : CheckpointingView D) (batch : Batch) (new : FlushStage D) (n : ℕ)
       → is_too_large c.standing.layout.slots (values batch.commands.items) ≡ false
-      → HasCheckpointed c batch new
+      → HasMadeOfCheckpoint c batch new
       → length (calls_owed new) + 1 ≤ n → calls_needed new + 1 ≤ most_batch_calls (values batch.commands.items) + 2 + n + calls_again c
   checkpointed_needs c batch (Checkpointing d kept) n small has le =
       omega (arith, le, ap (λ (b : Batch). most_batch_calls (values b.commands.items)) has.2, same_again)
@@ -123,7 +124,7 @@ module _ {D : Type 0} (disk : D → Disk) where
       either true = omega arith
       either false = omega arith
 
-  begun_needs : (full : Bool) (j : JournalView D) (batch : Batch) (new : Stage D) (old next : Disk) → HasBegun full j batch new
+  begun_needs : (full : Bool) (j : JournalView D) (batch : Batch) (new : FlushStage D) (old next : Disk) → HasBegun full j batch new
       → HasFewCalls new
       → MakesFirst (if full then calls_of j.standing (begun_in j) else batch_calls j.standing (values batch.commands.items))
       (calls_owed new) old next
@@ -179,7 +180,7 @@ module _ {D : Type 0} (disk : D → Disk) where
   begun_needs false j batch (Failed d f) old next has few made = absurd has.1
 
   -- a disk call that is made for a batch leaves at least one call less
-  pub advances : (old new : Stage D) → 1 ≤ calls_needed old → HasFewCalls old → HasFewCalls new → IsDiskStep disk old new (Ok tt)
+  pub advances : (old new : FlushStage D) → 1 ≤ calls_needed old → HasFewCalls old → HasFewCalls new → IsDiskStep disk old new (Ok tt)
       → calls_needed new + 1 ≤ calls_needed old
   advances (Given j batch) new some few_old few_new step =
       begun_needs (wants_checkpoint j.standing (values batch.commands.items)) j batch new (disk j.disk) (disk (disk_of new)) step.0 few_new
@@ -209,7 +210,7 @@ only_full false false true small fit (inr is) = search rules
 only_full false false false small fit is = search rules
 
 -- a batch that goes on where the journal stands is not refused for what it is
-pub is_fit : {D : Type 0} (stage : Stage D) → GoesOn stage → IsUnfit stage → ⊥
+pub is_fit : {D : Type 0} (stage : FlushStage D) → GoesOn stage → IsUnfit stage → ⊥
 is_fit (Given j batch) goes unfit =
     only_full (is_too_large j.standing.layout.slots (values batch.commands.items))
     (wants_checkpoint j.standing (values batch.commands.items))
@@ -222,7 +223,7 @@ is_fit (Writing w) goes unfit = unfit
 is_fit (Publishing j written) goes unfit = unfit
 is_fit (Failed d f) goes unfit = unfit
 
-checkpointed_goes : {D : Type 0} (c : CheckpointingView D) (batch : Batch) (new : Stage D) → HasCheckpointed c batch new
+checkpointed_goes : {D : Type 0} (c : CheckpointingView D) (batch : Batch) (new : FlushStage D) → HasMadeOfCheckpoint c batch new
     → FitsBatch c.standing batch → GoesOn new
 checkpointed_goes c batch (Checkpointing d kept) has goes =
     subst (λ (b : Batch). FitsBatch d.standing b) (sym has.2) (subst (λ (s : Standing). FitsBatch s batch) (sym has.0) goes)
@@ -249,7 +250,7 @@ checkpointed_goes c batch (Writing w) has goes = absurd has
 checkpointed_goes c batch (Publishing j written) has goes = absurd has
 checkpointed_goes c batch (Failed d f) has goes = absurd has
 
-written_goes : {D : Type 0} (w : WritingView D) (new : Stage D) → HasWritten w new → GoesOn new
+written_goes : {D : Type 0} (w : WritingView D) (new : FlushStage D) → HasMadeOfBatch w new → GoesOn new
 written_goes w (Writing v) has = tt
 written_goes w (Publishing j written) has = tt
 written_goes w (Resting j) has = tt
@@ -258,7 +259,7 @@ written_goes w (Failed d f) has = tt
 written_goes w (Given j b) has = absurd has
 written_goes w (Checkpointing c b) has = absurd has
 
-advanced_goes : {D : Type 0} (c : CheckpointingView D) (new : Stage D) → HasAdvanced c new → GoesOn new
+advanced_goes : {D : Type 0} (c : CheckpointingView D) (new : FlushStage D) → HasAdvanced c new → GoesOn new
 advanced_goes c (Resting j) has = tt
 advanced_goes c (Opening d) has = tt
 advanced_goes c (Writing w) has = tt
@@ -267,7 +268,7 @@ advanced_goes c (Failed d f) has = tt
 advanced_goes c (Given j b) has = absurd has
 advanced_goes c (Checkpointing d b) has = absurd has
 
-made_goes : {D : Type 0} (old new : Stage D) → HasMade old new → GoesOn old → GoesOn new
+made_goes : {D : Type 0} (old new : FlushStage D) → HasMade old new → GoesOn old → GoesOn new
 made_goes (Given j batch) new has goes = begun_goes (wants_checkpoint j.standing (values batch.commands.items)) has
   where
     begun_goes : (full : Bool) → HasBegun full j batch new → GoesOn new
@@ -280,7 +281,7 @@ made_goes (Opening c) new has goes = advanced_goes c new has
 made_goes (Publishing j written) new has goes = absurd has
 made_goes (Failed d f) new has goes = absurd has
 
-failed_goes : {D : Type 0} (new : Stage D) (cause : DiskFault) → failure_of new ≡ Some cause → GoesOn new
+failed_goes : {D : Type 0} (new : FlushStage D) (cause : DiskFault) → failure_of new ≡ Some cause → GoesOn new
 failed_goes (Failed d f) cause is = tt
 failed_goes (Resting j) cause is = tt
 failed_goes (Opening c) cause is = tt
@@ -290,10 +291,10 @@ failed_goes (Given j b) cause is = search rules
 failed_goes (Checkpointing c b) cause is = search rules
 
 -- after a disk call the batch that is still to be begun goes on where the journal stands
-pub goes_on : {D : Type 0} (disk : D → Disk) (old new : Stage D) (answer : Result Unit FlushFault) → IsDiskStep disk old new answer
+pub goes_on : {D : Type 0} (disk : D → Disk) (old new : FlushStage D) (answer : Result Unit FlushFault) → IsDiskStep disk old new answer
     → GoesOn old → GoesOn new
 goes_on disk old new (Ok done) step goes = made_goes old new step.0 goes
 goes_on disk old new (Err (fault.Disk cause)) step goes = failed_goes new cause step.0
-goes_on {D} disk old new (Err fault.Stopped) step goes = subst (λ (s : Stage D). GoesOn s) (sym step.1) goes
-goes_on {D} disk old new (Err fault.Memory) step goes = subst (λ (s : Stage D). GoesOn s) (sym step.1) goes
-goes_on {D} disk old new (Err fault.Misfit) step goes = subst (λ (s : Stage D). GoesOn s) (sym step.1) goes
+goes_on {D} disk old new (Err fault.Stopped) step goes = subst (λ (s : FlushStage D). GoesOn s) (sym step.1) goes
+goes_on {D} disk old new (Err fault.Memory) step goes = subst (λ (s : FlushStage D). GoesOn s) (sym step.1) goes
+goes_on {D} disk old new (Err fault.Misfit) step goes = subst (λ (s : FlushStage D). GoesOn s) (sym step.1) goes

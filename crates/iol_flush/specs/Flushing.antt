@@ -6,15 +6,18 @@ use Rattle.iol_disk.specs.Content.{Image, IsImageSince}
 use Rattle.iol_disk.specs.Disk.{Disk}
 use Rattle.iol_journal.specs.Begin.{is_too_large, follows}
 use Rattle.iol_journal.specs.CheckpointRuns.{IsRunCheckpointing}
-use Rattle.iol_journal.specs.Journals.{JournalView, values}
+use Rattle.iol_journal.specs.Journals.{JournalView}
+use Rattle.iol_journal.specs.Body.{values}
 use Rattle.iol_journal.specs.Meaning.{Standing}
 use Rattle.iol_journal.specs.Runs.{Run, Mark, HasPrefix, IsRun}
 use Rattle.iol_journal.specs.Running.{IsRunAtRest, IsRunWriting}
-use Rattle.iol_journal.specs.Underway.{IsAtRest, IsUnderway}
-use Rattle.iol_journal.specs.CheckpointViews.{IsCheckpointUnderway, IsPaused, IsBeside}
-use Rattle.iol_journal.specs.declared.batch.Batch.{Batch}
-use Rattle.iol_flush.specs.declared.stage.Stage.{Stage}
-use Rattle.iol_flush.specs.declared.stage.Stage.TheVariants.{Resting, Opening, Given, Checkpointing, Writing, Publishing, Failed}
+use Rattle.iol_journal.specs.Phases.{IsAtRest}
+use Rattle.iol_journal.specs.Underway.{IsUnderway}
+use Rattle.iol_journal.specs.CheckpointViews.{IsCheckpointUnderway}
+use Rattle.iol_journal.specs.Pauses.{IsPaused, IsBeside}
+use Rattle.iol_journal.specs.Batch.{Batch}
+use Rattle.iol_flush.specs.declared.stage.FlushStage.{FlushStage}
+use Rattle.iol_flush.specs.declared.stage.FlushStage.TheVariants.{Resting, Opening, Given, Checkpointing, Writing, Publishing, Failed}
 
 -- a run that began with a number and a state: the commands that are written, those of the batch that is underway, those
 -- that wait behind it, and moments (own)
@@ -34,7 +37,7 @@ AreFirst commands waiting = (behind : List CommandValue) × (waiting ≡ command
 
 -- a flusher has a run of its journal, which began with a number and a state: of the commands that were accepted, these are
 -- published and those wait; a batch that is given, underway or not yet published is the first of those that wait (own)
-abbrev pub IsFlushing : {D : Type 0} → (D → Disk) → ℕ → State → List CommandValue → List CommandValue → List Mark → Stage D → Type 0
+abbrev pub IsFlushing : {D : Type 0} → (D → Disk) → ℕ → State → List CommandValue → List CommandValue → List Mark → FlushStage D → Type 0
 IsFlushing disk number state published waiting marks (Resting journal) =
     IsRunAtRest disk (run_of number state published [] waiting marks) journal
 IsFlushing disk number state published waiting marks (Opening checkpoint) =
@@ -59,13 +62,13 @@ pub record FitsBatch (standing : Standing) (batch : Batch) : Type 0 where
   pub next : follows standing batch.first (values batch.commands.items) ≡ true
 
 -- the batch that was given, if one is still to be begun, goes on where the journal stands (own)
-abbrev pub GoesOn : {D : Type 0} → Stage D → Type 0
+abbrev pub GoesOn : {D : Type 0} → FlushStage D → Type 0
 GoesOn (Given journal batch) = FitsBatch journal.standing batch
 GoesOn (Checkpointing checkpoint batch) = FitsBatch checkpoint.standing batch
 GoesOn stage = Unit {0}
 
 -- whatever run a flusher has of its journal, it has it still (own)
-pub record KeepsRun {D : Type 0} (disk : D → Disk) (old new : Stage D) : Type 0 where
+pub record KeepsRun {D : Type 0} (disk : D → Disk) (old new : FlushStage D) : Type 0 where
   pub goes_on : (number : ℕ) (state : State) (published waiting : List CommandValue) (marks : List Mark)
       → IsFlushing disk number state published waiting marks old → IsFlushing disk number state published waiting marks new
 
@@ -82,7 +85,7 @@ Rests disk j = IsAtRest (disk j.disk) j.standing j.idle × IsPaused (disk j.disk
 
 -- what a stop of an honest disk may leave is kept, at each stage of a flusher: the journal is at rest, or what is on its way
 -- is underway; of a disk that failed nothing is said (own)
-abbrev pub IsSound : {D : Type 0} → (D → Disk) → Stage D → Type 0
+abbrev pub IsSound : {D : Type 0} → (D → Disk) → FlushStage D → Type 0
 IsSound disk (Resting journal) = Rests disk journal
 IsSound disk (Opening checkpoint) = IsCheckpointUnderway disk checkpoint
 IsSound disk (Given journal batch) = Rests disk journal

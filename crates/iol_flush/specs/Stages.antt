@@ -9,26 +9,27 @@ use Rattle.iol_front.specs.Fronts.{Start}
 use Rattle.iol_journal.specs.Batches.{batch_calls}
 use Rattle.iol_journal.specs.Begin.{is_too_large, room_in}
 use Rattle.iol_journal.specs.BegunViews.{BegunView}
-use Rattle.iol_journal.specs.Body.{slots_of, slots_for}
-use Rattle.iol_journal.specs.CheckpointViews.{begun_in, calls_of, stages_left}
+use Rattle.iol_journal.specs.Body.{slots_of, slots_for, values}
+use Rattle.iol_journal.specs.CheckpointViews.{begun_in, stages_left}
+use Rattle.iol_journal.specs.Pauses.{calls_of}
 use Rattle.iol_journal.specs.Drafts.{can_pause}
 use Rattle.iol_journal.specs.Layout.{Layout}
 use Rattle.iol_journal.specs.Meaning.{Standing}
-use Rattle.iol_journal.specs.Journals.{JournalView, calls_left, values}
-use Rattle.iol_journal.specs.declared.batch.TheConstants.{MOST_RECORD_OCTETS}
-use Rattle.iol_journal.specs.declared.geometry.TheConstants.{BODY_SECTORS}
-use Rattle.iol_journal.specs.declared.history.History.{History}
+use Rattle.iol_journal.specs.Journals.{JournalView, calls_left}
+use Rattle.iol_journal.specs.Limits.{MOST_RECORD_OCTETS}
+use Rattle.iol_journal.specs.Sectors.{BODY_SECTORS}
+use Rattle.iol_journal.specs.History.{History}
 use Rattle.iol_flush.specs.declared.need.Need.{Need}
 use Rattle.iol_flush.specs.declared.need.Need.TheVariants as need
-use Rattle.iol_flush.specs.declared.stage.Stage.{Stage}
-use Rattle.iol_flush.specs.declared.stage.Stage.TheVariants.{Resting, Opening, Given, Checkpointing, Writing, Publishing, Failed}
+use Rattle.iol_flush.specs.declared.stage.FlushStage.{FlushStage}
+use Rattle.iol_flush.specs.declared.stage.FlushStage.TheVariants.{Resting, Opening, Given, Checkpointing, Writing, Publishing, Failed}
 
 -- a checkpoint is to be gone on with, as one is paused, or to be begun, as half of the slots are used (own)
 abbrev pub is_due : {D : Type 0} → JournalView D → Bool
 is_due journal = is_some journal.begun || nat_le journal.standing.layout.slots (2 * journal.standing.used)
 
 -- the call that comes next (own)
-abbrev pub need_of : {D : Type 0} → Stage D → Need
+abbrev pub need_of : {D : Type 0} → FlushStage D → Need
 need_of (Resting journal) = if is_due journal then need.BatchOrDisk else need.Batch
 need_of (Opening checkpoint) = need.Disk
 need_of (Given journal batch) = need.Disk
@@ -49,23 +50,23 @@ names_disk need.BatchOrDisk = true
 names_disk other = false
 
 -- how the disk has failed, if it has (own)
-abbrev pub failure_of : {D : Type 0} → Stage D → Option DiskFault
+abbrev pub failure_of : {D : Type 0} → FlushStage D → Option DiskFault
 failure_of (Failed disk fault) = Some fault
 failure_of stage = None
 
 -- how many octets of records a batch that is given now may have: as many as fit the free slots of a journal at rest, and one
 -- slot where none is free, or at another stage (own)
-abbrev pub room_of : {D : Type 0} → Stage D → ℕ
+abbrev pub room_of : {D : Type 0} → FlushStage D → ℕ
 room_of (Resting journal) = room_in journal.standing
 room_of stage = MOST_RECORD_OCTETS
 
 -- records of no more than so many octets fit the area of a journal at rest (own)
-abbrev pub FitsArea : {D : Type 0} → Stage D → ℕ → Type 0
+abbrev pub FitsArea : {D : Type 0} → FlushStage D → ℕ → Type 0
 FitsArea (Resting journal) room = (octets : ℕ) → octets ≤ room → slots_of octets ≤ journal.standing.layout.slots
 FitsArea stage room = Unit {0}
 
 -- the disk of a flusher (own)
-abbrev pub disk_of : {D : Type 0} → Stage D → D
+abbrev pub disk_of : {D : Type 0} → FlushStage D → D
 disk_of (Resting journal) = journal.disk
 disk_of (Opening checkpoint) = checkpoint.disk
 disk_of (Given journal batch) = journal.disk
@@ -80,7 +81,7 @@ paused_calls standing None = []
 paused_calls standing (Some begun) = calls_of standing begun
 
 -- the disk calls of what is on its way that are still owed (own)
-abbrev pub calls_owed : {D : Type 0} → Stage D → List Call
+abbrev pub calls_owed : {D : Type 0} → FlushStage D → List Call
 calls_owed (Resting journal) = paused_calls journal.standing journal.begun
 calls_owed (Opening checkpoint) = stages_left checkpoint
 calls_owed (Checkpointing checkpoint batch) = stages_left checkpoint
@@ -93,7 +94,7 @@ wants_checkpoint standing commands = nat_lt standing.layout.slots (standing.used
 
 -- the disk calls that come next: those of a batch that was given or, where too few slots are free for it, of a checkpoint; where
 -- no batch was given, those of the checkpoint that is due (own)
-abbrev pub next_calls : {D : Type 0} → Stage D → List Call
+abbrev pub next_calls : {D : Type 0} → FlushStage D → List Call
 next_calls (Resting journal) = if is_due journal then calls_of journal.standing (begun_in journal) else []
 next_calls (Given journal batch) =
     if wants_checkpoint journal.standing (values batch.commands.items) then calls_of journal.standing (begun_in journal)
@@ -113,7 +114,7 @@ pub record StandsBehind (start : Start) (commands : List CommandValue) (standing
   pub state : standing.state ≡ after start.state commands
 
 -- the journal's list is the list that is published, followed by the batch that is durable and not yet published (own)
-abbrev pub IsInStep : {D : Type 0} → Start → Stage D → List CommandValue → Type 0
+abbrev pub IsInStep : {D : Type 0} → Start → FlushStage D → List CommandValue → Type 0
 IsInStep start (Resting journal) published = StandsBehind start published journal.standing journal.history
 IsInStep start (Opening checkpoint) published = StandsBehind start published checkpoint.standing checkpoint.history
 IsInStep start (Given journal batch) published = StandsBehind start published journal.standing journal.history
@@ -135,7 +136,7 @@ most_batch_calls commands = BODY_SECTORS * length commands + 3
 
 -- what is on its way has few disk calls: those of a batch, those of a checkpoint into an area that the batch fits, and the last
 -- one of a checkpoint for which no batch waits (own)
-abbrev pub HasFewCalls : {D : Type 0} → Stage D → Type 0
+abbrev pub HasFewCalls : {D : Type 0} → FlushStage D → Type 0
 HasFewCalls (Opening checkpoint) = can_pause checkpoint.begun.stage ≡ false
 HasFewCalls (Checkpointing checkpoint batch) =
     (is_too_large checkpoint.standing.layout.slots (values batch.commands.items) ≡ false)
@@ -145,5 +146,5 @@ HasFewCalls stage = Unit {0}
 
 -- a flusher as contracts see it: how far it is, and the list that is published (own)
 pub record FlusherView (D : Type 0) : Type 0 where
-  pub stage : Stage D
+  pub stage : FlushStage D
   pub published : List CommandValue

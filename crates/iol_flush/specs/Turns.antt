@@ -3,11 +3,12 @@ use Rattle.std.specs.Prelude.{ℕ, ◌+◌, ◌*◌, nat_lt, Bool, if◌then◌e
 use Rattle.iol_types.specs.Command.{CommandValue}
 use Rattle.iol_journal.specs.BegunViews.{BegunView}
 use Rattle.iol_journal.specs.CheckpointViews.{CheckpointingView, end_of, stages_left}
-use Rattle.iol_journal.specs.Journals.{calls_left, values}
+use Rattle.iol_journal.specs.Journals.{calls_left}
+use Rattle.iol_journal.specs.Body.{values}
 use Rattle.iol_journal.specs.Layout.{Layout}
 use Rattle.iol_flush.specs.Stages.{wants_checkpoint, most_batch_calls, most_checkpoint_calls}
-use Rattle.iol_flush.specs.declared.stage.Stage.{Stage}
-use Rattle.iol_flush.specs.declared.stage.Stage.TheVariants.{Resting, Opening, Given, Checkpointing, Writing, Publishing, Failed}
+use Rattle.iol_flush.specs.declared.stage.FlushStage.{FlushStage}
+use Rattle.iol_flush.specs.declared.stage.FlushStage.TheVariants.{Resting, Opening, Given, Checkpointing, Writing, Publishing, Failed}
 
 -- at most so many calls free the slots for a batch: a checkpoint and, where one was paused, another one, as the batches that it
 -- carries may leave too few (own)
@@ -29,7 +30,7 @@ abbrev pub calls_again : {D : Type 0} → CheckpointingView D → ℕ
 calls_again c = if nat_lt 0 (end_of c).used then most_checkpoint_calls c.standing.layout + 1 else 0
 
 -- at most so many calls bring the batch of a flusher through; none where it has no batch, or the disk failed (own)
-abbrev pub calls_needed : {D : Type 0} → Stage D → ℕ
+abbrev pub calls_needed : {D : Type 0} → FlushStage D → ℕ
 calls_needed (Resting journal) = 0
 calls_needed (Opening checkpoint) = 0
 calls_needed (Given journal batch) =

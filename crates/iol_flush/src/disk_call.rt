@@ -2,15 +2,15 @@
 
 ghost use Rattle.std.specs.Prelude.{◌≡◌, ◌<◌, ◌⊎◌, true, false};
 ghost use Rattle.iol_journal.specs.Begin.{is_too_large};
-ghost use Rattle.iol_journal.specs.Journals.{values};
+ghost use Rattle.iol_journal.specs.Body.{values};
 ghost use Rattle.iol_flush.specs.Stages.{HasFewCalls, is_due, names_disk, need_of, wants_checkpoint};
-ghost use Rattle.iol_flush.specs.Steps.{IsDiskStep, IsSetAside};
+ghost use Rattle.iol_flush.specs.Steps.{IsDiskStep, IsLeftPaused};
 ghost use Rattle.iol_flush.specs.Flushing.{KeepsRun, IsSound};
 ghost use Rattle.iol_flush.specs.declared.need.Need.TheVariants as need;
-ghost use Rattle.iol_flush.specs.declared.stage.Stage.TheVariants as stage;
+ghost use Rattle.iol_flush.specs.declared.stage.FlushStage.TheVariants as stage;
 
 use crate::fault::FlushFault;
-use crate::stage::Stage;
+use crate::stage::FlushStage;
 use iol_disk::SectorDisk;
 use iol_journal::{
     Batch, BeginCause, BeginFault, CheckpointFault, CheckpointProgress, Checkpointing, Journal,
@@ -19,9 +19,9 @@ use iol_journal::{
 
 // Makes the next disk call, unless one has failed before.
 pub(crate) fn make_call<D: SectorDisk>(
-    stage: Stage<D>,
+    stage: FlushStage<D>,
     _call: (),
-) -> (Stage<D>, Result<(), FlushFault>)
+) -> (FlushStage<D>, Result<(), FlushFault>)
     requires needs { (names_disk (need_of stage) ≡ true) ⊎ (need_of stage ≡ need.Stopped) }
     requires few { HasFewCalls stage }
     ensures step { IsDiskStep D.disk stage result.0 result.1 }
@@ -30,18 +30,21 @@ pub(crate) fn make_call<D: SectorDisk>(
     ensures sound { IsSound D.disk stage → IsSound D.disk result.0 }
 {
     match stage {
-        Stage::Resting(journal) => go_on(journal),
-        Stage::Opening(checkpointing) => advance(checkpointing),
-        Stage::Given(journal, batch) => begin(journal, batch),
-        Stage::Checkpointing(checkpointing, batch) => checkpoint(checkpointing, batch),
-        Stage::Writing(writing) => write(writing),
-        Stage::Failed(disk, fault) => (Stage::Failed(disk, fault), Err(FlushFault::Stopped)),
-        Stage::Publishing(..) => unreachable!(),
+        FlushStage::Resting(journal) => go_on(journal),
+        FlushStage::Opening(checkpointing) => advance(checkpointing),
+        FlushStage::Given(journal, batch) => begin(journal, batch),
+        FlushStage::Checkpointing(checkpointing, batch) => checkpoint(checkpointing, batch),
+        FlushStage::Writing(writing) => write(writing),
+        FlushStage::Failed(disk, fault) => (
+            FlushStage::Failed(disk, fault),
+            Err(FlushFault::Stopped),
+        ),
+        FlushStage::Publishing(..) => unreachable!(),
     }
 }
 
 // Makes the next disk call of the checkpoint that is due while no batch is given.
-fn go_on<D: SectorDisk>(journal: Journal<D>) -> (Stage<D>, Result<(), FlushFault>)
+fn go_on<D: SectorDisk>(journal: Journal<D>) -> (FlushStage<D>, Result<(), FlushFault>)
     requires due { is_due journal ≡ true }
     ensures step { IsDiskStep D.disk (stage.Resting journal) result.0 result.1 }
     ensures few { HasFewCalls result.0 }
@@ -53,13 +56,15 @@ fn go_on<D: SectorDisk>(journal: Journal<D>) -> (Stage<D>, Result<(), FlushFault
         Ok(checkpointing) => advance(checkpointing),
         Err(fault) => {
             let CheckpointFault { cause: _, journal } = fault;
-            (Stage::Resting(journal), Err(FlushFault::Memory))
+            (FlushStage::Resting(journal), Err(FlushFault::Memory))
         }
     }
 }
 
 // Makes the next disk call of a checkpoint for which no batch waits.
-fn advance<D: SectorDisk>(checkpointing: Checkpointing<D>) -> (Stage<D>, Result<(), FlushFault>)
+fn advance<D: SectorDisk>(
+    checkpointing: Checkpointing<D>,
+) -> (FlushStage<D>, Result<(), FlushFault>)
     ensures step { IsDiskStep D.disk (stage.Opening checkpointing) result.0 result.1 }
     ensures few { HasFewCalls result.0 }
     ensures run { KeepsRun D.disk (stage.Opening checkpointing) result.0 }
@@ -67,29 +72,35 @@ fn advance<D: SectorDisk>(checkpointing: Checkpointing<D>) -> (Stage<D>, Result<
 {
     match checkpointing.step() {
         CheckpointProgress::More(more) => (set_aside(more), Ok(())),
-        CheckpointProgress::Done(journal) => (Stage::Resting(journal), Ok(())),
+        CheckpointProgress::Done(journal) => (FlushStage::Resting(journal), Ok(())),
         CheckpointProgress::Failed(disk, fault) => {
-            (Stage::Failed(disk, fault), Err(FlushFault::Disk(fault)))
+            (
+                FlushStage::Failed(disk, fault),
+                Err(FlushFault::Disk(fault)),
+            )
         }
     }
 }
 
 // Pauses a checkpoint, where it can be paused, so that a batch may come before its next disk call.
-fn set_aside<D: SectorDisk>(checkpointing: Checkpointing<D>) -> Stage<D>
-    ensures aside { IsSetAside checkpointing result }
+fn set_aside<D: SectorDisk>(checkpointing: Checkpointing<D>) -> FlushStage<D>
+    ensures aside { IsLeftPaused checkpointing result }
     ensures few { HasFewCalls result }
     ensures run { KeepsRun D.disk (stage.Opening checkpointing) result }
     ensures sound { IsSound D.disk (stage.Opening checkpointing) → IsSound D.disk result }
 {
     if checkpointing.can_pause() {
-        Stage::Resting(checkpointing.pause())
+        FlushStage::Resting(checkpointing.pause())
     } else {
-        Stage::Opening(checkpointing)
+        FlushStage::Opening(checkpointing)
     }
 }
 
 // Makes the first disk call of a batch or, where too few slots are free for it, of a checkpoint before it.
-fn begin<D: SectorDisk>(journal: Journal<D>, batch: Batch) -> (Stage<D>, Result<(), FlushFault>)
+fn begin<D: SectorDisk>(
+    journal: Journal<D>,
+    batch: Batch,
+) -> (FlushStage<D>, Result<(), FlushFault>)
     ensures step { IsDiskStep D.disk (stage.Given journal batch) result.0 result.1 }
     ensures few { HasFewCalls result.0 }
     ensures run { KeepsRun D.disk (stage.Given journal batch) result.0 }
@@ -105,9 +116,12 @@ fn begin<D: SectorDisk>(journal: Journal<D>, batch: Batch) -> (Stage<D>, Result<
             } = fault;
             match cause {
                 BeginCause::NeedsCheckpoint => begin_checkpoint(journal, batch),
-                BeginCause::Memory => (Stage::Given(journal, batch), Err(FlushFault::Memory)),
-                BeginCause::TooLarge => (Stage::Given(journal, batch), Err(FlushFault::Misfit)),
-                BeginCause::Misfit => (Stage::Given(journal, batch), Err(FlushFault::Misfit)),
+                BeginCause::Memory => (FlushStage::Given(journal, batch), Err(FlushFault::Memory)),
+                BeginCause::TooLarge => (
+                    FlushStage::Given(journal, batch),
+                    Err(FlushFault::Misfit),
+                ),
+                BeginCause::Misfit => (FlushStage::Given(journal, batch), Err(FlushFault::Misfit)),
             }
         }
     }
@@ -117,7 +131,7 @@ fn begin<D: SectorDisk>(journal: Journal<D>, batch: Batch) -> (Stage<D>, Result<
 fn begin_checkpoint<D: SectorDisk>(
     journal: Journal<D>,
     batch: Batch,
-) -> (Stage<D>, Result<(), FlushFault>)
+) -> (FlushStage<D>, Result<(), FlushFault>)
     requires wanted { wants_checkpoint journal.standing (values batch.commands.items) ≡ true }
     requires small { is_too_large journal.standing.layout.slots (values batch.commands.items) ≡ false }
     requires used { 0 < journal.standing.used }
@@ -130,7 +144,7 @@ fn begin_checkpoint<D: SectorDisk>(
         Ok(checkpointing) => checkpoint(checkpointing, batch),
         Err(fault) => {
             let CheckpointFault { cause: _, journal } = fault;
-            (Stage::Given(journal, batch), Err(FlushFault::Memory))
+            (FlushStage::Given(journal, batch), Err(FlushFault::Memory))
         }
     }
 }
@@ -139,7 +153,7 @@ fn begin_checkpoint<D: SectorDisk>(
 fn checkpoint<D: SectorDisk>(
     checkpointing: Checkpointing<D>,
     batch: Batch,
-) -> (Stage<D>, Result<(), FlushFault>)
+) -> (FlushStage<D>, Result<(), FlushFault>)
     requires few { HasFewCalls (stage.Checkpointing checkpointing batch) }
     ensures step { IsDiskStep D.disk (stage.Checkpointing checkpointing batch) result.0 result.1 }
     ensures few { HasFewCalls result.0 }
@@ -147,16 +161,19 @@ fn checkpoint<D: SectorDisk>(
     ensures sound { IsSound D.disk (stage.Checkpointing checkpointing batch) → IsSound D.disk result.0 }
 {
     match checkpointing.step() {
-        CheckpointProgress::More(more) => (Stage::Checkpointing(more, batch), Ok(())),
-        CheckpointProgress::Done(journal) => (Stage::Given(journal, batch), Ok(())),
+        CheckpointProgress::More(more) => (FlushStage::Checkpointing(more, batch), Ok(())),
+        CheckpointProgress::Done(journal) => (FlushStage::Given(journal, batch), Ok(())),
         CheckpointProgress::Failed(disk, fault) => {
-            (Stage::Failed(disk, fault), Err(FlushFault::Disk(fault)))
+            (
+                FlushStage::Failed(disk, fault),
+                Err(FlushFault::Disk(fault)),
+            )
         }
     }
 }
 
 // Makes the next disk call of a batch.
-fn write<D: SectorDisk>(writing: Writing<D>) -> (Stage<D>, Result<(), FlushFault>)
+fn write<D: SectorDisk>(writing: Writing<D>) -> (FlushStage<D>, Result<(), FlushFault>)
     requires few { HasFewCalls (stage.Writing writing) }
     ensures step { IsDiskStep D.disk (stage.Writing writing) result.0 result.1 }
     ensures few { HasFewCalls result.0 }
@@ -164,10 +181,13 @@ fn write<D: SectorDisk>(writing: Writing<D>) -> (Stage<D>, Result<(), FlushFault
     ensures sound { IsSound D.disk (stage.Writing writing) → IsSound D.disk result.0 }
 {
     match writing.step() {
-        Progress::More(more) => (Stage::Writing(more), Ok(())),
-        Progress::Done(journal, written) => (Stage::Publishing(journal, written), Ok(())),
+        Progress::More(more) => (FlushStage::Writing(more), Ok(())),
+        Progress::Done(journal, written) => (FlushStage::Publishing(journal, written), Ok(())),
         Progress::Failed(disk, fault) => {
-            (Stage::Failed(disk, fault), Err(FlushFault::Disk(fault)))
+            (
+                FlushStage::Failed(disk, fault),
+                Err(FlushFault::Disk(fault)),
+            )
         }
     }
 }

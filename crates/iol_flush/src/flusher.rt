@@ -6,12 +6,12 @@ ghost use Rattle.iol_flush.specs.Stages.{FitsArea, HasHistory, HasFewCalls, IsIn
 ghost use Rattle.iol_flush.specs.Steps.{IsDiskStep, IsGift, HasGivenUp, IsPublished, IsEnd};
 ghost use Rattle.iol_flush.specs.Flushing.{KeepsRun, IsSound};
 ghost use Rattle.iol_flush.specs.declared.need.Need.TheVariants as need;
-ghost use Rattle.iol_flush.specs.declared.stage.Stage.TheVariants as stage;
+ghost use Rattle.iol_flush.specs.declared.stage.FlushStage.TheVariants as stage;
 
 use crate::disk_call::make_call;
 use crate::fault::{FlushFault, GiveFault};
 use crate::need::Need;
-use crate::stage::Stage;
+use crate::stage::FlushStage;
 use core::mem::replace_with;
 use iol_disk::{DiskFault, SectorDisk};
 use iol_front::{Committed, Name, Publisher};
@@ -21,7 +21,7 @@ use std::marker::Model;
 /// What brings batches to the disk and publishes them. A contract sees the record `FlusherView` of `specs/Stages.antt`:
 /// how far it is, and the list that is published.
 pub struct Flusher<D: SectorDisk, F: Name> {
-    stage: Stage<D>,
+    stage: FlushStage<D>,
     publisher: Publisher<F>,
 }
 
@@ -57,7 +57,7 @@ impl<D: SectorDisk, F: Name> Flusher<D, F> {
     {
         let _number = journal.number();
         Flusher {
-            stage: Stage::Resting(journal),
+            stage: FlushStage::Resting(journal),
             publisher,
         }
     }
@@ -81,7 +81,7 @@ impl<D: SectorDisk, F: Name> Flusher<D, F> {
         ensures fits { FitsArea self.now.stage result }
     {
         match &self.stage {
-            Stage::Resting(journal) => journal.room(),
+            FlushStage::Resting(journal) => journal.room(),
             _ => MOST_RECORD_OCTETS,
         }
     }
@@ -146,42 +146,50 @@ impl<D: SectorDisk, F: Name> Flusher<D, F> {
     {
         let Flusher { stage, publisher } = self;
         match stage {
-            Stage::Resting(journal) => FlushEnd::Closed(journal, publisher),
-            Stage::Publishing(journal, written) => {
+            FlushStage::Resting(journal) => FlushEnd::Closed(journal, publisher),
+            FlushStage::Publishing(journal, written) => {
                 let _batch = written.into_batch();
                 FlushEnd::Closed(journal, publisher)
             }
-            Stage::Opening(checkpointing) => FlushEnd::Midway(checkpointing.disk()),
-            Stage::Given(journal, _batch) => FlushEnd::Midway(journal.disk()),
-            Stage::Checkpointing(checkpointing, _batch) => FlushEnd::Midway(checkpointing.disk()),
-            Stage::Writing(writing) => FlushEnd::Midway(writing.disk()),
-            Stage::Failed(disk, fault) => FlushEnd::Faulted(disk, fault),
+            FlushStage::Opening(checkpointing) => FlushEnd::Midway(checkpointing.disk()),
+            FlushStage::Given(journal, _batch) => FlushEnd::Midway(journal.disk()),
+            FlushStage::Checkpointing(checkpointing, _batch) => FlushEnd::Midway(
+                checkpointing.disk(),
+            ),
+            FlushStage::Writing(writing) => FlushEnd::Midway(writing.disk()),
+            FlushStage::Failed(disk, fault) => FlushEnd::Faulted(disk, fault),
         }
     }
 }
 
 // The stage after a batch is given.
-fn with_batch<D: SectorDisk>(stage: Stage<D>, batch: Batch) -> (Stage<D>, Result<(), GiveFault>)
+fn with_batch<D: SectorDisk>(
+    stage: FlushStage<D>,
+    batch: Batch,
+) -> (FlushStage<D>, Result<(), GiveFault>)
     requires { (names_batch (need_of stage) ≡ true) ⊎ (need_of stage ≡ need.Stopped) }
     ensures { IsGift stage batch result.0 result.1 }
 {
     match stage {
-        Stage::Resting(journal) => (Stage::Given(journal, batch), Ok(())),
-        Stage::Failed(disk, fault) => {
-            (Stage::Failed(disk, fault), Err(GiveFault::Stopped(batch)))
+        FlushStage::Resting(journal) => (FlushStage::Given(journal, batch), Ok(())),
+        FlushStage::Failed(disk, fault) => {
+            (
+                FlushStage::Failed(disk, fault),
+                Err(GiveFault::Stopped(batch)),
+            )
         }
         _ => unreachable!(),
     }
 }
 
 // The stage without the batch that is durable, and that batch.
-fn take_written<D: SectorDisk>(stage: Stage<D>, _call: ()) -> (Stage<D>, Option<Written>)
+fn take_written<D: SectorDisk>(stage: FlushStage<D>, _call: ()) -> (FlushStage<D>, Option<Written>)
     requires { (need_of stage ≡ need.Publish) ⊎ (need_of stage ≡ need.Stopped) }
     ensures { HasGivenUp stage result.0 result.1 }
 {
     match stage {
-        Stage::Publishing(journal, written) => (Stage::Resting(journal), Some(written)),
-        Stage::Failed(disk, fault) => (Stage::Failed(disk, fault), None),
+        FlushStage::Publishing(journal, written) => (FlushStage::Resting(journal), Some(written)),
+        FlushStage::Failed(disk, fault) => (FlushStage::Failed(disk, fault), None),
         _ => unreachable!(),
     }
 }

@@ -6,23 +6,24 @@ ghost use Rattle.iol_types.specs.Command.{CommandValue};
 ghost use Rattle.iol_types.specs.State.{State, after, legal};
 ghost use Rattle.iol_disk.specs.Content.{clock};
 ghost use Rattle.iol_front.specs.Fronts.{CommittedView};
-ghost use Rattle.iol_journal.specs.Journals.{JournalView, values};
+ghost use Rattle.iol_journal.specs.Journals.{JournalView};
+ghost use Rattle.iol_journal.specs.Body.{values};
 ghost use Rattle.iol_journal.specs.Runs.{Mark};
-ghost use Rattle.iol_journal.specs.declared.batch.Batch.{Batch};
+ghost use Rattle.iol_journal.specs.Batch.{Batch};
 ghost use Rattle.iol_flush.specs.Flushing.{AreFirst, IsFlushing, GoesOn, HoldsBy};
 ghost use Rattle.iol_flush.specs.Stages.{FlusherView, HasFewCalls, disk_of, need_of};
 ghost use Rattle.iol_flush.specs.Steps.{HasTaken, HasPublished, IsDiskStep, IsUnfit};
 ghost use Rattle.iol_flush.specs.Turns.{calls_needed};
 ghost use Rattle.iol_flush.specs.declared.fault.FlushFault.{FlushFault};
 ghost use Rattle.iol_flush.specs.declared.need.Need.TheVariants as need;
-ghost use Rattle.iol_flush.specs.declared.stage.Stage.{Stage};
-ghost use Rattle.iol_flush.specs.declared.stage.Stage.TheVariants.{Resting};
+ghost use Rattle.iol_flush.specs.declared.stage.FlushStage.{FlushStage};
+ghost use Rattle.iol_flush.specs.declared.stage.FlushStage.TheVariants.{Resting};
 
 use iol_disk::SectorDisk;
 
 /// At a moment at which nothing more is acknowledged than at the one before, a run goes on.
 pub fn marked_later<D: SectorDisk>()
-    ensures { (number : ℕ) (state : State) (published waiting : List CommandValue) (mark : Mark) (marks : List Mark) (stage : Stage D)
+    ensures { (number : ℕ) (state : State) (published waiting : List CommandValue) (mark : Mark) (marks : List Mark) (stage : FlushStage D)
         → IsFlushing D.disk number state published waiting (mark ∷ marks) stage
         → IsFlushing D.disk number state published waiting
         (record { clock = clock (D.disk (disk_of stage)).content; acknowledged = mark.acknowledged } ∷ mark ∷ marks) stage }
@@ -30,14 +31,15 @@ pub fn marked_later<D: SectorDisk>()
 
 /// A batch that is given is the first of the commands that wait.
 pub fn gives<D: SectorDisk>()
-    ensures { (number : ℕ) (state : State) (published waiting : List CommandValue) (marks : List Mark) (old new : Stage D) (batch : Batch)
+    ensures { (number : ℕ) (state : State) (published waiting : List CommandValue) (marks : List Mark) (old new : FlushStage D)
+        (batch : Batch)
         → HasTaken old batch new → AreFirst (values batch.commands.items) waiting
         → IsFlushing D.disk number state published waiting marks old → IsFlushing D.disk number state published waiting marks new }
 {}
 
 /// The batch that is published was the first of the commands that wait, and waits no more.
 pub fn publishes<D: SectorDisk>()
-    ensures { (number : ℕ) (state : State) (published waiting : List CommandValue) (marks : List Mark) (old : Stage D)
+    ensures { (number : ℕ) (state : State) (published waiting : List CommandValue) (marks : List Mark) (old : FlushStage D)
         (list : List CommandValue)
         (new : FlusherView D) (committed : CommittedView)
         → HasPublished old list new committed → IsFlushing D.disk number state published waiting marks old
@@ -47,14 +49,14 @@ pub fn publishes<D: SectorDisk>()
 
 /// Each image since a moment has what was acknowledged by then, and behind it none but the next commands, in their order.
 pub fn holds<D: SectorDisk>()
-    ensures { (number : ℕ) (state : State) (published waiting : List CommandValue) (marks : List Mark) (stage : Stage D)
+    ensures { (number : ℕ) (state : State) (published waiting : List CommandValue) (marks : List Mark) (stage : FlushStage D)
         → IsFlushing D.disk number state published waiting marks stage
         → HoldsBy (D.disk (disk_of stage)) number state (published ++ waiting) marks }
 {}
 
 /// More commands may wait, each of which passes in the state that it meets.
 pub fn accepts_more<D: SectorDisk>()
-    ensures { (number : ℕ) (state : State) (published waiting : List CommandValue) (marks : List Mark) (stage : Stage D)
+    ensures { (number : ℕ) (state : State) (published waiting : List CommandValue) (marks : List Mark) (stage : FlushStage D)
         (commands : List CommandValue)
         → legal (after state (published ++ waiting)) commands ≡ true
         → IsFlushing D.disk number state published waiting marks stage
@@ -73,18 +75,18 @@ pub fn acknowledges<D: SectorDisk>()
 
 /// Each disk call that is made for a batch leaves fewer calls until the batch is through.
 pub fn advances<D: SectorDisk>()
-    ensures { (old new : Stage D) → 1 ≤ calls_needed old → HasFewCalls old → HasFewCalls new → IsDiskStep D.disk old new (Ok tt)
+    ensures { (old new : FlushStage D) → 1 ≤ calls_needed old → HasFewCalls old → HasFewCalls new → IsDiskStep D.disk old new (Ok tt)
         → calls_needed new + 1 ≤ calls_needed old }
 {}
 
 /// A batch that goes on where the journal stands is not refused for what it is.
 pub fn is_fit<D: SectorDisk>()
-    ensures { (stage : Stage D) → GoesOn stage → IsUnfit stage → ⊥ }
+    ensures { (stage : FlushStage D) → GoesOn stage → IsUnfit stage → ⊥ }
 {}
 
 /// After a disk call the batch that is still to be begun goes on where the journal stands.
 pub fn goes_on<D: SectorDisk>()
-    ensures { (old new : Stage D) (answer : Result Unit FlushFault) → IsDiskStep D.disk old new answer → GoesOn old → GoesOn new }
+    ensures { (old new : FlushStage D) (answer : Result Unit FlushFault) → IsDiskStep D.disk old new answer → GoesOn old → GoesOn new }
 {}
 
 /// While the journal rests a disk call is named beside the batch exactly where a checkpoint is paused, or half of the slots are used.

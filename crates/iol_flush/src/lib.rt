@@ -9,11 +9,12 @@
 //! hands back what it holds.
 //!
 //! Modules in reading order: `fault`, `need` and `stage`, the words of the calls; `disk_call`, one call of the journal;
-//! and `flusher`, the flusher itself; then `laws`, for proofs of other crates. What a step does is said in
+//! and `flusher`, the flusher itself; then `laws`, for proofs of other crates, and `examples`. What a step does is said in
 //! `specs/Steps.antt`, and what a run of a journal keeps meanwhile in `specs/Flushing.antt`.
 #![tactic(auto)]
 
 mod disk_call;
+pub mod examples;
 mod fault;
 mod flusher;
 pub mod laws;
@@ -23,4 +24,4 @@ mod stage;
 pub use fault::{FlushFault, GiveFault};
 pub use flusher::{FlushEnd, Flusher};
 pub use need::Need;
-pub use stage::Stage;
+pub use stage::FlushStage;

@@ -2,14 +2,14 @@
 
 ghost use Rattle.std.specs.Prelude.{◌≡◌};
 ghost use Rattle.iol_flush.specs.Stages.{is_due, need_of, failure_of};
-ghost use Rattle.iol_flush.specs.declared.stage.Stage.TheVariants.{Resting};
+ghost use Rattle.iol_flush.specs.declared.stage.FlushStage.TheVariants.{Resting};
 
 use crate::need::Need;
 use iol_disk::{DiskFault, SectorDisk};
 use iol_journal::{Batch, Checkpointing, Journal, Writing, Written};
 
 /// How far a flusher is with a batch.
-pub enum Stage<D: SectorDisk> {
+pub enum FlushStage<D: SectorDisk> {
     /// All that was given is published. A checkpoint may be paused.
     Resting(Journal<D>),
     /// The gate of the other area is written, and its sync is owed. No batch waits.
@@ -26,17 +26,17 @@ pub enum Stage<D: SectorDisk> {
     Failed(D, DiskFault),
 }
 
-impl<D: SectorDisk> Stage<D> {
+impl<D: SectorDisk> FlushStage<D> {
     // What it needs next.
     pub(crate) fn needs(&self) -> Need
         ensures { result ≡ need_of self.now }
     {
         match self {
-            Stage::Resting(journal) => need_at_rest(journal),
-            Stage::Opening(_) | Stage::Given(..) => Need::Disk,
-            Stage::Checkpointing(..) | Stage::Writing(_) => Need::Disk,
-            Stage::Publishing(..) => Need::Publish,
-            Stage::Failed(..) => Need::Stopped,
+            FlushStage::Resting(journal) => need_at_rest(journal),
+            FlushStage::Opening(_) | FlushStage::Given(..) => Need::Disk,
+            FlushStage::Checkpointing(..) | FlushStage::Writing(_) => Need::Disk,
+            FlushStage::Publishing(..) => Need::Publish,
+            FlushStage::Failed(..) => Need::Stopped,
         }
     }
 
@@ -45,7 +45,7 @@ impl<D: SectorDisk> Stage<D> {
         ensures { result ≡ failure_of self.now }
     {
         match self {
-            Stage::Failed(_, fault) => Some(*fault),
+            FlushStage::Failed(_, fault) => Some(*fault),
             _ => None,
         }
     }

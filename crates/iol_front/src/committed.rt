@@ -3,8 +3,8 @@
 ghost use Rattle.std.specs.Prelude.{◌≡◌, ◌+◌, ◌≤◌, ◌++◌, [], length, MatchOption, Some, slice_get};
 ghost use mathlib.Core.List.{IsPrefix};
 ghost use Rattle.iol_types.specs.Command.{value_of};
-ghost use Rattle.iol_journal.specs.Journals.{values};
-ghost use Rattle.iol_journal.specs.declared.header.TheConstants.{LAST_NUMBER};
+ghost use Rattle.iol_journal.specs.Body.{values};
+ghost use Rattle.iol_journal.specs.Numbers.{LAST_NUMBER};
 ghost use Rattle.iol_front.specs.Seats.{reader, before_last};
 
 use crate::name::Name;
@@ -24,8 +24,8 @@ pub struct Committed<F: Name> {
 
 impl<F: Name> Model for Committed<F> {
     ghost use Rattle.std.specs.Prelude.{◌≡◌, ◌+◌, ◌-◌, ◌≤◌, ◌++◌, [], length, take};
-    ghost use Rattle.iol_journal.specs.Journals.{values};
-    ghost use Rattle.iol_journal.specs.declared.header.TheConstants.{LAST_NUMBER};
+    ghost use Rattle.iol_journal.specs.Body.{values};
+    ghost use Rattle.iol_journal.specs.Numbers.{LAST_NUMBER};
     ghost use Rattle.iol_front.specs.Fronts.{CommittedView};
     ghost use Rattle.iol_front.specs.Seats.{reader, before_last};
 

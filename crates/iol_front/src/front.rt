@@ -1,7 +1,7 @@
 //! A front before it has a name.
 
 ghost use Rattle.std.specs.Prelude.{◌≡◌, ◌≤◌, [], IfOk};
-ghost use Rattle.iol_journal.specs.declared.header.TheConstants.{LAST_NUMBER};
+ghost use Rattle.iol_journal.specs.Numbers.{LAST_NUMBER};
 
 use crate::name::Name;
 use crate::publisher::Publisher;
@@ -23,7 +23,7 @@ pub struct Front {
 impl Model for Front {
     ghost use Rattle.std.specs.Prelude.{◌≡◌, ◌≤◌, []};
     ghost use Rattle.std.specs.Arc.{arc_value};
-    ghost use Rattle.iol_journal.specs.declared.header.TheConstants.{LAST_NUMBER};
+    ghost use Rattle.iol_journal.specs.Numbers.{LAST_NUMBER};
     ghost use Rattle.iol_front.specs.Fronts.{FrontId};
     ghost use Rattle.iol_front.specs.Seats.{publisher};
 

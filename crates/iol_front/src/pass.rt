@@ -3,7 +3,7 @@
 ghost use Rattle.std.specs.Prelude.{◌≡◌, ◌+◌, ◌≤◌, true, [], length, IfOk};
 ghost use mathlib.Core.List.{IsPrefix};
 ghost use Rattle.std.specs.Arc.{arc_value};
-ghost use Rattle.iol_journal.specs.declared.header.TheConstants.{LAST_NUMBER};
+ghost use Rattle.iol_journal.specs.Numbers.{LAST_NUMBER};
 ghost use Rattle.iol_front.specs.Seats.{reader};
 
 use crate::name::Name;
@@ -25,7 +25,7 @@ impl<F: Name> Model for Pass<F> {
     ghost use Rattle.std.specs.Prelude.{◌≡◌, ◌+◌, ◌≤◌, List, [], length};
     ghost use Rattle.std.specs.Arc.{arc_value};
     ghost use Rattle.iol_types.specs.Command.{CommandValue};
-    ghost use Rattle.iol_journal.specs.declared.header.TheConstants.{LAST_NUMBER};
+    ghost use Rattle.iol_journal.specs.Numbers.{LAST_NUMBER};
     ghost use Rattle.iol_front.specs.Seats.{reader};
 
     ghost Value = { List CommandValue };

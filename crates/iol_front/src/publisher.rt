@@ -3,7 +3,7 @@
 ghost use Rattle.std.specs.Prelude.{◌≡◌, ◌+◌, ◌≤◌, ◌++◌, [], length, IfOk};
 ghost use mathlib.Core.List.{IsPrefix};
 ghost use Rattle.std.specs.Arc.{arc_value};
-ghost use Rattle.iol_journal.specs.declared.header.TheConstants.{LAST_NUMBER};
+ghost use Rattle.iol_journal.specs.Numbers.{LAST_NUMBER};
 ghost use Rattle.iol_front.specs.Seats.{publisher};
 
 use crate::committed::Committed;
@@ -28,7 +28,7 @@ impl<F: Name> Model for Publisher<F> {
     ghost use Rattle.std.specs.Prelude.{◌≡◌, ◌+◌, ◌≤◌, List, [], length};
     ghost use Rattle.std.specs.Arc.{arc_value};
     ghost use Rattle.iol_types.specs.Command.{CommandValue};
-    ghost use Rattle.iol_journal.specs.declared.header.TheConstants.{LAST_NUMBER};
+    ghost use Rattle.iol_journal.specs.Numbers.{LAST_NUMBER};
     ghost use Rattle.iol_front.specs.Seats.{publisher};
 
     ghost Value = { List CommandValue };

@@ -1,8 +1,8 @@
 //! The word, its rule, and the five kinds of step that a seat makes on it.
 
 ghost use Rattle.std.specs.Prelude.{◌≡◌, ◌+◌, ◌≤◌, true, [], length};
-ghost use Rattle.iol_journal.specs.Journals.{values};
-ghost use Rattle.iol_journal.specs.declared.header.TheConstants.{LAST_NUMBER};
+ghost use Rattle.iol_journal.specs.Body.{values};
+ghost use Rattle.iol_journal.specs.Numbers.{LAST_NUMBER};
 ghost use Rattle.iol_front.specs.Seats.{another_of, told_by, silent};
 ghost use Rattle.iol_front.specs.Rule.{LooksAt, Grows};
 

@@ -1,10 +1,9 @@
 -- The headline follows of what a run over its disk tells.
 use Rattle.std.proofs.Common.{◌≡◌, ℕ, List, Result, Ok, Err, IfOk, ap}
 use Rattle.iol_types.specs.State.{State}
-use Rattle.iol_disk.specs.Disk.{Disk}
+use Rattle.iol_disk.specs.Disk.{Disk, Shows}
 use Rattle.iol_journal.specs.Kept.{IsKept}
 use Rattle.iol_journal.specs.Meaning.{Standing, Cause, meaning}
-use Rattle.iol_journal.specs.Reading.{Shows}
 use Rattle.iol_link.specs.Link.{LinkCall, LinkAnswer}
 use Rattle.iol_record.specs.Reading.{◌>>=◌}
 use Rattle.iol_trace.specs.CrashPrefix.{CrashPrefix}

@@ -1,8 +1,7 @@
 -- What holds of a whole run: the headline.
 use Rattle.std.specs.Prelude.{ℕ, List}
-use Rattle.iol_disk.specs.Disk.{Disk}
+use Rattle.iol_disk.specs.Disk.{Disk, Shows}
 use Rattle.iol_journal.specs.Kept.{IsKept}
-use Rattle.iol_journal.specs.Reading.{Shows}
 use Rattle.iol_link.specs.Link.{LinkCall, LinkAnswer}
 use Rattle.iol_trace.specs.CrashPrefix.{CrashPrefix}
 use Rattle.iol_run.specs.Schedules.{IsTraceOf, told_in}

@@ -3,18 +3,17 @@ use Rattle.std.proofs.Common.{◌≡◌, ℕ, nat_lt, Bool, true, false, if◌th
 use Rattle.std.proofs.lemmas.Bool.Decides.{nat_tests}
 use Rattle.iol_disk.specs.Content.{Image, IsImage, reads}
 use Rattle.iol_types.specs.State.{State}
-use Rattle.iol_disk.specs.Disk.{Disk}
+use Rattle.iol_disk.specs.Disk.{Disk, Shows}
 use Rattle.iol_disk.proofs.DiskLaws.{reads-is_image}
-use Rattle.iol_journal.specs.Layout.{other, header_at}
-use Rattle.iol_journal.specs.Header.{header_of}
+use Rattle.iol_layout.specs.Layout.{other, header_at}
+use Rattle.iol_layout.specs.Header.{header_of}
 use Rattle.iol_record.specs.Reading.{◌>>=◌}
-use Rattle.iol_journal.specs.Meaning.{Cause, Standing, Meaning, standing_in}
-use Rattle.iol_journal.specs.Kept.{IsIdle, IsKept, IsKeptAs, KeptMeans, EachMeans}
-use Rattle.iol_journal.specs.Reading.{Shows}
-use Rattle.iol_journal.specs.Recovery.{idle_in}
-use Rattle.iol_journal.specs.Underway.{IsAtRest}
-use Rattle.iol_journal.specs.declared.place.Idle.{Idle}
-use Rattle.iol_journal.specs.declared.place.Idle.TheVariants.{Older, Closed}
+use Rattle.iol_layout.specs.Meaning.{Cause, Standing, Meaning, standing_in}
+use Rattle.iol_layout.specs.Kept.{IsIdle, IsKept, IsKeptAs, KeptMeans, EachMeans}
+use Rattle.iol_recovery.specs.Finding.{idle_in}
+use Rattle.iol_batch.specs.Phases.{IsAtRest}
+use Rattle.iol_layout.specs.declared.idle.Idle.{Idle}
+use Rattle.iol_layout.specs.declared.idle.Idle.TheVariants.{Older, Closed}
 
 same_standing : (s t : Standing) → ◌≡◌ {A = Result Standing Cause} (Ok s) (Ok t) → s ≡ t
 same_standing s t is = cc

@@ -11,7 +11,7 @@ use Rattle.iol_disk.specs.Content.{Image, IsImage, clock}
 use Rattle.iol_disk.specs.Disk.{Disk}
 use Rattle.iol_disk.specs.Moments.{LeavesOnly}
 use Rattle.iol_disk.proofs.Images.{since-now}
-use Rattle.iol_journal.specs.Kept.{KeptMeans, KeptEither, EachMeans}
+use Rattle.iol_layout.specs.Kept.{KeptMeans, KeptEither, EachMeans}
 use Rattle.iol_journal.specs.Runs.{Mark, Run, accepted, number_of, state_of, HasPrefix, IsMarked, IsRun, begun, with_mark, with_commands}
 use Rattle.iol_journal.specs.Runs.{with_batch_begun, with_batch_written}
 

@@ -1,41 +1,28 @@
 -- What a step of a batch makes of the disk, as its one call says.
 use Rattle.std.proofs.Common.{◌≡◌, ◌≤◌, ℕ, ◌+◌, nat_lt, if◌then◌else◌, Bool, true, false}
-use Rattle.std.proofs.Common.{List, [], ◌∷◌, length, Option, Some, None, IsTrue, Result}
-use Rattle.std.proofs.Common.{Ok, Err, refl, sym, ◌∙◌, ap, subst, arith}
+use Rattle.std.proofs.Common.{List, [], ◌∷◌, Option, Some, None, IsTrue, Result, Ok, Err, refl, sym, ◌∙◌, ap, subst, arith}
 use Rattle.std.proofs.lemmas.Bool.Decides.{nat_tests}
 use Rattle.iol_types.specs.Command.{CommandValue}
-use Rattle.iol_types.proofs.StateLemmas.{length-after}
-use Rattle.iol_disk.specs.Calls.{Call, Made, FailedIn}
+use Rattle.iol_disk.specs.Calls.{Call, Made, FailedIn, Makes, MakesFirst, FailsFirst}
 use Rattle.iol_disk.specs.Disk.{Disk}
 use Rattle.iol_disk.specs.Moments.{LeavesOnly}
 use Rattle.iol_disk.specs.declared.fault.DiskFault.{DiskFault}
 use Rattle.iol_disk.proofs.DiskLaws.{HasOnTheWay, made_leaves, failed_leaves}
-use Rattle.iol_journal.specs.Batches.{body_for, sectors_for, call_of, calls_from, next_phase, IsPhase}
-use Rattle.iol_journal.specs.Journals.{WritingView, CanFollow, IsPlanned, IsPlan, IsResting, with_batch}
-use Rattle.iol_journal.specs.Kept.{KeptEither}
-use Rattle.iol_journal.specs.Meaning.{Standing}
-use Rattle.iol_journal.specs.Orders.{Makes}
-use Rattle.iol_journal.specs.Progress.{MakesFirst, FailsFirst}
-use Rattle.iol_journal.specs.Underway.{EachKept, IsUnderway, Holds}
-use Rattle.iol_journal.specs.declared.place.Idle.{Idle}
-use Rattle.iol_journal.specs.Layout.{total}
-use Rattle.iol_journal.specs.declared.phase.Phase.{Phase}
-use Rattle.iol_journal.specs.declared.phase.Phase.TheVariants.{Body, SyncBody, Gate, SyncGate}
-use Rattle.iol_journal.specs.declared.writing.Plan.{Plan}
-use Rattle.iol_journal.proofs.BatchCalls.{phase_of, first_call, last_call, some_call}
-use Rattle.iol_journal.proofs.Phases.{fit_of, on_the_way, next_holds, batch_durable}
-
--- behind a batch a journal can be gone on with
-pub rests_with : (d : Disk) (s : Standing) (commands : List CommandValue) → CanFollow s commands → total s.layout ≤ d.sectors
-    → s.epoch ≤ s.number + 1 → length s.state ≡ s.layout.ports → IsResting d (with_batch s commands)
-rests_with d s commands follows fits begun count = record {
-  fits = fits;
-  within = follows.room;
-  bound = follows.bound;
-  begun = omega (arith, begun);
-  in_use = λ some. omega (arith, begun, follows.batch.some);
-  count = length-after s.state commands ∙ count;
-}
+use Rattle.iol_batch.specs.Batches.{body_for, sectors_for, call_of, calls_from, next_phase, IsPhase}
+use Rattle.iol_journal.specs.Journals.{WritingView}
+use Rattle.iol_batch.specs.Planned.{IsPlanned, IsPlan}
+use Rattle.iol_layout.specs.Standings.{IsResting, with_batch}
+use Rattle.iol_layout.specs.Kept.{KeptEither}
+use Rattle.iol_layout.specs.Meaning.{Standing}
+use Rattle.iol_batch.specs.Phases.{EachKept, Holds}
+use Rattle.iol_journal.specs.Underway.{IsUnderway}
+use Rattle.iol_layout.specs.declared.idle.Idle.{Idle}
+use Rattle.iol_layout.specs.Layout.{total}
+use Rattle.iol_batch.specs.declared.phase.Phase.{Phase}
+use Rattle.iol_batch.specs.declared.phase.Phase.TheVariants.{Body, SyncBody, Gate, SyncGate}
+use Rattle.iol_batch.specs.declared.plan.Plan.{Plan}
+use Rattle.iol_batch.proofs.BatchCalls.{rests_with, phase_of, first_call, last_call, some_call}
+use Rattle.iol_batch.proofs.Phases.{fit_of, on_the_way, next_holds, batch_durable}
 
 -- the phase behind a phase is one
 in_next : (sectors : ℕ) (p q : Phase) → IsPhase sectors p → next_phase sectors p ≡ Some q → IsPhase sectors q

@@ -1,9 +1,8 @@
 -- A checkpoint on its way as contracts see it, and what its step answers.
 use Rattle.std.specs.Prelude.{List, []}
-use Rattle.iol_disk.specs.Calls.{Call}
+use Rattle.iol_disk.specs.Calls.{Call, MakesFirst, FailsFirst}
 use Rattle.iol_disk.specs.Disk.{Disk}
 use Rattle.iol_journal.specs.Journals.{JournalView}
-use Rattle.iol_journal.specs.Progress.{MakesFirst, FailsFirst}
 use Rattle.iol_journal.specs.declared.checkpointing.CheckpointProgress.{CheckpointProgress}
 use Rattle.iol_journal.specs.declared.checkpointing.CheckpointProgress.TheVariants.{More, Done, Failed}
 use Rattle.iol_journal.specs.CheckpointViews.{CheckpointingView, stages_left}

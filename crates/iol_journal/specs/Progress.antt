@@ -1,8 +1,7 @@
 -- What a step of a batch answers.
-use Rattle.std.specs.Prelude.{◌≡◌, List, [], ◌∷◌}
-use Rattle.iol_disk.specs.Calls.{Call, Made, FailedIn}
+use Rattle.std.specs.Prelude.{List, []}
+use Rattle.iol_disk.specs.Calls.{Call, MakesFirst, FailsFirst}
 use Rattle.iol_disk.specs.Disk.{Disk}
-use Rattle.iol_disk.specs.declared.fault.DiskFault.{DiskFault}
 use Rattle.iol_journal.specs.Journals.{JournalView, WritingView, calls_left}
 use Rattle.iol_journal.specs.Written.{WrittenView}
 use Rattle.iol_journal.specs.declared.writing.Progress.{Progress}
@@ -22,19 +21,6 @@ IfMore progress P = Unit {0}
 abbrev pub IfDone : {D : Type 0} → Progress D → (JournalView D → WrittenView → Type 0) → Type 0
 IfDone (Done journal written) P = P journal written
 IfDone progress P = Unit {0}
-
--- the first of the calls was made, and these are left (own)
-pub record MakesFirst (calls left : List Call) (old new : Disk) : Type 0 where
-  pub call : Call
-  pub order : calls ≡ call ∷ left
-  pub made : Made (call ∷ []) old new
-
--- the first of the calls failed, with this fault (own)
-pub record FailsFirst (calls : List Call) (fault : DiskFault) (old new : Disk) : Type 0 where
-  pub call : Call
-  pub left : List Call
-  pub order : calls ≡ call ∷ left
-  pub failed : FailedIn (call ∷ []) fault old new
 
 -- a step makes the first of the calls that are left, or it fails in it (own)
 abbrev pub StepMakes : {D : Type 0} → (D → Disk) → List Call → Progress D → Disk → Type 0

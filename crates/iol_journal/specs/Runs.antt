@@ -5,7 +5,7 @@ use Rattle.iol_types.specs.Command.{CommandValue}
 use Rattle.iol_types.specs.State.{State, after, legal}
 use Rattle.iol_disk.specs.Content.{Image, IsImageSince, clock}
 use Rattle.iol_disk.specs.Disk.{Disk}
-use Rattle.iol_journal.specs.Kept.{KeptMeans}
+use Rattle.iol_layout.specs.Kept.{KeptMeans}
 
 -- a moment of a run: the clock of the disk, and the number up to which commands were acknowledged by then (own)
 pub record Mark : Type 0 where

@@ -5,7 +5,7 @@ use Rattle.iol_types.specs.Command.{CommandValue}
 use Rattle.iol_types.specs.State.{State, after, legal}
 use Rattle.iol_disk.specs.Disk.{Disk}
 use Rattle.iol_disk.specs.Moments.{LeavesOnly}
-use Rattle.iol_journal.specs.Kept.{KeptEither, EachMeans}
+use Rattle.iol_layout.specs.Kept.{KeptEither, EachMeans}
 
 -- a stretch of disk calls: the commands of the batch that it writes, none where it is a checkpoint, and the disk that
 -- it leaves (own)

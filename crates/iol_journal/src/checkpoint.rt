@@ -1,22 +1,23 @@
 //! The checkpoint of a journal at rest: a new one, or the one that is paused.
 
-use crate::area_plan::AreaPlan;
-use crate::begun::Begun;
 use crate::checkpointing::Checkpointing;
-use crate::header::Header;
 use crate::journal::{CheckpointFault, Journal};
+use iol_area::AreaPlan;
+use iol_checkpoint::Begun;
 use iol_disk::SectorDisk;
+use iol_layout::Header;
 use std::alloc::AllocError;
 
 impl<D: SectorDisk> Journal<D> {
     ghost use Rattle.std.specs.Prelude.{◌≡◌, ◌≤◌, ◌<◌, ◌+◌, ◌*◌, true, [], length, Some, None, is_some, IfOk, IfErr, OnOk};
-    ghost use Rattle.iol_journal.specs.AreaPlans.{AreRecords, IsAreaPlan};
-    ghost use Rattle.iol_journal.specs.Checkpoints.{checkpointed, checkpoint_calls, first_stage, fresh_log, header_of_target};
-    ghost use Rattle.iol_journal.specs.CheckpointViews.{begun_in, stages_left, IsCheckpointUnderway, IsPaused};
+    ghost use Rattle.iol_area.specs.AreaPlans.{AreRecords, IsAreaPlan};
+    ghost use Rattle.iol_checkpoint.specs.Checkpoints.{checkpointed, checkpoint_calls, first_stage, fresh_log, header_of_target};
+    ghost use Rattle.iol_journal.specs.CheckpointViews.{begun_in, stages_left, IsCheckpointUnderway};
+    ghost use Rattle.iol_checkpoint.specs.Pauses.{IsPaused};
     ghost use Rattle.iol_journal.specs.CheckpointRuns.{IsRunCheckpointing};
     ghost use Rattle.iol_journal.specs.Runs.{Run};
     ghost use Rattle.iol_journal.specs.Running.{IsRunAtRest};
-    ghost use Rattle.iol_journal.specs.Underway.{IsAtRest};
+    ghost use Rattle.iol_batch.specs.Phases.{IsAtRest};
 
     /// Makes a checkpoint ready, which frees all slots but those of the batches that are written while it is paused; or goes on
     /// with the one that is paused, without memory. Its steps take no memory.

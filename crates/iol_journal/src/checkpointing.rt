@@ -1,11 +1,10 @@
 //! A checkpoint on its way to the disk.
 
-use crate::begun::Begun;
-use crate::history::History;
 use crate::journal::Journal;
-use crate::place::{Idle, Place};
-use crate::stage_calls::make_stage;
+use iol_batch::History;
+use iol_checkpoint::{Begun, make_stage};
 use iol_disk::{DiskFault, SectorDisk};
+use iol_layout::{Idle, Place};
 use iol_types::MasterState;
 use std::alloc::Global;
 use std::marker::Model;
@@ -24,9 +23,10 @@ pub struct Checkpointing<D: SectorDisk> {
 }
 
 impl<D: SectorDisk> Model for Checkpointing<D> {
-    ghost use Rattle.iol_journal.specs.BegunParts.{view_of, IsBegun};
+    ghost use Rattle.iol_checkpoint.specs.BegunParts.{view_of, IsBegun};
     ghost use Rattle.iol_journal.specs.CheckpointViews.{CheckpointingView};
-    ghost use Rattle.iol_journal.specs.Journals.{standing_at, IsResting, LeadsTo};
+    ghost use Rattle.iol_layout.specs.Standings.{standing_at, IsResting};
+    ghost use Rattle.iol_batch.specs.Planned.{LeadsTo};
 
     ghost Value = { CheckpointingView D };
 
@@ -56,17 +56,19 @@ pub enum CheckpointProgress<D: SectorDisk> {
 impl<D: SectorDisk> Checkpointing<D> {
     ghost use Rattle.std.specs.Prelude.{◌≡◌, true, Some, None};
     ghost use Rattle.iol_disk.specs.Moments.{LeavesOnly};
-    ghost use Rattle.iol_journal.specs.BegunParts.{view_of, IsBegun};
-    ghost use Rattle.iol_journal.specs.Drafts.{begun_behind, can_pause, idle_at};
-    ghost use Rattle.iol_journal.specs.Journals.{standing_at, IsResting, LeadsTo};
-    ghost use Rattle.iol_journal.specs.CheckpointViews.{end_of, stages_left, IsCheckpointUnderway, IsPaused};
+    ghost use Rattle.iol_checkpoint.specs.BegunParts.{view_of, IsBegun};
+    ghost use Rattle.iol_checkpoint.specs.Drafts.{begun_behind, can_pause, idle_at};
+    ghost use Rattle.iol_layout.specs.Standings.{standing_at, IsResting};
+    ghost use Rattle.iol_batch.specs.Planned.{LeadsTo};
+    ghost use Rattle.iol_journal.specs.CheckpointViews.{end_of, stages_left, IsCheckpointUnderway};
+    ghost use Rattle.iol_checkpoint.specs.Pauses.{IsPaused};
     ghost use Rattle.iol_journal.specs.Checkpointing.{checkpoint_disk, IfGoesOn, IfCheckpointed, CheckpointStepMakes};
     ghost use Rattle.iol_journal.specs.CheckpointRuns.{IsRunCheckpointing, HasCheckpointed};
-    ghost use Rattle.iol_journal.specs.Kept.{KeptMeans, EachMeans};
+    ghost use Rattle.iol_layout.specs.Kept.{KeptMeans, EachMeans};
     ghost use Rattle.iol_journal.specs.Runs.{Run};
     ghost use Rattle.iol_journal.specs.Running.{IsRunAtRest};
-    ghost use Rattle.iol_journal.specs.Underway.{IsAtRest};
-    ghost use Rattle.iol_journal.specs.declared.place.Idle.TheVariants.{Older};
+    ghost use Rattle.iol_batch.specs.Phases.{IsAtRest};
+    ghost use Rattle.iol_layout.specs.declared.idle.Idle.TheVariants.{Older};
 
     // A checkpoint that goes on.
     pub(crate) fn of(

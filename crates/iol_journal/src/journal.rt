@@ -1,17 +1,13 @@
 //! A journal at rest, and which batches it takes.
 
-use crate::batch::{BODY_HEAD_OCTETS, BODY_OCTETS, Batch, apply_all, span_within};
-use crate::begun::{Begun, make_room};
-use crate::body::EncodedBatch;
-use crate::header::LAST_NUMBER;
-use crate::history::History;
-use crate::place::Place;
-use crate::writing::{Plan, Writing};
+use crate::writing::Writing;
+use iol_batch::{Batch, BeginCause, History, Plan, apply_all, span_within};
+use iol_checkpoint::{Begun, make_room};
 use iol_disk::SectorDisk;
+use iol_layout::{BODY_HEAD_OCTETS, BODY_OCTETS, LAST_NUMBER, EncodedBatch, Place};
 use iol_types::MasterState;
 use std::alloc::{AllocError, Global};
 use std::marker::Model;
-use thiserror::Error;
 
 /// A journal at rest: all commands that it has are durable. It owns its disk, and keeps the state that the disk means. A
 /// checkpoint of it may be paused.
@@ -29,8 +25,10 @@ pub struct Journal<D: SectorDisk> {
 
 impl<D: SectorDisk> Model for Journal<D> {
     ghost use Rattle.std.specs.Option.{option_map};
-    ghost use Rattle.iol_journal.specs.BegunParts.{view_of, IsSetAside};
-    ghost use Rattle.iol_journal.specs.Journals.{JournalView, IsResting, LeadsTo, standing_at};
+    ghost use Rattle.iol_checkpoint.specs.BegunParts.{view_of, IsSetAside};
+    ghost use Rattle.iol_journal.specs.Journals.{JournalView};
+    ghost use Rattle.iol_layout.specs.Standings.{IsResting, standing_at};
+    ghost use Rattle.iol_batch.specs.Planned.{LeadsTo};
 
     ghost Value = { JournalView D };
 
@@ -45,35 +43,6 @@ impl<D: SectorDisk> Model for Journal<D> {
     ghost invariant = { λ j. IsResting (D.disk j.disk) (standing_at j.place j.number j.state)
         × LeadsTo (standing_at j.place j.number j.state) j.history
         × IsSetAside (D.disk j.disk) (standing_at j.place j.number j.state) j.place.idle j.begun };
-}
-
-/// Why a batch was not begun. The causes are judged in this order.
-#[derive(Clone, Copy, Debug, PartialEq, Eq, Error)]
-pub enum BeginCause {
-    /// It has more than 64 commands, or takes more slots than an area has.
-    #[error("the batch is too large")]
-    TooLarge,
-    /// It takes more slots than are free.
-    #[error("too few slots are free")]
-    NeedsCheckpoint,
-    /// Out of memory.
-    #[error("out of memory")]
-    Memory,
-    /// It has no command, its first number does not follow the journal's, a number is over 2^62, or a command
-    /// does not pass the check of the state that it meets.
-    #[error("the batch does not follow the journal")]
-    Misfit,
-}
-
-impl From<AllocError> for BeginCause {
-    ghost use Rattle.std.specs.Prelude.{◌≡◌};
-    ghost use Rattle.iol_journal.specs.declared.journal.BeginCause.TheVariants.{Memory};
-
-    ghost from_gives = { λ _ cause. cause ≡ Memory };
-
-    fn from(_error: AllocError) -> BeginCause {
-        BeginCause::Memory
-    }
 }
 
 /// A checkpoint that was not begun, and the journal as it was.
@@ -95,20 +64,24 @@ impl<D: SectorDisk> Journal<D> {
     ghost use Rattle.std.specs.Prelude.{◌≡◌, ◌≤◌, ◌<◌, ◌+◌, ◌*◌, ◌++◌, ℕ, nat_lt, nat_le, true, false, List, length, None, is_some};
     ghost use Rattle.std.specs.Prelude.{IfOk, IfErr, OnOk};
     ghost use Rattle.std.specs.Option.{option_map};
-    ghost use Rattle.iol_journal.specs.BegunParts.{view_of, IsSetAside};
-    ghost use Rattle.iol_journal.specs.CheckpointViews.{IsPaused, IsBeside};
-    ghost use Rattle.iol_journal.specs.Begin.{batch_refusal, room_in, IsBatchRefusal};
-    ghost use Rattle.iol_journal.specs.Underway.{IsAtRest, IsUnderway};
-    ghost use Rattle.iol_journal.specs.Batches.{batch_calls};
+    ghost use Rattle.iol_checkpoint.specs.BegunParts.{view_of, IsSetAside};
+    ghost use Rattle.iol_checkpoint.specs.Pauses.{IsPaused, IsBeside};
+    ghost use Rattle.iol_batch.specs.Begin.{batch_refusal, room_in, IsBatchRefusal};
+    ghost use Rattle.iol_batch.specs.Phases.{IsAtRest};
+    ghost use Rattle.iol_journal.specs.Underway.{IsUnderway};
+    ghost use Rattle.iol_batch.specs.Batches.{batch_calls};
     ghost use Rattle.iol_journal.specs.Runs.{Run, with_batch_begun};
     ghost use Rattle.iol_journal.specs.Running.{IsRunAtRest, IsRunWriting};
     ghost use Rattle.iol_types.specs.Command.{CommandValue};
-    ghost use Rattle.iol_journal.specs.Journals.{standing_at, values, calls_left, IsPlan, IsPlanned, IsResting, LeadsTo};
-    ghost use Rattle.iol_journal.specs.Body.{slots_of, slots_for};
-    ghost use Rattle.iol_journal.specs.declared.batch.TheConstants.{MOST_RECORD_OCTETS};
-    ghost use Rattle.iol_journal.specs.declared.geometry.TheConstants.{BODY_SECTORS};
-    ghost use Rattle.iol_journal.specs.declared.header.TheConstants.{LAST_NUMBER};
-    ghost use Rattle.iol_journal.specs.declared.phase.Phase.TheVariants.{Body};
+    ghost use Rattle.iol_layout.specs.Standings.{standing_at, IsResting};
+    ghost use Rattle.iol_layout.specs.Body.{values};
+    ghost use Rattle.iol_journal.specs.Journals.{calls_left};
+    ghost use Rattle.iol_batch.specs.Planned.{IsPlan, IsPlanned, LeadsTo};
+    ghost use Rattle.iol_layout.specs.Body.{slots_of, slots_for};
+    ghost use Rattle.iol_layout.specs.declared.body.TheConstants.{MOST_RECORD_OCTETS};
+    ghost use Rattle.iol_slots.specs.declared.slot.TheConstants.{BODY_SECTORS};
+    ghost use Rattle.iol_layout.specs.declared.header.TheConstants.{LAST_NUMBER};
+    ghost use Rattle.iol_batch.specs.declared.phase.Phase.TheVariants.{Body};
 
     // A journal that writes here next.
     pub(crate) fn at_rest(

@@ -4,16 +4,17 @@ ghost use Rattle.std.specs.Prelude.{◌≡◌, ◌<◌, ◌⊎◌, ◌+◌, ℕ,
 ghost use Rattle.iol_types.specs.Command.{CommandValue};
 ghost use Rattle.iol_disk.specs.Content.{Image, IsImage};
 ghost use Rattle.iol_disk.specs.Disk.{Disk};
-ghost use Rattle.iol_journal.specs.Body.{slots_for};
-ghost use Rattle.iol_journal.specs.Begin.{follows, is_too_large, batch_refusal};
+ghost use Rattle.iol_layout.specs.Body.{slots_for};
+ghost use Rattle.iol_batch.specs.Begin.{follows, is_too_large, batch_refusal};
 ghost use Rattle.iol_journal.specs.CheckpointViews.{CheckpointingView, IsCheckpointUnderway};
 ghost use Rattle.iol_journal.specs.Journals.{WritingView};
-ghost use Rattle.iol_journal.specs.Kept.{KeptEither, EachMeans};
-ghost use Rattle.iol_journal.specs.Meaning.{Standing};
-ghost use Rattle.iol_journal.specs.Underway.{IsAtRest, IsUnderway};
-ghost use Rattle.iol_journal.specs.declared.place.Idle.{Idle};
+ghost use Rattle.iol_layout.specs.Kept.{KeptEither, EachMeans};
+ghost use Rattle.iol_layout.specs.Meaning.{Standing};
+ghost use Rattle.iol_batch.specs.Phases.{IsAtRest};
+ghost use Rattle.iol_journal.specs.Underway.{IsUnderway};
+ghost use Rattle.iol_layout.specs.declared.idle.Idle.{Idle};
 
-use crate::journal::BeginCause;
+use iol_batch::BeginCause;
 use iol_disk::SectorDisk;
 
 /// While a batch is under way each image of an honest disk is kept, and means the state before it or the state after it.

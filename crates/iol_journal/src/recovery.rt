@@ -1,21 +1,17 @@
 //! A journal is found on a disk.
 
-ghost use Rattle.std.specs.Prelude.{◌≡◌, ◌≤◌, Err, IsTrue, IfOk, OnOk};
-ghost use Rattle.iol_disk.specs.Content.{Image, IsImage, clock};
+ghost use Rattle.std.specs.Prelude.{◌≡◌, Err, IsTrue, IfOk};
+ghost use Rattle.iol_disk.specs.Content.{IsImage, clock};
 ghost use Rattle.iol_disk.specs.Moments.{LeavesOnly};
-ghost use Rattle.iol_journal.specs.Journals.{standing_at, IsResting};
-ghost use Rattle.iol_journal.specs.Meaning.{standing_in};
-ghost use Rattle.iol_journal.specs.Reading.{Shows, Finds};
-ghost use Rattle.iol_journal.specs.Recovery.{HasChosen, MakesRecovery, idle_in};
+ghost use Rattle.iol_layout.specs.Meaning.{standing_in};
+ghost use Rattle.iol_disk.specs.Disk.{Shows};
+ghost use Rattle.iol_recovery.specs.Reading.{Finds};
+ghost use Rattle.iol_recovery.specs.Finding.{HasChosen, MakesRecovery, idle_in};
 
-use crate::cause::RecoverCause;
-use crate::history::History;
 use crate::journal::Journal;
-use crate::opening::{find_areas, find_layout};
-use crate::place::{Idle, Place};
-use crate::replay::replay_slots;
-use crate::snapshot::read_ports;
+use iol_batch::History;
 use iol_disk::SectorDisk;
+use iol_recovery::{RecoverCause, find};
 use iol_types::MasterState;
 use std::alloc::Global;
 
@@ -26,21 +22,12 @@ pub struct RecoverFault<D: SectorDisk> {
     pub disk: D,
 }
 
-// What recovery finds on a disk.
-#[derive(Drop)]
-struct Found {
-    place: Place,
-    number: u64,
-    state: MasterState,
-    copy: MasterState,
-}
-
 impl<D: SectorDisk> Journal<D> {
     ghost use Rattle.std.specs.Prelude.{◌≡◌, ℕ, [], None, Ok, IsTrue, IfOk, IfErr};
     ghost use Rattle.iol_types.specs.State.{State};
-    ghost use Rattle.iol_journal.specs.Kept.{IsKept, EachMeans};
-    ghost use Rattle.iol_journal.specs.Underway.{IsAtRest};
-    ghost use Rattle.iol_journal.specs.Reading.{SaysWhy};
+    ghost use Rattle.iol_layout.specs.Kept.{IsKept, EachMeans};
+    ghost use Rattle.iol_batch.specs.Phases.{IsAtRest};
+    ghost use Rattle.iol_recovery.specs.Reading.{SaysWhy};
     ghost use Rattle.iol_journal.specs.Recovery.{recovered_disk, cause_of};
     ghost use Rattle.iol_journal.specs.Runs.{Run, IsRun, begun};
     ghost use Rattle.iol_journal.specs.Running.{IsRunAtRest};
@@ -99,51 +86,4 @@ impl<D: SectorDisk> Journal<D> {
             Err(cause) => Err(RecoverFault { cause, disk }),
         }
     }
-}
-
-// Syncs, and reads in the order of the layout.
-fn find<D: SectorDisk>(alloc: Global, disk: &mut D) -> Result<Found, RecoverCause>
-    ensures makes { MakesRecovery (D.disk disk.old) (D.disk disk.new) result }
-    ensures memory { result ≡ Err RecoverCause.Memory → Shows (D.disk disk.old) (HasChosen (D.disk disk.old).sectors) }
-    ensures finds { Finds (λ found. standing_at found.place found.number found.state) (D.disk disk.old)
-        (standing_in (D.disk disk.old).sectors) result }
-    ensures idle { IfOk result (λ found.
-        Shows (D.disk disk.old) (λ image. found.place.idle ≡ idle_in (standing_at found.place found.number found.state) image)) }
-    // What it read is the only image.
-    ensures settled { OnOk result
-        (Shows (D.disk disk.old) (λ read. (image : Image) → IsImage (D.disk disk.new).content image → image ≡ read)) }
-    ensures any_moment { LeavesOnly (D.disk disk.old) (D.disk disk.new) (IsImage (D.disk disk.old).content) }
-    ensures resting { IfOk result (λ found. IsResting (D.disk disk.new) (standing_at found.place found.number found.state)) }
-    ensures copy { IfOk result (λ found. found.copy ≡ found.state) }
-{
-    disk.sync()?;
-    let layout = find_layout(disk)?;
-    let areas = find_areas(disk, layout)?;
-    let mut state = read_ports(alloc, disk, layout, areas.in_use.area)?;
-    let end = replay_slots(
-        alloc,
-        disk,
-        layout,
-        areas.in_use.area,
-        areas.in_use.header,
-        &mut state,
-    )?;
-    let idle = if areas.other.epoch < areas.in_use.header.epoch {
-        Idle::Older
-    } else {
-        Idle::Closed
-    };
-    let copy = state.copy()?;
-    Ok(Found {
-        place: Place {
-            layout,
-            area: areas.in_use.area,
-            epoch: areas.in_use.header.epoch,
-            used: end.used,
-            idle,
-        },
-        number: end.number,
-        state,
-        copy,
-    })
 }

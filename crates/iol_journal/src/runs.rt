@@ -10,7 +10,7 @@ ghost use Rattle.iol_disk.specs.Moments.{LeavesOnly};
 ghost use Rattle.iol_journal.specs.CheckpointRuns.{IsRunCheckpointing};
 ghost use Rattle.iol_journal.specs.CheckpointViews.{CheckpointingView};
 ghost use Rattle.iol_journal.specs.Journals.{JournalView, WritingView};
-ghost use Rattle.iol_journal.specs.Kept.{KeptMeans, KeptEither, EachMeans};
+ghost use Rattle.iol_layout.specs.Kept.{KeptMeans, KeptEither, EachMeans};
 ghost use Rattle.iol_journal.specs.Runs.{Run, HasPrefix, IsRun, accepted, number_of, state_of, begun, with_mark, with_commands};
 ghost use Rattle.iol_journal.specs.Running.{IsRunAtRest, IsRunWriting};
 ghost use Rattle.iol_journal.specs.Stretches.{Stretch, commands_in, disk_after, AreStretches};

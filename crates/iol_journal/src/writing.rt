@@ -1,24 +1,13 @@
 //! A batch on its way to the disk.
 
-use crate::batch::Batch;
-use crate::begun::{Begun, owing};
-use crate::body::EncodedBatch;
-use crate::calls::make;
-use crate::history::History;
 use crate::journal::Journal;
-use crate::phase::Phase;
-use crate::place::Place;
+use iol_batch::{Batch, History, Phase, Plan, make};
+use iol_checkpoint::{Begun, owing};
 use iol_disk::{DiskFault, SectorDisk};
+use iol_layout::Place;
 use iol_types::MasterState;
 use std::alloc::Global;
 use std::marker::Model;
-
-// What a batch writes, and the state after it.
-#[derive(Drop)]
-pub(crate) struct Plan {
-    pub body: EncodedBatch,
-    pub next: MasterState,
-}
 
 /// A batch on its way to the disk. Each [`step`](Writing::step) makes one disk call.
 #[derive(Drop)]
@@ -40,12 +29,15 @@ impl<D: SectorDisk> Model for Writing<D> {
     ghost use Rattle.std.specs.Prelude.{◌≡◌, ◌≤◌, ◌+◌};
     ghost use Rattle.std.specs.Option.{option_map};
     ghost use Rattle.iol_types.specs.State.{after};
-    ghost use Rattle.iol_journal.specs.BegunParts.{view_of, IsSetAside, HasRoom};
-    ghost use Rattle.iol_journal.specs.Journals.{WritingView, IsPlanned};
+    ghost use Rattle.iol_checkpoint.specs.BegunParts.{view_of, IsSetAside, HasRoom};
+    ghost use Rattle.iol_journal.specs.Journals.{WritingView};
+    ghost use Rattle.iol_batch.specs.Planned.{IsPlanned};
 
     ghost Value = { WritingView D };
 
-    ghost use Rattle.iol_journal.specs.Journals.{standing_at, values, IsPlan, LeadsTo};
+    ghost use Rattle.iol_layout.specs.Standings.{standing_at};
+    ghost use Rattle.iol_layout.specs.Body.{values};
+    ghost use Rattle.iol_batch.specs.Planned.{IsPlan, LeadsTo};
 
     ghost view = { λ w. record {
       disk = w.disk;
@@ -72,11 +64,11 @@ pub struct Written {
 impl Model for Written {
     ghost use Rattle.std.specs.Prelude.{◌≤◌, ◌+◌, length};
     ghost use Rattle.iol_journal.specs.Written.{WrittenView};
-    ghost use Rattle.iol_journal.specs.declared.header.TheConstants.{LAST_NUMBER};
+    ghost use Rattle.iol_layout.specs.declared.header.TheConstants.{LAST_NUMBER};
 
     ghost Value = { WrittenView };
 
-    ghost use Rattle.iol_journal.specs.Journals.{values};
+    ghost use Rattle.iol_layout.specs.Body.{values};
 
     ghost view = { λ w. record { first = w.batch.first; commands = values w.batch.commands.items } };
 
@@ -85,8 +77,8 @@ impl Model for Written {
 
 impl Written {
     ghost use Rattle.std.specs.Prelude.{◌≡◌, ◌≤◌, ◌+◌, length};
-    ghost use Rattle.iol_journal.specs.Journals.{values};
-    ghost use Rattle.iol_journal.specs.declared.header.TheConstants.{LAST_NUMBER};
+    ghost use Rattle.iol_layout.specs.Body.{values};
+    ghost use Rattle.iol_layout.specs.declared.header.TheConstants.{LAST_NUMBER};
 
     /// The batch, which gives up what this stands for.
     pub fn into_batch(self) -> Batch
@@ -115,16 +107,20 @@ impl<D: SectorDisk> Writing<D> {
     ghost use Rattle.std.specs.Prelude.{◌≡◌, ◌+◌};
     ghost use Rattle.std.specs.Option.{option_map};
     ghost use Rattle.iol_disk.specs.Moments.{LeavesOnly};
-    ghost use Rattle.iol_journal.specs.BegunParts.{view_of, IsSetAside, HasRoom};
-    ghost use Rattle.iol_journal.specs.CheckpointViews.{IsPaused, IsBeside};
-    ghost use Rattle.iol_journal.specs.Drafts.{with_owed};
-    ghost use Rattle.iol_journal.specs.Kept.{KeptEither, EachMeans};
-    ghost use Rattle.iol_journal.specs.Underway.{IsAtRest, IsUnderway};
-    ghost use Rattle.iol_journal.specs.Journals.{IsPlan, IsPlanned, calls_left, standing_at, with_batch, values, LeadsTo, written_behind};
+    ghost use Rattle.iol_checkpoint.specs.BegunParts.{view_of, IsSetAside, HasRoom};
+    ghost use Rattle.iol_checkpoint.specs.Pauses.{IsPaused, IsBeside};
+    ghost use Rattle.iol_checkpoint.specs.Drafts.{with_owed};
+    ghost use Rattle.iol_layout.specs.Kept.{KeptEither, EachMeans};
+    ghost use Rattle.iol_batch.specs.Phases.{IsAtRest};
+    ghost use Rattle.iol_journal.specs.Underway.{IsUnderway};
+    ghost use Rattle.iol_batch.specs.Planned.{IsPlan, IsPlanned, LeadsTo, written_behind};
+    ghost use Rattle.iol_journal.specs.Journals.{calls_left};
+    ghost use Rattle.iol_layout.specs.Standings.{standing_at, with_batch};
+    ghost use Rattle.iol_layout.specs.Body.{values};
     ghost use Rattle.iol_journal.specs.Progress.{stepped_disk, IfMore, IfDone, StepMakes};
     ghost use Rattle.iol_journal.specs.Runs.{Run};
     ghost use Rattle.iol_journal.specs.Running.{IsRunWriting, HasStepped};
-    ghost use Rattle.iol_journal.specs.declared.phase.Phase.TheVariants.{Body};
+    ghost use Rattle.iol_batch.specs.declared.phase.Phase.TheVariants.{Body};
 
     // A batch before its first step.
     pub(crate) fn begun(

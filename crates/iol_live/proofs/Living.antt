@@ -5,13 +5,12 @@ use Rattle.iol_types.specs.Command.{CommandValue}
 use Rattle.iol_types.specs.State.{State, after}
 use Rattle.iol_disk.proofs.Images.{reads-is_image}
 use Rattle.iol_disk.specs.Content.{reads}
-use Rattle.iol_disk.specs.Disk.{Disk}
+use Rattle.iol_disk.specs.Disk.{Disk, Shows}
 use Rattle.iol_script.specs.declared.device.Device.{Device}
 use Rattle.iol_front.specs.Fronts.{Start}
 use Rattle.iol_journal.specs.Journals.{JournalView}
 use Rattle.iol_journal.specs.Kept.{EachMeans, IsKept}
 use Rattle.iol_journal.specs.Meaning.{Cause, Meaning, unformatted, damaged, standing_in}
-use Rattle.iol_journal.specs.Reading.{Shows}
 use Rattle.iol_flush.specs.Flushing.{Rests}
 use Rattle.iol_commands.specs.Images.{TellsWhy}
 use Rattle.iol_commands.specs.Recovered.{TellsState, recovered_text}

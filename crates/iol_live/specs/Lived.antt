@@ -4,9 +4,8 @@ use Rattle.std.specs.Fmt.{decimal}
 use Rattle.std.specs.List.{list_all}
 use Rattle.iol_types.specs.Command.{CommandValue}
 use Rattle.iol_types.specs.State.{State, after}
-use Rattle.iol_disk.specs.Disk.{Disk}
+use Rattle.iol_disk.specs.Disk.{Disk, Shows}
 use Rattle.iol_journal.specs.Meaning.{Standing, standing_in}
-use Rattle.iol_journal.specs.Reading.{Shows}
 use Rattle.iol_commands.specs.Fault.{status_of}
 use Rattle.iol_commands.specs.Recovered.{recovered_text}
 use Rattle.iol_commands.specs.declared.fault.Fault.{Fault}

@@ -3,7 +3,7 @@ ghost use Rattle.std.specs.Prelude.{◌≡◌, true, List, ℕ, [], length, vec_
 ghost use Rattle.iol_disk.specs.Content.{reads};
 ghost use Rattle.iol_journal.specs.Kept.{IsKept};
 ghost use Rattle.iol_journal.specs.Meaning.{Standing, standing_in};
-ghost use Rattle.iol_journal.specs.Reading.{Shows};
+ghost use Rattle.iol_disk.specs.Disk.{Shows};
 ghost use Rattle.iol_types.specs.Command.{CommandValue};
 ghost use Rattle.iol_front.specs.Fronts.{Start};
 ghost use Rattle.iol_journal.specs.Journals.{JournalView};

@@ -11,8 +11,8 @@ use Rattle.iol_flush.specs.declared.flusher.FlushEnd.{FlushEnd}
 use Rattle.iol_flush.specs.declared.flusher.FlushEnd.TheVariants as flush
 use Rattle.iol_flush.specs.declared.need.Need.{Need}
 use Rattle.iol_flush.specs.declared.need.Need.TheVariants as need
-use Rattle.iol_flush.specs.declared.stage.Stage.{Stage}
-use Rattle.iol_flush.specs.declared.stage.Stage.TheVariants.{Resting, Opening, Given, Checkpointing, Writing, Publishing, Failed}
+use Rattle.iol_flush.specs.declared.stage.FlushStage.{FlushStage}
+use Rattle.iol_flush.specs.declared.stage.FlushStage.TheVariants.{Resting, Opening, Given, Checkpointing, Writing, Publishing, Failed}
 use Rattle.iol_master.specs.Endings.{EndsFrom, IsWhole}
 use Rattle.iol_master.specs.Since.{IsSince}
 
@@ -37,7 +37,7 @@ module _ {D : Type 0} (disk : D → Disk) (start : Start) (first : JournalView D
       subst (λ (b : JournalView D). IsWhole disk start first b published) (sym same)
       (subst (λ (l : List CommandValue). IsWhole disk start first j l) (sym same_list) (at_rest j list since step))
 
-  pub ends : {F : Type 0} (stage : Stage D) (list : List CommandValue) (out : FlushEnd D F) → IsSince disk (Resting first) stage
+  pub ends : {F : Type 0} (stage : FlushStage D) (list : List CommandValue) (out : FlushEnd D F) → IsSince disk (Resting first) stage
       → (names_batch (need_of stage) ≡ true) ⊎ (need_of stage ≡ need.Stopped) → IsEnd (record { stage = stage; published = list }) out
       → IsInStep start stage list → EndsFrom disk start first out
   ends (Resting j) list (flush.Closed back published) since over is step = closed j back list published since step is.0 is.1

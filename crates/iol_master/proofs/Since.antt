@@ -7,19 +7,19 @@ use Rattle.iol_disk.specs.Disk.{Disk, HasFailed}
 use Rattle.iol_disk.specs.declared.fault.DiskFault.{DiskFault}
 use Rattle.iol_front.specs.Fronts.{CommittedView}
 use Rattle.iol_journal.specs.CheckpointViews.{CheckpointingView}
-use Rattle.iol_journal.specs.Journals.{JournalView, WritingView, values}
-use Rattle.iol_journal.specs.declared.batch.Batch.{Batch}
+use Rattle.iol_journal.specs.Journals.{JournalView, WritingView}
+use Rattle.iol_journal.specs.Body.{values}
+use Rattle.iol_journal.specs.Batch.{Batch}
 use Rattle.iol_flush.specs.Flushing.{IsSound}
 use Rattle.iol_flush.specs.Stages.{FlusherView, disk_of, failure_of, wants_checkpoint, next_calls}
-use Rattle.iol_flush.specs.Steps.{HasAdvanced, HasBegun, HasCheckpointed, HasMade, HasPublished}
-use Rattle.iol_flush.specs.Steps.{HasTaken, HasWritten, IsDiskStep, IsGift, IsPublished}
-use Rattle.iol_flush.specs.Steps.{checkpoint_of, writing_of}
+use Rattle.iol_flush.specs.Steps.{HasAdvanced, HasBegun, HasMadeOfCheckpoint, HasMade, HasPublished}
+use Rattle.iol_flush.specs.Steps.{HasTaken, HasMadeOfBatch, IsDiskStep, IsGift, IsPublished, checkpoint_of, writing_of}
 use Rattle.iol_flush.specs.declared.fault.FlushFault.{FlushFault}
 use Rattle.iol_flush.specs.declared.fault.FlushFault.TheVariants as fault
 use Rattle.iol_flush.specs.declared.fault.GiveFault.{GiveFault}
 use Rattle.iol_flush.specs.declared.fault.GiveFault.TheVariants as give
-use Rattle.iol_flush.specs.declared.stage.Stage.{Stage}
-use Rattle.iol_flush.specs.declared.stage.Stage.TheVariants.{Resting, Opening, Given, Checkpointing, Writing, Publishing, Failed}
+use Rattle.iol_flush.specs.declared.stage.FlushStage.{FlushStage}
+use Rattle.iol_flush.specs.declared.stage.FlushStage.TheVariants.{Resting, Opening, Given, Checkpointing, Writing, Publishing, Failed}
 use Rattle.iol_master.specs.Since.{CountsAs, IsSince}
 
 -- a failure that is counted from a disk with as many
@@ -40,23 +40,23 @@ counts_none : (told : Option DiskFault) (first last : Disk) → told ≡ None �
 counts_none told first last none same = subst (λ (o : Option DiskFault). CountsAs o first last) (sym none) same
 
 module _ {D : Type 0} (disk : D → Disk) where
-  pub since_self : (stage : Stage D) → IsSince disk stage stage
+  pub since_self : (stage : FlushStage D) → IsSince disk stage stage
   since_self stage = record {
     sound = λ sound. sound;
     counts = λ none. counts_none (failure_of stage) (disk (disk_of stage)) (disk (disk_of stage)) none refl;
     failed = λ cause told. refl;
   }
 
-  pub since_same : (old new : Stage D) → new ≡ old → IsSince disk old new
-  since_same old new same = subst (λ (s : Stage D). IsSince disk old s) (sym same) (since_self old)
+  pub since_same : (old new : FlushStage D) → new ≡ old → IsSince disk old new
+  since_same old new same = subst (λ (s : FlushStage D). IsSince disk old s) (sym same) (since_self old)
 
   -- one behind the other
-  pub since_both : (old mid new : Stage D) → IsSince disk old mid → IsSince disk mid new → IsSince disk old new
+  pub since_both : (old mid new : FlushStage D) → IsSince disk old mid → IsSince disk mid new → IsSince disk old new
   since_both old mid new one two = record {
     sound = λ sound. two.sound (one.sound sound);
     counts = λ none. joined (failure_of mid) refl (one.counts none);
     failed = λ cause told.
-        let same : mid ≡ old = one.failed cause told in two.failed cause (ap (λ (s : Stage D). failure_of s) same ∙ told) ∙ same;
+        let same : mid ≡ old = one.failed cause told in two.failed cause (ap (λ (s : FlushStage D). failure_of s) same ∙ told) ∙ same;
   }
     where
       joined : (told : Option DiskFault) → failure_of mid ≡ told → CountsAs told (disk (disk_of old)) (disk (disk_of mid))
@@ -64,11 +64,12 @@ module _ {D : Type 0} (disk : D → Disk) where
       joined None is counts =
           counts_from (failure_of new) (disk (disk_of old)) (disk (disk_of mid)) (disk (disk_of new)) counts (two.counts is)
       joined (Some cause) is failed =
-          subst (λ (s : Stage D). CountsAs (failure_of s) (disk (disk_of old)) (disk (disk_of s))) (sym (two.failed cause is))
+          subst (λ (s : FlushStage D). CountsAs (failure_of s) (disk (disk_of old)) (disk (disk_of s))) (sym (two.failed cause is))
           (subst (λ (o : Option DiskFault). CountsAs o (disk (disk_of old)) (disk (disk_of mid))) (sym is) failed)
 
   -- behind a call that was made no failure is told
-  checkpointed_none : (c : CheckpointingView D) (batch : Batch) (new : Stage D) → HasCheckpointed c batch new → failure_of new ≡ None
+  checkpointed_none : (c : CheckpointingView D) (batch : Batch) (new : FlushStage D) → HasMadeOfCheckpoint c batch new
+      → failure_of new ≡ None
   checkpointed_none c batch (Given j b) has = refl
   checkpointed_none c batch (Checkpointing k b) has = refl
   checkpointed_none c batch (Resting j) has = absurd has
@@ -77,7 +78,7 @@ module _ {D : Type 0} (disk : D → Disk) where
   checkpointed_none c batch (Publishing j w) has = absurd has
   checkpointed_none c batch (Failed d f) has = absurd has
 
-  written_none : (w : WritingView D) (new : Stage D) → HasWritten w new → failure_of new ≡ None
+  written_none : (w : WritingView D) (new : FlushStage D) → HasMadeOfBatch w new → failure_of new ≡ None
   written_none w (Writing v) has = refl
   written_none w (Publishing j v) has = refl
   written_none w (Resting j) has = absurd has
@@ -86,11 +87,11 @@ module _ {D : Type 0} (disk : D → Disk) where
   written_none w (Checkpointing k b) has = absurd has
   written_none w (Failed d f) has = absurd has
 
-  begun_none : (full : Bool) (j : JournalView D) (batch : Batch) (new : Stage D) → HasBegun full j batch new → failure_of new ≡ None
+  begun_none : (full : Bool) (j : JournalView D) (batch : Batch) (new : FlushStage D) → HasBegun full j batch new → failure_of new ≡ None
   begun_none true j batch new has = checkpointed_none (checkpoint_of j) batch new has.1
   begun_none false j batch new has = written_none (writing_of j (values batch.commands.items)) new has.1
 
-  advanced_none : (c : CheckpointingView D) (new : Stage D) → HasAdvanced c new → failure_of new ≡ None
+  advanced_none : (c : CheckpointingView D) (new : FlushStage D) → HasAdvanced c new → failure_of new ≡ None
   advanced_none c (Resting j) has = refl
   advanced_none c (Opening d) has = refl
   advanced_none c (Given j b) has = absurd has
@@ -99,7 +100,7 @@ module _ {D : Type 0} (disk : D → Disk) where
   advanced_none c (Publishing j w) has = absurd has
   advanced_none c (Failed d f) has = absurd has
 
-  made_none : (old new : Stage D) → HasMade old new → (failure_of old ≡ None) × (failure_of new ≡ None)
+  made_none : (old new : FlushStage D) → HasMade old new → (failure_of old ≡ None) × (failure_of new ≡ None)
   made_none (Given j b) new has = (refl, begun_none (wants_checkpoint j.standing (values b.commands.items)) j b new has)
   made_none (Checkpointing k b) new has = (refl, checkpointed_none k b new has)
   made_none (Writing w) new has = (refl, written_none w new has)
@@ -109,7 +110,7 @@ module _ {D : Type 0} (disk : D → Disk) where
   made_none (Failed d f) new has = absurd has
 
   -- what has failed owes no call
-  owes_none : (old : Stage D) (cause : DiskFault) (call : Call) (left : List Call) → failure_of old ≡ Some cause
+  owes_none : (old : FlushStage D) (cause : DiskFault) (call : Call) (left : List Call) → failure_of old ≡ Some cause
       → next_calls old ≡ call ∷ left → ⊥
   owes_none (Failed d f) cause call left told owes = absurd cc
   owes_none (Resting j) cause call left told owes = absurd cc
@@ -119,13 +120,13 @@ module _ {D : Type 0} (disk : D → Disk) where
   owes_none (Writing w) cause call left told owes = absurd cc
   owes_none (Publishing j w) cause call left told owes = absurd cc
 
-  counts_failed : (new : Stage D) (cause : DiskFault) (first : Disk) → failure_of new ≡ Some cause
+  counts_failed : (new : FlushStage D) (cause : DiskFault) (first : Disk) → failure_of new ≡ Some cause
       → HasFailed first (disk (disk_of new)) → CountsAs (failure_of new) first (disk (disk_of new))
   counts_failed new cause first told failed =
       subst (λ (o : Option DiskFault). CountsAs o first (disk (disk_of new))) (sym told) failed
 
   -- a disk step
-  pub since_step : (old new : Stage D) (answer : Result Unit FlushFault) → IsDiskStep disk old new answer
+  pub since_step : (old new : FlushStage D) (answer : Result Unit FlushFault) → IsDiskStep disk old new answer
       → (IsSound disk old → IsSound disk new) → IsSince disk old new
   since_step old new (Ok done) step sound =
       let none = made_none old new step.0 in
@@ -146,8 +147,8 @@ module _ {D : Type 0} (disk : D → Disk) where
   since_step old new (Err fault.Misfit) step sound = since_same old new step.1
 
   -- a batch is given to a flusher at rest
-  given : (old : Stage D) (batch : Batch) (new : Stage D) → HasTaken old batch new → IsSince disk old new
-  given (Resting j) batch new has = subst (λ (s : Stage D). IsSince disk (Resting j) s) (sym has) (record {
+  given : (old : FlushStage D) (batch : Batch) (new : FlushStage D) → HasTaken old batch new → IsSince disk old new
+  given (Resting j) batch new has = subst (λ (s : FlushStage D). IsSince disk (Resting j) s) (sym has) (record {
     sound = λ sound. sound;
     counts = λ none. refl;
     failed = λ cause told. absurd (tells_none None cause refl told);
@@ -159,16 +160,16 @@ module _ {D : Type 0} (disk : D → Disk) where
   given (Publishing j w) batch new has = absurd has
   given (Failed d f) batch new has = absurd has
 
-  pub since_gift : (old : Stage D) (batch : Batch) (new : Stage D) (answer : Result Unit GiveFault) → IsGift old batch new answer
+  pub since_gift : (old : FlushStage D) (batch : Batch) (new : FlushStage D) (answer : Result Unit GiveFault) → IsGift old batch new answer
       → IsSince disk old new
   since_gift old batch new (Ok done) gift = given old batch new gift
   since_gift old batch new (Err (give.Stopped back)) gift = since_same old new gift.1
 
   -- a batch is published
-  published : (old : Stage D) (list : List CommandValue) (new : FlusherView D) (committed : CommittedView)
+  published : (old : FlushStage D) (list : List CommandValue) (new : FlusherView D) (committed : CommittedView)
       → HasPublished old list new committed → IsSince disk old new.stage
   published (Publishing j w) list new committed has =
-      subst (λ (s : Stage D). IsSince disk (Publishing j w) s) (sym (ap (λ (f : FlusherView D). f.stage) has.0)) (record {
+      subst (λ (s : FlushStage D). IsSince disk (Publishing j w) s) (sym (ap (λ (f : FlusherView D). f.stage) has.0)) (record {
         sound = λ sound. sound;
         counts = λ none. refl;
         failed = λ cause told. absurd (tells_none None cause refl told);

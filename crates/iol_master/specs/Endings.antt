@@ -10,7 +10,7 @@ use Rattle.iol_flush.specs.Stages.{StandsBehind, names_batch, need_of}
 use Rattle.iol_flush.specs.declared.flusher.FlushEnd.{FlushEnd}
 use Rattle.iol_flush.specs.declared.flusher.FlushEnd.TheVariants as flush
 use Rattle.iol_flush.specs.declared.need.Need.TheVariants as need
-use Rattle.iol_flush.specs.declared.stage.Stage.{Stage}
+use Rattle.iol_flush.specs.declared.stage.FlushStage.{FlushStage}
 use Rattle.iol_master.specs.declared.flushing.Turned.{Turned}
 use Rattle.iol_master.specs.declared.flushing.Turned.TheVariants.{Made, Ended}
 use Rattle.iol_master.specs.declared.ending.Ending.{Ending}
@@ -19,7 +19,7 @@ use Rattle.iol_master.specs.declared.ending.StartFault.{StartFault}
 use Rattle.iol_master.specs.declared.ending.StartFault.TheVariants as start_fault
 
 -- a flusher ends where it may be given a batch, or where a disk call has failed (own)
-abbrev pub MayEnd : {D : Type 0} → Stage D → Turned → Type 0
+abbrev pub MayEnd : {D : Type 0} → FlushStage D → Turned → Type 0
 MayEnd stage Made = Unit {0}
 MayEnd stage Ended = (names_batch (need_of stage) ≡ true) ⊎ (need_of stage ≡ need.Stopped)
 

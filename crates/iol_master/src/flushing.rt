@@ -4,7 +4,7 @@ ghost use Rattle.std.specs.Prelude.{◌≡◌, ◌≤◌, true};
 ghost use Rattle.iol_record.specs.declared.encode.TheConstants.{LARGEST_COMMAND_RECORD};
 ghost use Rattle.iol_flush.specs.Stages.{HasHistory, names_disk, need_of};
 ghost use Rattle.iol_flush.specs.declared.need.Need.TheVariants as need;
-ghost use Rattle.iol_flush.specs.declared.stage.Stage.TheVariants as stage;
+ghost use Rattle.iol_flush.specs.declared.stage.FlushStage.TheVariants as stage;
 ghost use Rattle.iol_master.specs.Endings.{EndsFrom, MayEnd};
 ghost use Rattle.iol_master.specs.Since.{IsSince};
 

@@ -17,14 +17,13 @@ use Rattle.iol_flush.specs.Flushing.{FitsBatch, GoesOn, IsFlushing}
 use Rattle.iol_flush.specs.Stages as flush
 use Rattle.iol_flush.specs.Stages.{FlusherView, StandsBehind, FitsArea}
 use Rattle.iol_flush.specs.Steps.{HasTaken, HasPublished}
-use Rattle.iol_flush.specs.declared.stage.Stage.{Stage}
-use Rattle.iol_flush.specs.declared.stage.Stage.TheVariants.{Resting, Opening, Given, Checkpointing, Writing, Publishing, Failed}
+use Rattle.iol_flush.specs.declared.stage.FlushStage.{FlushStage}
+use Rattle.iol_flush.specs.declared.stage.FlushStage.TheVariants.{Resting, Opening, Given, Checkpointing, Writing, Publishing, Failed}
 use Rattle.iol_front.specs.Fronts.{Start, CommittedView}
-use Rattle.iol_journal.specs.Body.{records_of, slots_of, slots_for}
-use Rattle.iol_journal.specs.Journals.{values}
+use Rattle.iol_journal.specs.Body.{records_of, slots_of, slots_for, values}
 use Rattle.iol_journal.specs.Meaning.{Standing}
-use Rattle.iol_journal.specs.declared.batch.Batch.{Batch}
-use Rattle.iol_journal.specs.declared.header.TheConstants.{LAST_NUMBER}
+use Rattle.iol_journal.specs.Batch.{Batch}
+use Rattle.iol_journal.specs.Numbers.{LAST_NUMBER}
 use Rattle.iol_run.specs.CoreOnDisk.{IsInFlight, IsDurable, HasFlight, IsAtRest, IsInStep, KeepsRunning}
 
 -- the batch that a core gives is the first of what waits, and in flight then
@@ -87,15 +86,16 @@ module _ {D : Type 0} where
   given_in_step start old new before behind batch room taken same stands is has_room passes bound was =
       given before.stage before.published behind.stage behind.published taken same stands has_room was.0
     where
-      given : (s : Stage D) (published : List CommandValue) (t : Stage D) (list : List CommandValue) → HasTaken s batch t → list ≡ published
+      given : (s : FlushStage D) (published : List CommandValue) (t : FlushStage D) (list : List CommandValue) → HasTaken s batch t
+          → list ≡ published
           → flush.IsInStep start s published → FitsArea s room → IsDurable start old published
           → IsDurable start new list × HasFlight new t × GoesOn t
       given (Resting j) published t list taken same stands fits durable = (
         subst (λ (cs : List CommandValue). IsDurable start new cs) (sym same)
             (subst (λ (c : CoreView). IsDurable start c published) (sym is.others)
             (record { number = durable.number; state = durable.state })),
-        subst (λ (u : Stage D). HasFlight new u) (sym taken) (taken_flight old new room batch is),
-        subst (λ (u : Stage D). GoesOn u) (sym taken)
+        subst (λ (u : FlushStage D). HasFlight new u) (sym taken) (taken_flight old new room batch is),
+        subst (λ (u : FlushStage D). GoesOn u) (sym taken)
             (taken_fits start published old new j.standing batch room stands.number stands.state durable is fits passes bound),
       )
       given (Opening c) published t list taken same stands fits durable = absurd taken
@@ -128,7 +128,7 @@ module _ {D : Type 0} where
       → HasPublished old.stage old.published new committed → IsInStep start core old None → IsInStep start core new (Some committed)
   published_in_step start core old new committed has was = published old.stage old.published has was.0 was.1
     where
-      published : (s : Stage D) (list : List CommandValue) → HasPublished s list new committed → IsDurable start core list
+      published : (s : FlushStage D) (list : List CommandValue) → HasPublished s list new committed → IsDurable start core list
           → HasFlight core s
           → IsDurable start core committed.before × (new.published ≡ committed.before ++ committed.commands)
           × IsInFlight core committed.commands × IsAtRest new.stage
@@ -148,7 +148,8 @@ module _ {D : Type 0} where
       published (Failed d f) list has durable flight = absurd has
 
   -- the list that is published then
-  list_is : (s : Stage D) (list : List CommandValue) (new : FlusherView D) (committed : CommittedView) → HasPublished s list new committed
+  list_is : (s : FlushStage D) (list : List CommandValue) (new : FlusherView D) (committed : CommittedView)
+      → HasPublished s list new committed
       → new.published ≡ list ++ committed.commands
   list_is (Publishing j written) list new committed has =
       ap (λ (v : FlusherView D). v.published) has.0 ∙ ap (λ (cs : List CommandValue). list ++ cs) (sym has.2)
@@ -160,7 +161,7 @@ module _ {D : Type 0} where
   list_is (Failed d f) list new committed has = absurd has
 
   -- and the list that was published before
-  pub before_is : (s : Stage D) (list : List CommandValue) (new : FlusherView D) (committed : CommittedView)
+  pub before_is : (s : FlushStage D) (list : List CommandValue) (new : FlusherView D) (committed : CommittedView)
       → HasPublished s list new committed
       → committed.before ≡ list
   before_is (Publishing j written) list new committed has = has.1
@@ -226,7 +227,7 @@ module _ {D : Type 0} where
     (rests flusher.stage was.3).1,
   )
     where
-      rests : (s : Stage D) → IsAtRest s → HasFlight (acknowledged core seen) s × GoesOn s
+      rests : (s : FlushStage D) → IsAtRest s → HasFlight (acknowledged core seen) s × GoesOn s
       rests (Resting j) at = (refl, tt)
       rests (Opening c) at = absurd at
       rests (Given j b) at = absurd at

@@ -11,10 +11,10 @@ use Rattle.iol_core.specs.declared.permit.Grant.{Grant}
 use Rattle.iol_flush.proofs.RunLaws.{accepts_more}
 use Rattle.iol_flush.specs.Flushing.{IsFlushing}
 use Rattle.iol_flush.specs.Stages.{FlusherView}
-use Rattle.iol_flush.specs.declared.stage.Stage.{Stage}
-use Rattle.iol_flush.specs.declared.stage.Stage.TheVariants.{Resting, Opening, Given, Checkpointing, Writing, Publishing, Failed}
+use Rattle.iol_flush.specs.declared.stage.FlushStage.{FlushStage}
+use Rattle.iol_flush.specs.declared.stage.FlushStage.TheVariants.{Resting, Opening, Given, Checkpointing, Writing, Publishing, Failed}
 use Rattle.iol_front.specs.Fronts.{Start, CommittedView}
-use Rattle.iol_journal.specs.Journals.{values}
+use Rattle.iol_journal.specs.Body.{values}
 use Rattle.iol_port.specs.Calls.{Call, Replies, Passes}
 use Rattle.iol_port.specs.declared.call.Reply.{Reply}
 use Rattle.iol_run.proofs.Changes.{Change, Permits, Waits, changed, IsPassing, replied, with_permits}
@@ -32,7 +32,7 @@ waits_with (Some committed) core permits = refl
 
 module _ {D : Type 0} where
   -- other permits leave what is in flight
-  pub flight_with : (core : CoreView) (permits : List (Option Grant)) (stage : Stage D) → HasFlight core stage
+  pub flight_with : (core : CoreView) (permits : List (Option Grant)) (stage : FlushStage D) → HasFlight core stage
       → HasFlight (with_permits core permits) stage
   flight_with core permits (Resting j) is = is
   flight_with core permits (Opening c) is = is

@@ -1,13 +1,12 @@
 -- The disk's clock does not go back in a step.
 use Rattle.std.proofs.Common.{◌≡◌, refl, ◌≤◌, ℕ, Bool, IsTrue, List, [], ◌∷◌, ◌++◌, take, sym, ◌∙◌, subst, arith}
 use Rattle.iol_disk.proofs.Images.{follows-wrote, follows-synced}
-use Rattle.iol_disk.specs.Calls.{Call, write, sync, Made, LeftBy, content_after, content_after_all}
+use Rattle.iol_disk.specs.Calls.{Call, write, sync, Made, LeftBy, content_after, content_after_all, MakesFirst, FailsFirst}
 use Rattle.iol_disk.specs.Content.{Content, clock, wrote}
 use Rattle.iol_disk.specs.Disk.{Disk, After}
 use Rattle.iol_disk.specs.declared.fault.DiskFault.{DiskFault}
 use Rattle.iol_flush.specs.Stages.{disk_of}
 use Rattle.iol_journal.specs.Journals.{JournalView}
-use Rattle.iol_journal.specs.Progress.{MakesFirst, FailsFirst}
 use Rattle.iol_link.specs.Link.{LinkCall, LinkAnswer}
 use Rattle.iol_trace.specs.Events.{Event, Stamp, stamped}
 use Rattle.iol_run.proofs.DiskSteps.{DiskStep, Stays, Makes, Fails, disk_step}

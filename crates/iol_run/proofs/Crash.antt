@@ -7,8 +7,8 @@ use Rattle.iol_disk.specs.Disk.{Disk}
 use Rattle.iol_flush.proofs.RunLaws.{holds}
 use Rattle.iol_flush.specs.Flushing.{HoldsBy, IsFlushing}
 use Rattle.iol_flush.specs.Stages.{disk_of}
-use Rattle.iol_flush.specs.declared.stage.Stage.{Stage}
-use Rattle.iol_flush.specs.declared.stage.Stage.TheVariants.{Resting}
+use Rattle.iol_flush.specs.declared.stage.FlushStage.{FlushStage}
+use Rattle.iol_flush.specs.declared.stage.FlushStage.TheVariants.{Resting}
 use Rattle.iol_front.specs.Fronts.{Start}
 use Rattle.iol_journal.specs.Journals.{JournalView}
 use Rattle.iol_journal.specs.Kept.{IsKept}
@@ -28,7 +28,7 @@ use Rattle.iol_run.specs.declared.schedule.RunFault.{RunFault}
 use Rattle.iol_run.specs.declared.schedule.Trace.{Trace}
 
 module _ {D : Type 0} (disk : D → Disk) (start : Start) where
-  abbrev marked : ℕ → List Stamp → List CommandValue → List CommandValue → Stage D → Type 0
+  abbrev marked : ℕ → List Stamp → List CommandValue → List CommandValue → FlushStage D → Type 0
   marked t events published waiting stage =
       IsFlushing disk start.number start.state published waiting (marks_of t start.number events) stage
 
@@ -43,11 +43,11 @@ module _ {D : Type 0} (disk : D → Disk) (start : Start) where
       marked run.begun [] published (waiting_of run.master.committed run.master.core) run.master.flusher.stage) (sym fresh.published)
       (subst (λ (waiting : List CommandValue). marked run.begun [] [] waiting run.master.flusher.stage)
       (sym (ap (λ c. waiting_of c run.master.core) fresh.committed ∙ fresh.queue))
-      (subst (λ (s : Stage D). marked run.begun [] [] [] s) (sym fresh.stage)
+      (subst (λ (s : FlushStage D). marked run.begun [] [] [] s) (sym fresh.stage)
       (subst (λ (t : ℕ). marked t [] [] [] (Resting j)) (sym at) resting))))
     where
       at : run.begun ≡ clock (disk j.disk).content
-      at = fresh.begun ∙ ap (λ (s : Stage D). clock (disk (disk_of s)).content) fresh.stage
+      at = fresh.begun ∙ ap (λ (s : FlushStage D). clock (disk (disk_of s)).content) fresh.stage
 
   -- and what a stop leaves of it
   pub leaves : {L : Type 0} (run : RunView D L) → IsTold start run.master run.events → IsMarked disk start run

@@ -4,18 +4,17 @@ use Rattle.std.proofs.Common.{Err, ap, sym, subst}
 use Rattle.iol_types.specs.Command.{CommandValue, command_of}
 use Rattle.iol_core.specs.Core.{CoreView}
 use Rattle.iol_core.specs.declared.ticket.SubmitFault.{SubmitFault}
-use Rattle.iol_disk.specs.Calls.{Call}
+use Rattle.iol_disk.specs.Calls.{Call, MakesFirst, FailsFirst}
 use Rattle.iol_disk.specs.Disk.{Disk}
 use Rattle.iol_disk.specs.declared.fault.DiskFault.{DiskFault}
 use Rattle.iol_flush.specs.Stages.{FlusherView, disk_of}
 use Rattle.iol_flush.specs.Steps.{HasTaken, HasPublished}
 use Rattle.iol_flush.specs.declared.need.Need.{Need}
 use Rattle.iol_flush.specs.declared.need.Need.TheVariants as need
-use Rattle.iol_flush.specs.declared.stage.Stage.{Stage}
-use Rattle.iol_flush.specs.declared.stage.Stage.TheVariants.{Resting, Opening, Given, Checkpointing, Writing, Publishing, Failed}
+use Rattle.iol_flush.specs.declared.stage.FlushStage.{FlushStage}
+use Rattle.iol_flush.specs.declared.stage.FlushStage.TheVariants.{Resting, Opening, Given, Checkpointing, Writing, Publishing, Failed}
 use Rattle.iol_front.specs.Fronts.{CommittedView}
-use Rattle.iol_journal.specs.Progress.{MakesFirst, FailsFirst}
-use Rattle.iol_journal.specs.declared.batch.Batch.{Batch}
+use Rattle.iol_journal.specs.Batch.{Batch}
 use Rattle.iol_link.specs.Link.{LinkCall, LinkAnswer}
 use Rattle.iol_trace.proofs.Words.{failure-append}
 use Rattle.iol_trace.specs.Events.{Event, DiskFailed, stamped}
@@ -65,7 +64,7 @@ both called status one two t failed =
     (failure-append (stamped t called) (stamped t status) (subst (λ ss. HasFailure ss) (stamped_both t called status) failed))
 
 module _ {D : Type 0} (disk : D → Disk) where
-  abbrev StageStep : Stage D → Stage D → List Event → Type 0
+  abbrev StageStep : FlushStage D → FlushStage D → List Event → Type 0
   StageStep old new told = DiskStep (disk (disk_of old)) (disk (disk_of new)) told
 
   flusher_same : (old new : CoreOnDiskView D) (told : List Event) → new.flusher ≡ old.flusher → TellsNone told
@@ -76,8 +75,8 @@ module _ {D : Type 0} (disk : D → Disk) where
       → StageStep old.flusher.stage new.flusher.stage told
   master_same old new told same sound = flusher_same old new told (ap (λ (m : CoreOnDiskView D). m.flusher) same) sound
 
-  taken_disk : (s t : Stage D) (batch : Batch) → HasTaken s batch t → disk (disk_of t) ≡ disk (disk_of s)
-  taken_disk (Resting j) t batch has = ap (λ (u : Stage D). disk (disk_of u)) has
+  taken_disk : (s t : FlushStage D) (batch : Batch) → HasTaken s batch t → disk (disk_of t) ≡ disk (disk_of s)
+  taken_disk (Resting j) t batch has = ap (λ (u : FlushStage D). disk (disk_of u)) has
   taken_disk (Opening c) t batch has = absurd has
   taken_disk (Given j b) t batch has = absurd has
   taken_disk (Checkpointing c b) t batch has = absurd has
@@ -85,7 +84,7 @@ module _ {D : Type 0} (disk : D → Disk) where
   taken_disk (Publishing j written) t batch has = absurd has
   taken_disk (Failed d f) t batch has = absurd has
 
-  published_disk : (s : Stage D) (published : List CommandValue) (new : FlusherView D) (committed : CommittedView)
+  published_disk : (s : FlushStage D) (published : List CommandValue) (new : FlusherView D) (committed : CommittedView)
       → HasPublished s published new committed
       → disk (disk_of new.stage) ≡ disk (disk_of s)
   published_disk (Publishing j written) published new committed has = ap (λ (f : FlusherView D). disk (disk_of f.stage)) has.0

@@ -3,7 +3,7 @@ use Rattle.std.proofs.Common.{◌≡◌, ◌≤◌, inl, inr, ⊎_elim, ℕ, Lis
 use Rattle.iol_disk.specs.Calls.{Call, write, sync, Made, LeftBy}
 use Rattle.iol_disk.specs.Disk.{Disk, HasFailed}
 use Rattle.iol_flush.specs.Stages.{disk_of}
-use Rattle.iol_flush.specs.declared.stage.Stage.{Stage}
+use Rattle.iol_flush.specs.declared.stage.FlushStage.{FlushStage}
 use Rattle.iol_journal.specs.Journals.{JournalView}
 use Rattle.iol_link.specs.Link.{LinkCall, LinkAnswer}
 use Rattle.iol_trace.proofs.Words.{failure-append}
@@ -80,7 +80,7 @@ module _ {D L : Type 0} (disk : D → Disk) (connection : L → ℕ) (allows : L
       → IsFresh disk journal links old
       → HasMade disk connection allows steps waits old new → TellsFailures (disk journal.disk) (disk_in new.master) new.events
   tells_failures steps waits journal links old new fresh made =
-      subst (λ (d : Disk). TellsFailures d (disk_in new.master) new.events) (ap (λ (s : Stage D). disk (disk_of s)) fresh.stage)
+      subst (λ (d : Disk). TellsFailures d (disk_in new.master) new.events) (ap (λ (s : FlushStage D). disk (disk_of s)) fresh.stage)
       (all_tell disk connection allows disk_in Counts
       (λ old new same. counts_same old new [] (ap (λ (d : Disk). d.failures) same) (λ never. never)) counts_more
       (λ t step old new ports last told turned does. step_counts t (disk_in old) (disk_in new) told

@@ -5,7 +5,7 @@ use Rattle.std.proofs.Math.Nat.{mul-le-mul_left}
 use Rattle.iol_disk.specs.Disk.{Disk}
 use Rattle.iol_core.specs.Submit.{has_failed}
 use Rattle.iol_core.specs.declared.stop.StopCause.{StopCause}
-use Rattle.iol_flush.specs.declared.stage.Stage.{Stage}
+use Rattle.iol_flush.specs.declared.stage.FlushStage.{FlushStage}
 use Rattle.iol_front.specs.Fronts.{CommittedView}
 use Rattle.iol_journal.specs.Journals.{JournalView}
 use Rattle.iol_journal.specs.Layout.{Layout}
@@ -99,7 +99,7 @@ module _ {D L : Type 0} (disk : D → Disk) (connection : L → ℕ) (allows : L
     fresh_holds journal links run fresh same number = record {
       served =
           subst (λ (c : Option CommittedView). IsServed layout run.master.core run.master.flusher.stage c) (sym fresh.committed)
-          (subst (λ (s : Stage D). IsServed layout run.master.core s None) (sym fresh.stage) (record {
+          (subst (λ (s : FlushStage D). IsServed layout run.master.core s None) (sym fresh.stage) (record {
             batch = fresh.flight;
             layout_is = same;
             few_calls = tt;

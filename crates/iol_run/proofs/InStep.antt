@@ -15,10 +15,10 @@ use Rattle.iol_core.specs.declared.ticket.SubmitFault.TheVariants as fault
 use Rattle.iol_flush.proofs.RunLaws.{accepts_more}
 use Rattle.iol_flush.specs.Flushing.{IsFlushing}
 use Rattle.iol_flush.specs.Stages.{FlusherView}
-use Rattle.iol_flush.specs.declared.stage.Stage.{Stage}
-use Rattle.iol_flush.specs.declared.stage.Stage.TheVariants.{Resting, Opening, Given, Checkpointing, Writing, Publishing, Failed}
+use Rattle.iol_flush.specs.declared.stage.FlushStage.{FlushStage}
+use Rattle.iol_flush.specs.declared.stage.FlushStage.TheVariants.{Resting, Opening, Given, Checkpointing, Writing, Publishing, Failed}
 use Rattle.iol_front.specs.Fronts.{Start, CommittedView}
-use Rattle.iol_journal.specs.Journals.{values}
+use Rattle.iol_journal.specs.Body.{values}
 use Rattle.iol_journal.specs.Runs.{Mark}
 use Rattle.iol_run.specs.CoreOnDisk.{CoreOnDiskView, IsInFlight, HasFlight, IsInStep, IsRunning, KeepsRunning, waiting_of}
 
@@ -43,7 +43,7 @@ more_waits core command commands is = record {
 }
 
 module _ {D : Type 0} where
-  pub flight_stays : (core : CoreView) (command : CommandValue) (stage : Stage D) → HasFlight core stage
+  pub flight_stays : (core : CoreView) (command : CommandValue) (stage : FlushStage D) → HasFlight core stage
       → HasFlight (queued core command) stage
   flight_stays core command (Resting j) is = is
   flight_stays core command (Opening c) is = is

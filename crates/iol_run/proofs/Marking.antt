@@ -11,8 +11,8 @@ use Rattle.iol_flush.specs.Flushing.{IsFlushing}
 use Rattle.iol_flush.specs.Stages.{FlusherView, disk_of}
 use Rattle.iol_flush.specs.declared.need.Need.{Need}
 use Rattle.iol_flush.specs.declared.need.Need.TheVariants as need
-use Rattle.iol_flush.specs.declared.stage.Stage.{Stage}
-use Rattle.iol_flush.specs.declared.stage.Stage.TheVariants.{Resting, Opening, Given, Checkpointing, Writing, Publishing, Failed}
+use Rattle.iol_flush.specs.declared.stage.FlushStage.{FlushStage}
+use Rattle.iol_flush.specs.declared.stage.FlushStage.TheVariants.{Resting, Opening, Given, Checkpointing, Writing, Publishing, Failed}
 use Rattle.iol_front.specs.Fronts.{Start, CommittedView}
 use Rattle.iol_journal.specs.Runs.{Mark}
 use Rattle.iol_trace.proofs.CrashPrefix.{marks-push, marks-newest}
@@ -102,7 +102,7 @@ module _ {D : Type 0} (disk : D → Disk) (start : Start) (begun : ℕ) where
   port_mark number steps false port old new ports last events told is was = silent_mark new events told is.2 was
 
   -- what is published is acknowledged while the flusher rests
-  rest_mark : (published waiting : List CommandValue) (marks : List Mark) (n : ℕ) (s : Stage D) → IsAtRest s → n ≤ start.number
+  rest_mark : (published waiting : List CommandValue) (marks : List Mark) (n : ℕ) (s : FlushStage D) → IsAtRest s → n ≤ start.number
       + length published
       → IsFlushing disk start.number start.state published waiting marks s
       → IsFlushing disk start.number start.state published waiting (mark (clock (disk (disk_of s)).content) n ∷ marks) s

@@ -15,14 +15,14 @@ use Rattle.iol_flush.specs.Steps.{checkpoint_of, HasAdvanced, HasTaken, HasPubli
 use Rattle.iol_flush.specs.Turns.{calls_needed, given_calls}
 use Rattle.iol_flush.specs.declared.need.Need.{Need}
 use Rattle.iol_flush.specs.declared.need.Need.TheVariants as need
-use Rattle.iol_flush.specs.declared.stage.Stage.{Stage}
-use Rattle.iol_flush.specs.declared.stage.Stage.TheVariants.{Resting, Opening, Given, Checkpointing, Writing, Publishing, Failed}
+use Rattle.iol_flush.specs.declared.stage.FlushStage.{FlushStage}
+use Rattle.iol_flush.specs.declared.stage.FlushStage.TheVariants.{Resting, Opening, Given, Checkpointing, Writing, Publishing, Failed}
 use Rattle.iol_front.specs.Fronts.{CommittedView}
 use Rattle.iol_types.specs.Command.{CommandValue}
 use Rattle.iol_journal.specs.CheckpointViews.{CheckpointingView}
 use Rattle.iol_journal.specs.Layout.{Layout}
-use Rattle.iol_journal.specs.Journals.{values}
-use Rattle.iol_journal.specs.declared.batch.Batch.{Batch}
+use Rattle.iol_journal.specs.Body.{values}
+use Rattle.iol_journal.specs.Batch.{Batch}
 use Rattle.iol_trace.specs.Events.{Event}
 use Rattle.iol_run.proofs.Batches.{taken_flight}
 use Rattle.iol_run.proofs.Served.{IsServed, Served}
@@ -64,7 +64,7 @@ none_there true false met = refl
 none_there false there met = search rules
 
 module _ {D : Type 0} where
-  rests_own : (waits : ℕ) (stage : Stage D) → IsAtRest stage → own_turns waits stage None ≡ 0
+  rests_own : (waits : ℕ) (stage : FlushStage D) → IsAtRest stage → own_turns waits stage None ≡ 0
   rests_own waits (Resting j) at = refl
   rests_own waits (Opening c) at = absurd at
   rests_own waits (Given j b) at = absurd at
@@ -73,7 +73,7 @@ module _ {D : Type 0} where
   rests_own waits (Publishing j written) at = absurd at
   rests_own waits (Failed d f) at = absurd at
 
-  own_calls : (waits : ℕ) (stage : Stage D) → own_turns waits stage None ≤ calls_needed stage + 1
+  own_calls : (waits : ℕ) (stage : FlushStage D) → own_turns waits stage None ≤ calls_needed stage + 1
   own_calls waits (Resting j) = omega arith
   own_calls waits (Opening c) = one (nat_lt 0 waits)
     where
@@ -87,7 +87,7 @@ module _ {D : Type 0} where
   own_calls waits (Failed d f) = omega arith
 
   -- while nothing waits, a checkpoint for which no batch waits counts no turns
-  advanced_own : (c : CheckpointingView D) (stage : Stage D) → HasAdvanced c stage → own_turns 0 stage None ≡ 0
+  advanced_own : (c : CheckpointingView D) (stage : FlushStage D) → HasAdvanced c stage → own_turns 0 stage None ≡ 0
   advanced_own c (Resting j) has = refl
   advanced_own c (Opening d) has = refl
   advanced_own c (Given j b) has = absurd has
@@ -97,7 +97,7 @@ module _ {D : Type 0} where
   advanced_own c (Failed d f) has = absurd has
 
   -- behind its last call it counts none
-  ended_own : (waits : ℕ) (c : CheckpointingView D) (stage : Stage D) → HasFewCalls (Opening c) → HasAdvanced c stage
+  ended_own : (waits : ℕ) (c : CheckpointingView D) (stage : FlushStage D) → HasFewCalls (Opening c) → HasAdvanced c stage
       → own_turns waits stage None ≡ 0
   ended_own waits c (Resting j) few has = refl
   ended_own waits c (Opening d) few has = absurd (none_behind c.standing c.begun d.begun few has.behind)
@@ -108,7 +108,7 @@ module _ {D : Type 0} where
   ended_own waits c (Failed d f) few has = absurd has
 
   -- fewer turns are left behind a disk call, or nothing waits
-  abbrev IsLess : ℕ → Stage D → Stage D → Type 0
+  abbrev IsLess : ℕ → FlushStage D → FlushStage D → Type 0
   IsLess waits old new =
       (own_turns waits new None + 1 ≤ own_turns waits old None) ⊎ ((waits ≡ 0) × (own_turns waits new None ≡ 0))
 
@@ -146,13 +146,13 @@ module _ {D : Type 0} (layout : Layout) where
             length-drop old.core.flight old.core.queue,
           )
 
-  taken_own : (waits : ℕ) (s t : Stage D) (batch : Batch) → HasTaken s batch t → HasLayout layout s
+  taken_own : (waits : ℕ) (s t : FlushStage D) (batch : Batch) → HasTaken s batch t → HasLayout layout s
       → 1 ≤ length (values batch.commands.items)
       → own_turns waits t None + 1 ≤ batch_turns layout * length (values batch.commands.items)
   taken_own waits (Resting j) t batch has same some =
       let commands = values batch.commands.items in
       let full = wants_checkpoint j.standing commands in
-      subst (λ (u : Stage D). own_turns waits u None + 1 ≤ batch_turns layout * length commands) (sym has)
+      subst (λ (u : FlushStage D). own_turns waits u None + 1 ≤ batch_turns layout * length commands) (sym has)
       (subst (λ (l : Layout). given_calls l commands j.begun full + 1 + 1 ≤ batch_turns layout * length commands) (sym same)
       (given_turns layout commands j.begun full some))
   taken_own waits (Opening c) t batch has same some = absurd has
@@ -162,7 +162,7 @@ module _ {D : Type 0} (layout : Layout) where
   taken_own waits (Publishing j written) t batch has same some = absurd has
   taken_own waits (Failed d f) t batch has same some = absurd has
 
-  pub resting : (core : CoreView) (stage : Stage D) (there : Bool) → need_met (need_of stage) there ≡ need.Batch → HasFlight core stage
+  pub resting : (core : CoreView) (stage : FlushStage D) (there : Bool) → need_met (need_of stage) there ≡ need.Batch → HasFlight core stage
       → IsAtRest stage × (core.flight ≡ 0)
   resting core (Resting j) there is flight = (tt, flight)
   resting core (Opening c) there is flight = search rules
@@ -234,7 +234,7 @@ module _ {D : Type 0} (layout : Layout) where
 
   module _ (disk : D → Disk) where
     -- a disk call
-    called_less : (waits : ℕ) (old new : Stage D) → (IsAtRest old → waits ≡ 0) → HasFewCalls old → HasFewCalls new
+    called_less : (waits : ℕ) (old new : FlushStage D) → (IsAtRest old → waits ≡ 0) → HasFewCalls old → HasFewCalls new
         → IsDiskStep disk old new (Ok tt) → IsLess waits old new
     called_less waits (Resting j) new none few_old few_new step =
         inr (none tt, ap (λ (n : ℕ). own_turns n new None) (none tt) ∙ advanced_own (checkpoint_of j) new step.0.1)
@@ -252,7 +252,7 @@ module _ {D : Type 0} (layout : Layout) where
     called_less waits (Failed d f) new none few_old few_new step = absurd step.0
 
     -- a flusher at rest makes one where no batch may be taken: none waits
-    none_at_rest : (core : CoreView) (stage : Stage D) → need_met (need_of stage) (has_batch core) ≡ need.Disk → HasFlight core stage
+    none_at_rest : (core : CoreView) (stage : FlushStage D) → need_met (need_of stage) (has_batch core) ≡ need.Disk → HasFlight core stage
         → (has_failed core.stopped ≡ true → ⊥) → IsAtRest stage → length core.queue ≡ 0
     none_at_rest core (Resting j) met flight sound at =
         nothing_waits (length core.queue) core.flight (has_failed core.stopped) (none_there (is_due j) (has_batch core) met) flight sound
@@ -301,7 +301,7 @@ module _ {D : Type 0} (layout : Layout) where
     called_fewer old new (e ∷ told) none after met is was before sound =
         absurd (sound (ap (λ (c : CoreView). has_failed c.stopped) is.2 ∙ knows (has_failed old.core.stopped)))
 
-    publishing : (waits : ℕ) (stage : Stage D) (published : List CommandValue) (new : FlusherView D) (committed : CommittedView)
+    publishing : (waits : ℕ) (stage : FlushStage D) (published : List CommandValue) (new : FlusherView D) (committed : CommittedView)
         → HasPublished stage published new committed
         → own_turns waits stage None ≡ 2
     publishing waits (Publishing j written) published new committed has = refl
@@ -324,7 +324,7 @@ module _ {D : Type 0} (layout : Layout) where
         ))
         (ap (turns_behind layout) is.2)
 
-    pub stopped : (core : CoreView) (stage : Stage D) (there : Bool) → need_met (need_of stage) there ≡ need.Stopped
+    pub stopped : (core : CoreView) (stage : FlushStage D) (there : Bool) → need_met (need_of stage) there ≡ need.Stopped
         → HasFlight core stage → has_failed core.stopped ≡ true
     stopped core (Failed d f) there met flight = flight
     stopped core (Resting j) there met flight = absurd (never (is_due j) there met)
@@ -378,7 +378,7 @@ no_turns each waits flies some none rests =
 
 module _ {D : Type 0} (layout : Layout) where
   -- where no turn is left, nothing waits
-  pub none_left : (core : CoreView) (stage : Stage D) (committed : Option CommittedView) → HasBatch core stage committed
+  pub none_left : (core : CoreView) (stage : FlushStage D) (committed : Option CommittedView) → HasBatch core stage committed
       → (has_failed core.stopped ≡ true → ⊥) → turns_left layout core stage committed ≡ 0 → length core.queue ≡ 0
   none_left core stage (Some committed) batch sound none = absurd (omega (arith, none))
   none_left core (Resting j) None batch sound none =

@@ -14,18 +14,19 @@ use Rattle.iol_core.specs.declared.core_value.TheConstants.{QUEUE_COMMANDS}
 use Rattle.iol_core.specs.declared.ticket.SubmitFault.{SubmitFault}
 use Rattle.iol_core.specs.declared.ticket.SubmitFault.TheVariants as fault
 use Rattle.iol_flush.specs.Stages.{FlusherView, HasFewCalls, wants_checkpoint, room_of, failure_of}
-use Rattle.iol_flush.specs.Steps.{HasAdvanced, HasWritten, HasCheckpointed, HasBegun, HasMade, HasTaken, HasPublished}
+use Rattle.iol_flush.specs.Steps.{HasAdvanced, HasMadeOfBatch, HasMadeOfCheckpoint, HasBegun, HasMade, HasTaken, HasPublished}
 use Rattle.iol_flush.specs.Steps.{writing_of, checkpoint_of}
 use Rattle.iol_flush.specs.declared.need.Need.{Need}
 use Rattle.iol_flush.specs.declared.need.Need.TheVariants as need
-use Rattle.iol_flush.specs.declared.stage.Stage.{Stage}
-use Rattle.iol_flush.specs.declared.stage.Stage.TheVariants.{Resting, Opening, Given, Checkpointing, Writing, Publishing, Failed}
+use Rattle.iol_flush.specs.declared.stage.FlushStage.{FlushStage}
+use Rattle.iol_flush.specs.declared.stage.FlushStage.TheVariants.{Resting, Opening, Given, Checkpointing, Writing, Publishing, Failed}
 use Rattle.iol_front.specs.Fronts.{CommittedView}
 use Rattle.iol_journal.specs.CheckpointViews.{CheckpointingView}
-use Rattle.iol_journal.specs.Journals.{JournalView, WritingView, values}
+use Rattle.iol_journal.specs.Journals.{JournalView, WritingView}
+use Rattle.iol_journal.specs.Body.{values}
 use Rattle.iol_journal.specs.Layout.{Layout}
 use Rattle.iol_journal.specs.Meaning.{Standing}
-use Rattle.iol_journal.specs.declared.batch.Batch.{Batch}
+use Rattle.iol_journal.specs.Batch.{Batch}
 use Rattle.iol_trace.specs.Events.{Event}
 use Rattle.iol_link.specs.Link.{LinkCall, LinkAnswer}
 use Rattle.iol_run.proofs.Batches.{taken_flight}
@@ -45,7 +46,8 @@ use Rattle.iol_run.specs.declared.step.Step.{Step}
 use Rattle.iol_run.specs.declared.step.Step.TheVariants.{Client, Port, Flush}
 
 -- what holds of a master between steps
-pub record IsServed {D : Type 0} (layout : Layout) (core : CoreView) (stage : Stage D) (committed : Option CommittedView) : Type 0 where
+pub record IsServed {D : Type 0} (layout : Layout) (core : CoreView) (stage : FlushStage D)
+    (committed : Option CommittedView) : Type 0 where
   pub batch : HasBatch core stage committed
   pub layout_is : HasLayout layout stage
   pub few_calls : HasFewCalls stage
@@ -63,14 +65,15 @@ queue_causes false queue (Some f) none = search rules
 queue_causes false queue None none = none
 
 module _ {D : Type 0} (layout : Layout) where
-  queued_batch : (core : CoreView) (command : CommandValue) (stage : Stage D) (committed : Option CommittedView)
+  queued_batch : (core : CoreView) (command : CommandValue) (stage : FlushStage D) (committed : Option CommittedView)
       → HasBatch core stage committed
       → HasBatch (queued core command) stage committed
   queued_batch core command stage None is = flight_stays core command stage is
   queued_batch core command stage (Some committed) is = (more_waits core command committed.commands is.0, is.1)
 
   -- one more command waits
-  queued_served : (core : CoreView) (command : CommandValue) (stage : Stage D) (committed : Option CommittedView) → length core.queue + 1
+  queued_served : (core : CoreView) (command : CommandValue) (stage : FlushStage D) (committed : Option CommittedView)
+      → length core.queue + 1
       ≤ QUEUE_COMMANDS
       → IsServed layout core stage committed → IsServed layout (queued core command) stage committed
   queued_served core command stage committed room was = record {
@@ -81,13 +84,13 @@ module _ {D : Type 0} (layout : Layout) where
   }
 
   -- other permits are out
-  permits_batch : (core : CoreView) (permits : List (Option Grant)) (stage : Stage D) (committed : Option CommittedView)
+  permits_batch : (core : CoreView) (permits : List (Option Grant)) (stage : FlushStage D) (committed : Option CommittedView)
       → HasBatch core stage committed
       → HasBatch (with_permits core permits) stage committed
   permits_batch core permits stage None is = flight_with core permits stage is
   permits_batch core permits stage (Some committed) is = (in_flight_with core permits committed.commands is.0, is.1)
 
-  permits_served : (core : CoreView) (permits : List (Option Grant)) (stage : Stage D) (committed : Option CommittedView)
+  permits_served : (core : CoreView) (permits : List (Option Grant)) (stage : FlushStage D) (committed : Option CommittedView)
       → IsServed layout core stage committed → IsServed layout (with_permits core permits) stage committed
   permits_served core permits stage committed was = record {
     batch = permits_batch core permits stage committed was.batch;
@@ -97,13 +100,13 @@ module _ {D : Type 0} (layout : Layout) where
   }
 
   -- what a call of a port makes of the core
-  change_served : (old : CoreView) (change : Change) (stage : Stage D) (committed : Option CommittedView) → HasRoom old change
+  change_served : (old : CoreView) (change : Change) (stage : FlushStage D) (committed : Option CommittedView) → HasRoom old change
       → IsServed layout old stage committed → IsServed layout (changed old change) stage committed
   change_served old (Permits permits) stage committed room was = permits_served old permits stage committed was
   change_served old (Waits command permits) stage committed room was =
       permits_served (queued old command) permits stage committed (queued_served old command stage committed room.1 was)
 
-  submit_served : (old new : CoreView) (command : CommandValue) (stage : Stage D) (committed : Option CommittedView)
+  submit_served : (old new : CoreView) (command : CommandValue) (stage : FlushStage D) (committed : Option CommittedView)
       (answer : Result ℕ SubmitFault)
       → IsSubmit old command new answer → IsServed layout old stage committed → IsServed layout new stage committed
   submit_served old new command stage committed (Ok n) is was =
@@ -126,7 +129,7 @@ module _ {D : Type 0} (layout : Layout) where
         few_wait = fewer;
       }))
     where
-      rests : (s : Stage D) → IsAtRest s → HasFlight new.core s
+      rests : (s : FlushStage D) → IsAtRest s → HasFlight new.core s
       rests (Resting j) at = ap (λ (c : CoreView). c.flight) is.0
       rests (Opening c) at = absurd at
       rests (Given j b) at = absurd at
@@ -139,10 +142,10 @@ module _ {D : Type 0} (layout : Layout) where
       fewer = omega (arith, ap (λ (c : CoreView). length c.queue) is.0, length-drop old.core.flight old.core.queue, was.few_wait)
 
   -- a batch is taken
-  taken_served : (old new : CoreView) (s t : Stage D) (batch : Batch) (room : ℕ) → IsTaken old room new batch → HasTaken s batch t
+  taken_served : (old new : CoreView) (s t : FlushStage D) (batch : Batch) (room : ℕ) → IsTaken old room new batch → HasTaken s batch t
       → IsServed layout old s None → IsServed layout new t None
   taken_served old new (Resting j) t batch room is has was =
-      subst (λ (u : Stage D). IsServed layout new u None) (sym has) (record {
+      subst (λ (u : FlushStage D). IsServed layout new u None) (sym has) (record {
         batch = taken_flight old new room batch is;
         layout_is = was.layout_is;
         few_calls = tt;
@@ -176,7 +179,7 @@ module _ {D : Type 0} (layout : Layout) where
   takes_served old new told Waited none is was = same_served old new is.1 was
 
   -- the layout stays in a disk call
-  written_layout : (w : WritingView D) (new : Stage D) → HasWritten w new → w.standing.layout ≡ layout → HasLayout layout new
+  written_layout : (w : WritingView D) (new : FlushStage D) → HasMadeOfBatch w new → w.standing.layout ≡ layout → HasLayout layout new
   written_layout w (Writing v) has is = ap (λ (s : Standing). s.layout) has.0 ∙ is
   written_layout w (Publishing j written) has is = ap (λ (s : Standing). s.layout) has.0 ∙ is
   written_layout w (Resting j) has is = absurd has
@@ -185,7 +188,8 @@ module _ {D : Type 0} (layout : Layout) where
   written_layout w (Checkpointing c b) has is = absurd has
   written_layout w (Failed d f) has is = absurd has
 
-  checkpointed_layout : (c : CheckpointingView D) (batch : Batch) (new : Stage D) → HasCheckpointed c batch new → c.standing.layout ≡ layout
+  checkpointed_layout : (c : CheckpointingView D) (batch : Batch) (new : FlushStage D) → HasMadeOfCheckpoint c batch new
+      → c.standing.layout ≡ layout
       → HasLayout layout new
   checkpointed_layout c batch (Checkpointing d kept) has is = ap (λ (s : Standing). s.layout) has.0 ∙ is
   checkpointed_layout c batch (Given j kept) has is = has.6 ∙ is
@@ -195,12 +199,13 @@ module _ {D : Type 0} (layout : Layout) where
   checkpointed_layout c batch (Publishing j written) has is = absurd has
   checkpointed_layout c batch (Failed d f) has is = absurd has
 
-  begun_layout : (full : Bool) (j : JournalView D) (batch : Batch) (new : Stage D) → HasBegun full j batch new → j.standing.layout ≡ layout
+  begun_layout : (full : Bool) (j : JournalView D) (batch : Batch) (new : FlushStage D) → HasBegun full j batch new
+      → j.standing.layout ≡ layout
       → HasLayout layout new
   begun_layout true j batch new has is = checkpointed_layout (checkpoint_of j) batch new has.1 is
   begun_layout false j batch new has is = written_layout (writing_of j (values batch.commands.items)) new has.1 is
 
-  advanced_layout : (c : CheckpointingView D) (new : Stage D) → HasAdvanced c new → c.standing.layout ≡ layout → HasLayout layout new
+  advanced_layout : (c : CheckpointingView D) (new : FlushStage D) → HasAdvanced c new → c.standing.layout ≡ layout → HasLayout layout new
   advanced_layout c (Resting j) (inl has) is = has.layout ∙ is
   advanced_layout c (Resting j) (inr has) is = ap (λ (s : Standing). s.layout) has.standing ∙ is
   advanced_layout c (Opening d) has is = ap (λ (s : Standing). s.layout) has.standing ∙ is
@@ -210,7 +215,7 @@ module _ {D : Type 0} (layout : Layout) where
   advanced_layout c (Publishing j written) has is = absurd has
   advanced_layout c (Failed d f) has is = absurd has
 
-  made_layout : (old new : Stage D) → HasMade old new → HasLayout layout old → HasLayout layout new
+  made_layout : (old new : FlushStage D) → HasMade old new → HasLayout layout old → HasLayout layout new
   made_layout (Given j batch) new has is = begun_layout (wants_checkpoint j.standing (values batch.commands.items)) j batch new has is
   made_layout (Checkpointing c batch) new has is = checkpointed_layout c batch new has is
   made_layout (Writing w) new has is = written_layout w new has is
@@ -219,7 +224,7 @@ module _ {D : Type 0} (layout : Layout) where
   made_layout (Publishing j written) new has is = absurd has
   made_layout (Failed d f) new has is = absurd has
 
-  failed_layout : (new : Stage D) (why : DiskFault) → failure_of new ≡ Some why → HasLayout layout new × HasFewCalls new
+  failed_layout : (new : FlushStage D) (why : DiskFault) → failure_of new ≡ Some why → HasLayout layout new × HasFewCalls new
   failed_layout (Failed d f) why is = (tt, tt)
   failed_layout (Resting j) why is = search rules
   failed_layout (Opening c) why is = search rules
@@ -248,7 +253,8 @@ module _ {D : Type 0} (layout : Layout) where
         })
 
     -- the batch that is durable is published
-    published_served : (core : CoreView) (s : Stage D) (published : List CommandValue) (new : FlusherView D) (committed : CommittedView)
+    published_served : (core : CoreView) (s : FlushStage D) (published : List CommandValue) (new : FlusherView D)
+        (committed : CommittedView)
         → HasPublished s published new committed → IsServed layout core s None → IsServed layout core new.stage (Some committed)
     published_served core (Publishing j written) published new committed has was =
         subst (λ (f : FlusherView D). IsServed layout core f.stage (Some committed)) (sym has.0) (record {

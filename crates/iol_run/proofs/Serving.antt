@@ -10,14 +10,16 @@ use Rattle.iol_core.specs.declared.stop.StopCause.TheVariants as cause
 use Rattle.iol_flush.proofs.Turns.{goes_on}
 use Rattle.iol_flush.specs.Flushing.{IsFlushing, KeepsRun}
 use Rattle.iol_flush.specs.Stages.{FlusherView, wants_checkpoint, failure_of}
-use Rattle.iol_flush.specs.Steps.{HasAdvanced, HasWritten, HasCheckpointed, HasBegun, HasMade, IsDiskStep, writing_of, checkpoint_of}
+use Rattle.iol_flush.specs.Steps.{HasAdvanced, HasMadeOfBatch, HasMadeOfCheckpoint, HasBegun, HasMade, IsDiskStep, writing_of}
+use Rattle.iol_flush.specs.Steps.{checkpoint_of}
 use Rattle.iol_flush.specs.declared.fault.FlushFault.TheVariants as fault
-use Rattle.iol_flush.specs.declared.stage.Stage.{Stage}
-use Rattle.iol_flush.specs.declared.stage.Stage.TheVariants.{Resting, Opening, Given, Checkpointing, Writing, Publishing, Failed}
+use Rattle.iol_flush.specs.declared.stage.FlushStage.{FlushStage}
+use Rattle.iol_flush.specs.declared.stage.FlushStage.TheVariants.{Resting, Opening, Given, Checkpointing, Writing, Publishing, Failed}
 use Rattle.iol_front.specs.Fronts.{Start}
 use Rattle.iol_journal.specs.CheckpointViews.{CheckpointingView}
-use Rattle.iol_journal.specs.Journals.{JournalView, WritingView, values}
-use Rattle.iol_journal.specs.declared.batch.Batch.{Batch}
+use Rattle.iol_journal.specs.Journals.{JournalView, WritingView}
+use Rattle.iol_journal.specs.Body.{values}
+use Rattle.iol_journal.specs.Batch.{Batch}
 use Rattle.iol_run.specs.CoreOnDisk.{IsInFlight, IsDurable, HasFlight, IsInStep, KeepsRunning}
 use Rattle.iol_run.specs.Turns.{failed_core}
 
@@ -28,7 +30,7 @@ knows false = refl
 
 module _ {D : Type 0} where
   -- what a flusher has in flight after a disk call is what it had before
-  written_flight : (core : CoreView) (w : WritingView D) (new : Stage D) → HasWritten w new → IsInFlight core w.commands
+  written_flight : (core : CoreView) (w : WritingView D) (new : FlushStage D) → HasMadeOfBatch w new → IsInFlight core w.commands
       → HasFlight core new
   written_flight core w (Writing v) has is = subst (λ (cs : List CommandValue). IsInFlight core cs) (sym has.3) is
   written_flight core w (Publishing j written) has is = subst (λ (cs : List CommandValue). IsInFlight core cs) (sym has.4) is
@@ -38,7 +40,7 @@ module _ {D : Type 0} where
   written_flight core w (Checkpointing c b) has is = absurd has
   written_flight core w (Failed d f) has is = absurd has
 
-  checkpointed_flight : (core : CoreView) (c : CheckpointingView D) (batch : Batch) (new : Stage D) → HasCheckpointed c batch new
+  checkpointed_flight : (core : CoreView) (c : CheckpointingView D) (batch : Batch) (new : FlushStage D) → HasMadeOfCheckpoint c batch new
       → IsInFlight core (values batch.commands.items) → HasFlight core new
   checkpointed_flight core c batch (Checkpointing d kept) has is =
       subst (λ (b : Batch). IsInFlight core (values b.commands.items)) (sym has.2) is
@@ -49,13 +51,14 @@ module _ {D : Type 0} where
   checkpointed_flight core c batch (Publishing j written) has is = absurd has
   checkpointed_flight core c batch (Failed d f) has is = absurd has
 
-  begun_flight : (core : CoreView) (full : Bool) (j : JournalView D) (batch : Batch) (new : Stage D) → HasBegun full j batch new
+  begun_flight : (core : CoreView) (full : Bool) (j : JournalView D) (batch : Batch) (new : FlushStage D) → HasBegun full j batch new
       → IsInFlight core (values batch.commands.items) → HasFlight core new
   begun_flight core true j batch new has is = checkpointed_flight core (checkpoint_of j) batch new has.1 is
   begun_flight core false j batch new has is = written_flight core (writing_of j (values batch.commands.items)) new has.1 is
 
   -- nothing is in flight during a checkpoint for which no batch waits
-  advanced_flight : (core : CoreView) (c : CheckpointingView D) (new : Stage D) → HasAdvanced c new → core.flight ≡ 0 → HasFlight core new
+  advanced_flight : (core : CoreView) (c : CheckpointingView D) (new : FlushStage D) → HasAdvanced c new → core.flight ≡ 0
+      → HasFlight core new
   advanced_flight core c (Resting j) has is = is
   advanced_flight core c (Opening d) has is = is
   advanced_flight core c (Given j b) has is = absurd has
@@ -64,7 +67,7 @@ module _ {D : Type 0} where
   advanced_flight core c (Publishing j written) has is = absurd has
   advanced_flight core c (Failed d f) has is = absurd has
 
-  pub made_flight : (core : CoreView) (old new : Stage D) → HasMade old new → HasFlight core old → HasFlight core new
+  pub made_flight : (core : CoreView) (old new : FlushStage D) → HasMade old new → HasFlight core old → HasFlight core new
   made_flight core (Given j batch) new has is =
       begun_flight core (wants_checkpoint j.standing (values batch.commands.items)) j batch new has is
   made_flight core (Checkpointing c batch) new has is = checkpointed_flight core c batch new has is
@@ -74,7 +77,8 @@ module _ {D : Type 0} where
   made_flight core (Publishing j written) new has is = absurd has
   made_flight core (Failed d f) new has is = absurd has
 
-  pub failed_flight : (core : CoreView) (new : Stage D) (why : DiskFault) → failure_of new ≡ Some why → HasFlight (failed_core core) new
+  pub failed_flight : (core : CoreView) (new : FlushStage D) (why : DiskFault) → failure_of new ≡ Some why
+      → HasFlight (failed_core core) new
   failed_flight core (Failed d f) why is = knows (has_failed core.stopped)
   failed_flight core (Resting j) why is = search rules
   failed_flight core (Opening c) why is = search rules

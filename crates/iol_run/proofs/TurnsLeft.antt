@@ -1,30 +1,29 @@
 -- How many turns of the flusher are left until all that waits is acknowledged.
 use Rattle.std.proofs.Common.{◌≡◌, ◌≤◌, ℕ, ◌+◌, ◌-◌, ◌*◌, nat_lt, Bool, true}
-use Rattle.std.proofs.Common.{false, if◌then◌else◌, List, length, length-append, Option, Some, None}
-use Rattle.std.proofs.Common.{ap, sym, ◌∙◌, subst, arith}
+use Rattle.std.proofs.Common.{false, if◌then◌else◌, List, length, length-append, Option, Some, None, ap, sym, ◌∙◌, subst, arith}
 use Rattle.std.proofs.Math.Nat.{mul-le-mul_left, mul-add, add-mul, le-mul_of_pos_right}
 use Rattle.iol_types.specs.Command.{CommandValue}
 use Rattle.iol_core.specs.Core.{CoreView}
 use Rattle.iol_flush.specs.Stages.{HasFewCalls, most_batch_calls, most_checkpoint_calls, wants_checkpoint}
 use Rattle.iol_flush.specs.Turns.{calls_again, calls_needed, freeing_calls, given_calls, most_freeing_calls}
-use Rattle.iol_flush.specs.declared.stage.Stage.{Stage}
-use Rattle.iol_flush.specs.declared.stage.Stage.TheVariants.{Resting, Opening, Given, Checkpointing, Writing, Publishing, Failed}
+use Rattle.iol_flush.specs.declared.stage.FlushStage.{FlushStage}
+use Rattle.iol_flush.specs.declared.stage.FlushStage.TheVariants.{Resting, Opening, Given, Checkpointing, Writing, Publishing, Failed}
 use Rattle.iol_front.specs.Fronts.{CommittedView}
 use Rattle.iol_journal.specs.BegunViews.{BegunView}
 use Rattle.iol_journal.specs.CheckpointViews.{CheckpointingView, end_of, stages_left}
-use Rattle.iol_journal.specs.Journals.{values}
+use Rattle.iol_journal.specs.Body.{values}
 use Rattle.iol_journal.specs.Layout.{Layout}
-use Rattle.iol_journal.specs.declared.geometry.TheConstants.{BODY_SECTORS}
+use Rattle.iol_journal.specs.Sectors.{BODY_SECTORS}
 use Rattle.iol_run.specs.CoreOnDisk.{IsInFlight, HasFlight, IsAtRest}
 use Rattle.iol_run.specs.Flushed.{batch_turns}
 
 -- what is in flight is with the flusher, or is published and still to be acknowledged
-abbrev pub HasBatch : {D : Type 0} → CoreView → Stage D → Option CommittedView → Type 0
+abbrev pub HasBatch : {D : Type 0} → CoreView → FlushStage D → Option CommittedView → Type 0
 HasBatch core stage None = HasFlight core stage
 HasBatch core stage (Some committed) = IsInFlight core committed.commands × IsAtRest stage
 
 -- the journal has this layout
-abbrev pub HasLayout : {D : Type 0} → Layout → Stage D → Type 0
+abbrev pub HasLayout : {D : Type 0} → Layout → FlushStage D → Type 0
 HasLayout layout (Resting journal) = journal.standing.layout ≡ layout
 HasLayout layout (Opening checkpoint) = checkpoint.standing.layout ≡ layout
 HasLayout layout (Given journal batch) = journal.standing.layout ≡ layout
@@ -35,7 +34,7 @@ HasLayout layout (Failed disk fault) = Unit {0}
 
 -- the turns of the batch that is with the flusher: its calls, and its acknowledgement. Where it has none but so many commands wait,
 -- a checkpoint whose gate is written makes its last call before one is taken
-abbrev pub own_turns : {D : Type 0} → ℕ → Stage D → Option CommittedView → ℕ
+abbrev pub own_turns : {D : Type 0} → ℕ → FlushStage D → Option CommittedView → ℕ
 own_turns waits stage (Some committed) = 1
 own_turns waits (Resting journal) None = 0
 own_turns waits (Opening checkpoint) None = if nat_lt 0 waits then 1 else 0
@@ -49,7 +48,7 @@ own_turns waits (Failed disk fault) None = 0
 abbrev pub turns_behind : Layout → CoreView → ℕ
 turns_behind layout core = batch_turns layout * (length core.queue - core.flight)
 
-abbrev pub turns_left : {D : Type 0} → Layout → CoreView → Stage D → Option CommittedView → ℕ
+abbrev pub turns_left : {D : Type 0} → Layout → CoreView → FlushStage D → Option CommittedView → ℕ
 turns_left layout core stage committed = own_turns (length core.queue) stage committed + turns_behind layout core
 
 -- ---- sums of turns, as numbers: the turns of a batch are not unfolded in them
@@ -143,7 +142,7 @@ module _ (layout : Layout) where
 
 module _ {D : Type 0} (layout : Layout) where
   -- as many turns are left at most as each command that waits needs in a batch of its own, and one
-  pub most_left : (core : CoreView) (stage : Stage D) (committed : Option CommittedView) → HasBatch core stage committed
+  pub most_left : (core : CoreView) (stage : FlushStage D) (committed : Option CommittedView) → HasBatch core stage committed
       → HasLayout layout stage → HasFewCalls stage
       → turns_left layout core stage committed ≤ batch_turns layout * length core.queue + 1
   most_left core (Opening c) None batch same few =

@@ -1,11 +1,11 @@
 -- Why no schedule is run.
 use Rattle.std.specs.Prelude.{◌≡◌, ℕ, length, Ok, Err}
 use Rattle.iol_types.specs.State.{State}
-use Rattle.iol_disk.specs.Disk.{Disk}
+use Rattle.iol_disk.specs.Disk.{Disk, Shows}
 use Rattle.iol_journal.specs.Meaning.{Standing, standing_in}
-use Rattle.iol_journal.specs.Reading.{Shows, SaysWhy}
-use Rattle.iol_journal.specs.Recovery.{HasChosen, MakesRecovery}
-use Rattle.iol_journal.specs.declared.cause.RecoverCause.TheVariants.{Memory}
+use Rattle.iol_journal.specs.Reading.{SaysWhy}
+use Rattle.iol_journal.specs.Finding.{HasChosen, MakesRecovery}
+use Rattle.iol_journal.specs.RecoverCause.TheVariants.{Memory}
 use Rattle.iol_journal.specs.declared.recovery.RecoverFault.{RecoverFault}
 use Rattle.iol_run.specs.declared.schedule.RunFault.{RunFault}
 use Rattle.iol_run.specs.declared.schedule.RunFault.TheVariants as fault

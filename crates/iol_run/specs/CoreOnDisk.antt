@@ -8,10 +8,10 @@ use Rattle.iol_core.specs.Core.{CoreView}
 use Rattle.iol_core.specs.Submit.{has_failed}
 use Rattle.iol_flush.specs.Flushing.{GoesOn, IsFlushing}
 use Rattle.iol_flush.specs.Stages.{FlusherView, disk_of}
-use Rattle.iol_flush.specs.declared.stage.Stage.{Stage}
-use Rattle.iol_flush.specs.declared.stage.Stage.TheVariants.{Resting, Opening, Given, Checkpointing, Writing, Publishing, Failed}
+use Rattle.iol_flush.specs.declared.stage.FlushStage.{FlushStage}
+use Rattle.iol_flush.specs.declared.stage.FlushStage.TheVariants.{Resting, Opening, Given, Checkpointing, Writing, Publishing, Failed}
 use Rattle.iol_front.specs.Fronts.{Start, CommittedView}
-use Rattle.iol_journal.specs.Journals.{values}
+use Rattle.iol_journal.specs.Body.{values}
 use Rattle.iol_journal.specs.Runs.{Mark}
 
 -- a core and its flusher as contracts see them, and the batch that is published and not yet acknowledged, if there is one
@@ -35,7 +35,7 @@ pub record IsDurable (start : Start) (core : CoreView) (list : List CommandValue
 
 -- what is in flight is with the flusher: its batch, or nothing where it has none. Once a disk call has failed, the core knows it
 -- (own)
-abbrev pub HasFlight : {D : Type 0} → CoreView → Stage D → Type 0
+abbrev pub HasFlight : {D : Type 0} → CoreView → FlushStage D → Type 0
 HasFlight core (Resting journal) = core.flight ≡ 0
 HasFlight core (Opening checkpoint) = core.flight ≡ 0
 HasFlight core (Given journal batch) = IsInFlight core (values batch.commands.items)
@@ -45,7 +45,7 @@ HasFlight core (Publishing journal written) = IsInFlight core written.commands
 HasFlight core (Failed disk fault) = has_failed core.stopped ≡ true
 
 -- the journal is at rest (own)
-abbrev pub IsAtRest : {D : Type 0} → Stage D → Type 0
+abbrev pub IsAtRest : {D : Type 0} → FlushStage D → Type 0
 IsAtRest (Resting journal) = Unit {0}
 IsAtRest stage = ⊥
 

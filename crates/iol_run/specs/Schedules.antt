@@ -2,13 +2,12 @@
 use Rattle.std.specs.Prelude.{◌≡◌, ℕ, ◌+◌, ◌*◌, IsTrue, map, replicate, List, [], ◌∷◌, length, Some, None, slice_get, Ok}
 use Rattle.iol_disk.specs.Calls.{sync, Made}
 use Rattle.iol_disk.specs.Content.{clock}
-use Rattle.iol_disk.specs.Disk.{Disk}
+use Rattle.iol_disk.specs.Disk.{Disk, Shows}
 use Rattle.iol_flush.specs.Stages.{disk_of}
-use Rattle.iol_flush.specs.declared.stage.Stage.TheVariants.{Resting}
+use Rattle.iol_flush.specs.declared.stage.FlushStage.TheVariants.{Resting}
 use Rattle.iol_journal.specs.Journals.{JournalView}
 use Rattle.iol_journal.specs.Layout.{total}
 use Rattle.iol_journal.specs.Meaning.{standing_in}
-use Rattle.iol_journal.specs.Reading.{Shows}
 use Rattle.iol_link.specs.Link.{LinkCall, LinkAnswer}
 use Rattle.iol_trace.specs.Events.{Stamp}
 use Rattle.iol_trace.specs.Links.{IsLinkRun}

@@ -3,7 +3,7 @@
 ghost use Rattle.std.specs.Prelude.{◌≡◌, ◌⊎◌, true, [], ◌∷◌, None, is_some, length, replicate, IfOk, IfErr};
 ghost use Rattle.iol_types.specs.Command.{command_of};
 ghost use Rattle.iol_core.specs.Submit.{IsSubmit};
-ghost use Rattle.iol_flush.specs.declared.stage.Stage.TheVariants as stage;
+ghost use Rattle.iol_flush.specs.declared.stage.FlushStage.TheVariants as stage;
 ghost use Rattle.iol_flush.specs.Stages as flush;
 ghost use Rattle.iol_flush.specs.Stages.{need_of, names_batch, names_disk, disk_of};
 ghost use Rattle.iol_flush.specs.declared.need.Need.TheVariants as need;

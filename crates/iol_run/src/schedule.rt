@@ -3,11 +3,10 @@
 ghost use Rattle.std.specs.Prelude.{◌≡◌, ℕ, [], length, vec_len, Ok, IfOk, IfErr};
 ghost use Rattle.iol_types.specs.State.{State};
 ghost use Rattle.iol_disk.specs.Content.{IsImage, clock};
-ghost use Rattle.iol_disk.specs.Disk.{Disk};
+ghost use Rattle.iol_disk.specs.Disk.{Disk, Shows};
 ghost use Rattle.iol_disk.specs.Moments.{LeavesOnly};
 ghost use Rattle.iol_journal.specs.Kept.{IsKept};
 ghost use Rattle.iol_journal.specs.Meaning.{meaning};
-ghost use Rattle.iol_journal.specs.Reading.{Shows};
 ghost use Rattle.iol_journal.specs.Runs.{begun};
 ghost use Rattle.iol_journal.specs.Running.{IsRunAtRest};
 ghost use Rattle.iol_trace.specs.CrashPrefix.{CrashPrefix};

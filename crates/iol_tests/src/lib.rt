@@ -3,7 +3,7 @@
 //! - `answers`: ports whose devices give answers that no simulated device gives. `rows` is a table of these, and of what a
 //!   port makes of each; `exchanges` has what is said in them.
 //! - `isdu`: the codec beside a plain reader of ISDUs. `link`: a link of which nothing is said.
-//! - `plain`: a recovery beside the journal's plain reader. `example_store`: the store of `iol_example`.
+//! - `plain`: a recovery beside `plain_reading`, which is written from docs/FORMATS.md alone. `example_store`: the store of `iol_example`.
 //! - `paused`: a checkpoint that is paused while batches are written.
 //! - `largest`: the largest record of a command, and batches that do not follow behind others.
 //! - `front`, `core_reads`, `flush`: passes of two threads, a view of a port with a set, batches that do not fit.
@@ -40,6 +40,8 @@ mod no_link;
 mod paused;
 #[cfg(test)]
 mod plain;
+#[cfg(test)]
+mod plain_reading;
 #[cfg(test)]
 mod rows;
 #[cfg(test)]

@@ -1,8 +1,9 @@
-//! Images that no journal wrote: a recovery answers what the journal's plain reader does.
+//! Images that no journal wrote: a recovery answers what a plain reading does.
 
 use crate::example_store::store_of;
+use crate::plain_reading::plain_meaning;
 use iol_disk::{MemoryDisk, SECTOR_OCTETS, SectorDisk};
-use iol_journal::{Journal, RecoverCause, plain_meaning};
+use iol_journal::{Journal, RecoverCause};
 use std::alloc::Global;
 use std::process::Abort;
 
@@ -37,13 +38,12 @@ fn agree<R: Abort>(
     assert!(rt; sector < disk.sectors() && sector < image.len());
     disk.write(sector, octets).expect(rt, "a write");
     image[sector] = *octets;
-    let plain = plain_meaning(alloc, image).expect(rt, "memory");
+    let plain = plain_meaning(alloc, image);
     let (found, disk) = answer(alloc, disk);
-    let agrees = match plain {
-        Ok((number, _)) => found == Ok(number),
-        Err(cause) => found == Err(cause),
-    };
-    assert!(rt; agrees, "sector {sector}: {found:?}");
+    assert!(rt;
+        found == plain,
+        "sector {sector}: {found:?}, plainly {plain:?}"
+    );
     disk
 }
 

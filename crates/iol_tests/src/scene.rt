@@ -1,7 +1,7 @@
 //! An empty journal, and the disk calls of a batch behind it.
 
 ghost use Rattle.std.specs.Prelude.{◌≡◌, ◌+◌, []};
-ghost use Rattle.iol_journal.specs.Journals.{with_batch};
+ghost use Rattle.iol_journal.specs.Standings.{with_batch};
 
 use iol_disk::MemoryDisk;
 use iol_journal::{Geometry, Journal, Progress, Writing, Written, format};

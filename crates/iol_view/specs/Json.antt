@@ -2,9 +2,8 @@
 use Rattle.std.specs.Prelude.{◌≡◌, ℕ, List, ◌++◌, codes, Some, Ok}
 use Rattle.serde_json.specs.Read.{read}
 use Rattle.iol_types.specs.State.{State}
-use Rattle.iol_disk.specs.Disk.{Disk}
+use Rattle.iol_disk.specs.Disk.{Disk, Shows}
 use Rattle.iol_journal.specs.Meaning.{meaning}
-use Rattle.iol_journal.specs.Reading.{Shows}
 use Rattle.iol_json.specs.Json.{state_data}
 
 -- a text is a line, or lines, of one object that reads as a state after so many commands (format, JSON)

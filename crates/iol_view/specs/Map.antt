@@ -4,17 +4,16 @@ use Rattle.std.specs.Prelude.{string_bytes, Option, Some, None, Ok, Err}
 use Rattle.std.specs.List.{flat_map}
 use Rattle.std.specs.Fmt.{decimal}
 use Rattle.iol_types.specs.State.{State}
-use Rattle.iol_disk.specs.Disk.{Disk}
+use Rattle.iol_disk.specs.Disk.{Disk, Shows}
 use Rattle.iol_journal.specs.Meaning.{meaning, standing_in, unformatted, damaged}
-use Rattle.iol_journal.specs.Reading.{Shows}
-use Rattle.iol_journal.specs.declared.area.Area.{Area}
-use Rattle.iol_journal.specs.declared.area.Area.TheVariants.{A, B}
-use Rattle.iol_journal.specs.declared.body.Head.{Head}
-use Rattle.iol_journal.specs.declared.cause.RecoverCause.{RecoverCause}
-use Rattle.iol_journal.specs.declared.cause.RecoverCause.TheVariants as reading
-use Rattle.iol_journal.specs.declared.header.Header.{Header}
-use Rattle.iol_journal.specs.declared.header.TheConstants.{LAST_NUMBER}
-use Rattle.iol_journal.specs.declared.opening.InUse.{InUse}
+use Rattle.iol_journal.specs.Area.{Area}
+use Rattle.iol_journal.specs.Area.TheVariants.{A, B}
+use Rattle.iol_journal.specs.Head.{Head}
+use Rattle.iol_journal.specs.RecoverCause.{RecoverCause}
+use Rattle.iol_journal.specs.RecoverCause.TheVariants as reading
+use Rattle.iol_journal.specs.Header.{Header}
+use Rattle.iol_journal.specs.Numbers.{LAST_NUMBER}
+use Rattle.iol_journal.specs.InUse.{InUse}
 use Rattle.iol_commands.specs.declared.fault.Fault.{Fault}
 use Rattle.iol_commands.specs.declared.fault.Fault.TheVariants as fault
 use Rattle.iol_view.specs.declared.map_front.Standing.{Standing}

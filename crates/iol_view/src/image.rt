@@ -2,7 +2,7 @@
 ghost use Rattle.std.specs.Prelude.{◌≡◌, ◌≤◌, ◌⊎◌, IfErr, IfOk, ℕ, List, Some, string_bytes};
 ghost use Rattle.std.specs.Io.KnownBytes.{Appends};
 ghost use Rattle.iol_journal.specs.Meaning.{standing_in};
-ghost use Rattle.iol_journal.specs.Reading.{Shows};
+ghost use Rattle.iol_disk.specs.Disk.{Shows};
 ghost use Rattle.iol_types.specs.State.{State};
 ghost use Rattle.iol_commands.specs.Fault.{status_of};
 ghost use Rattle.iol_commands.specs.Images.{TellsWhy};

@@ -1,6 +1,6 @@
 //! Lines of a map, worked out by the check: a text that is wrong in a definition and in the code alike is refused here.
 ghost use Rattle.std.specs.Prelude.{◌≡◌, ℕ, [], ◌∷◌, ◌++◌, map, codes, Some, None};
-ghost use Rattle.iol_journal.specs.declared.area.Area.TheVariants.{A, B};
+ghost use Rattle.iol_journal.specs.Area.TheVariants.{A, B};
 ghost use Rattle.iol_view.specs.Map.{first_reach, next_reach};
 ghost use Rattle.iol_view.specs.Map.{area_text, map_text, mapped_text, outcome_text, part_text, slot_text, span_text, standing_of};
 ghost use Rattle.iol_view.specs.declared.map_front.Standing.TheVariants as stands;

@@ -3,8 +3,7 @@ ghost use Rattle.std.specs.Prelude.{◌≡◌, ◌==◌, ◌≤◌, IfOk, string
 ghost use Rattle.std.specs.Fmt.{WritesOnOk};
 ghost use Rattle.iol_disk.specs.Disk.{Same};
 ghost use Rattle.iol_journal.specs.Layout.{total};
-ghost use Rattle.iol_view.specs.Map.{commands_text, epoch_text, first_reach, has_numbers, head_text, next_reach};
-ghost use Rattle.iol_view.specs.Map.{slot_text};
+ghost use Rattle.iol_view.specs.Map.{commands_text, epoch_text, first_reach, has_numbers, head_text, next_reach, slot_text};
 
 use crate::map_front::{Front, Standing};
 use crate::map_lines::{Cells, Gate, Line, Lines, Part, Span};

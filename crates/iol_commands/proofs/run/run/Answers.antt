@@ -1,6 +1,6 @@
 use Rattle.std.proofs.Common.{◌≡◌, ℕ, Ok, refl, subst}
 use Rattle.iol_disk.specs.Content.{reads}
-use Rattle.iol_disk.specs.Memory.{as_disk}
+use Rattle.iol_disk.specs.Memory.{memory_disk}
 use Rattle.iol_disk.specs.declared.memory.MemoryDisk.{MemoryDisk}
 use Rattle.iol_disk.specs.FaultDisk.{inner}
 use Rattle.iol_journal.specs.Meaning.{meaning}
@@ -17,7 +17,7 @@ returns-clause-played c =
     let state = c.in_ok-recovered.recovered.state in
     let stopped : IsStoppedAs said.keep (inner trace.disk) number state =
     subst (λ (d : MemoryDisk). IsStoppedAs said.keep d number state) c.disk.ensures c.in_ok-recovered.ensures.stopped in
-    let image = reads (as_disk stopped.stopped).content in
+    let image = reads (memory_disk stopped.stopped).content in
     record {
       geometry = c.args.geometry;
       given = c.in_ok-given.given;

@@ -1,12 +1,12 @@
 use Rattle.std.proofs.Common.{refl}
 use Rattle.iol_disk.specs.Content.{reads}
-use Rattle.iol_disk.specs.Memory.{as_disk}
+use Rattle.iol_disk.specs.Memory.{memory_disk}
 use Rattle.iol_commands.proofs.Playing.{means_so}
 use Rattle.iol_commands.proofs.run.stop.Goals as goal
 
 pub returns-clause-stopped : goal.returns-clause-stopped
 returns-clause-stopped c =
-    let stopped = as_disk c.stop.result in
+    let stopped = memory_disk c.stop.result in
     record {
       stopped = c.stop.result;
       power = c.stop.ensures.stopped;

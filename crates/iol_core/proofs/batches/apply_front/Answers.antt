@@ -2,7 +2,7 @@ use Rattle.std.proofs.Common.{◌≡◌, ◌∷◌, is_none, take, sym, ap, ◌�
 use Rattle.std.proofs.lemmas.Bool.{and_parts}
 use Rattle.iol_types.specs.Command.{value_of}
 use Rattle.iol_types.specs.State.{State, apply, after, check, legal}
-use Rattle.iol_journal.specs.Journals.{values}
+use Rattle.iol_journal.specs.Body.{values}
 use Rattle.iol_core.proofs.Queues.{first_left, after_push}
 use Rattle.iol_core.proofs.batches.apply_front.Goals as goal
 

@@ -1,7 +1,7 @@
 use Rattle.std.proofs.Common.{◌≡◌, true, take, drop}
 use Rattle.std.specs.VecDeque.{deque_capacity}
 use Rattle.iol_types.specs.State.{after, legal}
-use Rattle.iol_journal.specs.Journals.{values}
+use Rattle.iol_journal.specs.Body.{values}
 use Rattle.iol_core.proofs.batches.apply_front.Given as goal
 
 -- the commands so far are applied and gone, and the others pass

@@ -1,5 +1,5 @@
 use Rattle.std.proofs.Common.{◌≡◌, take}
-use Rattle.iol_journal.specs.Journals.{values}
+use Rattle.iol_journal.specs.Body.{values}
 use Rattle.iol_core.proofs.batches.copy_front.Given as goal
 
 abbrev pub invariant-loop-place : goal.invariant-loop-place

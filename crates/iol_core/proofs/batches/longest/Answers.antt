@@ -1,5 +1,5 @@
 use Rattle.std.proofs.Common.{◌≡◌, ◌≤◌, length, sym, arith}
-use Rattle.iol_journal.specs.Journals.{values}
+use Rattle.iol_journal.specs.Body.{values}
 use Rattle.iol_core.proofs.Longest.{stops_here}
 use Rattle.iol_core.proofs.Queues.{records_next, length-values}
 use Rattle.iol_core.proofs.batches.longest.Goals as goal

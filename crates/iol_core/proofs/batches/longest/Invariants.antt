@@ -1,6 +1,5 @@
 use Rattle.std.proofs.Common.{◌≡◌, ◌≤◌, length, take}
-use Rattle.iol_journal.specs.Body.{records_of}
-use Rattle.iol_journal.specs.Journals.{values}
+use Rattle.iol_journal.specs.Body.{records_of, values}
 use Rattle.iol_core.proofs.batches.longest.Given as goal
 
 -- the octets of the commands so far, which fit

@@ -1,6 +1,6 @@
 use Rattle.std.proofs.Common.{◌≡◌, length}
 use Rattle.iol_disk.specs.Moments.{LeavesOnly}
-use Rattle.iol_journal.specs.CheckpointViews.{IsBeside}
+use Rattle.iol_journal.specs.Pauses.{IsBeside}
 use Rattle.iol_journal.specs.Journals.{calls_left}
 use Rattle.iol_journal.specs.Kept.{KeptEither}
 use Rattle.iol_journal.specs.Runs.{Run}

@@ -1,7 +1,8 @@
 use Rattle.std.proofs.Common.{◌≡◌, length}
 use Rattle.iol_disk.specs.Moments.{LeavesOnly}
 use Rattle.iol_journal.specs.CheckpointRuns.{IsRunCheckpointing}
-use Rattle.iol_journal.specs.CheckpointViews.{begun_in, calls_of, end_in, end_of, stages_left, IsCheckpointUnderway}
+use Rattle.iol_journal.specs.CheckpointViews.{begun_in, end_of, stages_left, IsCheckpointUnderway}
+use Rattle.iol_journal.specs.Pauses.{calls_of, end_in}
 use Rattle.iol_journal.specs.Kept.{KeptMeans}
 use Rattle.iol_journal.specs.Runs.{Run}
 use Rattle.iol_journal.specs.Running.{IsRunAtRest}

@@ -3,7 +3,8 @@ use Rattle.std.proofs.lemmas.Result.{err_from_is_err_and}
 use Rattle.iol_types.specs.Command.{CommandValue, value_of}
 use Rattle.iol_disk.specs.Calls.{Call}
 use Rattle.iol_journal.specs.Batches.{batch_calls}
-use Rattle.iol_journal.specs.Journals.{calls_left, values}
+use Rattle.iol_journal.specs.Journals.{calls_left}
+use Rattle.iol_journal.specs.Body.{values}
 use Rattle.iol_journal.specs.Meaning.{Standing}
 use Rattle.iol_journal.specs.Runs.{with_batch_begun}
 use Rattle.iol_journal.specs.Running.{IsRunWriting}

@@ -2,7 +2,7 @@ use Rattle.std.proofs.Common.{◌≡◌, ℕ, Ok, ap, refl, subst, sym, ◌∙�
 use Rattle.std.proofs.lemmas.Result.{IfOk-weaker}
 use Rattle.iol_disk.specs.Content.{reads}
 use Rattle.iol_disk.specs.FaultDisk.{inner}
-use Rattle.iol_disk.specs.Memory.{as_disk}
+use Rattle.iol_disk.specs.Memory.{memory_disk}
 use Rattle.iol_disk.specs.declared.fault_disk.FaultDisk.{FaultDisk}
 use Rattle.iol_disk.specs.declared.memory.MemoryDisk.{MemoryDisk}
 use Rattle.iol_journal.specs.Geometry.{Geometry}
@@ -28,7 +28,7 @@ returns-clause-played c =
     let state = explained.recovered.state in
     let stopped : IsStoppedAs said.keep (inner (told_on trace.disk)) number state =
     subst (λ (d : ToldDisk (FaultDisk MemoryDisk)). IsStoppedAs said.keep (inner (told_on d)) number state) disk is.4 in
-    let image = reads (as_disk stopped.stopped).content in
+    let image = reads (memory_disk stopped.stopped).content in
     record {
       given = given;
       trace = trace;

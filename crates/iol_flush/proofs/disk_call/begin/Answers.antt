@@ -1,6 +1,7 @@
 use Rattle.std.proofs.Common.{◌≤◌, List, length, sym, subst}
 use Rattle.iol_types.specs.Command.{CommandValue}
-use Rattle.iol_journal.specs.Journals.{values, calls_left}
+use Rattle.iol_journal.specs.Body.{values}
+use Rattle.iol_journal.specs.Journals.{calls_left}
 use Rattle.iol_flush.specs.Stages.{most_batch_calls}
 use Rattle.iol_flush.proofs.Keeping.{begins_batch, keeps_given, rests_still}
 use Rattle.iol_flush.proofs.Steps.{as_begun, begun}

@@ -1,7 +1,7 @@
 use Rattle.std.proofs.Common.{arith, ap, sym, subst, ◌+◌, ◌≤◌, ◌∙◌}
 use Rattle.std.proofs.lemmas.List.{length-map}
 use Rattle.iol_types.specs.Command.{value_of}
-use Rattle.iol_journal.specs.declared.header.TheConstants.{LAST_NUMBER}
+use Rattle.iol_journal.specs.Numbers.{LAST_NUMBER}
 use Rattle.iol_front.proofs.Steps.{publishes_as}
 use Rattle.iol_front.proofs.seat.add_batch.Goals as goal
 

@@ -2,7 +2,7 @@ use Rattle.std.proofs.Common.{◌∙◌, IfErr, IfOk, inr, string_bytes, vec_len
 use Rattle.std.proofs.lemmas.Result.{IfErr-weaker}
 use Rattle.iol_commands.specs.Images.{TellsWhy}
 use Rattle.iol_journal.specs.Meaning.{Standing, standing_in}
-use Rattle.iol_journal.specs.Reading.{Shows}
+use Rattle.iol_disk.specs.Disk.{Shows}
 use Rattle.iol_live.specs.Lived.{IsAfterWhatIsThere, IsLiveCause}
 use Rattle.iol_live.proofs.Living.{ok_same, recovery_cause}
 use Rattle.iol_live.proofs.running.live_on_disk.Goals as goal

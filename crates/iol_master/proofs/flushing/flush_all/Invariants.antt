@@ -1,4 +1,4 @@
-use Rattle.iol_flush.specs.declared.stage.Stage.TheVariants.{Resting}
+use Rattle.iol_flush.specs.declared.stage.FlushStage.TheVariants.{Resting}
 use Rattle.iol_master.specs.Since.{IsSince}
 use Rattle.iol_master.proofs.flushing.flush_all.Given as goal
 

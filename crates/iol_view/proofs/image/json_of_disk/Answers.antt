@@ -1,7 +1,7 @@
 use Rattle.std.proofs.Common.{rules, string_bytes, subst, sym}
 use Rattle.std.proofs.lemmas.Result.{IfErr-weaker, IfOk-weaker}
 use Rattle.iol_journal.specs.Meaning.{standing_in}
-use Rattle.iol_journal.specs.Reading.{Shows}
+use Rattle.iol_disk.specs.Disk.{Shows}
 use Rattle.iol_commands.specs.Images.{TellsWhy}
 use Rattle.iol_commands.specs.declared.fault.Fault.{Fault}
 use Rattle.iol_view.specs.Json.{TellsStateAsJson}

@@ -2,7 +2,7 @@ use Rattle.std.proofs.Common.{◌≡◌, ◌+◌, List, take, drop, sym, ap, ◌
 use mathlib.Core.List.{IsPrefix}
 use Rattle.iol_types.specs.Command.{CommandValue}
 use Rattle.iol_types.specs.State.{State, after}
-use Rattle.iol_journal.specs.Journals.{values}
+use Rattle.iol_journal.specs.Body.{values}
 use Rattle.iol_core.specs.Batches.{IsInFlight, acknowledged}
 use Rattle.iol_core.specs.Core.{CoreView, IsCore, live}
 use Rattle.iol_core.proofs.Keeping.{acknowledged_core}

@@ -2,7 +2,7 @@ use Rattle.std.proofs.Common.{◌≡◌, ◌∷◌, [], ◌++◌, List, None, sy
 use Rattle.std.proofs.lemmas.List.{map-append}
 use Rattle.iol_types.specs.Command.{CommandValue, value_of}
 use Rattle.iol_types.specs.State.{State, apply, after, check}
-use Rattle.iol_journal.specs.Journals.{values}
+use Rattle.iol_journal.specs.Body.{values}
 use Rattle.iol_core.specs.Core.{CoreView, IsCore, live}
 use Rattle.iol_core.specs.Submit.{queue_fault, queued}
 use Rattle.iol_core.proofs.Keeping.{queued_core}

@@ -1,8 +1,8 @@
 use Rattle.std.proofs.Common.{◌≡◌, ◌≤◌, ◌+◌, ℕ, List, [], length, None, replicate, sym, ap, ◌∙◌, subst}
 use Rattle.iol_types.specs.Command.{CommandValue}
 use Rattle.iol_types.specs.State.{after}
-use Rattle.iol_journal.specs.Journals.{values}
-use Rattle.iol_journal.specs.declared.header.TheConstants.{LAST_NUMBER}
+use Rattle.iol_journal.specs.Body.{values}
+use Rattle.iol_journal.specs.Numbers.{LAST_NUMBER}
 use Rattle.iol_core.specs.Core.{IsCore}
 use Rattle.iol_core.proofs.Keeping.{new_core}
 use Rattle.iol_core.proofs.core_value.Core.new.Goals as goal

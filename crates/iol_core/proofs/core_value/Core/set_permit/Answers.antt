@@ -1,5 +1,5 @@
 use Rattle.std.proofs.Common.{◌≡◌, ◌≤◌, ◌-◌, ℕ, List, Option, slice_set, sym, subst, arith}
-use Rattle.iol_journal.specs.Journals.{values}
+use Rattle.iol_journal.specs.Body.{values}
 use Rattle.iol_core.specs.Core.{CoreView, IsCore, FitsAt, live}
 use Rattle.iol_core.specs.declared.permit.Grant.{Grant}
 use Rattle.iol_core.proofs.Keeping.{permit_core}

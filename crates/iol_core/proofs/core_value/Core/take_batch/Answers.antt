@@ -3,7 +3,7 @@ use Rattle.std.proofs.lemmas.List.{length-map}
 use Rattle.iol_core.specs.Batches.{IsLongest, has_batch}
 use Rattle.iol_types.specs.Command.{value_of}
 use Rattle.iol_types.specs.State.{legal}
-use Rattle.iol_journal.specs.Journals.{values}
+use Rattle.iol_journal.specs.Body.{values}
 use Rattle.iol_core.specs.Core.{CoreView}
 use Rattle.iol_core.proofs.Queues.{legal_parts, some_waits}
 use Rattle.iol_core.proofs.core_value.Core.take_batch.Goals as goal

@@ -1,11 +1,11 @@
 use Rattle.std.proofs.Common.{List, [], length, ap, arith}
 use Rattle.std.proofs.Math.Nat.{mul-le-mul_right}
 use Rattle.iol_disk.specs.Calls.{Call}
-use Rattle.iol_journal.specs.Checkpoints.{checkpointed}
-use Rattle.iol_journal.proofs.CheckpointSizes.{at_most}
+use Rattle.iol_checkpoint.specs.Checkpoints.{checkpointed}
+use Rattle.iol_checkpoint.proofs.CheckpointSizes.{at_most}
 use Rattle.iol_journal.proofs.RunSteps.{run_of_same_disk}
-use Rattle.iol_journal.proofs.StageCalls.{all_calls}
-use Rattle.iol_journal.proofs.Stages.{first_holds}
+use Rattle.iol_checkpoint.proofs.StageCalls.{all_calls}
+use Rattle.iol_checkpoint.proofs.Stages.{first_holds}
 use Rattle.iol_journal.proofs.journal.Journal.checkpoint.Goals as goal
 
 pub returns-in-Ok-clause-at_most : goal.returns-in-Ok-clause-at_most

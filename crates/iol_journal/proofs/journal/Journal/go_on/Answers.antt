@@ -1,8 +1,9 @@
 use Rattle.std.proofs.Common.{◌≤◌, ◌+◌, ◌*◌, length, subst, arith}
-use Rattle.iol_journal.specs.BegunParts.{view_of, IsSetAside}
-use Rattle.iol_journal.specs.CheckpointViews.{calls_of}
-use Rattle.iol_journal.specs.Journals.{JournalView, standing_at}
-use Rattle.iol_journal.proofs.CheckpointSizes.{begun_most}
+use Rattle.iol_checkpoint.specs.BegunParts.{view_of, IsSetAside}
+use Rattle.iol_checkpoint.specs.Pauses.{calls_of}
+use Rattle.iol_journal.specs.Journals.{JournalView}
+use Rattle.iol_layout.specs.Standings.{standing_at}
+use Rattle.iol_checkpoint.proofs.CheckpointSizes.{begun_most}
 use Rattle.iol_journal.proofs.journal.Journal.go_on.Goals as goal
 
 pub returns-clause-carrying : goal.returns-clause-carrying

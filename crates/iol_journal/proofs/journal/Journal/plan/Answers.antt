@@ -3,18 +3,21 @@ use Rattle.std.proofs.lemmas.Bool.Decides.{nat_tests}
 use Rattle.std.proofs.lemmas.List.{length-map}
 use Rattle.std.proofs.lemmas.Result.{err_from_is_err_and}
 use Rattle.iol_types.specs.Command.{CommandValue, value_of}
-use Rattle.iol_journal.specs.Octets.{sectors_reached}
-use Rattle.iol_journal.specs.Batches.{body_for}
-use Rattle.iol_journal.specs.Body.{records_of, slots_for, commands_of, body_octets}
+use Rattle.iol_layout.specs.Octets.{sectors_reached}
+use Rattle.iol_batch.specs.Batches.{body_for}
+use Rattle.iol_layout.specs.Body.{records_of, slots_for, commands_of, body_octets, values}
 use Rattle.iol_types.specs.declared.command.Command.{Command}
-use Rattle.iol_journal.specs.Begin.{is_too_large, batch_refusal}
-use Rattle.iol_journal.specs.Journals.{JournalView, standing_at, values, IsPlanned, IsPlan}
-use Rattle.iol_journal.specs.declared.batch.TheConstants.{MOST_COMMANDS}
-use Rattle.iol_journal.specs.declared.journal.BeginCause.TheVariants.{Misfit}
-use Rattle.iol_journal.specs.declared.phase.Phase.TheVariants.{Body}
-use Rattle.iol_journal.specs.declared.writing.Plan.{Plan}
-use Rattle.iol_journal.proofs.Bodies.{sectors_for-some}
-use Rattle.iol_journal.proofs.Refusals.{taken, refused, out_of_memory}
+use Rattle.iol_batch.specs.Begin.{is_too_large, batch_refusal}
+use Rattle.iol_journal.specs.Journals.{JournalView}
+use Rattle.iol_layout.specs.Standings.{standing_at}
+use Rattle.iol_batch.specs.Planned.{IsPlanned, IsPlan}
+use Rattle.iol_layout.specs.declared.body.TheConstants.{MOST_COMMANDS}
+use Rattle.iol_batch.specs.declared.refusal.BeginCause.TheVariants.{Misfit}
+use Rattle.iol_batch.specs.declared.phase.Phase.TheVariants.{Body}
+use Rattle.iol_batch.specs.declared.plan.Plan.{Plan}
+use Rattle.iol_batch.proofs.BatchCalls.{sectors_for-some}
+use Rattle.iol_batch.proofs.Refusals.{taken, refused}
+use Rattle.iol_journal.proofs.Views.{out_of_memory}
 use Rattle.iol_journal.proofs.journal.Journal.plan.Goals as goal
 
 -- so many slots are free

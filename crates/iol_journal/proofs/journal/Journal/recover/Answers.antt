@@ -1,4 +1,4 @@
-use Rattle.iol_journal.specs.Journals.{standing_at}
+use Rattle.iol_layout.specs.Standings.{standing_at}
 use Rattle.iol_journal.proofs.Resting.{at_rest_after, means-after}
 use Rattle.iol_journal.proofs.RunLaws.{no_image_added}
 use Rattle.iol_journal.proofs.RunSteps.{run_of_found}

@@ -5,10 +5,10 @@ use Rattle.iol_types.specs.State.{legal}
 use Rattle.iol_core.specs.Batches.{IsTake, IsTaken}
 use Rattle.iol_flush.specs.Stages as flush
 use Rattle.iol_flush.specs.Steps.{HasTaken}
-use Rattle.iol_journal.specs.Journals.{values}
-use Rattle.iol_journal.specs.declared.batch.Batch.{Batch}
+use Rattle.iol_journal.specs.Body.{values}
+use Rattle.iol_journal.specs.Batch.{Batch}
 use Rattle.iol_flush.specs.Stages.{room_of, FitsArea}
-use Rattle.iol_journal.specs.declared.header.TheConstants.{LAST_NUMBER}
+use Rattle.iol_journal.specs.Numbers.{LAST_NUMBER}
 use Rattle.iol_run.specs.CoreOnDisk.{CoreOnDiskView, IsInStep}
 use Rattle.iol_run.specs.Events.{told_of}
 use Rattle.iol_run.specs.Turns.{Takes}

@@ -1,0 +1,4 @@
+pub mod Rows
+pub mod AreaRecords
+pub mod Plans
+pub mod RecordSectors

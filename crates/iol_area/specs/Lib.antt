@@ -1,0 +1,2 @@
+pub mod AreaWrites
+pub mod AreaPlans

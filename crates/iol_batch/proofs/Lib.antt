@@ -1,0 +1,3 @@
+pub mod BatchCalls
+pub mod Phases
+pub mod Refusals

@@ -1,0 +1,39 @@
+-- Which batches a journal takes.
+use Rattle.std.specs.Prelude.{◌≡◌, ◌≤◌, ◌+◌, ◌-◌, ◌*◌, ◌==◌, ℕ, max, nat_le, nat_lt, Bool, false, ◌&&◌, ◌||◌, if◌then◌else◌}
+use Rattle.std.specs.Prelude.{List, length, Option, Some, None}
+use Rattle.iol_types.specs.Command.{CommandValue}
+use Rattle.iol_types.specs.State.{legal}
+use Rattle.iol_layout.specs.Body.{slots_for}
+use Rattle.iol_layout.specs.Meaning.{Standing}
+use Rattle.iol_layout.specs.declared.body.TheConstants.{MOST_COMMANDS, BODY_OCTETS, BODY_HEAD_OCTETS}
+use Rattle.iol_layout.specs.declared.header.TheConstants.{LAST_NUMBER}
+use Rattle.iol_batch.specs.declared.refusal.BeginCause.{BeginCause}
+use Rattle.iol_batch.specs.declared.refusal.BeginCause.TheVariants.{TooLarge, NeedsCheckpoint, Memory, Misfit}
+
+-- the commands, the first with this number, go on where the journal stands: at least one, in range, and each passes
+-- (own)
+abbrev pub follows : Standing → ℕ → List CommandValue → Bool
+follows s first commands =
+    nat_le 1 (length commands) && (first == s.number + 1) && nat_le (s.number + length commands) LAST_NUMBER && legal s.state commands
+
+-- a batch does not fit an area of so many slots: it has more than 64 commands, or takes more slots (format, Slots)
+abbrev pub is_too_large : ℕ → List CommandValue → Bool
+is_too_large slots commands = nat_lt MOST_COMMANDS (length commands) || nat_lt slots (slots_for commands)
+
+-- the octets of records that fit the free slots, or where none is free one slot (format, Slots)
+abbrev pub room_in : Standing → ℕ
+room_in s = BODY_OCTETS * max 1 (s.layout.slots - s.used) - BODY_HEAD_OCTETS
+
+-- why a batch is refused, but for memory; none where it is taken (own)
+abbrev pub batch_refusal : Standing → ℕ → List CommandValue → Option BeginCause
+batch_refusal s first commands =
+    if is_too_large s.layout.slots commands then Some TooLarge
+    else if nat_lt s.layout.slots (s.used + slots_for commands) then Some NeedsCheckpoint
+    else if follows s first commands then None
+    else Some Misfit
+
+-- why a batch is refused, memory in its place: after the size of the batch and the free slots, before what the
+-- commands say (own)
+abbrev pub IsBatchRefusal : Standing → ℕ → List CommandValue → BeginCause → Type 0
+IsBatchRefusal s first commands Memory = (is_too_large s.layout.slots commands ≡ false) × (s.used + slots_for commands ≤ s.layout.slots)
+IsBatchRefusal s first commands cause = batch_refusal s first commands ≡ Some cause

@@ -1,0 +1,5 @@
+pub mod Batches
+pub mod Begin
+pub mod Planned
+pub mod History
+pub mod Phases

@@ -1,0 +1,11 @@
+pub mod BegunCalls
+pub mod StageCalls
+pub mod DraftLaws
+pub mod Carrying
+pub mod Stages
+pub mod StageMeanings
+pub mod CheckpointSteps
+pub mod BegunLaws
+pub mod Beside
+pub mod BesideLaws
+pub mod CheckpointSizes

@@ -1,0 +1,391 @@
+-- The disk calls of a checkpoint, one after the other, on an honest disk.
+use Rattle.std.proofs.Common.{◌≡◌, ◌≢◌, ◌≤◌, ◌<◌, ◌⊎◌, inl, inr, ℕ, suc, ◌+◌, ◌-◌, nat_lt, if◌then◌else◌, Bool, true, false, List, []}
+use Rattle.std.proofs.Common.{◌∷◌, length, take, Option, Some, None, unwrap_or, refl, sym, ◌∙◌, ap, subst, arith}
+use Rattle.std.proofs.lemmas.Bool.{cases_lt}
+use Rattle.std.proofs.lemmas.Bool.Decides.{nat_tests}
+use Rattle.std.proofs.Math.Seq.{take-length}
+use Rattle.iol_types.specs.Command.{CommandValue}
+use Rattle.iol_types.specs.State.{State}
+use Rattle.iol_disk.specs.Content.{Image, Content, IsImage, IsSettled, reads, wrote, synced}
+use Rattle.iol_disk.specs.Calls.{Call, write, sync, content_after}
+use Rattle.iol_disk.proofs.DiskLaws.{reads-is_image, image-settled, image-wrote, image-synced, reads-wrote_here, reads-wrote_other}
+use Rattle.iol_slots.specs.Gate.{is_open, open_gate, closed_gate}
+use Rattle.iol_slots.proofs.SlotLaws.{is_open-open_gate, is_open-closed_gate}
+use Rattle.iol_area.specs.AreaPlans.{AreRecords}
+use Rattle.iol_area.specs.AreaWrites.{HasWrites}
+use Rattle.iol_layout.specs.Header.{header_of, header_octets, is_sound}
+use Rattle.iol_layout.specs.Kept.{IsIdle, IsKeptAs}
+use Rattle.iol_layout.specs.Layout.{Layout, other, area_sectors, gate_at, header_at, port_at, slot_at, body_at}
+use Rattle.iol_layout.specs.Meaning.{Log, Standing, layout_in, header_in}
+use Rattle.iol_layout.specs.Octets.{sector_of}
+use Rattle.iol_batch.specs.Batches.{body_for, sectors_for}
+use Rattle.iol_checkpoint.specs.Checkpoints.{target, first_of, behind_first, with_batches, header_of_target, snapshot_writes, call_at}
+use Rattle.iol_layout.specs.Body.{records_of, slots_for}
+use Rattle.iol_checkpoint.specs.Checkpoints.{next_batch, next_stage, log_behind, owed_behind, first_stage, IsStage}
+use Rattle.iol_checkpoint.specs.Drafts.{AreShut, IsPrepared, OpensTo, IsTurning, MeansSame, StageHolds, IsSnapshot, IsFresh, AreOwed}
+use Rattle.iol_layout.specs.Standings.{with_batch}
+use Rattle.iol_batch.specs.Planned.{CanFollow}
+use Rattle.iol_batch.specs.Phases.{EachKept, HasWritten}
+use Rattle.iol_layout.specs.declared.area.Area.{Area}
+use Rattle.iol_layout.specs.declared.area.Area.TheVariants.{A, B}
+use Rattle.iol_layout.specs.declared.header.Header.{Header}
+use Rattle.iol_layout.specs.declared.header.TheConstants.{LAST_NUMBER}
+use Rattle.iol_layout.specs.declared.geometry.TheConstants.{GEOMETRY, DISK_GATE}
+use Rattle.iol_layout.specs.declared.idle.Idle.{Idle}
+use Rattle.iol_layout.specs.declared.idle.Idle.TheVariants.{Older, Closed}
+use Rattle.iol_batch.specs.declared.phase.Phase.TheVariants.{Body, SyncBody, Gate, SyncGate}
+use Rattle.iol_checkpoint.specs.declared.stage.Stage.{Stage}
+use Rattle.iol_checkpoint.specs.declared.stage.Stage.TheVariants.{ClearHeader, SyncHeader, CloseGate, SyncClosed, CloseSlot, SyncSlots}
+use Rattle.iol_checkpoint.specs.declared.stage.Stage.TheVariants.{WriteHeader, WriteRecord, SyncRecords, Carry, OpenGate, SyncOpen}
+use Rattle.iol_checkpoint.proofs.Carrying.{carry_sector, carry_gate}
+use Rattle.iol_batch.proofs.Phases.{IsFit, fit_for}
+use Rattle.iol_layout.proofs.Spans.{slots_of-some, body_at-within}
+use Rattle.iol_layout.proofs.Chains.{IsRead, stands_read, by_test}
+use Rattle.iol_layout.proofs.OtherArea.{two_before, in_use_header, other_frame, IsWhole, whole_stands}
+use Rattle.iol_area.proofs.Rows.{has-same, row-nth}
+use Rattle.iol_layout.proofs.Headers.{header_of-octets}
+
+-- what holds behind the call of a stage: what its next stage asks, or at the end that the checkpoint is whole
+abbrev pub HoldsBehind : ℕ → Standing → Standing → List (List CommandValue) → Option Stage → Content → Type 0
+HoldsBehind size s t owed (Some stage) c = StageHolds size s t owed stage c
+HoldsBehind size s t owed None c = EachKept size t Older c × MeansSame t s
+
+-- of two stages the one that comes next
+abbrev one_of : Bool → Stage → Stage → Option Stage
+one_of more p q = Some (if more then p else q)
+
+holds_one_of : (size : ℕ) (s t : Standing) (owed : List (List CommandValue)) (n m : ℕ) (p q : Stage) (c : Content)
+    → (n < m → StageHolds size s t owed p c) → (m ≤ n → StageHolds size s t owed q c)
+    → HoldsBehind size s t owed (one_of (nat_lt n m) p q) c
+holds_one_of size s t owed n m p q c more last = by_test (nat_lt n m) _
+    (λ less. rw less (more (grind (arith, nat_tests))))
+    (λ no_less. rw no_less (last (grind (arith, nat_tests))))
+
+-- a header that was found behind an open gate
+header_found : (layout : Layout) (image : Image) (a : Area) (header : Header) → header_in layout image a ≡ Some header
+    → header_of (image (header_at layout a)) ≡ header
+header_found layout image a header is = by_gate (is_open (image (gate_at layout a))) is
+  where
+    by_gate : (gate : Bool) → (if gate then Some (header_of (image (header_at layout a))) else None) ≡ Some header
+        → header_of (image (header_at layout a)) ≡ header
+    by_gate true found = same _ _ found
+      where
+        same : (x y : Header) → Some x ≡ Some y → x ≡ y
+        same x y is = cc
+    by_gate false found = absurd (clash _ found)
+      where
+        clash : (x : Header) → None ≡ Some x → ⊥
+        clash x is = cc
+
+-- a write that leaves the other area harmless
+abbrev Spares : Standing → Idle → ℕ → Type 0
+Spares s Older sector = sector ≢ header_at s.layout (other s.area)
+Spares s Closed sector = sector ≢ gate_at s.layout (other s.area)
+
+-- a sector of the other area
+pub record IsInOther (s : Standing) (sector : ℕ) : Type 0 where
+  pub from : gate_at s.layout (other s.area) ≤ sector
+  pub below : sector < gate_at s.layout (other s.area) + area_sectors s.layout
+
+module _ (size : ℕ) (s : Standing) where
+  idle_after : (idle : Idle) (sector : ℕ) (was image : Image) → Spares s idle sector → ((i : ℕ) → i ≢ sector → image i ≡ was i)
+      → IsIdle s idle was → IsIdle s idle image
+  idle_after Older sector was image spares same is = rw (same (header_at s.layout (other s.area)) (λ e. spares (sym e))) is
+  idle_after Closed sector was image spares same is = ap is_open (same (gate_at s.layout (other s.area)) (λ e. spares (sym e))) ∙ is
+
+  but_area : (sector : ℕ) (was image : Image) → IsInOther s sector → ((i : ℕ) → i ≢ sector → image i ≡ was i)
+      → (i : ℕ) → (i < gate_at s.layout (other s.area)) ⊎ (gate_at s.layout (other s.area) + area_sectors s.layout ≤ i) → image i ≡ was i
+  but_area sector was image inside same i (inl before) = same i (omega (arith, before, inside.from))
+  but_area sector was image inside same i (inr behind) = same i (omega (arith, behind, inside.below))
+
+  -- a sector of the other area is written
+  each_write : (idle : Idle) (sector : ℕ) (octets : List ℕ) (c : Content) → IsInOther s sector → Spares s idle sector
+      → EachKept size s idle c
+      → EachKept size s idle (wrote sector octets c)
+  each_write idle sector octets c inside spares kept image is =
+      let w = image-wrote sector octets c image is in
+      let was = kept w.0 w.1 in
+      other_frame s w.0 image (but_area sector w.0 image inside w.2) size idle idle was
+      (idle_after idle sector w.0 image spares w.2 was.other_area)
+
+  -- a sync, behind which the other area is harmless in this way
+  each_sync : (was idle : Idle) (c : Content) → EachKept size s was c → IsIdle s idle (reads c) → EachKept size s idle (synced c)
+  each_sync was idle c kept harmless image is =
+      subst (IsKeptAs size s idle) (sym (image-synced c image is))
+      (other_frame s (reads c) (reads c) (λ i apart. refl) size was idle (kept (reads c) (reads-is_image c)) harmless)
+
+  sync_again : (idle : Idle) (c : Content) → EachKept size s idle c → EachKept size s idle (synced c)
+  sync_again idle c kept = each_sync idle idle c kept (kept (reads c) (reads-is_image c)).other_area
+
+-- the area that is written, as it will stand with this log
+module _ (size : ℕ) (s : Standing) (log : Log) where
+  abbrev t : Standing
+  t = target s log
+
+  -- one slot more is closed
+  shut_more : (k : ℕ) (c : Content) → AreShut t k (reads c)
+      → AreShut t (k + 1) (reads (wrote (slot_at s.layout (other s.area) k) closed_gate c))
+  shut_more k c shut j below = elim (cases_lt j k) [
+    | inl before ↦ ap is_open
+        (reads-wrote_other (slot_at s.layout (other s.area) k) closed_gate c (slot_at s.layout (other s.area) j) (omega (arith, before)))
+        ∙ shut j before
+    | inr last ↦
+        let here : slot_at s.layout (other s.area) j ≡ slot_at s.layout (other s.area) k = omega (arith, last, below) in
+        ap (λ (i : ℕ). is_open (reads (wrote (slot_at s.layout (other s.area) k) closed_gate c) i)) here
+        ∙ ap is_open (reads-wrote_here (slot_at s.layout (other s.area) k) closed_gate c) ∙ is_open-closed_gate
+  ]
+
+  -- a write before the slots leaves them closed
+  shut_still : (k sector : ℕ) (octets : List ℕ) (c : Content) → sector < slot_at s.layout (other s.area) 0 → AreShut t k (reads c)
+      → AreShut t k (reads (wrote sector octets c))
+  shut_still k sector octets c before shut j below =
+      ap is_open (reads-wrote_other sector octets c (slot_at s.layout (other s.area) j) (omega (arith, before))) ∙ shut j below
+
+  prepared_none : (c : Content) → t.epoch ≤ t.number + 1 → t.number ≤ LAST_NUMBER → AreShut t t.layout.slots (reads c)
+      → IsPrepared t 0 (reads (wrote (header_at t.layout t.area) (header_octets t.epoch t.number) c))
+  prepared_none c near bound shut = record {
+    shut = shut_still t.layout.slots (header_at t.layout t.area) (header_octets t.epoch t.number) c (omega arith) shut;
+    head =
+        ap header_of (reads-wrote_here (header_at t.layout t.area) (header_octets t.epoch t.number) c)
+        ∙ header_of-octets t.epoch t.number (omega (arith, near, bound)) (omega (arith, bound));
+    written = tt;
+  }
+
+  -- ---- the records
+
+  -- the write of a sector of the records
+  record_written : (owed : List (List CommandValue)) (i : ℕ) (c : Content) → AreRecords t.layout t.area t.state
+      → i < length (snapshot_writes t) → EachKept size s Closed c → IsPrepared t i (reads c)
+      → EachKept size s Closed (content_after (call_at t owed (WriteRecord i)) c)
+      × IsPrepared t (i + 1) (reads (content_after (call_at t owed (WriteRecord i)) c))
+  record_written owed i c records below kept ready =
+      let nth = row-nth (port_at t.layout t.area 0) (slot_at t.layout t.area 0) (snapshot_writes t) i records.row below in
+      let call : call_at t owed (WriteRecord i) ≡ write nth.sector nth.octets =
+      ap (λ (found : Option Call). unwrap_or found sync) nth.at_place in
+      let next : suc i ≡ i + 1 = omega arith in
+      let inside : IsInOther s nth.sector = record { from = omega (arith, nth.from); below = omega (arith, nth.below) } in
+      subst (λ (made : Call). EachKept size s Closed (content_after made c) × IsPrepared t (i + 1) (reads (content_after made c)))
+      (sym call) (
+        each_write size s Closed nth.sector nth.octets c inside (omega (arith, nth.from)) kept,
+        record {
+          shut = shut_still t.layout.slots nth.sector nth.octets c nth.below ready.shut;
+          head = ap header_of (reads-wrote_other nth.sector nth.octets c (header_at t.layout t.area) (omega (arith, nth.from)))
+              ∙ ready.head;
+          written =
+              subst (λ (n : ℕ). HasWrites (take n (snapshot_writes t)) (reads (wrote nth.sector nth.octets c))) next
+              (nth.more (reads c) (reads (wrote nth.sector nth.octets c)) (λ k away. reads-wrote_other nth.sector nth.octets c k away)
+              (reads-wrote_here nth.sector nth.octets c) ready.written);
+        },
+      )
+
+  -- once all of it is written, its open gate puts it in use
+  opens : (c : Content) → t.epoch ≤ t.number + 1 → t.number ≤ LAST_NUMBER → IsFresh t → IsKeptAs size s Closed (reads c)
+      → IsPrepared t (length (snapshot_writes t)) (reads c) → OpensTo size t c
+  opens c near bound fresh kept ready image same gate = put (stands_read size (reads c) s kept.stands)
+    where
+      own_gate : gate_at s.layout (other (other s.area)) ≢ gate_at s.layout (other s.area)
+      own_gate = apart s.area
+        where
+          apart : (a : Area) → gate_at s.layout (other (other a)) ≢ gate_at s.layout (other a)
+          apart A = omega arith
+          apart B = omega arith
+
+      own_header : header_at s.layout (other (other s.area)) ≢ gate_at s.layout (other s.area)
+      own_header = apart s.area
+        where
+          apart : (a : Area) → header_at s.layout (other (other a)) ≢ gate_at s.layout (other a)
+          apart A = omega arith
+          apart B = omega arith
+
+      back : other (other s.area) ≡ s.area
+      back = twice s.area
+        where
+          twice : (a : Area) → other (other a) ≡ a
+          twice A = refl
+          twice B = refl
+
+      old_header : (base : ℕ) (ports : State) → IsRead size (reads c) s base ports → header_in s.layout image (other (other s.area))
+          ≡ Some (record { epoch = s.epoch; base = base })
+      old_header base ports is =
+          let at_gate : image (gate_at s.layout (other (other s.area))) ≡ reads c (gate_at s.layout (other (other s.area))) =
+          same _ own_gate in
+          let at_header : image (header_at s.layout (other (other s.area))) ≡ reads c (header_at s.layout (other (other s.area))) =
+          same _ own_header in
+          let there : header_in s.layout image (other (other s.area)) ≡ header_in s.layout (reads c) (other (other s.area)) =
+          rw (at_gate, at_header) refl in
+          there ∙ ap (header_in s.layout (reads c)) back ∙ (in_use_header s.layout (reads c) s.area _ is.in_use).0
+
+      sound : is_sound (header_of_target t) ≡ true
+      sound = grind (arith, nat_tests, near, bound)
+
+      whole : IsWhole t.layout t.area (header_of_target t) t.state image
+      whole = record {
+        shut = λ k below. ap is_open (same (slot_at t.layout t.area k) (omega arith)) ∙ ready.shut k below;
+        head = ap header_of (same (header_at t.layout t.area) (omega arith)) ∙ ready.head;
+        ports_are =
+            fresh.records.read_back image
+            (has-same (port_at t.layout t.area 0) (slot_at t.layout t.area 0) (snapshot_writes t) (reads c) image
+            fresh.records.row
+            (λ i above below. same i (omega (arith, above)))
+            (subst (λ (calls : List Call). HasWrites calls (reads c)) (take-length (snapshot_writes t)) ready.written));
+      }
+
+      put : (base : ℕ) × (ports : State) × IsRead size (reads c) s base ports → IsKeptAs size t Older image
+      put (base, ports, is) =
+          let two = two_before s.layout (other s.area) in
+          let front : layout_in size image ≡ layout_in size (reads c) =
+          rw (same DISK_GATE (omega (arith, two)), same GEOMETRY (omega (arith, two))) refl in
+          let header = old_header base ports is in
+          subst (λ (n : ℕ). IsKeptAs size (target s (record { used = n; number = log.number; state = log.state })) Older image)
+          (sym fresh.none)
+          (whole_stands size t.layout t.area (header_of_target t) t.state Older image (front ∙ is.layout) gate sound
+          (rw header (omega arith))
+          (rw (header_found s.layout image (other (other s.area)) _ header) (omega arith))
+          whole)
+
+  -- while the gate is on its way
+  turning : (c : Content) → EachKept size s Closed c → IsSettled c → OpensTo size t c → (image : Image)
+      → IsImage (wrote (gate_at t.layout t.area) open_gate c) image → IsTurning size s t image
+  turning c kept settled opens_to image is =
+      let w = image-wrote (gate_at t.layout t.area) open_gate c image is in
+      let inside : IsInOther s (gate_at t.layout t.area) = record { from = omega arith; below = omega arith } in (
+        λ closed. other_frame s w.0 image (but_area size s (gate_at t.layout t.area) w.0 image inside w.2) size Closed Closed
+            (kept w.0 w.1) closed,
+        λ opened. opens_to image (λ i away. w.2 i away ∙ ap (λ (left : Image). left i) (image-settled c w.0 settled w.1)) opened,
+      )
+
+-- ---- batches that are carried
+
+-- the first of them can be written
+pub first_owed : (t : Standing) (owed : List (List CommandValue)) → 1 ≤ length owed → AreOwed t owed → CanFollow t (first_of owed)
+first_owed t [] some are = absurd (omega (arith, some))
+first_owed t (batch ∷ batches) some are = are.0
+
+-- behind the records or a batch: the next one, or the gate
+carry_next : (size : ℕ) (s t : Standing) (owed : List (List CommandValue)) (n : ℕ) (c : Content) → EachKept size s Closed c
+    → OpensTo size t c → IsSettled c → HoldsBehind size s t owed (Some (next_batch n)) c
+carry_next size s t owed n c kept opens_to settled = holds_one_of size s t owed 0 n (Carry (Body 0)) OpenGate c
+    (λ more. (kept, (opens_to, λ j below. absurd (omega (arith, below)))))
+    (λ none. (kept, opens_to, settled))
+
+-- with no batch left to be carried both areas mean the same
+pub none_owed : (s t : Standing) (owed : List (List CommandValue)) → length owed ≡ 0 → MeansSame (with_batches t owed) s → MeansSame t s
+none_owed s t [] none same = same
+none_owed s t (batch ∷ batches) none same = absurd (omega (arith, none))
+
+-- ---- the call of each stage
+
+module _ (size : ℕ) (s : Standing) (log : Log) (owed : List (List CommandValue)) (some : 1 ≤ s.layout.slots)
+    (near : s.epoch ≤ log.number) (bound : log.number ≤ LAST_NUMBER) (owed_are : AreOwed (target s log) owed)
+    (same : MeansSame (with_batches (target s log) owed) s) where
+  abbrev t' : Standing
+  t' = target s log
+
+  abbrev records : ℕ
+  records = length (snapshot_writes t')
+
+  abbrev sectors : ℕ
+  sectors = sectors_for t' (first_of owed)
+
+  fit : 1 ≤ length owed → IsFit t' (first_of owed) (body_for t' (first_of owed)) sectors
+  fit more = fit_for t' (first_of owed) (first_owed t' owed more owed_are) (omega (arith, near))
+
+  pub goes_on : (stage : Stage) (c : Content) → (IsSnapshot stage → IsFresh t') → IsStage s.layout.slots records sectors (length owed) stage
+      → StageHolds size s t' owed stage c
+      → HoldsBehind size s (target s (log_behind log owed stage)) (owed_behind owed stage)
+      (next_stage s.layout.slots records sectors (length owed) stage) (content_after (call_at t' owed stage) c)
+  goes_on ClearHeader c fresh in_stage holds = (
+    each_write size s Closed (header_at t'.layout t'.area) (header_octets 0 0) c (record { from = omega arith; below = omega arith })
+        (omega arith) holds.0,
+    ap (λ (octets : List ℕ). (header_of octets).epoch) (reads-wrote_here (header_at t'.layout t'.area) (header_octets 0 0) c)
+        ∙ ap (λ (header : Header). header.epoch) (header_of-octets 0 0 (omega arith) (omega arith)),
+  )
+  goes_on SyncHeader c fresh in_stage holds =
+      let kept = holds.0 (reads c) (reads-is_image c) in
+      (each_sync size s Closed Older c holds.0 (omega (arith, holds.1, begun kept)), tt)
+    where
+      begun : IsKeptAs size s Closed (reads c) → 1 ≤ s.epoch
+      begun kept = put (stands_read size (reads c) s kept.stands)
+        where
+          put : (base : ℕ) × (ports : State) × IsRead size (reads c) s base ports → 1 ≤ s.epoch
+          put (base, ports, is) = let sound = (in_use_header s.layout (reads c) s.area _ is.in_use).1 in grind (arith, nat_tests, sound)
+  goes_on CloseGate c fresh in_stage holds = (
+    each_write size s Older (gate_at t'.layout t'.area) closed_gate c (record { from = omega arith; below = omega arith }) (omega arith)
+        holds.0,
+    ap is_open (reads-wrote_here (gate_at t'.layout t'.area) closed_gate c) ∙ is_open-closed_gate,
+  )
+  goes_on SyncClosed c fresh in_stage holds =
+      (each_sync size s Older Closed c holds.0 holds.1, λ j below. absurd (omega (arith, below)))
+  goes_on (CloseSlot k) c fresh in_stage holds =
+      let kept = each_write size s Closed (slot_at t'.layout t'.area k) closed_gate c
+      (record { from = omega arith; below = omega (arith, in_stage) }) (omega arith) holds.0 in
+      let shut = shut_more size s log k c holds.1 in
+      holds_one_of size s t' owed (k + 1) s.layout.slots (CloseSlot (k + 1)) SyncSlots _ (λ more. (kept, shut))
+      (λ last.
+      let all : k + 1 ≡ s.layout.slots = omega (arith, last, in_stage) in
+      (kept, subst (λ (n : ℕ). AreShut t' n (reads (wrote (slot_at t'.layout t'.area k) closed_gate c))) all shut))
+  goes_on SyncSlots c fresh in_stage holds = (sync_again size s Closed c holds.0, holds.1)
+  goes_on WriteHeader c fresh in_stage holds =
+      let kept = each_write size s Closed (header_at t'.layout t'.area) (header_octets t'.epoch t'.number) c
+      (record { from = omega arith; below = omega arith }) (omega arith) holds.0 in
+      let ready = prepared_none size s log c (omega (arith, near)) bound holds.1 in
+      holds_one_of size s t' owed 0 records (WriteRecord 0) SyncRecords _ (λ more. (kept, ready))
+      (λ last.
+      let none : 0 ≡ records = omega (arith, last) in (
+        kept,
+        subst (λ (n : ℕ). IsPrepared t' n (reads (wrote (header_at t'.layout t'.area) (header_octets t'.epoch t'.number) c))) none
+            ready,
+      ))
+  goes_on (WriteRecord i) c fresh in_stage holds =
+      let both = record_written size s log owed i c (fresh tt).records in_stage holds.0 holds.1 in
+      holds_one_of size s t' owed (i + 1) records (WriteRecord (i + 1)) SyncRecords _ (λ more. both)
+      (λ last.
+      let all : i + 1 ≡ records = omega (arith, last, in_stage) in
+      (both.0, subst (λ (n : ℕ). IsPrepared t' n (reads (content_after (call_at t' owed (WriteRecord i)) c))) all both.1))
+  goes_on SyncRecords c fresh in_stage holds =
+      carry_next size s t' owed (length owed) (synced c) (sync_again size s Closed c holds.0)
+      (opens size s log c (omega (arith, near)) bound (fresh tt) (holds.0 (reads c) (reads-is_image c)) holds.1) (λ i. refl)
+  goes_on (Carry (Body j)) c fresh in_stage holds =
+      let is = fit in_stage.0 in
+      let within = body_at-within t'.layout t'.area t'.used (slots_for (first_of owed)) j (omega (arith, in_stage.1, is.short)) in
+      let kept = each_write size s Closed (body_at t'.layout t'.area t'.used j) (sector_of (body_for t' (first_of owed)) j) c
+      (record { from = omega arith; below = omega (arith, within, is.room) }) (omega arith) holds.0 in
+      let more = carry_sector size t' (first_of owed) is j c in_stage.1 holds.1 in
+      by_test (nat_lt (j + 1) sectors) _
+      (λ less. rw less (kept, more))
+      (λ last.
+      let all : j + 1 ≡ sectors = grind (arith, nat_tests, in_stage.1) in
+      rw last (
+        kept,
+        (
+          more.0,
+          subst (λ (n : ℕ). HasWritten t' (body_for t' (first_of owed)) n
+              (wrote (body_at t'.layout t'.area t'.used j) (sector_of (body_for t' (first_of owed)) j) c)) all more.1,
+        ),
+      ))
+  goes_on (Carry SyncBody) c fresh in_stage holds = (sync_again size s Closed c holds.0, holds.1)
+  goes_on (Carry Gate) c fresh in_stage holds =
+      let is = fit in_stage.0 in
+      let some_slot = slots_of-some (length (records_of (first_of owed))) in (
+        each_write size s Closed (slot_at t'.layout t'.area t'.used) open_gate c
+            (record { from = omega arith; below = omega (arith, is.room, some_slot) }) (omega arith) holds.0,
+        carry_gate size t' (first_of owed) is c holds.1.0 holds.1.1,
+      )
+  goes_on (Carry SyncGate) c fresh in_stage holds =
+      carry_next size s (with_batch t' (first_of owed)) (behind_first owed) (length owed - 1) (synced c)
+      (sync_again size s Closed c holds.0) holds.1 (λ i. refl)
+  goes_on OpenGate c fresh in_stage holds = (
+    turning size s log c holds.0 holds.2 holds.1,
+    holds.1 (reads (wrote (gate_at t'.layout t'.area) open_gate c)) (λ i away.
+        reads-wrote_other (gate_at t'.layout t'.area) open_gate c i away)
+        (ap is_open (reads-wrote_here (gate_at t'.layout t'.area) open_gate c) ∙ is_open-open_gate),
+    none_owed s t' owed in_stage same,
+  )
+  goes_on SyncOpen c fresh in_stage holds =
+      (λ image is. subst (IsKeptAs size t' Older) (sym (image-synced c image is)) holds.1, holds.2)
+
+-- a checkpoint begins where the journal is at rest
+pub first_holds : (size : ℕ) (s t : Standing) (owed : List (List CommandValue)) (idle : Idle) (c : Content) → EachKept size s idle c
+    → StageHolds size s t owed (first_stage idle) c
+first_holds size s t owed Older c kept = (kept, tt)
+first_holds size s t owed Closed c kept = (kept, tt)

@@ -1,0 +1,7 @@
+use Rattle.std.proofs.Common.{refl}
+use Rattle.iol_layout.specs.Octets.{padded}
+use Rattle.iol_checkpoint.proofs.examples.a_checkpoint.Goals as goal
+
+pub returns : goal.returns
+unfolding padded
+returns c = record { older = refl; closed = refl; thirteen = refl }

@@ -1,0 +1,6 @@
+pub mod BegunViews
+pub mod Checkpoints
+pub mod Drafts
+pub mod BegunParts
+pub mod Expected
+pub mod Pauses

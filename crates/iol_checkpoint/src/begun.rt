@@ -1,0 +1,181 @@
+//! A checkpoint that was begun: what it writes into the other area, and how far it is.
+
+ghost use Rattle.std.specs.Prelude.{◌≡◌, ◌≤◌, ◌<◌, List, [], ◌∷◌, length, OnOk};
+ghost use Rattle.std.specs.VecDeque.{deque_capacity};
+ghost use Rattle.iol_disk.specs.Disk.{Disk};
+ghost use Rattle.iol_checkpoint.specs.BegunParts.{log_of, commands_owed, IsBegun, IsOwing, AreOwing, HasRoom, AreSame};
+ghost use Rattle.iol_checkpoint.specs.Checkpoints.{target, first_stage, log_behind, owed_behind};
+ghost use Rattle.iol_checkpoint.specs.Drafts.{stage_behind};
+ghost use Rattle.iol_layout.specs.Body.{values};
+ghost use Rattle.iol_layout.specs.Meaning.{Standing};
+ghost use Rattle.iol_checkpoint.specs.declared.begun.OwedBatch.{OwedBatch};
+ghost use Rattle.iol_layout.specs.declared.body.TheConstants.{EPOCH_OCTETS};
+
+use crate::stage::Stage;
+use iol_area::AreaPlan;
+use iol_batch::{Batch, History, Phase};
+use iol_layout::{EncodedBatch, Idle};
+use iol_types::MasterState;
+use std::alloc::{AllocError, Global};
+use std::collections::VecDeque;
+
+/// A batch that was written since the checkpoint was begun, as it is to be written into the other area.
+#[derive(Drop)]
+pub struct OwedBatch {
+    pub body: EncodedBatch,
+    // its commands
+    pub batch: History,
+}
+
+/// A checkpoint that was begun.
+#[derive(Drop)]
+pub struct Begun {
+    pub plan: AreaPlan,
+    pub stage: Stage,
+    // the slots of the other area that carried batches take, and the number and the state behind them
+    pub used: usize,
+    pub carried: History,
+    // the batches that are still to be carried, the oldest first
+    pub owed: VecDeque<OwedBatch>,
+}
+
+impl Begun {
+    /// A checkpoint before its first disk call, at the journal's number and state.
+    pub fn fresh(
+        alloc: Global,
+        plan: AreaPlan,
+        idle: Idle,
+        number: u64,
+        state: &MasterState,
+    ) -> Begun
+        ensures plan { result.plan ≡ plan }
+        ensures stage { result.stage ≡ first_stage idle }
+        ensures used { result.used ≡ 0 }
+        ensures carried { (result.carried.first ≡ number) × (result.carried.start ≡ state.now) }
+        ensures owed { length result.owed.items ≡ 0 }
+    {
+        Begun {
+            plan,
+            stage: Stage::first(idle),
+            used: 0,
+            carried: History::begun(number, state),
+            owed: VecDeque::new(alloc),
+        }
+    }
+
+    // The sectors of the first batch that is owed, or none.
+    fn first_sectors(&self) -> usize
+        ensures some { (first : OwedBatch) (behind : List OwedBatch) → self.now.owed.items ≡ first ∷ behind
+            → result ≡ first.body.sectors }
+        ensures none { self.now.owed.items ≡ [] → result ≡ 0 }
+    {
+        match self.owed.front() {
+            Some(first) => first.body.sectors,
+            None => 0,
+        }
+    }
+
+    /// The stage behind its disk call, in an area of so many slots.
+    pub fn next_stage(&self, slots: usize) -> Option<Stage>
+        requires few { slots ≤ 256 }
+        requires begun { (d : Disk) × (s : Standing) × IsBegun d s self.now × (slots ≡ s.layout.slots) }
+        ensures { (d : Disk) (s : Standing) → IsBegun d s self.now → slots ≡ s.layout.slots
+            → result ≡ stage_behind (target s (log_of self.now)) (commands_owed self.now.owed.items) self.now.stage }
+    {
+        let sectors = self.first_sectors();
+        self.stage
+            .next(slots, self.plan.records.len(), sectors, self.owed.len())
+    }
+
+    /// Behind its disk call, in an area of so many slots, with the stage that comes next: a batch whose open gate is durable is
+    /// carried.
+    pub fn moved_to(self, next: Stage, slots: usize) -> Begun
+        requires few { slots ≤ 256 }
+        requires begun { (d : Disk) × (s : Standing) × IsBegun d s self × (slots ≡ s.layout.slots) }
+        ensures plan { result.plan ≡ self.plan }
+        ensures log { log_of result ≡ log_behind (log_of self) (commands_owed self.owed.items) self.stage }
+        ensures owed { result.owed.items ≡ owed_behind self.owed.items self.stage }
+        ensures stage { result.stage ≡ next }
+    {
+        let Begun {
+            plan,
+            stage,
+            used,
+            carried,
+            mut owed,
+        } = self;
+        match stage {
+            Stage::Carry(Phase::SyncGate) => {
+                let Some(first) = owed.pop_front() else {
+                    unreachable!()
+                };
+                Begun {
+                    plan,
+                    stage: next,
+                    used: used + first.body.span,
+                    carried: carried.behind(&first.batch),
+                    owed,
+                }
+            }
+            _ => Begun {
+                plan,
+                stage: next,
+                used,
+                carried,
+                owed,
+            },
+        }
+    }
+
+    // A batch that was just written is owed, under the epoch of the other area.
+    fn owing(self, body: EncodedBatch, epoch: u64, batch: &Batch) -> Begun
+        requires room { length self.owed.items < deque_capacity self.owed }
+        requires octets { EPOCH_OCTETS ≤ length body.octets.items }
+        ensures { IsOwing self body epoch (values batch.now.commands.items) result }
+    {
+        let Begun {
+            plan,
+            stage,
+            used,
+            carried,
+            mut owed,
+        } = self;
+        owed.push_back_reserved(OwedBatch {
+            body: body.under(epoch),
+            batch: History::of(batch),
+        });
+        Begun {
+            plan,
+            stage: stage.owing(),
+            used,
+            carried,
+            owed,
+        }
+    }
+}
+
+/// A batch that was just written is owed to the checkpoint that is paused, if one is.
+pub fn owing(begun: Option<Begun>, body: EncodedBatch, epoch: u64, batch: &Batch) -> Option<Begun>
+    requires room { HasRoom begun }
+    requires octets { EPOCH_OCTETS ≤ length body.octets.items }
+    ensures { AreOwing begun body epoch (values batch.now.commands.items) result }
+{
+    match begun {
+        Some(begun) => Some(begun.owing(body, epoch, batch)),
+        None => None,
+    }
+}
+
+/// Makes room for one batch more that is owed to a checkpoint, if one is paused.
+///
+/// # Errors
+/// Out of memory; the checkpoint is as it was.
+pub fn make_room(begun: &mut Option<Begun>) -> Result<(), AllocError>
+    ensures same { AreSame begun.old begun.new }
+    ensures room { OnOk result (HasRoom begun.new) }
+{
+    match begun {
+        Some(begun) => begun.owed.reserve(1),
+        None => Ok(()),
+    }
+}

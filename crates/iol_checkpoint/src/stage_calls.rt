@@ -1,0 +1,74 @@
+//! The disk calls of a checkpoint, by stage.
+
+ghost use Rattle.std.specs.Prelude.{◌≡◌, [], ◌∷◌, ℕ};
+ghost use Rattle.iol_types.specs.State.{State};
+ghost use Rattle.iol_checkpoint.specs.BegunParts.{log_of, commands_owed, IsBegun};
+ghost use Rattle.iol_checkpoint.specs.Checkpoints.{target, call_at};
+ghost use Rattle.iol_layout.specs.Standings.{standing_at};
+ghost use Rattle.iol_disk.specs.Calls.{Makes};
+ghost use Rattle.iol_checkpoint.specs.declared.stage.Stage.TheVariants.{Carry};
+
+use crate::begun::Begun;
+use crate::stage::Stage;
+use iol_batch::{Phase, make};
+use iol_disk::{DiskFault, SectorDisk};
+use iol_layout::{Header, Place, gate};
+
+/// Makes the disk call of a checkpoint of a journal that stands here.
+///
+/// # Errors
+/// `Write` or `Sync`, where the disk fails.
+pub fn make_stage<D: SectorDisk>(
+    disk: &mut D,
+    place: &Place,
+    begun: &Begun,
+) -> Result<(), DiskFault>
+    requires { (number : ℕ) × (state : State) × IsBegun (D.disk disk.old) (standing_at place.now number state) begun.now }
+    ensures { (number : ℕ) (state : State) → IsBegun (D.disk disk.old) (standing_at place.now number state) begun.now
+        → Makes (call_at (target (standing_at place.now number state) (log_of begun.now)) (commands_owed begun.now.owed.items)
+        begun.now.stage ∷ []) (D.disk disk.old) (D.disk disk.new) result }
+{
+    let area = place.area.other();
+    let area_gate = gate(place.layout.gate(area));
+    match begun.stage {
+        Stage::ClearHeader => {
+            let header = Header { epoch: 0, base: 0 };
+            disk.write(place.layout.header(area), &header.octets())
+        }
+        Stage::CloseGate => area_gate.close_gate(disk),
+        Stage::CloseSlot(slot) => begun.plan.close_slot(disk, slot),
+        Stage::WriteHeader => begun.plan.write_header(disk),
+        Stage::WriteRecord(i) => begun.plan.records[i].write(disk),
+        Stage::Carry(phase) => carry(disk, place, begun, phase),
+        Stage::OpenGate => area_gate.open_gate(disk),
+        Stage::SyncHeader => disk.sync(),
+        Stage::SyncClosed => disk.sync(),
+        Stage::SyncSlots => disk.sync(),
+        Stage::SyncRecords => disk.sync(),
+        Stage::SyncOpen => disk.sync(),
+    }
+}
+
+// Makes a disk call of the first batch that is owed, in the other area.
+fn carry<D: SectorDisk>(
+    disk: &mut D,
+    place: &Place,
+    begun: &Begun,
+    phase: Phase,
+) -> Result<(), DiskFault>
+    requires stage { begun.now.stage ≡ Carry phase }
+    requires begun { (number : ℕ) × (state : State) × IsBegun (D.disk disk.old) (standing_at place.now number state) begun.now }
+    ensures { (number : ℕ) (state : State) → IsBegun (D.disk disk.old) (standing_at place.now number state) begun.now
+        → Makes (call_at (target (standing_at place.now number state) (log_of begun.now)) (commands_owed begun.now.owed.items)
+        (Carry phase) ∷ []) (D.disk disk.old) (D.disk disk.new) result }
+{
+    let Some(first) = begun.owed.front() else {
+        unreachable!()
+    };
+    let place = Place {
+        area: place.area.other(),
+        used: begun.used,
+        ..*place
+    };
+    make(disk, &place, &first.body, phase)
+}

@@ -1,0 +1,3 @@
+pub mod Erasing
+pub mod Formatting
+pub mod Orders

@@ -1,0 +1,20 @@
+//! Facts with values of docs/FORMATS.md, worked out by the check: a number that is wrong in a definition and in the code
+//! alike is refused here.
+
+ghost use Rattle.std.specs.Prelude.{◌≡◌, [], ◌∷◌};
+ghost use Rattle.iol_disk.specs.Calls.{write, sync};
+ghost use Rattle.iol_layout.specs.Examples.{two_by_four};
+ghost use Rattle.iol_layout.specs.Geometry.{geometry_octets};
+ghost use Rattle.iol_layout.specs.Header.{header_octets};
+ghost use Rattle.iol_slots.specs.Gate.{open_gate, closed_gate};
+ghost use Rattle.iol_record.specs.declared.examples.TheConstants.{BLANK_RECORD};
+ghost use Rattle.iol_layout.specs.Octets.{padded};
+ghost use Rattle.iol_format.specs.Orders.{format_calls};
+
+/// The disk calls of a format for 2 ports and 4 slots: all else before the gate of the disk.
+pub fn a_format()
+    ensures { format_calls two_by_four ≡ sync ∷ write 0 (geometry_octets two_by_four) ∷ write 2 open_gate ∷ write 90 closed_gate
+        ∷ write 22 closed_gate ∷ write 39 closed_gate ∷ write 56 closed_gate ∷ write 73 closed_gate
+        ∷ write 3 (header_octets 1 0) ∷ write 91 (header_octets 0 0) ∷ write 4 (padded BLANK_RECORD) ∷ write 13 (padded BLANK_RECORD)
+        ∷ sync ∷ write 1 open_gate ∷ sync ∷ [] }
+{}

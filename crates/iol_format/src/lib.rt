@@ -1,0 +1,13 @@
+//! Formats a disk, and erases it.
+//!
+//! [`format`] makes an empty journal of a geometry, behind the gate of the disk that it opens last; [`erase`] closes that gate. A
+//! stop at any moment leaves the disk unformatted, an empty journal, or what it meant before. [`examples`] has the disk calls of a
+//! format.
+#![tactic(auto)]
+
+mod erasing;
+pub mod examples;
+mod formatting;
+
+pub use erasing::erase;
+pub use formatting::{FormatFault, format};

@@ -1,0 +1,11 @@
+pub mod Sectors
+pub mod Bodies
+pub mod Chains
+pub mod Spans
+pub mod Logs
+pub mod Frames
+pub mod Geometries
+pub mod Headers
+pub mod OtherArea
+pub mod Paddings
+pub mod ReachedBodies

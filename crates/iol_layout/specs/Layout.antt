@@ -1,0 +1,55 @@
+-- Where things stand on a disk (docs/FORMATS.md, "Disk layout").
+use Rattle.std.specs.Prelude.{ℕ, ◌+◌, ◌*◌, ◌/◌}
+use Rattle.iol_layout.specs.Geometry.{Geometry}
+use Rattle.iol_slots.specs.declared.slot.TheConstants.{BODY_SECTORS}
+use Rattle.iol_layout.specs.declared.geometry.TheConstants.{PORT_SECTORS}
+use Rattle.iol_layout.specs.declared.area.Area.{Area}
+use Rattle.iol_layout.specs.declared.area.Area.TheVariants.{A, B}
+
+-- of the two areas the other one (format, Disk layout)
+abbrev pub other : Area → Area
+other A = B
+other B = A
+
+-- how an area is laid out: its ports with the sectors of a port's record, its slots, and the sectors behind them that
+-- it leaves unused (format, Disk layout)
+pub record Layout : Type 0 where
+  pub ports : ℕ
+  pub port_sectors : ℕ
+  pub slots : ℕ
+  pub spare_sectors : ℕ
+
+-- the layout of a geometry (format, Disk layout)
+abbrev pub layout_of : Geometry → Layout
+layout_of g = record { ports = g.ports; port_sectors = PORT_SECTORS; slots = g.slots; spare_sectors = 0 }
+
+-- the sectors of an area: a gate, a header, the ports' records, slots of a gate and a body, and what is unused
+-- (format, Disk layout)
+abbrev pub area_sectors : Layout → ℕ
+area_sectors layout = 2 + layout.port_sectors * layout.ports + (1 + BODY_SECTORS) * layout.slots + layout.spare_sectors
+
+-- the sectors of a journal: the geometry, the disk's gate, and both areas (format, Disk layout)
+abbrev pub total : Layout → ℕ
+total layout = 2 + 2 * area_sectors layout
+
+-- where an area begins, with its gate (format, Disk layout)
+abbrev pub gate_at : Layout → Area → ℕ
+gate_at layout A = 2
+gate_at layout B = 2 + area_sectors layout
+
+-- where the header of an area stands: behind its gate (format, Disk layout)
+abbrev pub header_at : Layout → Area → ℕ
+header_at layout a = gate_at layout a + 1
+
+-- the first sector of a port's record; ports are counted from 0 (format, Disk layout)
+abbrev pub port_at : Layout → Area → ℕ → ℕ
+port_at layout a p = gate_at layout a + 2 + layout.port_sectors * p
+
+-- where the gate of a slot stands; slots are counted from 0 (format, Disk layout)
+abbrev pub slot_at : Layout → Area → ℕ → ℕ
+slot_at layout a k = gate_at layout a + 2 + layout.port_sectors * layout.ports + (1 + BODY_SECTORS) * k
+
+-- a sector of the body of a batch that begins in a slot: one behind the other, the gates of further slots left out;
+-- sectors are counted from 0 (format, Slots)
+abbrev pub body_at : Layout → Area → ℕ → ℕ → ℕ
+body_at layout a k j = slot_at layout a k + 1 + j + j / BODY_SECTORS

@@ -1,0 +1,9 @@
+pub mod Octets
+pub mod Body
+pub mod Geometry
+pub mod Layout
+pub mod Header
+pub mod Meaning
+pub mod Examples
+pub mod Kept
+pub mod Standings

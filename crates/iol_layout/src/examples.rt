@@ -1,0 +1,113 @@
+//! Facts with values of docs/FORMATS.md, worked out by the check: a number that is wrong in a definition and in the code
+//! alike is refused here.
+
+ghost use Rattle.std.specs.Prelude.{◌≡◌, ◌++◌, [], ◌∷◌, replicate, map, true, false};
+ghost use Rattle.iol_types.specs.Command.{Configure};
+ghost use Rattle.iol_types.specs.Examples.{example_config};
+ghost use Rattle.iol_layout.specs.Body.{body_octets, fits, slots_of};
+ghost use Rattle.iol_layout.specs.Examples.{two_by_four, first_body};
+ghost use Rattle.iol_layout.specs.Geometry.{IsGeometry, geometry_of, geometry_octets};
+ghost use Rattle.iol_layout.specs.Header.{header_of, header_octets, is_sound};
+ghost use Rattle.iol_slots.specs.Gate.{open_gate, closed_gate};
+ghost use Rattle.iol_layout.specs.Meaning.{unformatted, damaged, layout_in, greatest};
+ghost use Rattle.iol_layout.specs.Layout.{layout_of, total, gate_at, header_at, port_at, slot_at, body_at};
+ghost use Rattle.iol_layout.specs.declared.body.TheConstants.{MOST_COMMANDS, MOST_RECORD_OCTETS, BODY_HEAD_OCTETS};
+ghost use Rattle.iol_layout.specs.declared.header.TheConstants.{LAST_NUMBER};
+
+use crate::area::Area;
+use crate::geometry::{DISK_GATE, GEOMETRY};
+
+/// A geometry has 1 to 32 ports and 1 to 256 slots.
+pub fn geometries()
+    ensures least { IsGeometry (record { ports = 1; slots = 1 }) }
+    ensures most { IsGeometry (record { ports = 32; slots = 256 }) }
+    ensures no_port { ¬ IsGeometry (record { ports = 0; slots = 4 }) }
+    ensures a_33rd_port { ¬ IsGeometry (record { ports = 33; slots = 4 }) }
+    ensures no_slot { ¬ IsGeometry (record { ports = 2; slots = 0 }) }
+    ensures a_257th_slot { ¬ IsGeometry (record { ports = 2; slots = 257 }) }
+{}
+
+/// Where everything stands for 2 ports and 4 slots, on 178 sectors.
+pub fn places()
+    ensures sectors { total (layout_of two_by_four) ≡ 178 }
+    ensures geometry { GEOMETRY ≡ 0 }
+    ensures disk_gate { DISK_GATE ≡ 1 }
+    ensures gates { map (gate_at (layout_of two_by_four)) (Area.A ∷ Area.B ∷ []) ≡ 2 ∷ 90 ∷ [] }
+    ensures headers { map (header_at (layout_of two_by_four)) (Area.A ∷ Area.B ∷ []) ≡ 3 ∷ 91 ∷ [] }
+    ensures ports { map (port_at (layout_of two_by_four) Area.A) (0 ∷ 1 ∷ []) ≡ 4 ∷ 13 ∷ [] }
+    ensures slots { map (slot_at (layout_of two_by_four) Area.A) (0 ∷ 1 ∷ 2 ∷ 3 ∷ []) ≡ 22 ∷ 39 ∷ 56 ∷ 73 ∷ [] }
+    ensures bodies { map (body_at (layout_of two_by_four) Area.A 0) (0 ∷ 15 ∷ []) ≡ 23 ∷ 38 ∷ [] }
+    // A body over the slots 1 to 3: it leaves out the gates of 2 and 3, the sectors 56 and 73.
+    ensures longer { map (body_at (layout_of two_by_four) Area.A 1) (0 ∷ 15 ∷ 16 ∷ 31 ∷ 32 ∷ []) ≡ 40 ∷ 55 ∷ 57 ∷ 72 ∷ 74 ∷ [] }
+    ensures largest { total (layout_of (record { ports = 32; slots = 256 })) ≡ 9286 }
+{}
+
+/// Sector 0 of 2 ports and 4 slots: IOLS, version 1, 2 ports, 4 slots, 16 sectors of a body.
+#[tactic(auto, unfolding(crate::specs::Geometry::geometry_of, crate::specs::Octets::padded))]
+pub fn sector_0()
+    ensures written { geometry_octets two_by_four
+        ≡ (0x49 ∷ 0x4F ∷ 0x4C ∷ 0x53 ∷ 0x01 ∷ 0x02 ∷ 0x00 ∷ 0x04 ∷ 0x00 ∷ 0x10 ∷ []) ++ replicate 502 0 }
+    ensures read { geometry_of ((0x49 ∷ 0x4F ∷ 0x4C ∷ 0x53 ∷ 0x01 ∷ 0x20 ∷ 0x01 ∷ 0x00 ∷ 0x00 ∷ 0x10 ∷ []) ++ replicate 502 7)
+        ≡ Some (record { ports = 32; slots = 256 }) }
+    ensures other_mark { geometry_of ((0x49 ∷ 0x4F ∷ 0x4C ∷ 0x54 ∷ 0x01 ∷ 0x02 ∷ 0x00 ∷ 0x04 ∷ 0x00 ∷ 0x10 ∷ []) ++ replicate 502 0)
+        ≡ None }
+    ensures other_version { geometry_of ((0x49 ∷ 0x4F ∷ 0x4C ∷ 0x53 ∷ 0x02 ∷ 0x02 ∷ 0x00 ∷ 0x04 ∷ 0x00 ∷ 0x10 ∷ []) ++ replicate 502 0)
+        ≡ None }
+    ensures other_body { geometry_of ((0x49 ∷ 0x4F ∷ 0x4C ∷ 0x53 ∷ 0x01 ∷ 0x02 ∷ 0x00 ∷ 0x04 ∷ 0x00 ∷ 0x11 ∷ []) ++ replicate 502 0)
+        ≡ None }
+{}
+
+/// The header of an area in its first epoch, and which headers are sound.
+#[tactic(auto, unfolding(crate::specs::Header::header_of, crate::specs::Octets::padded))]
+pub fn headers()
+    ensures written { header_octets 1 258 ≡ (0 ∷ 0 ∷ 0 ∷ 0 ∷ 0 ∷ 0 ∷ 0 ∷ 1 ∷ 0 ∷ 0 ∷ 0 ∷ 0 ∷ 0 ∷ 0 ∷ 1 ∷ 2 ∷ []) ++ replicate 496 0 }
+    ensures read { header_of ((0 ∷ 0 ∷ 0 ∷ 0 ∷ 0 ∷ 0 ∷ 0 ∷ 1 ∷ 0 ∷ 0 ∷ 0 ∷ 0 ∷ 0 ∷ 0 ∷ 1 ∷ 2 ∷ []) ++ replicate 496 7)
+        ≡ record { epoch = 1; base = 258 } }
+    ensures first { is_sound (record { epoch = 1; base = 0 }) ≡ true }
+    ensures never_used { is_sound (record { epoch = 0; base = 0 }) ≡ false }
+    ensures too_new { is_sound (record { epoch = 2; base = 0 }) ≡ false }
+    ensures last { is_sound (record { epoch = 1; base = 4611686018427387904 }) ≡ true }
+    ensures over { is_sound (record { epoch = 1; base = 4611686018427387905 }) ≡ false }
+{}
+
+/// The limits of batches: 64 commands, 8,170 octets of records in one slot behind a head of 22, numbers up to 2^62.
+pub fn limits()
+    ensures commands { MOST_COMMANDS ≡ 64 }
+    ensures records { MOST_RECORD_OCTETS ≡ 8170 }
+    ensures head { BODY_HEAD_OCTETS ≡ 22 }
+    ensures numbers { LAST_NUMBER ≡ 4611686018427387904 }
+    ensures first_head { fits (record { epoch = 1; first = 1; count = 1; octets = 10 }) 1 1 ≡ true }
+    ensures no_command { fits (record { epoch = 1; first = 1; count = 0; octets = 10 }) 1 1 ≡ false }
+    ensures last_count { fits (record { epoch = 1; first = 1; count = 64; octets = 8170 }) 1 1 ≡ true }
+    ensures a_65th_command { fits (record { epoch = 1; first = 1; count = 65; octets = 10 }) 1 1 ≡ false }
+    ensures one_slot { slots_of 8170 ≡ 1 }
+    ensures two_slots { slots_of 8171 ≡ 2 }
+    ensures all_slots { slots_of 2097130 ≡ 256 }
+    ensures last_number { fits (record { epoch = 1; first = 4611686018427387904; count = 1; octets = 10 }) 1 4611686018427387904 ≡ true }
+    ensures past_the_last { fits (record { epoch = 1; first = 4611686018427387904; count = 2; octets = 20 }) 1 4611686018427387904 ≡ false }
+    ensures other_epoch { fits (record { epoch = 2; first = 1; count = 1; octets = 10 }) 1 1 ≡ false }
+    ensures other_first { fits (record { epoch = 1; first = 2; count = 1; octets = 10 }) 1 1 ≡ false }
+{}
+
+/// The body of the first slot with one Configure: epoch 1, number 1, one command, 10 octets, the record, and zeros.
+#[tactic(auto, unfolding(crate::specs::Body::body_octets, crate::specs::Octets::padded))]
+pub fn the_first_body()
+    ensures { body_octets 1 1 (Configure 1 example_config ∷ []) ≡ first_body }
+{}
+
+/// Why an image means nothing: there is no gate of the disk, the disk is smaller than its geometry, no area is open, both are
+/// open under one epoch, or the header in use is out of its bounds.
+#[tactic(auto, unfolding(crate::specs::Geometry::geometry_of, iol_slots::specs::Gate::is_open, iol_slots::specs::Gate::open_gate, iol_slots::specs::Gate::closed_gate))]
+pub fn first_causes()
+    ensures one_sector { layout_in 1 (λ i. open_gate) ≡ Err unformatted }
+    ensures closed_disk { layout_in 178 (λ i. closed_gate) ≡ Err unformatted }
+    ensures no_geometry { layout_in 2 (λ i. open_gate) ≡ Err (damaged 0) }
+    ensures no_area { greatest (layout_of two_by_four) None None ≡ Err (damaged 2) }
+    ensures one_epoch { greatest (layout_of two_by_four) (Some (record { epoch = 1; base = 0 })) (Some (record { epoch = 1; base = 5 }))
+        ≡ Err (damaged 91) }
+    ensures newer_b { greatest (layout_of two_by_four) (Some (record { epoch = 1; base = 0 })) (Some (record { epoch = 2; base = 1 }))
+        ≡ Ok (record { area = Area.B; header = record { epoch = 2; base = 1 } }) }
+    ensures unsound_a { greatest (layout_of two_by_four) (Some (record { epoch = 3; base = 0 })) (Some (record { epoch = 2; base = 1 }))
+        ≡ Err (damaged 3) }
+    ensures unsound_b { greatest (layout_of two_by_four) None (Some (record { epoch = 0; base = 0 })) ≡ Err (damaged 91) }
+{}

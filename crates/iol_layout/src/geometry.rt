@@ -1,0 +1,123 @@
+//! The ports and slots of a journal.
+
+use crate::layout::Layout;
+use crate::numbers::array_at;
+use crate::sector::sector_of;
+use iol_disk::SECTOR_OCTETS;
+use iol_slots::BODY_SECTORS;
+use std::marker::Model;
+
+// The most ports that a master has.
+pub(crate) const MOST_PORTS: u16 = 32;
+/// The most slots that an area has.
+pub const MOST_SLOTS: u16 = 256;
+/// The sectors of a port's record.
+pub const PORT_SECTORS: usize = 9;
+
+/// The sector that says the geometry.
+pub const GEOMETRY: usize = 0;
+/// The gate of the disk.
+pub const DISK_GATE: usize = 1;
+// What the geometry's sector begins with: the letters IOLS, and the version of the layout.
+pub(crate) const GEOMETRY_MARK: [u8; 5] = [0x49, 0x4F, 0x4C, 0x53, 0x01];
+
+/// The ports and slots of a journal, and with them where everything stands on its disk
+/// (docs/FORMATS.md, "Disk layout").
+#[derive(Clone, Copy)]
+pub struct Geometry {
+    ports: u8,
+    slots: u16,
+}
+
+impl Model for Geometry {
+    ghost use Rattle.iol_layout.specs.Geometry.{Geometry as Shape, IsGeometry};
+
+    ghost Value = { Shape };
+
+    ghost view = { λ g. record { ports = g.ports; slots = g.slots } };
+
+    ghost invariant = { λ g. IsGeometry (record { ports = g.ports; slots = g.slots }) };
+
+    ghost inverse = { λ s. record { ports = s.ports; slots = s.slots } };
+}
+
+impl Geometry {
+    ghost use Rattle.std.specs.Prelude.{◌≡◌, ◌<◌, ◌≤◌, Some, IfSome, IfNone};
+    ghost use Rattle.iol_layout.specs.Geometry.{IsGeometry, geometry_of, geometry_octets};
+    ghost use Rattle.iol_layout.specs.Layout.{layout_of, total};
+
+    /// The geometry of so many ports, 1 to 32, and of so many slots in each area, 1 to 256.
+    pub fn new(ports: u16, slots: u16) -> Option<Geometry>
+        ensures some { IfSome result (λ g. (g.ports ≡ ports) × (g.slots ≡ slots) × IsGeometry g) }
+        ensures none { IfNone result (IsGeometry (record { ports = ports; slots = slots }) → ⊥) }
+    {
+        if ports == 0 || MOST_PORTS < ports || slots == 0 || MOST_SLOTS < slots {
+            return None;
+        }
+        Some(Geometry {
+            ports: ports as u8,
+            slots,
+        })
+    }
+
+    /// The geometry that its sector says, or `None` where the sector says none.
+    #[tactic(auto, unfolding(crate::specs::Geometry::geometry_of))]
+    pub fn read(octets: &[u8; SECTOR_OCTETS]) -> Option<Geometry>
+        ensures { result ≡ geometry_of octets.now }
+    {
+        if octets.starts_with(&GEOMETRY_MARK)
+            && u16::from_be_bytes(array_at(octets, 8)) as usize == BODY_SECTORS
+        {
+            Geometry::new(
+                u16::from(octets[5]),
+                u16::from_be_bytes(array_at(octets, 6)),
+            )
+        } else {
+            None
+        }
+    }
+
+    /// The octets of its sector.
+    pub fn octets(self) -> [u8; SECTOR_OCTETS]
+        ensures { result ≡ geometry_octets self }
+    {
+        let mut octets = [0; 10];
+        octets[..5].copy_from_slice(&GEOMETRY_MARK);
+        octets[5] = self.ports;
+        octets[6..8].copy_from_slice(&self.slots.to_be_bytes());
+        octets[8..].copy_from_slice(&(BODY_SECTORS as u16).to_be_bytes());
+        sector_of(&octets)
+    }
+
+    /// How many ports there are.
+    pub fn ports(self) -> u8
+        ensures value { result ≡ self.ports }
+        ensures bound { result ≤ 32 }
+    {
+        self.ports
+    }
+
+    /// How many slots each area has.
+    pub fn slots(self) -> usize
+        ensures { result ≡ self.slots }
+    {
+        self.slots as usize
+    }
+
+    /// How many sectors a disk needs.
+    pub fn sectors(self) -> usize
+        ensures within { IsGeometry self }
+        ensures total { result ≡ total (layout_of self) }
+        ensures bound { result < 10000 }
+    {
+        let _ports = self.ports;
+        self.layout().sectors()
+    }
+
+    /// Where everything stands on its disk.
+    pub fn layout(self) -> Layout
+        ensures { result ≡ layout_of self }
+    {
+        Layout::of(self)
+    }
+}

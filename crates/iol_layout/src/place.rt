@@ -1,0 +1,33 @@
+//! Where a journal writes next.
+
+use crate::area::Area;
+use crate::idle::Idle;
+use crate::layout::Layout;
+use iol_slots::Slot;
+
+/// Where a journal writes next.
+#[derive(Clone, Copy)]
+pub struct Place {
+    pub layout: Layout,
+    pub area: Area,
+    pub epoch: u64,
+    pub used: usize,
+    pub idle: Idle,
+}
+
+impl Place {
+    ghost use Rattle.std.specs.Prelude.{◌≡◌, ◌≤◌, ◌+◌, ◌*◌};
+    ghost use Rattle.iol_layout.specs.Layout.{slot_at, body_at};
+    ghost use Rattle.iol_slots.specs.declared.slot.TheConstants.{BODY_SECTORS};
+
+    /// So many slots, from the first one that is not used on.
+    pub fn slot(&self, span: usize) -> Slot
+        requires { self.now.used + span ≤ self.now.layout.slots }
+        ensures gate { result.gate ≡ slot_at self.now.layout self.now.area self.now.used }
+        ensures body { result.body ≡ body_at self.now.layout self.now.area self.now.used 0 }
+        ensures span { result.span ≡ span }
+        ensures sectors { result.sectors ≡ BODY_SECTORS * span }
+    {
+        self.layout.slot(self.area, self.used, span)
+    }
+}

@@ -1,0 +1,55 @@
+-- What is read after a sync, and what the parts that were read say of the journal.
+use Rattle.std.proofs.Common.{◌≡◌, ℕ, IsTrue, [], ◌∷◌, Result, Ok, Err, sym, ◌∙◌, ap, subst}
+use Rattle.iol_disk.specs.Content.{Image, reads, synced}
+use Rattle.iol_disk.specs.Calls.{sync, FailedIn}
+use Rattle.iol_disk.specs.Disk.{Disk, After, Same, Shows}
+use Rattle.iol_disk.specs.declared.fault.DiskFault.{DiskFault}
+use Rattle.iol_disk.specs.declared.fault.DiskFault.TheVariants.{Read, Write, Sync}
+use Rattle.iol_layout.specs.Layout.{Layout}
+use Rattle.iol_layout.specs.Meaning.{Cause, layout_in, in_use_in}
+use Rattle.iol_recovery.specs.Reading.{SaysWhy}
+use Rattle.iol_recovery.specs.Finding.{HasChosen, MakesRecovery}
+use Rattle.iol_layout.specs.declared.in_use.InUse.{InUse}
+use Rattle.iol_recovery.specs.declared.cause.RecoverCause.{RecoverCause}
+use Rattle.iol_recovery.specs.declared.cause.RecoverCause.TheVariants as cause
+use Rattle.iol_disk.proofs.Synced.{synced-honest, synced-then, synced-reads, no_read}
+
+-- what is found after a sync is what the disk read as before it
+pub found_after : {Y : Type 0} (old new : Disk) (read : Image → Result Y Cause) (y : Y) → After synced old new
+    → Shows new (λ image. read image ≡ Ok y) → Shows old (λ image. read image ≡ Ok y)
+found_after old new read y after is h = ap read (sym (synced-reads old new after h)) ∙ is (synced-honest old new after h)
+
+pub layout_after : (old new : Disk) (layout : Layout) → After synced old new
+    → Shows new (λ image. layout_in new.sectors image ≡ Ok layout) → Shows old (λ image. layout_in old.sectors image ≡ Ok layout)
+layout_after old new layout after is h =
+    ap (λ (n : ℕ). layout_in n (reads old.content)) (sym after.sectors) ∙ found_after old new (layout_in new.sectors) layout after is h
+
+-- a cause that is met in a part after a sync is met in the whole
+pub cause_after : {Y Z : Type 0} (old mid : Disk) (part : Image → Result Y Cause) (whole : Image → Result Z Cause) (told : RecoverCause)
+    → After synced old mid
+    → (IsTrue old.honest → SaysWhy (part (reads old.content)) told → SaysWhy (whole (reads old.content)) told)
+    → Shows mid (λ image. SaysWhy (part image) told) → Shows old (λ image. SaysWhy (whole image) told)
+cause_after old mid part whole told after carries is = λ h.
+    carries h (subst (λ (image : Image). SaysWhy (part image) told) (synced-reads old mid after h) (is (synced-honest old mid after h)))
+
+-- the geometry is sound and an area is in use, where both were found after a sync
+pub areas_found : (old first second : Disk) (layout : Layout) (used : InUse) → After synced old first → Same first second
+    → Shows first (λ image. layout_in first.sectors image ≡ Ok layout) → Shows second (λ image. in_use_in layout image ≡ Ok used)
+    → Shows old (λ image. (layout_in old.sectors image ≡ Ok layout) × (in_use_in layout image ≡ Ok used))
+areas_found old first second layout used after same laid_out in_use h = (
+  layout_after old first layout after laid_out h,
+  found_after old second (in_use_in layout) used (synced-then old first second after same) in_use h,
+)
+
+pub chosen_after : (old first second : Disk) (layout : Layout) (used : InUse) → After synced old first → Same first second
+    → Shows first (λ image. layout_in first.sectors image ≡ Ok layout) → Shows second (λ image. in_use_in layout image ≡ Ok used)
+    → Shows old (HasChosen old.sectors)
+chosen_after old first second layout used after same laid_out in_use h =
+    let areas = areas_found old first second layout used after same laid_out in_use h in (layout, used, areas.0, areas.1)
+
+-- a sync that failed ends a recovery
+pub recovery_failed : (T : Type 0) (told : DiskFault) (old new : Disk) → FailedIn (sync ∷ []) told old new
+    → MakesRecovery {T = T} old new (Err (cause.Disk told))
+recovery_failed T Read old new failed = absurd (no_read failed.call failed.failed.kind)
+recovery_failed T Write old new failed = failed
+recovery_failed T Sync old new failed = failed

@@ -1,0 +1,67 @@
+use Rattle.std.proofs.Common.{◌+◌, ◌++◌, List, ℕ, refl, sym, ap, ◌∙◌, arith, rules}
+use Rattle.iol_disk.specs.Content.{reads}
+use Rattle.iol_record.specs.Reading.{port_record_at}
+use Rattle.iol_record.specs.declared.fault.RecordFault.TheVariants.{BadTag, BadField}
+use Rattle.iol_record.proofs.RecordLaws.{port_record_at-nothing}
+use Rattle.iol_recovery.proofs.PortReadings.{none-read, port-read, port-damaged}
+use Rattle.iol_layout.proofs.ReachedBodies.{one_more}
+use Rattle.iol_disk.proofs.Unchanged.{same-then}
+use Rattle.iol_recovery.proofs.snapshot.read_port.Goals as goal
+
+pub loop-j-init : goal.loop-j-init
+loop-j-init g c = record {
+  same = search rules;
+  quiet = refl;
+  read = λ h. c.clear.ensures.items ∙ none-read (reads (g.D.SectorDisk.disk c.args.disk.now).content) c.args.sector;
+  short = ap port_record_at c.clear.ensures.items ∙ port_record_at-nothing;
+}
+
+pub returns-in-Ok-clause-finds : goal.returns-in-Ok-clause-finds
+returns-in-Ok-clause-finds g c = λ h.
+    let old = g.D.SectorDisk.disk c.args.disk.now in
+    let kept = c.loop-j.invariant in
+    let read = one_more old (g.D.SectorDisk.disk c.loop-j.disk) c.args.sector c.loop-j.j c.loop-j.octets.items
+    c.extend_from_slice.new.self.items kept.same kept.read
+    (λ now. c.in_ok-extend_from_slice.ensures.items
+    ∙ ap (λ (more : List ℕ). c.loop-j.octets.items ++ more) (c.in_ok-read_sector.ensures.read now)) in
+    port-read (reads old.content) c.args.sector c.args.sectors (c.loop-j.j + 1) c.extend_from_slice.new.self.items (read h)
+    (omega (arith, c.loop-j-test.true)) c.in-Ok.port _
+    (ap port_record_at (sym c.deref.ensures.value) ∙ c.in-Ok.ensures.exact)
+
+pub loop-j-preserved : goal.loop-j-preserved
+loop-j-preserved g c =
+    let old = g.D.SectorDisk.disk c.args.disk.now in
+    let kept = c.loop-j.invariant in
+    record {
+      same = same-then _ _ _ kept.same c.read_sector.ensures.same;
+      quiet = c.in_ok-read_sector.ensures.fault ∙ kept.quiet;
+      read = one_more old (g.D.SectorDisk.disk c.loop-j.disk) c.args.sector c.loop-j.j c.loop-j.octets.items
+          c.extend_from_slice.new.self.items kept.same kept.read
+          (λ now. c.in_ok-extend_from_slice.ensures.items
+          ∙ ap (λ (more : List ℕ). c.loop-j.octets.items ++ more) (c.in_ok-read_sector.ensures.read now));
+      short = ap port_record_at (sym c.deref.ensures.value) ∙ rw c.in-Err-Short.field-0-is at c.in-Err-Short.ensures.exact;
+    }
+
+pub returns-in-Err-BadTag-clause-finds : goal.returns-in-Err-BadTag-clause-finds
+returns-in-Err-BadTag-clause-finds g c = λ h.
+    let old = g.D.SectorDisk.disk c.args.disk.now in
+    let kept = c.loop-j.invariant in
+    let read = one_more old (g.D.SectorDisk.disk c.loop-j.disk) c.args.sector c.loop-j.j c.loop-j.octets.items
+    c.extend_from_slice.new.self.items kept.same kept.read
+    (λ now. c.in_ok-extend_from_slice.ensures.items
+    ∙ ap (λ (more : List ℕ). c.loop-j.octets.items ++ more) (c.in_ok-read_sector.ensures.read now)) in
+    port-damaged (reads old.content) c.args.sector c.args.sectors (c.loop-j.j + 1) c.extend_from_slice.new.self.items (read h)
+    (omega (arith, c.loop-j-test.true)) BadTag
+    (λ is. cc) (ap port_record_at (sym c.deref.ensures.value) ∙ rw c.in-Err-BadTag.field-0-is at c.in-Err-BadTag.ensures.exact)
+
+pub returns-in-Err-BadField-clause-finds : goal.returns-in-Err-BadField-clause-finds
+returns-in-Err-BadField-clause-finds g c = λ h.
+    let old = g.D.SectorDisk.disk c.args.disk.now in
+    let kept = c.loop-j.invariant in
+    let read = one_more old (g.D.SectorDisk.disk c.loop-j.disk) c.args.sector c.loop-j.j c.loop-j.octets.items
+    c.extend_from_slice.new.self.items kept.same kept.read
+    (λ now. c.in_ok-extend_from_slice.ensures.items
+    ∙ ap (λ (more : List ℕ). c.loop-j.octets.items ++ more) (c.in_ok-read_sector.ensures.read now)) in
+    port-damaged (reads old.content) c.args.sector c.args.sectors (c.loop-j.j + 1) c.extend_from_slice.new.self.items (read h)
+    (omega (arith, c.loop-j-test.true)) BadField
+    (λ is. cc) (ap port_record_at (sym c.deref.ensures.value) ∙ rw c.in-Err-BadField.field-0-is at c.in-Err-BadField.ensures.exact)

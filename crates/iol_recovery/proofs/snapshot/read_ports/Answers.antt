@@ -1,0 +1,79 @@
+use Rattle.std.proofs.Common.{◌≡◌, ◌+◌, ◌-◌, ◌<◌, ℕ, Ok, Err, Result, length, take, set, ap, subst, ◌∙◌, refl, sym, arith, rules}
+use Rattle.std.proofs.Math.Seq.{take-length}
+use Rattle.std.proofs.lemmas.Grind.{common_steps}
+use Rattle.std.proofs.lemmas.Result.{err_from_is_err_and}
+use Rattle.std.proofs.lemmas.List.{take_more_set, length-set}
+use Rattle.iol_types.specs.State.{State}
+use Rattle.iol_disk.specs.Content.{reads}
+use Rattle.iol_layout.specs.Layout.{port_at}
+use Rattle.iol_layout.specs.Meaning.{Cause, ports_from}
+use Rattle.iol_recovery.specs.Reading.{SaysWhy}
+use Rattle.iol_disk.proofs.Unchanged.{same-then}
+use Rattle.iol_recovery.proofs.Snapshots.{with_front, with_front-none, ports-more, ports-stopped, ports-ended, port_shown}
+use Rattle.iol_recovery.proofs.snapshot.read_ports.Goals as goal
+
+pub loop-place-init : goal.loop-place-init
+loop-place-init g c = record {
+  same = search rules;
+  quiet = refl;
+  ports = grind (arith, common_steps);
+  read = λ h left is.
+      let all : left ≡ c.args.layout.ports = omega arith in
+      with_front-none _ ∙ ap (λ (n : ℕ). ports_from c.args.layout c.args.area (reads (g.D.SectorDisk.disk c.args.disk.now).content) 0 n)
+      all;
+}
+
+-- the port that was read is that of its record
+pub loop-place-preserved : goal.loop-place-preserved
+loop-place-preserved g c =
+    let old = g.D.SectorDisk.disk c.args.disk.now in
+    let kept = c.loop-place.invariant in
+    let number = rw c.unwrap.ensures at c.new-in-loop-place.ensures.number in
+    let place : c.unwrap.result - 1 ≡ c.loop-place.place = omega (arith, number) in
+    let stored : c.set_port.new.self ≡ set c.loop-place.state c.loop-place.place c.in_ok-port.port =
+    c.set_port.ensures ∙ ap (λ (n : ℕ). set c.loop-place.state n c.in_ok-port.port) place in
+    let inside : c.loop-place.place < length c.loop-place.state = omega (arith, kept.ports, c.ports-place-end.ensures.value) in
+    record {
+      same = same-then _ _ _ kept.same c.read_port.ensures.same;
+      quiet = c.in_ok-port.ensures.counted ∙ kept.quiet;
+      ports = ap (λ (state : State). length state) stored ∙ length-set c.loop-place.state c.loop-place.place c.in_ok-port.port ∙ kept.ports;
+      read = λ h left is.
+          let here = port_shown old (g.D.SectorDisk.disk c.loop-place.disk) (port_at c.args.layout c.args.area c.loop-place.place)
+          c.port-sector.result
+          c.port_sectors.result c.args.layout.port_sectors (Ok c.in_ok-port.port) kept.same
+          (c.port-sector.ensures.at ∙ ap (port_at c.args.layout c.args.area) c.from.ensures) c.port_sectors.ensures.value
+          c.in_ok-port.ensures.finds h in
+          ap (λ (state : State). with_front state (ports_from c.args.layout c.args.area (reads old.content) (c.loop-place.place + 1) left))
+          (ap (λ (state : State). take (c.loop-place.place + 1) state) stored
+          ∙ take_more_set c.loop-place.state c.loop-place.place c.in_ok-port.port inside)
+          ∙ sym (ports-more c.args.layout c.args.area (reads old.content) c.loop-place.place left
+          (take c.loop-place.place c.loop-place.state) c.in_ok-port.port here)
+          ∙ kept.read h (left + 1) (omega arith);
+    }
+
+pub returns-in_err-port-clause-finds : goal.returns-in_err-port-clause-finds
+returns-in_err-port-clause-finds g c = λ h.
+    let old = g.D.SectorDisk.disk c.args.disk.now in
+    let kept = c.loop-place.invariant in
+    let left = c.args.layout.ports - (c.loop-place.place + 1) in
+    let p = err_from_is_err_and c.from_residual-in_err-port.result c.from_residual-in_err-port.ensures.1 in
+    let here = port_shown old (g.D.SectorDisk.disk c.loop-place.disk) (port_at c.args.layout c.args.area c.loop-place.place)
+    c.port-sector.result
+    c.port_sectors.result c.args.layout.port_sectors (Err c.in_err-port.field-0.0) kept.same
+    (c.port-sector.ensures.at ∙ ap (port_at c.args.layout c.args.area) c.from.ensures) c.port_sectors.ensures.value
+    c.in_err-port.ensures.finds h in
+    rw (p.1, p.2)
+    (subst (λ (ports : Result State Cause). SaysWhy ports c.in_err-port.field-0.0)
+    (kept.read h (left + 1) (omega (arith, c.ports-place-end.ensures.value)))
+    (ports-stopped c.args.layout c.args.area (reads old.content) c.loop-place.place left (take c.loop-place.place c.loop-place.state)
+    c.in_err-port.field-0.0 here))
+
+pub returns-clause-finds : goal.returns-clause-finds
+returns-clause-finds g c = λ h.
+    let done : c.loop-place.place ≡ c.args.layout.ports = omega (arith, c.ports-place-end.ensures.value) in
+    let place : c.loop-place.place ≡ length c.loop-place.state = omega (arith, done, c.loop-place.invariant.ports) in
+    let all : take c.loop-place.place c.loop-place.state ≡ c.loop-place.state =
+    ap (λ (n : ℕ). take n c.loop-place.state) place ∙ take-length c.loop-place.state in
+    sym (c.loop-place.invariant.read h 0 (omega arith))
+    ∙ ports-ended c.args.layout c.args.area (reads (g.D.SectorDisk.disk c.args.disk.now).content) c.loop-place.place _
+    ∙ ap (λ (state : State). Ok state) all

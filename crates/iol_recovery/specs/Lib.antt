@@ -1,0 +1,5 @@
+pub mod Faults
+pub mod Finding
+pub mod Reading
+pub mod Replay
+pub mod Survey

@@ -1,0 +1,11 @@
+-- Where the commands of a batch lead, and the octets in which they stand.
+use Rattle.std.specs.Prelude.{ℕ, ◌+◌, if◌then◌else◌, List, length, Option, Some, None}
+use Rattle.iol_types.specs.Command.{CommandValue}
+use Rattle.iol_types.specs.State.{State, after, legal}
+use Rattle.iol_layout.specs.Meaning.{Meaning}
+
+-- what commands make of the state after so many, if they are there, and legal (own)
+abbrev pub reached : ℕ → State → Option (List CommandValue) → Option Meaning
+reached number state None = None
+reached number state (Some commands) =
+    if legal state commands then Some (record { number = number + length commands; state = after state commands }) else None

@@ -1,0 +1,44 @@
+//! Why a disk is not recovered.
+
+use iol_disk::DiskFault;
+use std::alloc::AllocError;
+use thiserror::Error;
+
+/// Why a disk was not recovered, as first met in the order of reading (docs/FORMATS.md, "Recovery").
+#[derive(Clone, Copy, Debug, PartialEq, Eq, Error)]
+pub enum RecoverCause {
+    /// A call of the disk failed.
+    #[error("{0}")]
+    Disk(DiskFault),
+    /// The gate of the disk is closed, or there is no such sector.
+    #[error("the disk is not formatted")]
+    NotFormatted,
+    /// What stands from this sector on is nothing that a journal writes.
+    #[error("damaged at sector {sector}")]
+    Damaged { sector: usize },
+    /// Memory ran out.
+    #[error("out of memory")]
+    Memory,
+}
+
+impl From<DiskFault> for RecoverCause {
+    ghost use Rattle.std.specs.Prelude.{◌≡◌};
+    ghost use Rattle.iol_recovery.specs.declared.cause.RecoverCause.TheVariants.{Disk};
+
+    ghost from_gives = { λ fault cause. cause ≡ Disk fault };
+
+    fn from(fault: DiskFault) -> RecoverCause {
+        RecoverCause::Disk(fault)
+    }
+}
+
+impl From<AllocError> for RecoverCause {
+    ghost use Rattle.std.specs.Prelude.{◌≡◌};
+    ghost use Rattle.iol_recovery.specs.declared.cause.RecoverCause.TheVariants.{Memory};
+
+    ghost from_gives = { λ _ cause. cause ≡ Memory };
+
+    fn from(_error: AllocError) -> RecoverCause {
+        RecoverCause::Memory
+    }
+}

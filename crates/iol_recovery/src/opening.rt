@@ -1,0 +1,177 @@
+//! The first reads of a recovery: the layout, and the area in use.
+
+ghost use Rattle.std.specs.Prelude.{◌≡◌, ◌<◌, ◌≤◌, ◌+◌, Some, None, Err, IfOk, IfErr, if◌then◌else◌};
+ghost use Rattle.iol_disk.specs.Disk.{Same, FailsOnlyAs, Shows};
+ghost use Rattle.iol_disk.specs.declared.fault.DiskFault.{DiskFault};
+ghost use Rattle.iol_recovery.specs.Faults.{Counted, IsFault};
+ghost use Rattle.iol_layout.specs.Layout.{other, total, header_at};
+ghost use Rattle.iol_layout.specs.Header.{header_of};
+ghost use Rattle.iol_layout.specs.Meaning.{layout_in, header_in, greatest, in_use, in_use_in};
+ghost use Rattle.iol_recovery.specs.Reading.{Says, Finds};
+ghost use Rattle.iol_layout.specs.declared.header.TheConstants.{LAST_NUMBER};
+
+use crate::cause::RecoverCause;
+use iol_disk::{DiskFault, SectorDisk};
+use iol_layout::{
+    Area, GEOMETRY, Geometry, Header, InUse, Layout, gate, is_formatted, read_sector,
+};
+
+// The layout of a formatted disk.
+pub(crate) fn find_layout<D: SectorDisk>(disk: &mut D) -> Result<Layout, RecoverCause>
+    ensures fits { IfOk result (λ layout. total layout ≤ (D.disk disk.old).sectors) }
+    ensures finds { Finds (λ layout. layout) (D.disk disk.old) (layout_in (D.disk disk.old).sectors) result }
+    ensures counted { Counted (D.disk disk.old) (D.disk disk.new) result }
+    ensures takes_no_memory { result ≡ Err RecoverCause.Memory → ⊥ }
+    ensures same { Same (D.disk disk.old) (D.disk disk.new) }
+{
+    let sectors = disk.sectors();
+    if !is_formatted(disk)? {
+        return Err(RecoverCause::NotFormatted);
+    }
+    let octets = read_sector(disk, GEOMETRY)?;
+    match Geometry::read(&octets) {
+        Some(geometry) if geometry.sectors() <= sectors => Ok(geometry.layout()),
+        _ => Err(RecoverCause::Damaged { sector: GEOMETRY }),
+    }
+}
+
+// The area in use, and the header of the other.
+#[derive(Clone, Copy)]
+pub(crate) struct Areas {
+    pub in_use: InUse,
+    pub other: Header,
+}
+
+// Reads the gates, the headers of the open areas, and then the other one's where that is closed.
+pub(crate) fn find_areas<D: SectorDisk>(disk: &mut D, layout: Layout) -> Result<Areas, RecoverCause>
+    requires { total layout ≤ (D.disk disk.old).sectors }
+    ensures finds { Finds (λ areas. areas.in_use) (D.disk disk.old) (in_use_in layout) result }
+    ensures other { IfOk result (λ areas.
+        Shows (D.disk disk.old) (λ image. areas.other ≡ header_of (image (header_at layout (other areas.in_use.area))))) }
+    ensures base { IfOk result (λ areas. areas.in_use.header.base ≤ LAST_NUMBER) }
+    ensures begun { IfOk result (λ areas. areas.in_use.header.epoch ≤ areas.in_use.header.base + 1) }
+    ensures counted { Counted (D.disk disk.old) (D.disk disk.new) result }
+    ensures takes_no_memory { result ≡ Err RecoverCause.Memory → ⊥ }
+    ensures same { Same (D.disk disk.old) (D.disk disk.new) }
+{
+    let (a, b) = read_open_headers(disk, layout)?;
+    let in_use = greatest_of(layout, a, b)?;
+    let other = in_use.area.other();
+    let read = match other {
+        Area::A => a,
+        Area::B => b,
+    };
+    let other = match read {
+        Some(header) => header,
+        None => read_header(disk, layout, other)?,
+    };
+    Ok(Areas { in_use, other })
+}
+
+/// Reads both gates, and then the headers of the open areas: that of A, and that of B.
+///
+/// # Errors
+/// `Read` where the disk fails.
+pub fn read_open_headers<D: SectorDisk>(
+    disk: &mut D,
+    layout: Layout,
+) -> Result<(Option<Header>, Option<Header>), DiskFault>
+    requires { total layout ≤ (D.disk disk.old).sectors }
+    ensures read { IfOk result (λ (a, b).
+        Shows (D.disk disk.old) (λ image. (a ≡ header_in layout image Area.A) × (b ≡ header_in layout image Area.B))) }
+    ensures same { Same (D.disk disk.old) (D.disk disk.new) }
+    ensures fault { FailsOnlyAs DiskFault.Read (D.disk disk.old) (D.disk disk.new) result }
+{
+    let open_a = gate(layout.gate(Area::A)).is_open(disk)?;
+    let open_b = gate(layout.gate(Area::B)).is_open(disk)?;
+    let a = read_if(disk, layout, Area::A, open_a)?;
+    let b = read_if(disk, layout, Area::B, open_b)?;
+    Ok((a, b))
+}
+
+/// Reads the header of an area, whether its gate is open or closed.
+///
+/// # Errors
+/// `Read` where the disk fails.
+pub fn read_header<D: SectorDisk>(
+    disk: &mut D,
+    layout: Layout,
+    area: Area,
+) -> Result<Header, DiskFault>
+    requires { total layout ≤ (D.disk disk.old).sectors }
+    ensures read { IfOk result (λ header. Shows (D.disk disk.old) (λ image. header ≡ header_of (image (header_at layout area)))) }
+    ensures same { Same (D.disk disk.old) (D.disk disk.new) }
+    ensures fault { FailsOnlyAs DiskFault.Read (D.disk disk.old) (D.disk disk.new) result }
+{
+    let octets = read_sector(disk, layout.header(area))?;
+    Ok(Header::read(&octets))
+}
+
+fn read_if<D: SectorDisk>(
+    disk: &mut D,
+    layout: Layout,
+    area: Area,
+    wanted: bool,
+) -> Result<Option<Header>, DiskFault>
+    requires { total layout ≤ (D.disk disk.old).sectors }
+    ensures read { IfOk result (λ header.
+        Shows (D.disk disk.old) (λ image. header ≡ (if wanted then Some (header_of (image (header_at layout area))) else None))) }
+    ensures same { Same (D.disk disk.old) (D.disk disk.new) }
+    ensures fault { FailsOnlyAs DiskFault.Read (D.disk disk.old) (D.disk disk.new) result }
+{
+    if wanted {
+        Ok(Some(read_header(disk, layout, area)?))
+    } else {
+        Ok(None)
+    }
+}
+
+/// Of the open areas, of which these are the headers, the one that is in use: that with the greatest epoch.
+///
+/// # Errors
+/// `Damaged`, as "Recovery" of docs/FORMATS.md has it, where no area is open, both have one epoch, or the header of the
+/// one with the greatest is out of its bounds.
+pub fn greatest_of(
+    layout: Layout,
+    a: Option<Header>,
+    b: Option<Header>,
+) -> Result<InUse, RecoverCause>
+    ensures says { Says (λ used. used) (greatest layout a b) result }
+    ensures no_fault { IfErr result (λ told. IsFault told → ⊥) }
+    ensures base { IfOk result (λ used. used.header.base ≤ LAST_NUMBER) }
+    ensures begun { IfOk result (λ used. used.header.epoch ≤ used.header.base + 1) }
+{
+    match (a, b) {
+        (None, None) => Err(RecoverCause::Damaged {
+            sector: layout.gate(Area::A),
+        }),
+        (Some(a), None) => in_use_of(layout, Area::A, a),
+        (None, Some(b)) => in_use_of(layout, Area::B, b),
+        (Some(a), Some(b)) => {
+            if a.epoch == b.epoch {
+                Err(RecoverCause::Damaged {
+                    sector: layout.header(Area::B),
+                })
+            } else if a.epoch < b.epoch {
+                in_use_of(layout, Area::B, b)
+            } else {
+                in_use_of(layout, Area::A, a)
+            }
+        }
+    }
+}
+
+fn in_use_of(layout: Layout, area: Area, header: Header) -> Result<InUse, RecoverCause>
+    ensures says { Says (λ used. used) (in_use layout area header) result }
+    ensures no_fault { IfErr result (λ told. IsFault told → ⊥) }
+    ensures base { IfOk result (λ used. used.header.base ≤ LAST_NUMBER) }
+    ensures begun { IfOk result (λ used. used.header.epoch ≤ used.header.base + 1) }
+{
+    if header.is_sound() {
+        Ok(InUse { area, header })
+    } else {
+        Err(RecoverCause::Damaged {
+            sector: layout.header(area),
+        })
+    }
+}

@@ -1,0 +1,206 @@
+//! The commands of an area's slots, applied in order.
+
+ghost use Rattle.std.specs.Prelude.{◌≡◌, ◌≤◌, ◌<◌, ◌+◌, ◌*◌, ◌++◌, ℕ, length, drop, IsTrue, IfOk, IfErr, IfSome, IfNone, OnOk, Ok, Err};
+ghost use Rattle.std.specs.Prelude.{Some, None, if◌then◌else◌};
+ghost use Rattle.iol_types.specs.Command.{value_of};
+ghost use Rattle.iol_record.specs.Reading.{command_at};
+ghost use Rattle.iol_record.specs.declared.fault.RecordFault.{RecordFault};
+ghost use Rattle.std.specs.Option.{option_map};
+ghost use Rattle.iol_disk.specs.Disk.{Same, Shows};
+ghost use Rattle.iol_layout.specs.Body.{head_of, slots_of, batch_of, commands_of, HoldsRecords};
+ghost use Rattle.iol_recovery.specs.Faults.{Counted, IsFault};
+ghost use Rattle.iol_layout.specs.Layout.{total};
+ghost use Rattle.iol_layout.specs.Meaning.{log_from};
+ghost use Rattle.iol_slots.specs.Gate.{body_sector};
+ghost use Rattle.iol_layout.specs.Octets.{octets_at};
+ghost use Rattle.iol_recovery.specs.Reading.{Finds};
+ghost use Rattle.iol_recovery.specs.Replay.{reached};
+
+use crate::cause::RecoverCause;
+use iol_disk::{SECTOR_OCTETS, SectorDisk};
+use iol_layout::{Area, BODY_HEAD_OCTETS, Head, Header, LAST_NUMBER, Layout, slots_of};
+use iol_record::{RecordFault, decode_command};
+use iol_slots::{BODY_SECTORS, Slot};
+use iol_types::{Command, MasterState};
+use std::alloc::{AllocError, Global};
+
+// Where a journal goes on behind the slots that were replayed.
+#[derive(Clone, Copy)]
+pub(crate) struct End {
+    pub used: usize,
+    pub number: u64,
+}
+
+// Applies the commands of an area's slots, up to the first whose gate is closed.
+pub(crate) fn replay_slots<D: SectorDisk>(
+    alloc: Global,
+    disk: &mut D,
+    layout: Layout,
+    area: Area,
+    header: Header,
+    state: &mut MasterState,
+) -> Result<End, RecoverCause>
+    requires fits { total layout ≤ (D.disk disk.old).sectors }
+    requires base { header.base ≤ LAST_NUMBER }
+    ensures finds { Finds (λ end. record { used = end.used; number = end.number; state = state.new }) (D.disk disk.old)
+        (λ image. log_from layout area header.epoch image 0 0 layout.slots header.base state.old) result }
+    ensures counted { Counted (D.disk disk.old) (D.disk disk.new) result }
+    ensures within { IfOk result (λ end. (end.used ≤ layout.slots) × (header.base ≤ end.number)
+        × (0 < end.used → header.base < end.number) × (end.number ≤ LAST_NUMBER)) }
+    ensures ports { OnOk result (length state.new ≡ length state.old) }
+    ensures same { Same (D.disk disk.old) (D.disk disk.new) }
+{
+    let mut body = Vec::with_capacity(alloc, BODY_SECTORS * SECTOR_OCTETS)?;
+    let mut number = header.base;
+    let mut used = 0;
+    while used < layout.slots() {
+        let slot = layout.slot(area, used, 1);
+        if !slot.is_open(disk)? {
+            return Ok(End { used, number });
+        }
+        let span = read_head(disk, slot, &mut body)?;
+        if layout.slots() - used < span {
+            return Err(RecoverCause::Damaged { sector: slot.body });
+        }
+        read_body(disk, layout.slot(area, used, span), &mut body)?;
+        number = match replay_body(alloc, &body, header.epoch, number, state)? {
+            Some(number) => number,
+            None => return Err(RecoverCause::Damaged { sector: slot.body }),
+        };
+        used += span;
+    }
+    Ok(End { used, number })
+}
+
+// Reads the first sector of a body: how many slots it takes, as its head says.
+fn read_head<D: SectorDisk>(
+    disk: &mut D,
+    slot: Slot,
+    body: &mut Vec<u8>,
+) -> Result<usize, RecoverCause>
+    requires fits { slot.gate + (1 + BODY_SECTORS) ≤ (D.disk disk.old).sectors }
+    requires one { slot.span ≡ 1 }
+    ensures reads { OnOk result (Shows (D.disk disk.old) (λ image. body.new.items ≡ image slot.body)) }
+    ensures size { OnOk result (length body.new.items ≡ SECTOR_OCTETS) }
+    ensures span { IfOk result (λ span. span ≡ slots_of (head_of body.new.items).octets) }
+    ensures fault { IfErr result IsFault }
+    ensures counted { Counted (D.disk disk.old) (D.disk disk.new) result }
+    ensures same { Same (D.disk disk.old) (D.disk disk.new) }
+{
+    body.clear();
+    push_sector(disk, slot, 0, body)?;
+    Ok(slots_of(Head::read(body).octets as usize))
+}
+
+// Reads the further sectors that the records of a body reach.
+fn read_body<D: SectorDisk>(
+    disk: &mut D,
+    slot: Slot,
+    body: &mut Vec<u8>,
+) -> Result<(), RecoverCause>
+    requires fits { slot.gate + (1 + BODY_SECTORS) * slot.span ≤ (D.disk disk.old).sectors }
+    requires first { Shows (D.disk disk.old) (λ image. body.old.items ≡ image slot.body) }
+    requires size { length body.old.items ≡ SECTOR_OCTETS }
+    requires span { slot.span ≡ slots_of (head_of body.old.items).octets }
+    // Its batch is that of the whole body.
+    ensures reads { OnOk result (Shows (D.disk disk.old) (λ image. (epoch first : ℕ)
+        → batch_of epoch first body.new.items
+        ≡ batch_of epoch first (octets_at (λ j. image (body_sector slot.body j)) 0 (BODY_SECTORS * slot.span)))) }
+    ensures holds { OnOk result (IsTrue (D.disk disk.old).honest → HoldsRecords body.new.items) }
+    ensures some { OnOk result (SECTOR_OCTETS ≤ length body.new.items) }
+    ensures fault { IfErr result IsFault }
+    ensures counted { Counted (D.disk disk.old) (D.disk disk.new) result }
+    ensures same { Same (D.disk disk.old) (D.disk disk.new) }
+{
+    let octets = Head::read(body).octets as usize;
+    let reached = (BODY_HEAD_OCTETS + octets).div_ceil(SECTOR_OCTETS);
+    for j in 1..reached {
+        push_sector(disk, slot, j, body)?;
+    }
+    Ok(())
+}
+
+fn push_sector<D: SectorDisk>(
+    disk: &mut D,
+    slot: Slot,
+    j: usize,
+    body: &mut Vec<u8>,
+) -> Result<(), RecoverCause>
+    requires inside { j < slot.sectors }
+    requires fits { slot.gate + (1 + BODY_SECTORS) * slot.span ≤ (D.disk disk.old).sectors }
+    ensures pushed { OnOk result (Shows (D.disk disk.old) (λ image. body.new.items ≡ body.old.items ++ image (body_sector slot.body j))) }
+    ensures longer { OnOk result (length body.new.items ≡ length body.old.items + SECTOR_OCTETS) }
+    ensures fault { IfErr result IsFault }
+    ensures counted { Counted (D.disk disk.old) (D.disk disk.new) result }
+    ensures same { Same (D.disk disk.old) (D.disk disk.new) }
+{
+    let mut octets = [0; SECTOR_OCTETS];
+    slot.read_sector(disk, j, &mut octets)?;
+    body.extend_from_slice(&octets)?;
+    Ok(())
+}
+
+// Applies the commands of a body, if it has a batch that follows this number, and tells the number of its last.
+fn replay_body(
+    alloc: Global,
+    body: &[u8],
+    epoch: u64,
+    number: u64,
+    state: &mut MasterState,
+) -> Result<Option<u64>, AllocError>
+    requires some { BODY_HEAD_OCTETS ≤ length body.now }
+    requires bound { number ≤ LAST_NUMBER }
+    ensures reached { HoldsRecords body.now → IfOk result (λ last. reached number state.old (batch_of epoch (number + 1) body.now)
+        ≡ option_map (λ last. record { number = last; state = state.new }) last) }
+    ensures later { IfOk result (λ last. IfSome last (λ last. (number < last) × (last ≤ LAST_NUMBER))) }
+    ensures ports { OnOk result (length state.new ≡ length state.old) }
+{
+    let head = Head::read(body);
+    if !head.fits(epoch, number + 1) {
+        return Ok(None);
+    }
+    let end = BODY_HEAD_OCTETS + head.octets as usize;
+    if end <= body.len() && replay(alloc, head.count, &body[BODY_HEAD_OCTETS..end], state)? {
+        Ok(Some(number + u64::from(head.count)))
+    } else {
+        Ok(None)
+    }
+}
+
+// The command whose record stands in front, if one does, and how many octets its record has.
+fn next_command(alloc: Global, octets: &[u8]) -> Result<Option<(Command, usize)>, AllocError>
+    ensures found { IfOk result (λ next. IfSome next (λ (command, count).
+        (count ≤ length octets.now) × (command_at octets.now ≡ Ok (value_of command, drop count octets.now)))) }
+    ensures none { IfOk result (λ next. IfNone next ((fault : RecordFault) × (command_at octets.now ≡ Err fault))) }
+{
+    match decode_command(alloc, octets) {
+        Ok(found) => Ok(Some(found)),
+        Err(RecordFault::Memory) => Err(AllocError),
+        Err(_) => Ok(None),
+    }
+}
+
+// Applies so many commands, if their records fill the octets exactly, and each passes.
+fn replay(
+    alloc: Global,
+    count: u16,
+    records: &[u8],
+    state: &mut MasterState,
+) -> Result<bool, AllocError>
+    ensures reached { IfOk result (λ all. (number : ℕ) → reached number state.old (commands_of count records.now)
+        ≡ (if all then Some (record { number = number + count; state = state.new }) else None)) }
+    ensures ports { OnOk result (length state.new ≡ length state.old) }
+{
+    let mut rest = records;
+    for _ in 0..count {
+        let Some((command, read)) = next_command(alloc, rest)? else {
+            return Ok(false);
+        };
+        if state.check(&command).is_err() {
+            return Ok(false);
+        }
+        state.apply(command);
+        rest = &rest[read..];
+    }
+    Ok(rest.is_empty())
+}

@@ -1,0 +1,226 @@
+//! What an image of a disk means, read as docs/FORMATS.md says ("Disk layout", "Recovery"), sector by sector. It shares no code
+//! with a recovery but the codec of the records of commands and ports.
+
+ghost use Rattle.std.specs.Prelude.{◌<◌, ◌≤◌, ◌^◌};
+
+use iol_disk::SECTOR_OCTETS;
+use iol_journal::RecoverCause;
+use iol_record::{decode_command, decode_port};
+use iol_types::{MasterState, PortId};
+use std::alloc::Global;
+
+const OPEN: [u8; 8] = [0xA5, 0x5A, 0xA5, 0x5A, 0xA5, 0x5A, 0xA5, 0x5A];
+
+// An area that is open: where it begins, and its header.
+#[derive(Clone, Copy)]
+struct Open {
+    begin: usize,
+    epoch: u64,
+    base: u64,
+}
+
+// An image, with the ports and slots that its first sector says.
+#[derive(Clone, Copy)]
+struct Plain<'a> {
+    image: &'a [[u8; SECTOR_OCTETS]],
+    ports: u8,
+    slots: u16,
+    ghost few_ports: { ports ≤ 32 },
+}
+
+fn damaged(sector: usize) -> RecoverCause {
+    RecoverCause::Damaged { sector }
+}
+
+// The octets of a sector; one that is not there has none.
+fn sector(image: &[[u8; SECTOR_OCTETS]], place: usize) -> &[u8] {
+    match image.get(place) {
+        Some(octets) => octets,
+        None => &[],
+    }
+}
+
+fn is_open(image: &[[u8; SECTOR_OCTETS]], gate: usize) -> bool {
+    sector(image, gate).starts_with(&OPEN)
+}
+
+// The number in so many octets from a place on, the most significant first.
+fn number_at(octets: &[u8], place: usize, count: usize) -> u64 {
+    let mut number = 0;
+    for octet in octets.iter().skip(place).take(count) {
+        number = (number << 8) | u64::from(*octet);
+    }
+    number
+}
+
+// The octets of sectors from a place on, the gates between them left out where they are a body's.
+fn gathered(
+    alloc: Global,
+    image: &[[u8; SECTOR_OCTETS]],
+    first: usize,
+    count: usize,
+    is_body: bool,
+) -> Result<Vec<u8>, RecoverCause> {
+    let mut octets = Vec::new(alloc);
+    for j in 0..count {
+        let gates = if is_body { j / 16 } else { 0 };
+        let place = first.saturating_add(j).saturating_add(gates);
+        octets.extend_from_slice(sector(image, place))?;
+    }
+    Ok(octets)
+}
+
+impl<'a> Plain<'a> {
+    // The sectors of an area: its gate, its header, nine for each port, and seventeen for each slot.
+    fn area(self) -> usize
+        ensures { result < 2 ^ 21 }
+    {
+        2 + 9 * usize::from(self.ports) + 17 * usize::from(self.slots)
+    }
+
+    fn of(image: &'a [[u8; SECTOR_OCTETS]]) -> Result<Plain<'a>, RecoverCause> {
+        if !is_open(image, 1) {
+            return Err(RecoverCause::NotFormatted);
+        }
+        let first = sector(image, 0);
+        let is_marked = first.starts_with(&[0x49, 0x4F, 0x4C, 0x53, 0x01]);
+        let (Ok(ports), Ok(slots)) = (
+            u8::try_from(number_at(first, 5, 1)),
+            u16::try_from(number_at(first, 6, 2)),
+        ) else {
+            return Err(damaged(0));
+        };
+        if !is_marked || number_at(first, 8, 2) != 16 || ports == 0 || 32 < ports {
+            return Err(damaged(0));
+        }
+        let plain = Plain {
+            image,
+            ports,
+            slots,
+        };
+        if (1..=256).contains(&slots) && 2 + 2 * plain.area() <= image.len() {
+            Ok(plain)
+        } else {
+            Err(damaged(0))
+        }
+    }
+
+    fn open(self, begin: usize) -> Option<Open> {
+        if !is_open(self.image, begin) {
+            return None;
+        }
+        let header = sector(self.image, begin.saturating_add(1));
+        Some(Open {
+            begin,
+            epoch: number_at(header, 0, 8),
+            base: number_at(header, 8, 8),
+        })
+    }
+
+    // The open area with the greatest epoch.
+    fn in_use(self) -> Result<Open, RecoverCause> {
+        let b = 2 + self.area();
+        let used = match (self.open(2), self.open(b)) {
+            (None, None) => return Err(damaged(2)),
+            (Some(x), Some(y)) if x.epoch == y.epoch => return Err(damaged(b + 1)),
+            (Some(x), Some(y)) if x.epoch > y.epoch => x,
+            (_, Some(y)) => y,
+            (Some(x), None) => x,
+        };
+        if used.epoch == 0 || used.base > 1 << 62 || used.epoch - 1 > used.base {
+            return Err(damaged(used.begin.saturating_add(1)));
+        }
+        Ok(used)
+    }
+
+    fn state(self, alloc: Global, used: Open) -> Result<MasterState, RecoverCause> {
+        let mut state = MasterState::new(alloc, self.ports)?;
+        for place in 0..self.ports {
+            let first = used.begin.saturating_add(2 + 9 * usize::from(place));
+            let octets = gathered(alloc, self.image, first, 9, false)?;
+            let (Some(port), Ok((read, _))) = (
+                PortId::new(place.saturating_add(1)),
+                decode_port(alloc, &octets),
+            ) else {
+                return Err(damaged(first));
+            };
+            if state.port(port).is_some() {
+                state.set_port(port, read);
+            }
+        }
+        Ok(state)
+    }
+
+    // The number behind the batches of an area's slots, up to the first head place whose gate is closed.
+    fn replayed(
+        self,
+        alloc: Global,
+        used: Open,
+        state: &mut MasterState,
+    ) -> Result<u64, RecoverCause> {
+        let mut number = used.base;
+        let mut slot = 0;
+        for _ in 0..self.slots {
+            let gate = self.gate(used, slot);
+            if usize::from(self.slots) <= slot || !is_open(self.image, gate) {
+                break;
+            }
+            let body = gate.saturating_add(1);
+            let octets = number_at(sector(self.image, body), 18, 4) as usize;
+            let span = octets.saturating_add(22).div_ceil(8192);
+            if usize::from(self.slots) - slot < span {
+                return Err(damaged(body));
+            }
+            let octets = gathered(alloc, self.image, body, 16 * span, true)?;
+            number = batch(alloc, &octets, used.epoch, number, state).ok_or(damaged(body))?;
+            slot += span;
+        }
+        Ok(number)
+    }
+
+    // The gate of a slot of an area.
+    fn gate(self, used: Open, slot: usize) -> usize {
+        let ports = 2 + 9 * usize::from(self.ports);
+        used.begin
+            .saturating_add(ports)
+            .saturating_add(slot.saturating_mul(17))
+    }
+}
+
+// The number of the last command of a body, whose commands are applied.
+fn batch(
+    alloc: Global,
+    body: &[u8],
+    epoch: u64,
+    number: u64,
+    state: &mut MasterState,
+) -> Option<u64> {
+    let first = number_at(body, 8, 8);
+    let count = number_at(body, 16, 2);
+    let last = number.checked_add(count)?;
+    let is_fit = number_at(body, 0, 8) == epoch
+        && number.checked_add(1) == Some(first)
+        && (1..=64).contains(&count)
+        && last <= 1 << 62;
+    let end = (number_at(body, 18, 4) as usize).checked_add(22)?;
+    let mut rest = body.get(22..end)?;
+    for _ in 0..count {
+        let (command, read) = decode_command(alloc, rest).ok()?;
+        state.check(&command).ok()?;
+        state.apply(command);
+        rest = rest.get(read..)?;
+    }
+    if is_fit && rest.is_empty() {
+        Some(last)
+    } else {
+        None
+    }
+}
+
+/// The number of the last command that an image means, or the first cause why it means nothing.
+pub fn plain_meaning(alloc: Global, image: &[[u8; SECTOR_OCTETS]]) -> Result<u64, RecoverCause> {
+    let plain = Plain::of(image)?;
+    let used = plain.in_use()?;
+    let mut state = plain.state(alloc, used)?;
+    plain.replayed(alloc, used, &mut state)
+}
