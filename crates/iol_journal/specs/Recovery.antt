@@ -3,7 +3,6 @@ use Rattle.std.specs.Prelude.{Result, Ok, Err}
 use Rattle.iol_types.specs.State.{State}
 use Rattle.iol_journal.specs.Journals.{JournalView}
 use Rattle.iol_recovery.specs.declared.cause.RecoverCause.{RecoverCause}
-use Rattle.iol_recovery.specs.declared.cause.RecoverCause.TheVariants as cause
 use Rattle.iol_journal.specs.declared.recovery.RecoverFault.{RecoverFault}
 
 -- the disk of what a recovery answers: in the journal, or handed back (own)

@@ -64,18 +64,10 @@ impl<D: SectorDisk> Journal<D> {
         ensures begun { Some result.begun ≡ self.begun }
         ensures carrying { length (stages_left result) ≤ 20 * self.standing.layout.slots + 9 * self.standing.layout.ports + 9 }
     {
-        let Journal {
-            alloc,
-            disk,
-            place,
-            number,
-            state,
-            history,
-            begun,
-        } = self;
+        let Journal { disk, parts, begun } = self;
         let Some(begun) = begun else { unreachable!() };
-        let _sectors = place.layout.port_sectors();
-        Checkpointing::of(alloc, disk, place, number, state, history, begun)
+        let _sectors = parts.place.port_sectors();
+        Checkpointing::of(disk, parts, begun)
     }
 
     // A checkpoint that writes this plan into the other area.
@@ -88,16 +80,18 @@ impl<D: SectorDisk> Journal<D> {
         ensures begun { result.begun ≡ record { log = fresh_log self.standing; owed = []; stage = first_stage self.idle } }
     {
         let Journal {
-            alloc,
             disk,
-            place,
-            number,
-            state,
-            history,
+            parts,
             begun: _,
         } = self;
-        let begun = Begun::fresh(alloc, plan, place.idle, number, &state);
-        Checkpointing::of(alloc, disk, place, number, state, history, begun)
+        let begun = Begun::fresh(
+            parts.alloc,
+            plan,
+            parts.place.idle,
+            parts.number,
+            &parts.state,
+        );
+        Checkpointing::of(disk, parts, begun)
     }
 
     // What a checkpoint writes into the other area.
@@ -110,16 +104,16 @@ impl<D: SectorDisk> Journal<D> {
         ensures sectors { OnOk result (self.now.standing.layout.port_sectors ≤ 9) }
     {
         let header = Header {
-            epoch: self.place.epoch + 1,
-            base: self.number,
+            epoch: self.parts.place.epoch + 1,
+            base: self.parts.number,
         };
-        let _sectors = self.place.layout.port_sectors();
+        let _sectors = self.parts.place.layout.port_sectors();
         AreaPlan::of(
-            self.alloc,
-            self.place.layout,
-            self.place.area.other(),
+            self.parts.alloc,
+            self.parts.place.layout,
+            self.parts.place.area.other(),
             header,
-            &self.state,
+            &self.parts.state,
         )
     }
 }

@@ -1,45 +1,39 @@
 //! A checkpoint on its way to the disk.
 
 use crate::journal::Journal;
-use iol_batch::History;
+use iol_batch::Parts;
 use iol_checkpoint::{Begun, make_stage};
 use iol_disk::{DiskFault, SectorDisk};
 use iol_layout::{Idle, Place};
-use iol_types::MasterState;
-use std::alloc::Global;
 use std::marker::Model;
 
 /// A checkpoint on its way to the disk. Each [`step`](Checkpointing::step) makes one disk call. The first part of it, up to the
 /// write of the other area's gate, may be paused, so that batches are written meanwhile.
 #[derive(Drop)]
 pub struct Checkpointing<D: SectorDisk> {
-    alloc: Global,
     disk: D,
-    place: Place,
-    number: u64,
-    state: MasterState,
-    history: History,
+    parts: Parts,
     begun: Begun,
 }
 
 impl<D: SectorDisk> Model for Checkpointing<D> {
     ghost use Rattle.iol_checkpoint.specs.BegunParts.{view_of, IsBegun};
     ghost use Rattle.iol_journal.specs.CheckpointViews.{CheckpointingView};
-    ghost use Rattle.iol_layout.specs.Standings.{standing_at, IsResting};
+    ghost use Rattle.iol_layout.specs.Standings.{IsResting};
+    ghost use Rattle.iol_batch.specs.Parts.{stands};
     ghost use Rattle.iol_batch.specs.Planned.{LeadsTo};
 
     ghost Value = { CheckpointingView D };
 
     ghost view = { λ c. record {
       disk = c.disk;
-      standing = standing_at c.place c.number c.state;
-      history = c.history;
+      standing = stands c.parts;
+      history = c.parts.history;
       begun = view_of c.begun;
     } };
 
-    ghost invariant = { λ c. IsResting (D.disk c.disk) (standing_at c.place c.number c.state)
-        × IsBegun (D.disk c.disk) (standing_at c.place c.number c.state) c.begun
-        × LeadsTo (standing_at c.place c.number c.state) c.history };
+    ghost invariant = { λ c. IsResting (D.disk c.disk) (stands c.parts) × IsBegun (D.disk c.disk) (stands c.parts) c.begun
+        × LeadsTo (stands c.parts) c.parts.history };
 }
 
 /// What a step of a checkpoint answers.
@@ -58,7 +52,8 @@ impl<D: SectorDisk> Checkpointing<D> {
     ghost use Rattle.iol_disk.specs.Moments.{LeavesOnly};
     ghost use Rattle.iol_checkpoint.specs.BegunParts.{view_of, IsBegun};
     ghost use Rattle.iol_checkpoint.specs.Drafts.{begun_behind, can_pause, idle_at};
-    ghost use Rattle.iol_layout.specs.Standings.{standing_at, IsResting};
+    ghost use Rattle.iol_layout.specs.Standings.{IsResting};
+    ghost use Rattle.iol_batch.specs.Parts.{stands};
     ghost use Rattle.iol_batch.specs.Planned.{LeadsTo};
     ghost use Rattle.iol_journal.specs.CheckpointViews.{end_of, stages_left, IsCheckpointUnderway};
     ghost use Rattle.iol_checkpoint.specs.Pauses.{IsPaused};
@@ -71,34 +66,18 @@ impl<D: SectorDisk> Checkpointing<D> {
     ghost use Rattle.iol_layout.specs.declared.idle.Idle.TheVariants.{Older};
 
     // A checkpoint that goes on.
-    pub(crate) fn of(
-        alloc: Global,
-        disk: D,
-        place: Place,
-        number: u64,
-        state: MasterState,
-        history: History,
-        begun: Begun,
-    ) -> Checkpointing<D>
-        requires resting { IsResting (D.disk disk) (standing_at place number state) }
-        requires begun { IsBegun (D.disk disk) (standing_at place number state) begun }
-        requires history { LeadsTo (standing_at place number state) history }
+    pub(crate) fn of(disk: D, parts: Parts, begun: Begun) -> Checkpointing<D>
+        requires resting { IsResting (D.disk disk) (stands parts) }
+        requires begun { IsBegun (D.disk disk) (stands parts) begun }
+        requires history { LeadsTo (stands parts) parts.history }
         ensures { result ≡ record {
           disk = disk;
-          standing = standing_at place number state;
-          history = history;
+          standing = stands parts;
+          history = parts.history;
           begun = view_of begun;
         } }
     {
-        Checkpointing {
-            alloc,
-            disk,
-            place,
-            number,
-            state,
-            history,
-            begun,
-        }
+        Checkpointing { disk, parts, begun }
     }
 
     /// The disk, to be recovered again.
@@ -106,12 +85,8 @@ impl<D: SectorDisk> Checkpointing<D> {
         ensures { result ≡ self.disk }
     {
         let Checkpointing {
-            alloc: _,
             disk,
-            place: _,
-            number: _,
-            state: _,
-            history: _,
+            parts: _,
             begun: _,
         } = self;
         disk
@@ -136,19 +111,12 @@ impl<D: SectorDisk> Checkpointing<D> {
         ensures run { (r : Run) → IsRunCheckpointing D.disk r self → IsRunAtRest D.disk r result }
     {
         let Checkpointing {
-            alloc,
             disk,
-            place,
-            number,
-            state,
-            history,
+            mut parts,
             begun,
         } = self;
-        let place = Place {
-            idle: begun.stage.idle(),
-            ..place
-        };
-        Journal::at_rest(alloc, disk, place, number, state, history, Some(begun))
+        parts.place.idle = begun.stage.idle();
+        Journal::at_rest(disk, parts, Some(begun))
     }
 
     /// Makes one disk call, in the order of docs/FORMATS.md, "Orders of disk calls".
@@ -172,39 +140,26 @@ impl<D: SectorDisk> Checkpointing<D> {
             × EachMeans (D.disk journal.disk) journal.standing.number journal.standing.state) }
     {
         let Checkpointing {
-            alloc,
             mut disk,
-            place,
-            number,
-            state,
-            history,
+            mut parts,
             begun,
         } = self;
-        if let Err(fault) = make_stage(&mut disk, &place, &begun) {
+        if let Err(fault) = make_stage(&mut disk, &parts.place, &begun) {
             return CheckpointProgress::Failed(disk, fault);
         }
-        let slots = place.layout.slots();
+        let slots = parts.place.slots();
         match begun.next_stage(slots) {
             Some(stage) => CheckpointProgress::More(Checkpointing {
-                alloc,
                 disk,
-                place,
-                number,
-                state,
-                history,
+                parts,
                 begun: begun.moved_to(stage, slots),
             }),
             None => {
-                let place = Place {
-                    layout: place.layout,
-                    area: place.area.other(),
-                    epoch: place.epoch + 1,
-                    used: begun.used,
-                    idle: Idle::Older,
-                };
-                CheckpointProgress::Done(Journal::at_rest(
-                    alloc, disk, place, number, state, history, None,
-                ))
+                parts.place.area = parts.place.area.other();
+                parts.place.epoch += 1;
+                parts.place.used = begun.used;
+                parts.place.idle = Idle::Older;
+                CheckpointProgress::Done(Journal::at_rest(disk, parts, None))
             }
         }
     }

@@ -1,24 +1,19 @@
 //! A journal at rest, and which batches it takes.
 
 use crate::writing::Writing;
-use iol_batch::{Batch, BeginCause, History, Plan, apply_all, span_within};
+use iol_batch::{Batch, BeginCause, Parts, Plan, apply_all, span_within};
 use iol_checkpoint::{Begun, make_room};
 use iol_disk::SectorDisk;
-use iol_layout::{BODY_HEAD_OCTETS, BODY_OCTETS, LAST_NUMBER, EncodedBatch, Place};
-use iol_types::MasterState;
-use std::alloc::{AllocError, Global};
+use iol_layout::{BODY_HEAD_OCTETS, BODY_OCTETS, EncodedBatch, LAST_NUMBER};
+use std::alloc::AllocError;
 use std::marker::Model;
 
 /// A journal at rest: all commands that it has are durable. It owns its disk, and keeps the state that the disk means. A
 /// checkpoint of it may be paused.
 #[derive(Drop)]
 pub struct Journal<D: SectorDisk> {
-    pub(crate) alloc: Global,
     pub(crate) disk: D,
-    pub(crate) place: Place,
-    pub(crate) number: u64,
-    pub(crate) state: MasterState,
-    pub(crate) history: History,
+    pub(crate) parts: Parts,
     // the checkpoint that is paused
     pub(crate) begun: Option<Begun>,
 }
@@ -27,22 +22,22 @@ impl<D: SectorDisk> Model for Journal<D> {
     ghost use Rattle.std.specs.Option.{option_map};
     ghost use Rattle.iol_checkpoint.specs.BegunParts.{view_of, IsSetAside};
     ghost use Rattle.iol_journal.specs.Journals.{JournalView};
-    ghost use Rattle.iol_layout.specs.Standings.{IsResting, standing_at};
+    ghost use Rattle.iol_layout.specs.Standings.{IsResting};
+    ghost use Rattle.iol_batch.specs.Parts.{stands};
     ghost use Rattle.iol_batch.specs.Planned.{LeadsTo};
 
     ghost Value = { JournalView D };
 
     ghost view = { λ j. record {
       disk = j.disk;
-      standing = standing_at j.place j.number j.state;
-      idle = j.place.idle;
-      history = j.history;
+      standing = stands j.parts;
+      idle = j.parts.place.idle;
+      history = j.parts.history;
       begun = option_map view_of j.begun;
     } };
 
-    ghost invariant = { λ j. IsResting (D.disk j.disk) (standing_at j.place j.number j.state)
-        × LeadsTo (standing_at j.place j.number j.state) j.history
-        × IsSetAside (D.disk j.disk) (standing_at j.place j.number j.state) j.place.idle j.begun };
+    ghost invariant = { λ j. IsResting (D.disk j.disk) (stands j.parts) × LeadsTo (stands j.parts) j.parts.history
+        × IsSetAside (D.disk j.disk) (stands j.parts) j.parts.place.idle j.begun };
 }
 
 /// A checkpoint that was not begun, and the journal as it was.
@@ -73,7 +68,8 @@ impl<D: SectorDisk> Journal<D> {
     ghost use Rattle.iol_journal.specs.Runs.{Run, with_batch_begun};
     ghost use Rattle.iol_journal.specs.Running.{IsRunAtRest, IsRunWriting};
     ghost use Rattle.iol_types.specs.Command.{CommandValue};
-    ghost use Rattle.iol_layout.specs.Standings.{standing_at, IsResting};
+    ghost use Rattle.iol_layout.specs.Standings.{IsResting};
+    ghost use Rattle.iol_batch.specs.Parts.{stands};
     ghost use Rattle.iol_layout.specs.Body.{values};
     ghost use Rattle.iol_journal.specs.Journals.{calls_left};
     ghost use Rattle.iol_batch.specs.Planned.{IsPlan, IsPlanned, LeadsTo};
@@ -83,34 +79,18 @@ impl<D: SectorDisk> Journal<D> {
     ghost use Rattle.iol_layout.specs.declared.header.TheConstants.{LAST_NUMBER};
     ghost use Rattle.iol_batch.specs.declared.phase.Phase.TheVariants.{Body};
 
-    // A journal that writes here next.
-    pub(crate) fn at_rest(
-        alloc: Global,
-        disk: D,
-        place: Place,
-        number: u64,
-        state: MasterState,
-        history: History,
-        begun: Option<Begun>,
-    ) -> Journal<D>
-        requires resting { IsResting (D.disk disk) (standing_at place number state) }
-        requires history { LeadsTo (standing_at place number state) history }
-        requires begun { IsSetAside (D.disk disk) (standing_at place number state) place.idle begun }
+    // A journal of these parts, beside which this checkpoint is paused.
+    pub(crate) fn at_rest(disk: D, parts: Parts, begun: Option<Begun>) -> Journal<D>
+        requires resting { IsResting (D.disk disk) (stands parts) }
+        requires history { LeadsTo (stands parts) parts.history }
+        requires begun { IsSetAside (D.disk disk) (stands parts) parts.place.idle begun }
         ensures disk { result.disk ≡ disk }
-        ensures standing { result.standing ≡ standing_at place number state }
-        ensures idle { result.idle ≡ place.idle }
-        ensures history { result.history ≡ history }
+        ensures standing { result.standing ≡ stands parts }
+        ensures idle { result.idle ≡ parts.place.idle }
+        ensures history { result.history ≡ parts.history }
         ensures begun { result.begun ≡ option_map view_of begun }
     {
-        Journal {
-            alloc,
-            disk,
-            place,
-            number,
-            state,
-            history,
-            begun,
-        }
+        Journal { disk, parts, begun }
     }
 
     /// How many commands its disk has.
@@ -120,7 +100,7 @@ impl<D: SectorDisk> Journal<D> {
         // What it has done since its recovery leads to where it stands.
         ensures leads { LeadsTo self.now.standing self.now.history }
     {
-        self.number
+        self.parts.number
     }
 
     /// Whether a slot is free. Where none is, a checkpoint comes before the next batch.
@@ -128,7 +108,7 @@ impl<D: SectorDisk> Journal<D> {
         ensures free { result ≡ nat_lt self.now.standing.used self.now.standing.layout.slots }
         ensures used { result ≡ false → 0 < self.now.standing.used }
     {
-        self.place.used < self.place.layout.slots()
+        self.parts.place.used < self.parts.place.layout.slots()
     }
 
     /// Whether half of the slots are used, or more: a checkpoint that is begun now can be done before the others are full.
@@ -136,7 +116,7 @@ impl<D: SectorDisk> Journal<D> {
         ensures half { result ≡ nat_le self.now.standing.layout.slots (2 * self.now.standing.used) }
         ensures used { result ≡ true → 0 < self.now.standing.used }
     {
-        self.place.layout.slots() <= 2 * self.place.used
+        self.parts.place.layout.slots() <= 2 * self.parts.place.used
     }
 
     /// Whether a checkpoint is paused.
@@ -153,7 +133,7 @@ impl<D: SectorDisk> Journal<D> {
         // Records of no more octets fit the area.
         ensures fits { (octets : ℕ) → octets ≤ result → slots_of octets ≤ self.now.standing.layout.slots }
     {
-        let free = self.place.layout.slots() - self.place.used;
+        let free = self.parts.place.layout.slots() - self.parts.place.used;
         BODY_OCTETS * free.max(1) - BODY_HEAD_OCTETS
     }
 
@@ -162,12 +142,8 @@ impl<D: SectorDisk> Journal<D> {
         ensures { result ≡ self.disk }
     {
         let Journal {
-            alloc: _,
             disk,
-            place: _,
-            number: _,
-            state: _,
-            history: _,
+            parts: _,
             begun: _,
         } = self;
         disk
@@ -229,21 +205,15 @@ impl<D: SectorDisk> Journal<D> {
         ensures back { IfErr result (λ fault. (fault.cause ≡ BeginCause.Memory) × (fault.journal ≡ self) × (fault.batch ≡ batch)) }
     {
         let Journal {
-            alloc,
             disk,
-            place,
-            number,
-            state,
-            history,
+            parts,
             mut begun,
         } = self;
         match make_room(&mut begun) {
-            Ok(()) => Ok(Writing::begun(
-                alloc, disk, place, number, state, history, begun, batch, plan,
-            )),
+            Ok(()) => Ok(Writing::begun(disk, parts, begun, batch, plan)),
             Err(error) => Err(BeginFault {
                 cause: error.into(),
-                journal: Journal::at_rest(alloc, disk, place, number, state, history, begun),
+                journal: Journal::at_rest(disk, parts, begun),
                 batch,
             }),
         }
@@ -259,17 +229,22 @@ impl<D: SectorDisk> Journal<D> {
         ensures cause { IfErr result (IsBatchRefusal self.now.standing batch.now.first (values batch.now.commands.items)) }
         ensures used { IfErr result (λ cause. cause ≡ BeginCause.NeedsCheckpoint → 0 < self.now.standing.used) }
     {
-        let slots = self.place.layout.slots();
+        let slots = self.parts.place.layout.slots();
         let Some(span) = span_within(slots, &batch.commands) else {
             return Err(BeginCause::TooLarge);
         };
-        if slots - self.place.used < span {
+        if slots - self.parts.place.used < span {
             return Err(BeginCause::NeedsCheckpoint);
         }
-        let body = EncodedBatch::of(self.alloc, self.place.epoch, batch.first, &batch.commands)?;
-        let mut next = self.state.copy()?;
+        let body = EncodedBatch::of(
+            self.parts.alloc,
+            self.parts.place.epoch,
+            batch.first,
+            &batch.commands,
+        )?;
+        let mut next = self.parts.state.copy()?;
         let count = batch.commands.len() as u64;
-        let Journal { number, .. } = self;
+        let number = self.parts.number;
         if count == 0 || batch.first != number + 1 || LAST_NUMBER - number < count {
             return Err(BeginCause::Misfit);
         }

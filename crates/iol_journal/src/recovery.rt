@@ -9,7 +9,7 @@ ghost use Rattle.iol_recovery.specs.Reading.{Finds};
 ghost use Rattle.iol_recovery.specs.Finding.{HasChosen, MakesRecovery, idle_in};
 
 use crate::journal::Journal;
-use iol_batch::History;
+use iol_batch::{History, Parts};
 use iol_disk::SectorDisk;
 use iol_recovery::{RecoverCause, find};
 use iol_types::MasterState;
@@ -72,16 +72,14 @@ impl<D: SectorDisk> Journal<D> {
         match find(alloc, &mut disk) {
             Ok(found) => {
                 let history = History::begun(found.number, &found.copy);
-                let journal = Journal::at_rest(
+                let parts = Parts {
                     alloc,
-                    disk,
-                    found.place,
-                    found.number,
-                    found.state,
+                    place: found.place,
+                    number: found.number,
+                    state: found.state,
                     history,
-                    None,
-                );
-                Ok((journal, found.copy))
+                };
+                Ok((Journal::at_rest(disk, parts, None), found.copy))
             }
             Err(cause) => Err(RecoverFault { cause, disk }),
         }

@@ -1,23 +1,16 @@
 //! A batch on its way to the disk.
 
 use crate::journal::Journal;
-use iol_batch::{Batch, History, Phase, Plan, make};
+use iol_batch::{Batch, Parts, Phase, Plan, make};
 use iol_checkpoint::{Begun, owing};
 use iol_disk::{DiskFault, SectorDisk};
-use iol_layout::Place;
-use iol_types::MasterState;
-use std::alloc::Global;
 use std::marker::Model;
 
 /// A batch on its way to the disk. Each [`step`](Writing::step) makes one disk call.
 #[derive(Drop)]
 pub struct Writing<D: SectorDisk> {
-    alloc: Global,
     disk: D,
-    place: Place,
-    number: u64,
-    state: MasterState,
-    history: History,
+    parts: Parts,
     // the checkpoint that is paused
     begun: Option<Begun>,
     batch: Batch,
@@ -35,24 +28,24 @@ impl<D: SectorDisk> Model for Writing<D> {
 
     ghost Value = { WritingView D };
 
-    ghost use Rattle.iol_layout.specs.Standings.{standing_at};
+    ghost use Rattle.iol_batch.specs.Parts.{stands};
     ghost use Rattle.iol_layout.specs.Body.{values};
     ghost use Rattle.iol_batch.specs.Planned.{IsPlan, LeadsTo};
 
     ghost view = { λ w. record {
       disk = w.disk;
-      standing = standing_at w.place w.number w.state;
-      idle = w.place.idle;
-      history = w.history;
+      standing = stands w.parts;
+      idle = w.parts.place.idle;
+      history = w.parts.history;
       begun = option_map view_of w.begun;
       commands = values w.batch.commands.items;
       phase = w.phase;
     } };
 
-    ghost invariant = { λ w. IsPlanned (D.disk w.disk) (standing_at w.place w.number w.state) (values w.batch.commands.items) w.phase
-        × IsPlan (standing_at w.place w.number w.state) (values w.batch.commands.items) w.plan
-        × (w.batch.first ≡ w.number + 1) × LeadsTo (standing_at w.place w.number w.state) w.history
-        × IsSetAside (D.disk w.disk) (standing_at w.place w.number w.state) w.place.idle w.begun × HasRoom w.begun };
+    ghost invariant = { λ w. IsPlanned (D.disk w.disk) (stands w.parts) (values w.batch.commands.items) w.phase
+        × IsPlan (stands w.parts) (values w.batch.commands.items) w.plan
+        × (w.batch.first ≡ w.parts.number + 1) × LeadsTo (stands w.parts) w.parts.history
+        × IsSetAside (D.disk w.disk) (stands w.parts) w.parts.place.idle w.begun × HasRoom w.begun };
 }
 
 /// Evidence that a batch is durable: every image of the disk has it. Only [`step`](Writing::step) makes one, and it
@@ -115,7 +108,8 @@ impl<D: SectorDisk> Writing<D> {
     ghost use Rattle.iol_journal.specs.Underway.{IsUnderway};
     ghost use Rattle.iol_batch.specs.Planned.{IsPlan, IsPlanned, LeadsTo, written_behind};
     ghost use Rattle.iol_journal.specs.Journals.{calls_left};
-    ghost use Rattle.iol_layout.specs.Standings.{standing_at, with_batch};
+    ghost use Rattle.iol_layout.specs.Standings.{with_batch};
+    ghost use Rattle.iol_batch.specs.Parts.{stands};
     ghost use Rattle.iol_layout.specs.Body.{values};
     ghost use Rattle.iol_journal.specs.Progress.{stepped_disk, IfMore, IfDone, StepMakes};
     ghost use Rattle.iol_journal.specs.Runs.{Run};
@@ -124,39 +118,31 @@ impl<D: SectorDisk> Writing<D> {
 
     // A batch before its first step.
     pub(crate) fn begun(
-        alloc: Global,
         disk: D,
-        place: Place,
-        number: u64,
-        state: MasterState,
-        history: History,
+        parts: Parts,
         begun: Option<Begun>,
         batch: Batch,
         plan: Plan,
     ) -> Writing<D>
-        requires planned { IsPlanned (D.disk disk) (standing_at place number state) (values batch.commands.items) (Body 0) }
-        requires plan { IsPlan (standing_at place number state) (values batch.commands.items) plan }
-        requires first { batch.first ≡ number + 1 }
-        requires history { LeadsTo (standing_at place number state) history }
-        requires begun { IsSetAside (D.disk disk) (standing_at place number state) place.idle begun }
+        requires planned { IsPlanned (D.disk disk) (stands parts) (values batch.commands.items) (Body 0) }
+        requires plan { IsPlan (stands parts) (values batch.commands.items) plan }
+        requires first { batch.first ≡ parts.number + 1 }
+        requires history { LeadsTo (stands parts) parts.history }
+        requires begun { IsSetAside (D.disk disk) (stands parts) parts.place.idle begun }
         requires room { HasRoom begun }
         ensures { result ≡ record {
           disk = disk;
-          standing = standing_at place number state;
-          idle = place.idle;
-          history = history;
+          standing = stands parts;
+          idle = parts.place.idle;
+          history = parts.history;
           begun = option_map view_of begun;
           commands = values batch.commands.items;
           phase = Body 0;
         } }
     {
         Writing {
-            alloc,
             disk,
-            place,
-            number,
-            state,
-            history,
+            parts,
             begun,
             batch,
             plan,
@@ -169,12 +155,8 @@ impl<D: SectorDisk> Writing<D> {
         ensures { result ≡ self.disk }
     {
         let Writing {
-            alloc: _,
             disk,
-            place: _,
-            number: _,
-            state: _,
-            history: _,
+            parts: _,
             begun: _,
             batch: _,
             plan: _,
@@ -210,28 +192,20 @@ impl<D: SectorDisk> Writing<D> {
             × (journal.begun ≡ option_map (with_owed self.commands) self.begun)) }
     {
         let Writing {
-            alloc,
             mut disk,
-            place,
-            number,
-            state,
-            history,
+            mut parts,
             begun,
             batch,
             plan,
             phase,
         } = self;
-        if let Err(fault) = make(&mut disk, &place, &plan.body, phase) {
+        if let Err(fault) = make(&mut disk, &parts.place, &plan.body, phase) {
             return Progress::Failed(disk, fault);
         }
         match phase.next(plan.body.sectors) {
             Some(phase) => Progress::More(Writing {
-                alloc,
                 disk,
-                place,
-                number,
-                state,
-                history,
+                parts,
                 begun,
                 batch,
                 plan,
@@ -239,16 +213,12 @@ impl<D: SectorDisk> Writing<D> {
             }),
             None => {
                 let Plan { body, next } = plan;
-                let span = body.span;
-                let begun = owing(begun, body, place.epoch + 1, &batch);
-                let place = Place {
-                    used: place.used + span,
-                    ..place
-                };
-                let number = number + batch.commands.len() as u64;
-                let history = history.with_batch(&batch);
-                let journal = Journal::at_rest(alloc, disk, place, number, next, history, begun);
-                Progress::Done(journal, Written { batch })
+                parts.place.used += body.span;
+                parts.number += batch.commands.len() as u64;
+                parts.state = next;
+                parts.history = parts.history.with_batch(&batch);
+                let begun = owing(begun, body, parts.place.epoch + 1, &batch);
+                Progress::Done(Journal::at_rest(disk, parts, begun), Written { batch })
             }
         }
     }

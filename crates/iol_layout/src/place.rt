@@ -20,6 +20,22 @@ impl Place {
     ghost use Rattle.iol_layout.specs.Layout.{slot_at, body_at};
     ghost use Rattle.iol_slots.specs.declared.slot.TheConstants.{BODY_SECTORS};
 
+    /// How many slots the area has, 1 to 256.
+    pub fn slots(&self) -> usize
+        ensures value { result ≡ self.now.layout.slots }
+        ensures bound { result ≤ 256 }
+    {
+        self.layout.slots()
+    }
+
+    /// How many sectors a port's record has.
+    pub fn port_sectors(&self) -> usize
+        ensures value { result ≡ self.now.layout.port_sectors }
+        ensures bound { result ≤ 9 }
+    {
+        self.layout.port_sectors()
+    }
+
     /// So many slots, from the first one that is not used on.
     pub fn slot(&self, span: usize) -> Slot
         requires { self.now.used + span ≤ self.now.layout.slots }

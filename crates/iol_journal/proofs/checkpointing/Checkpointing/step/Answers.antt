@@ -5,7 +5,8 @@ use Rattle.iol_checkpoint.specs.Checkpoints.{target, with_batches}
 use Rattle.iol_journal.specs.CheckpointViews.{CheckpointingView, end_of, stages_left, IsCheckpointUnderway}
 use Rattle.iol_checkpoint.specs.Pauses.{calls_of, IsDrawnUp, IsPaused}
 use Rattle.iol_checkpoint.specs.Drafts.{begun_behind, stage_behind}
-use Rattle.iol_layout.specs.Standings.{IsResting, standing_at}
+use Rattle.iol_layout.specs.Standings.{IsResting}
+use Rattle.iol_batch.specs.Parts.{stands}
 use Rattle.iol_layout.specs.Meaning.{Standing}
 use Rattle.iol_disk.specs.Calls.{MakesFirst, FailsFirst}
 use Rattle.iol_batch.specs.Phases.{IsAtRest}
@@ -20,7 +21,7 @@ use Rattle.iol_journal.proofs.checkpointing.Checkpointing.step.Given
 use Rattle.iol_journal.proofs.checkpointing.Checkpointing.step.Goals as goal
 
 pub make_stage-requires : goal.make_stage-requires
-make_stage-requires g c = (c.self.inside.number, c.self.inside.state, c.self.invariant.1)
+make_stage-requires g c = (c.self.inside.parts.number, c.self.inside.parts.state, c.self.invariant.1)
 
 -- ---- the call failed
 
@@ -28,18 +29,18 @@ pub returns-in-Err-clause-call : goal.returns-in-Err-clause-call
 returns-in-Err-clause-call g c =
     let d = g.D.SectorDisk.disk in
     let w = c.self.inside in
-    let s = standing_at w.place w.number w.state in
+    let s = stands w.parts in
     let is = c.self.invariant.1 in
     subst (λ (v : CheckpointingView g.row.D.Denot). FailsFirst (stages_left v) c.in-Err.fault (d v.disk) (d c.make_stage.new.disk))
     c.self.view_is
     (fails_first s (log_of w.begun) (commands_owed w.begun.owed.items) w.begun.stage _ _ is.drafted c.in-Err.fault
-    (c.in-Err.ensures w.number w.state is))
+    (c.in-Err.ensures w.parts.number w.parts.state is))
 
 pub returns-in-Err-clause-any_moment : goal.returns-in-Err-clause-any_moment
 returns-in-Err-clause-any_moment g c =
     let w = c.self.inside in
     moment_of g.D.SectorDisk.disk c.make_stage.new.disk c.make_stage.result c.self.view_is c.self.invariant.1.drafted
-    (c.make_stage.ensures w.number w.state c.self.invariant.1)
+    (c.make_stage.ensures w.parts.number w.parts.state c.self.invariant.1)
 
 pub returns-in-Err-clause-run : goal.returns-in-Err-clause-run
 returns-in-Err-clause-run g c r run =
@@ -53,20 +54,20 @@ returns-in-Err-clause-run g c r run =
 pub next_stage-requires-clause-begun : goal.next_stage-requires-clause-begun
 next_stage-requires-clause-begun g c =
     let w = c.self.inside in
-    (g.D.SectorDisk.disk w.disk, standing_at w.place w.number w.state, c.self.invariant.1, c.slots-slots.ensures.value)
+    (g.D.SectorDisk.disk w.disk, stands w.parts, c.self.invariant.1, c.slots-slots.ensures.value)
 
 pub moved_to-requires-clause-begun : goal.moved_to-requires-clause-begun
 moved_to-requires-clause-begun g c =
     let w = c.self.inside in
-    (g.D.SectorDisk.disk w.disk, standing_at w.place w.number w.state, c.self.invariant.1, c.slots-slots.ensures.value)
+    (g.D.SectorDisk.disk w.disk, stands w.parts, c.self.invariant.1, c.slots-slots.ensures.value)
 
 -- the stage that comes next
 next_told : (g : Given.Over) (c : goal.After-moved_to g)
-    → stage_behind (target (standing_at c.self.inside.place c.self.inside.number c.self.inside.state) (log_of c.self.inside.begun))
+    → stage_behind (target (stands c.self.inside.parts) (log_of c.self.inside.begun))
     (commands_owed c.self.inside.begun.owed.items) c.self.inside.begun.stage ≡ Some c.in-Some.stage
 next_told g c =
     let w = c.self.inside in
-    sym (c.next_stage.ensures (g.D.SectorDisk.disk w.disk) (standing_at w.place w.number w.state) c.self.invariant.1
+    sym (c.next_stage.ensures (g.D.SectorDisk.disk w.disk) (stands w.parts) c.self.invariant.1
     c.slots-slots.ensures.value) ∙ c.in-Some.is
 
 -- what contracts see of the checkpoint then
@@ -79,9 +80,9 @@ pub invariant_of-result : goal.invariant_of-result
 invariant_of-result g c =
     let d = g.D.SectorDisk.disk in
     let w = c.self.inside in
-    let s = standing_at w.place w.number w.state in
+    let s = stands w.parts in
     let is = c.self.invariant.1 in
-    let made = c.in_default.ensures w.number w.state is in
+    let made = c.in_default.ensures w.parts.number w.parts.state is in
     let moved = c.moved_to.ensures in (
       resting_on (d w.disk) (d c.make_stage.new.disk) s made.after.sectors c.self.invariant.0,
       begun_next (d w.disk) (d c.make_stage.new.disk) s w.begun c.moved_to.result c.in-Some.stage made.after.sectors is (next_told g c)
@@ -93,31 +94,31 @@ pub returns-in-Some-clause-call : goal.returns-in-Some-clause-call
 returns-in-Some-clause-call g c =
     let d = g.D.SectorDisk.disk in
     let w = c.self.inside in
-    let s = standing_at w.place w.number w.state in
+    let s = stands w.parts in
     let is = c.self.invariant.1 in
     subst (λ (v : CheckpointingView g.row.D.Denot).
     MakesFirst (stages_left v) (calls_of s (view_of c.moved_to.result)) (d v.disk) (d c.make_stage.new.disk)) c.self.view_is
     (subst (λ (b : BegunView). MakesFirst (calls_of s (view_of w.begun)) (calls_of s b) (d w.disk) (d c.make_stage.new.disk))
     (sym (view_told g c))
     (makes_first s (log_of w.begun) (commands_owed w.begun.owed.items) w.begun.stage _ _ is.drafted c.in-Some.stage (next_told g c)
-    (c.in_default.ensures w.number w.state is)))
+    (c.in_default.ensures w.parts.number w.parts.state is)))
 
 pub returns-in-Some-clause-any_moment : goal.returns-in-Some-clause-any_moment
 returns-in-Some-clause-any_moment g c =
     let w = c.self.inside in
     moment_of g.D.SectorDisk.disk c.make_stage.new.disk c.make_stage.result c.self.view_is c.self.invariant.1.drafted
-    (c.make_stage.ensures w.number w.state c.self.invariant.1)
+    (c.make_stage.ensures w.parts.number w.parts.state c.self.invariant.1)
 
 pub returns-in-Some-clause-underway : goal.returns-in-Some-clause-underway
 returns-in-Some-clause-underway g c u =
     let d = g.D.SectorDisk.disk in
     let w = c.self.inside in
-    let s = standing_at w.place w.number w.state in
+    let s = stands w.parts in
     let is = c.self.invariant.1 in
     let under = subst (λ (v : CheckpointingView g.row.D.Denot). IsCheckpointUnderway d v) (sym c.self.view_is) u in
     subst (IsDrawnUp (d c.make_stage.new.disk) s) (sym (view_told g c))
     (underway s (log_of w.begun) (commands_owed w.begun.owed.items) w.begun.stage _ _ is.drafted c.in-Some.stage (next_told g c)
-    (c.in_default.ensures w.number w.state is) under)
+    (c.in_default.ensures w.parts.number w.parts.state is) under)
 
 pub returns-in-Some-clause-more : goal.returns-in-Some-clause-more
 returns-in-Some-clause-more g c =
@@ -126,11 +127,11 @@ returns-in-Some-clause-more g c =
       ap (λ (v : CheckpointingView g.row.D.Denot). v.standing) c.self.view_is,
       ap (λ (v : CheckpointingView g.row.D.Denot). v.history) c.self.view_is,
       subst (λ (v : CheckpointingView g.row.D.Denot). begun_behind v.standing v.begun ≡ Some (view_of c.moved_to.result)) c.self.view_is
-          (begun-behind (standing_at w.place w.number w.state) w.begun c.moved_to.result c.in-Some.stage
+          (begun-behind (stands w.parts) w.begun c.moved_to.result c.in-Some.stage
           (next_told g c) moved.log moved.owed
           moved.stage),
-      ap (λ (b : BegunView). with_batches (target (standing_at w.place w.number w.state) b.log) b.owed) (view_told g c)
-          ∙ ends-moved (g.D.SectorDisk.disk w.disk) (standing_at w.place w.number w.state) w.begun c.self.invariant.1
+      ap (λ (b : BegunView). with_batches (target (stands w.parts) b.log) b.owed) (view_told g c)
+          ∙ ends-moved (g.D.SectorDisk.disk w.disk) (stands w.parts) w.begun c.self.invariant.1
           ∙ ap (λ (v : CheckpointingView g.row.D.Denot). end_of v) c.self.view_is,
     )
 
@@ -139,7 +140,7 @@ returns-in-Some-clause-run g c r run =
     let d = g.D.SectorDisk.disk in
     let w = c.self.inside in (
       returns-in-Some-clause-underway g c run.0,
-      run_of_same_meaning (d c.args.self.disk) (d c.make_stage.new.disk) c.args.self.standing (standing_at w.place w.number w.state) r
+      run_of_same_meaning (d c.args.self.disk) (d c.make_stage.new.disk) c.args.self.standing (stands w.parts) r
           (ap (λ (v : CheckpointingView g.row.D.Denot). v.standing.number) c.self.view_is)
           (ap (λ (v : CheckpointingView g.row.D.Denot). v.standing.state) c.self.view_is)
           (returns-in-Some-clause-any_moment g c run.0) run.1,
@@ -152,49 +153,51 @@ pub at_rest-requires-clause-resting : goal.at_rest-requires-clause-resting
 at_rest-requires-clause-resting g c =
     let d = g.D.SectorDisk.disk in
     let w = c.self.inside in
-    let s = standing_at w.place w.number w.state in
+    let s = stands w.parts in
     let is = c.self.invariant.1 in
     let none = sym (c.next_stage.ensures (d w.disk) s is c.slots-slots.ensures.value) ∙ c.in-None.is in
-    subst (IsResting (d c.make_stage.new.disk)) (sym (stands_there (d w.disk) s w.begun is none c.other.result c.other.ensures))
-    (resting s (log_of w.begun) (commands_owed w.begun.owed.items) w.begun.stage _ _ is.drafted (c.in_default.ensures w.number w.state is))
+    subst (IsResting (d c.make_stage.new.disk))
+    (sym (stands_there (d w.disk) s w.begun is none c.other-parts.result c.other-parts.ensures))
+    (resting s (log_of w.begun) (commands_owed w.begun.owed.items) w.begun.stage _ _ is.drafted
+    (c.in_default.ensures w.parts.number w.parts.state is))
 
 pub returns-in-None-clause-call : goal.returns-in-None-clause-call
 returns-in-None-clause-call g c =
     let d = g.D.SectorDisk.disk in
     let w = c.self.inside in
-    let s = standing_at w.place w.number w.state in
+    let s = stands w.parts in
     let is = c.self.invariant.1 in
     let none = sym (c.next_stage.ensures (d w.disk) s is c.slots-slots.ensures.value) ∙ c.in-None.is in
     rw c.at_rest.ensures.disk
     (subst (λ (v : CheckpointingView g.row.D.Denot). MakesFirst (stages_left v) [] (d v.disk) (d c.make_stage.new.disk)) c.self.view_is
     (makes_last s (log_of w.begun) (commands_owed w.begun.owed.items) w.begun.stage _ _ is.drafted none
-    (c.in_default.ensures w.number w.state is)))
+    (c.in_default.ensures w.parts.number w.parts.state is)))
 
 pub returns-in-None-clause-any_moment : goal.returns-in-None-clause-any_moment
 returns-in-None-clause-any_moment g c =
     let w = c.self.inside in
     rw c.at_rest.ensures.disk
     (moment_of g.D.SectorDisk.disk c.make_stage.new.disk c.make_stage.result c.self.view_is c.self.invariant.1.drafted
-    (c.make_stage.ensures w.number w.state c.self.invariant.1))
+    (c.make_stage.ensures w.parts.number w.parts.state c.self.invariant.1))
 
 -- the journal stands in the other area
 stands_in_other : (g : Given.Over) (c : goal.After-drop-begun-in-None-2 g) → c.at_rest.result.standing
-    ≡ target (standing_at c.self.inside.place c.self.inside.number c.self.inside.state) (log_of c.self.inside.begun)
+    ≡ target (stands c.self.inside.parts) (log_of c.self.inside.begun)
 stands_in_other g c =
     let w = c.self.inside in
-    let s = standing_at w.place w.number w.state in
+    let s = stands w.parts in
     let is = c.self.invariant.1 in
     let d = g.D.SectorDisk.disk w.disk in
     let none = sym (c.next_stage.ensures d s is c.slots-slots.ensures.value) ∙ c.in-None.is in
-    c.at_rest.ensures.standing ∙ stands_there d s w.begun is none c.other.result c.other.ensures
+    c.at_rest.ensures.standing ∙ stands_there d s w.begun is none c.other-parts.result c.other-parts.ensures
 
 -- where no batch is owed
-stands : (g : Given.Over) (c : goal.After-drop-begun-in-None-2 g) → c.at_rest.result.standing
-    ≡ with_batches (target (standing_at c.self.inside.place c.self.inside.number c.self.inside.state) (log_of c.self.inside.begun))
+stands_at_end : (g : Given.Over) (c : goal.After-drop-begun-in-None-2 g) → c.at_rest.result.standing
+    ≡ with_batches (target (stands c.self.inside.parts) (log_of c.self.inside.begun))
     (commands_owed c.self.inside.begun.owed.items)
-stands g c =
+stands_at_end g c =
     let w = c.self.inside in
-    let s = standing_at w.place w.number w.state in
+    let s = stands w.parts in
     let is = c.self.invariant.1 in
     let d = g.D.SectorDisk.disk w.disk in
     let none = sym (c.next_stage.ensures d s is c.slots-slots.ensures.value) ∙ c.in-None.is in
@@ -202,7 +205,7 @@ stands g c =
 
 pub returns-in-None-clause-done : goal.returns-in-None-clause-done
 returns-in-None-clause-done g c = (
-  stands g c ∙ ap (λ (v : CheckpointingView g.row.D.Denot). end_of v) c.self.view_is,
+  stands_at_end g c ∙ ap (λ (v : CheckpointingView g.row.D.Denot). end_of v) c.self.view_is,
   c.at_rest.ensures.idle,
   c.at_rest.ensures.history ∙ ap (λ (v : CheckpointingView g.row.D.Denot). v.history) c.self.view_is,
   c.at_rest.ensures.begun,
@@ -222,13 +225,13 @@ pub returns-in-None-clause-durable : goal.returns-in-None-clause-durable
 returns-in-None-clause-durable g c u =
     let d = g.D.SectorDisk.disk in
     let w = c.self.inside in
-    let s = standing_at w.place w.number w.state in
+    let s = stands w.parts in
     let is = c.self.invariant.1 in
     let none = sym (c.next_stage.ensures (d w.disk) s is c.slots-slots.ensures.value) ∙ c.in-None.is in
     let under = subst (λ (v : CheckpointingView g.row.D.Denot). IsCheckpointUnderway d v) (sym c.self.view_is) u in
     let rests : IsAtRest (d c.make_stage.new.disk) (target s (log_of w.begun)) Older =
     durable s (log_of w.begun) (commands_owed w.begun.owed.items) w.begun.stage _ _ is.drafted none
-    (c.in_default.ensures w.number w.state is) under in
+    (c.in_default.ensures w.parts.number w.parts.state is) under in
     rest_means _ _ _ _ _ _ (ap d c.at_rest.ensures.disk) (stands_in_other g c) c.at_rest.ensures.idle rests
 
 pub returns-in-None-clause-run : goal.returns-in-None-clause-run

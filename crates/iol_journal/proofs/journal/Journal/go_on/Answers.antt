@@ -2,7 +2,7 @@ use Rattle.std.proofs.Common.{◌≤◌, ◌+◌, ◌*◌, length, subst, arith}
 use Rattle.iol_checkpoint.specs.BegunParts.{view_of, IsSetAside}
 use Rattle.iol_checkpoint.specs.Pauses.{calls_of}
 use Rattle.iol_journal.specs.Journals.{JournalView}
-use Rattle.iol_layout.specs.Standings.{standing_at}
+use Rattle.iol_batch.specs.Parts.{stands}
 use Rattle.iol_checkpoint.proofs.CheckpointSizes.{begun_most}
 use Rattle.iol_journal.proofs.journal.Journal.go_on.Goals as goal
 
@@ -10,8 +10,8 @@ pub returns-clause-carrying : goal.returns-clause-carrying
 returns-clause-carrying g c =
     let d = g.D.SectorDisk.disk in
     let j = c.self.inside in
-    let s = standing_at j.place j.number j.state in
-    let begun = (subst (IsSetAside (d j.disk) s j.place.idle) c.in-Some.is c.self.invariant.2).0 in
+    let s = stands j.parts in
+    let begun = (subst (IsSetAside (d j.disk) s j.parts.place.idle) c.in-Some.is c.self.invariant.2).0 in
     let few = begun_most (d j.disk) s c.in-Some.begun begun c.self.invariant.0.within
     (omega (arith, c.port_sectors-sectors.ensures.value, c.port_sectors-sectors.ensures.bound)) in
     rw c.of.ensures

@@ -9,7 +9,7 @@ use Rattle.iol_layout.specs.Body.{records_of, slots_for, commands_of, body_octet
 use Rattle.iol_types.specs.declared.command.Command.{Command}
 use Rattle.iol_batch.specs.Begin.{is_too_large, batch_refusal}
 use Rattle.iol_journal.specs.Journals.{JournalView}
-use Rattle.iol_layout.specs.Standings.{standing_at}
+use Rattle.iol_batch.specs.Parts.{stands}
 use Rattle.iol_batch.specs.Planned.{IsPlanned, IsPlan}
 use Rattle.iol_layout.specs.declared.body.TheConstants.{MOST_COMMANDS}
 use Rattle.iol_batch.specs.declared.refusal.BeginCause.TheVariants.{Misfit}
@@ -31,7 +31,7 @@ returns-then-branch-clause-follows g c =
     let count = length-map c.args.batch.now.commands.items value_of in
     let commands = values c.args.batch.now.commands.items in
     subst (λ (v : JournalView g.row.D.Denot). batch_refusal v.standing c.args.batch.now.first commands ≡ None) c.self.view_is
-    (taken (standing_at j.place j.number j.state) c.args.batch.now.first commands
+    (taken (stands j.parts) c.args.batch.now.first commands
     (subst (λ (n : ℕ). is_too_large n (values c.args.batch.now.commands.items) ≡ false) c.slots-slots.ensures.value
     (ap (λ (commands : List Command). is_too_large c.slots-slots.result (values commands)) (sym c.deref.ensures.value)
     ∙ c.in-Some.ensures.some.1))
@@ -47,7 +47,7 @@ returns-else-branch-clause-cause g c =
     let count = length-map c.args.batch.now.commands.items value_of in
     let commands = values c.args.batch.now.commands.items in
     subst (λ (v : JournalView g.row.D.Denot). batch_refusal v.standing c.args.batch.now.first commands ≡ Some Misfit) c.self.view_is
-    (refused (standing_at j.place j.number j.state) c.args.batch.now.first commands
+    (refused (stands j.parts) c.args.batch.now.first commands
     (subst (λ (n : ℕ). is_too_large n (values c.args.batch.now.commands.items) ≡ false) c.slots-slots.ensures.value
     (ap (λ (commands : List Command). is_too_large c.slots-slots.result (values commands)) (sym c.deref.ensures.value)
     ∙ c.in-Some.ensures.some.1))
@@ -63,26 +63,26 @@ not_many slots commands fits = grind (arith, nat_tests, fits)
 pub returns-then-branch-clause-planned : goal.returns-then-branch-clause-planned
 returns-then-branch-clause-planned g c =
     let j = c.self.inside in
-    let s = standing_at j.place j.number j.state in
+    let s = stands j.parts in
     let commands = values c.args.batch.now.commands.items in
     let count = length-map c.args.batch.now.commands.items value_of in
-    let next : c.args.batch.now.first ≡ j.number + 1 = omega arith in
+    let next : c.args.batch.now.first ≡ j.parts.number + 1 = omega arith in
     let span = c.in-Some.ensures.some.0 ∙ ap (λ (commands : List Command). slots_for (values commands)) c.deref.ensures.value in
-    let fits : is_too_large j.place.layout.slots commands ≡ false =
+    let fits : is_too_large j.parts.place.layout.slots commands ≡ false =
     subst (λ (n : ℕ). is_too_large n commands ≡ false) c.slots-slots.ensures.value
     (ap (λ (commands : List Command). is_too_large c.slots-slots.result (values commands)) (sym c.deref.ensures.value)
     ∙ c.in-Some.ensures.some.1) in
     let body = c.in_ok-body.ensures in
     let octets : c.in_ok-body.body.octets.items ≡ body_for s commands =
-    body.octets ∙ ap (λ (cs : List Command). body_octets j.place.epoch c.args.batch.now.first (values cs)) c.deref-2.ensures.value
-    ∙ ap (λ (first : ℕ). body_octets j.place.epoch first commands) next in
+    body.octets ∙ ap (λ (cs : List Command). body_octets j.parts.place.epoch c.args.batch.now.first (values cs)) c.deref-2.ensures.value
+    ∙ ap (λ (first : ℕ). body_octets j.parts.place.epoch first commands) next in
     let planned : IsPlanned (g.D.SectorDisk.disk j.disk) s commands (Body 0) = record {
       fits = c.self.invariant.0.fits;
       follows = record {
         room = room_of _ _ _ _ _ span c.slots-slots.ensures.value c.self.invariant.0.within (omega (arith, c.if-slots-self.false));
         batch = record {
           some = omega (arith, count);
-          most = not_many j.place.layout.slots commands fits;
+          most = not_many j.parts.place.layout.slots commands fits;
           short = omega (arith, span, c.if-slots-self.false, c.slots-slots.ensures.bound);
           read = subst (λ (cs : List Command). commands_of (length (values cs)) (records_of (values cs)) ≡ Some (values cs))
               c.deref-2.ensures.value body.read;

@@ -11,7 +11,8 @@ use Rattle.iol_layout.specs.Meaning.{Standing}
 use Rattle.iol_batch.specs.Phases.{IsAtRest}
 use Rattle.iol_journal.specs.Underway.{IsUnderway}
 use Rattle.iol_journal.specs.Journals.{WritingView, calls_left}
-use Rattle.iol_layout.specs.Standings.{IsResting, standing_at, with_batch}
+use Rattle.iol_layout.specs.Standings.{IsResting, with_batch}
+use Rattle.iol_batch.specs.Parts.{stands}
 use Rattle.iol_layout.specs.Body.{values}
 use Rattle.iol_batch.specs.Planned.{written_behind}
 use Rattle.iol_layout.proofs.Bodies.{length-body}
@@ -29,33 +30,33 @@ returns-in-Err-clause-call g c =
     let w = c.self.inside in
     let plan = c.self.invariant.1 in
     subst (λ (v : WritingView g.row.D.Denot). FailsFirst (calls_left v) c.in-Err.fault (d v.disk) (d c.make.new.disk)) c.self.view_is
-    (fails_first _ w.place.idle _ _ _ _ _ _ c.self.invariant.0 plan.body.octets plan.body.sectors c.in-Err.fault
-    (c.in-Err.ensures.makes w.number w.state))
+    (fails_first _ w.parts.place.idle _ _ _ _ _ _ c.self.invariant.0 plan.body.octets plan.body.sectors c.in-Err.fault
+    (c.in-Err.ensures.makes w.parts.number w.parts.state))
 
 pub returns-in-Err-clause-any_moment : goal.returns-in-Err-clause-any_moment
 returns-in-Err-clause-any_moment g c =
     let w = c.self.inside in
     moment_of g.D.SectorDisk.disk c.make.new.disk c.make.result c.self.view_is c.self.invariant.0 c.self.invariant.1
-    (c.make.ensures.makes w.number w.state)
+    (c.make.ensures.makes w.parts.number w.parts.state)
 
 pub returns-in-Some-clause-call : goal.returns-in-Some-clause-call
 returns-in-Some-clause-call g c =
     let d = g.D.SectorDisk.disk in
     let w = c.self.inside in
     let plan = c.self.invariant.1 in
-    let s = standing_at w.place w.number w.state in
+    let s = stands w.parts in
     let commands = values w.batch.commands.items in
     let behind = calls_from s (body_for s commands) (sectors_for s commands) c.in-Some.phase in
     subst (λ (v : WritingView g.row.D.Denot). MakesFirst (calls_left v) behind (d v.disk) (d c.make.new.disk)) c.self.view_is
-    (makes_first _ w.place.idle _ _ _ _ _ _ c.self.invariant.0 plan.body.octets plan.body.sectors c.in-Some.phase
+    (makes_first _ w.parts.place.idle _ _ _ _ _ _ c.self.invariant.0 plan.body.octets plan.body.sectors c.in-Some.phase
     (sym c.in-Some.is ∙ c.next.ensures)
-    (c.in_default.ensures.makes w.number w.state))
+    (c.in_default.ensures.makes w.parts.number w.parts.state))
 
 pub returns-in-Some-clause-any_moment : goal.returns-in-Some-clause-any_moment
 returns-in-Some-clause-any_moment g c =
     let w = c.self.inside in
     moment_of g.D.SectorDisk.disk c.make.new.disk c.make.result c.self.view_is c.self.invariant.0 c.self.invariant.1
-    (c.make.ensures.makes w.number w.state)
+    (c.make.ensures.makes w.parts.number w.parts.state)
 
 pub returns-in-Some-clause-underway : goal.returns-in-Some-clause-underway
 returns-in-Some-clause-underway g c u =
@@ -63,9 +64,9 @@ returns-in-Some-clause-underway g c u =
     let w = c.self.inside in
     let plan = c.self.invariant.1 in
     let under = subst (λ (v : WritingView g.row.D.Denot). IsUnderway d v) (sym c.self.view_is) u in
-    underway _ w.place.idle _ _ _ _ _ _ c.self.invariant.0 plan.body.octets plan.body.sectors c.in-Some.phase
+    underway _ w.parts.place.idle _ _ _ _ _ _ c.self.invariant.0 plan.body.octets plan.body.sectors c.in-Some.phase
     (sym c.in-Some.is ∙ c.next.ensures)
-    (c.in_default.ensures.makes w.number w.state) under
+    (c.in_default.ensures.makes w.parts.number w.parts.state) under
 
 pub make-requires-clause-whole : goal.make-requires-clause-whole
 make-requires-clause-whole g c =
@@ -82,7 +83,7 @@ make-requires-clause-short g c =
 pub next-requires-clause-short : goal.next-requires-clause-short
 next-requires-clause-short g c =
     let w = c.self.inside in
-    let size = length-body w.place.epoch (w.number + 1) (values w.batch.commands.items) in
+    let size = length-body w.parts.place.epoch (w.parts.number + 1) (values w.batch.commands.items) in
     omega (arith, size, c.self.invariant.0.follows.batch.short, c.self.invariant.1.body.sectors)
 
 pub invariant_of-result : goal.invariant_of-result
@@ -90,13 +91,13 @@ invariant_of-result g c =
     let d = g.D.SectorDisk.disk in
     let w = c.self.inside in
     let plan = c.self.invariant.1 in
-    let made = c.in_default.ensures.makes w.number w.state in (
-      planned_next _ w.place.idle _ _ _ _ _ _ c.self.invariant.0 plan.body.octets plan.body.sectors c.in-Some.phase
+    let made = c.in_default.ensures.makes w.parts.number w.parts.state in (
+      planned_next _ w.parts.place.idle _ _ _ _ _ _ c.self.invariant.0 plan.body.octets plan.body.sectors c.in-Some.phase
           (sym c.in-Some.is ∙ c.next.ensures) made,
       plan,
       c.self.invariant.2,
       c.self.invariant.3,
-      set_aside_on (d w.disk) (d c.make.new.disk) (standing_at w.place w.number w.state) w.place.idle w.begun made.after.sectors
+      set_aside_on (d w.disk) (d c.make.new.disk) (stands w.parts) w.parts.place.idle w.begun made.after.sectors
           c.self.invariant.4,
       c.self.invariant.5,
     )
@@ -106,42 +107,44 @@ owing-begun-requires-clause-octets g c =
     let fit = fit_of _ _ _ _ c.self.invariant.0 in
     omega (arith, ap (λ (os : List ℕ). length os) c.self.invariant.1.body.octets, fit.whole, fit.least)
 
-pub at_rest-journal-requires-clause-resting : goal.at_rest-journal-requires-clause-resting
-at_rest-journal-requires-clause-resting g c =
+pub at_rest-requires-clause-resting : goal.at_rest-requires-clause-resting
+at_rest-requires-clause-resting g c =
     let w = c.self.inside in
-    let s = standing_at w.place w.number w.state in
+    let s = stands w.parts in
     let commands = values w.batch.commands.items in
-    let behind = standing_behind w.place w.number (w.number + c.len.result) w.plan.body.span w.state w.plan.next commands
+    let behind = standing_behind w.parts.place w.parts.number (w.parts.number + c.len.result) w.plan.body.span w.parts.state
+    w.plan.next commands
     c.self.invariant.1.body.span
     (omega (arith, c.len.ensures, length-map w.batch.commands.items value_of)) c.self.invariant.1.next in
     subst (IsResting (g.D.SectorDisk.disk c.make.new.disk)) (sym behind)
-    (resting_behind _ _ s commands w.phase c.self.invariant.0 (c.in_default.ensures.makes w.number w.state).after.sectors)
+    (resting_behind _ _ s commands w.phase c.self.invariant.0 (c.in_default.ensures.makes w.parts.number w.parts.state).after.sectors)
 
 pub returns-in-None-clause-call : goal.returns-in-None-clause-call
 returns-in-None-clause-call g c =
     let d = g.D.SectorDisk.disk in
     let w = c.self.inside in
     let plan = c.self.invariant.1 in
-    rw c.at_rest-journal.ensures.disk
+    rw c.at_rest.ensures.disk
     (subst (λ (v : WritingView g.row.D.Denot). MakesFirst (calls_left v) [] (d v.disk) (d c.make.new.disk)) c.self.view_is
-    (makes_last _ w.place.idle _ _ _ _ _ _ c.self.invariant.0 plan.body.octets plan.body.sectors (sym c.in-None.is ∙ c.next.ensures)
-    (c.in_default.ensures.makes w.number w.state)))
+    (makes_last _ w.parts.place.idle _ _ _ _ _ _ c.self.invariant.0 plan.body.octets plan.body.sectors (sym c.in-None.is ∙ c.next.ensures)
+    (c.in_default.ensures.makes w.parts.number w.parts.state)))
 
 pub returns-in-None-clause-any_moment : goal.returns-in-None-clause-any_moment
 returns-in-None-clause-any_moment g c =
     let w = c.self.inside in
-    rw c.at_rest-journal.ensures.disk
+    rw c.at_rest.ensures.disk
     (moment_of g.D.SectorDisk.disk c.make.new.disk c.make.result c.self.view_is c.self.invariant.0 c.self.invariant.1
-    (c.make.ensures.makes w.number w.state))
+    (c.make.ensures.makes w.parts.number w.parts.state))
 
 -- the journal behind the last call stands behind the batch
-standing_after : (g : Given.Over) (c : goal.After-drop-state-inside-in-None-next g)
-    → c.at_rest-journal.result.standing
-    ≡ with_batch (standing_at c.self.inside.place c.self.inside.number c.self.inside.state) (values c.self.inside.batch.commands.items)
+standing_after : (g : Given.Over) (c : goal.After-at_rest g)
+    → c.at_rest.result.standing
+    ≡ with_batch (stands c.self.inside.parts) (values c.self.inside.batch.commands.items)
 standing_after g c =
     let w = c.self.inside in
-    c.at_rest-journal.ensures.standing
-    ∙ standing_behind w.place w.number _ w.plan.body.span w.state w.plan.next (values w.batch.commands.items) c.self.invariant.1.body.span
+    c.at_rest.ensures.standing
+    ∙ standing_behind w.parts.place w.parts.number _ w.plan.body.span w.parts.state w.plan.next (values w.batch.commands.items)
+    c.self.invariant.1.body.span
     (omega (arith, c.len.ensures, length-map w.batch.commands.items value_of)) c.self.invariant.1.next
 
 pub returns-in-None-clause-durable : goal.returns-in-None-clause-durable
@@ -150,11 +153,11 @@ returns-in-None-clause-durable g c u =
     let w = c.self.inside in
     let plan = c.self.invariant.1 in
     let under = subst (λ (v : WritingView g.row.D.Denot). IsUnderway d v) (sym c.self.view_is) u in
-    let rests : IsAtRest (d c.make.new.disk) (with_batch (standing_at w.place w.number w.state) (values w.batch.commands.items))
-    w.place.idle =
-    durable _ w.place.idle _ _ _ _ _ _ c.self.invariant.0 plan.body.octets plan.body.sectors (sym c.in-None.is ∙ c.next.ensures)
-    (c.in_default.ensures.makes w.number w.state) under in
-    rest_means _ _ _ _ _ _ (ap d c.at_rest-journal.ensures.disk) (standing_after g c) c.at_rest-journal.ensures.idle rests
+    let rests : IsAtRest (d c.make.new.disk) (with_batch (stands w.parts) (values w.batch.commands.items))
+    w.parts.place.idle =
+    durable _ w.parts.place.idle _ _ _ _ _ _ c.self.invariant.0 plan.body.octets plan.body.sectors (sym c.in-None.is ∙ c.next.ensures)
+    (c.in_default.ensures.makes w.parts.number w.parts.state) under in
+    rest_means _ _ _ _ _ _ (ap d c.at_rest.ensures.disk) (standing_after g c) c.at_rest.ensures.idle rests
 
 -- ---- a checkpoint that is paused
 
@@ -162,66 +165,74 @@ pub returns-in-Some-clause-beside : goal.returns-in-Some-clause-beside
 returns-in-Some-clause-beside g c b =
     let d = g.D.SectorDisk.disk in
     let w = c.self.inside in
-    let s = standing_at w.place w.number w.state in
+    let s = stands w.parts in
     let commands = values w.batch.commands.items in
     let plan = c.self.invariant.1 in
     let beside = subst (λ (v : WritingView g.row.D.Denot). IsBeside (d v.disk) v.standing v.begun) (sym c.self.view_is) b in
-    beside_after (d w.disk) (d c.make.new.disk) s commands (body_for s commands) (sectors_for s commands) w.phase w.place.idle w.begun
+    beside_after (d w.disk) (d c.make.new.disk) s commands (body_for s commands) (sectors_for s commands) w.phase w.parts.place.idle
+    w.begun
     (fit_of _ _ _ _ c.self.invariant.0) c.self.invariant.0.in_phase
     (subst (λ (os : List ℕ). Made (call_of s os w.phase ∷ []) (d w.disk) (d c.make.new.disk)) plan.body.octets
-    (c.in_default.ensures.makes w.number w.state)) c.self.invariant.4 beside
+    (c.in_default.ensures.makes w.parts.number w.parts.state)) c.self.invariant.4 beside
 
-pub at_rest-journal-requires-clause-begun : goal.at_rest-journal-requires-clause-begun
-at_rest-journal-requires-clause-begun g c =
+pub at_rest-requires-clause-begun : goal.at_rest-requires-clause-begun
+at_rest-requires-clause-begun g c =
     let d = g.D.SectorDisk.disk in
     let w = c.self.inside in
-    let s = standing_at w.place w.number w.state in
+    let s = stands w.parts in
     let commands = values w.batch.commands.items in
     let plan = c.self.invariant.1 in
-    let behind = standing_behind w.place w.number (w.number + c.len.result) w.plan.body.span w.state w.plan.next commands plan.body.span
+    let behind = standing_behind w.parts.place w.parts.number (w.parts.number + c.len.result) w.plan.body.span w.parts.state
+    w.plan.next commands plan.body.span
     (omega (arith, c.len.ensures, length-map w.batch.commands.items value_of)) plan.next in
-    subst (λ (t : Standing). IsSetAside (d c.make.new.disk) t w.place.idle c.owing-begun.result) (sym behind)
-    (set_aside_owing (d w.disk) (d c.make.new.disk) s w.place.idle commands w.begun c.owing-begun.result w.plan.body (w.place.epoch + 1)
-    (c.in_default.ensures.makes w.number w.state).after.sectors c.self.invariant.4 c.self.invariant.0.follows plan.body refl
+    subst (λ (t : Standing). IsSetAside (d c.make.new.disk) t w.parts.place.idle c.owing-begun.result) (sym behind)
+    (set_aside_owing (d w.disk) (d c.make.new.disk) s w.parts.place.idle commands w.begun c.owing-begun.result w.plan.body
+    (w.parts.place.epoch + 1)
+    (c.in_default.ensures.makes w.parts.number w.parts.state).after.sectors c.self.invariant.4 c.self.invariant.0.follows plan.body refl
     c.owing-begun.ensures)
 
 pub returns-in-None-clause-paused : goal.returns-in-None-clause-paused
 returns-in-None-clause-paused g c u b =
     let d = g.D.SectorDisk.disk in
     let w = c.self.inside in
-    let s = standing_at w.place w.number w.state in
+    let s = stands w.parts in
     let commands = values w.batch.commands.items in
     let plan = c.self.invariant.1 in
-    let made = c.in_default.ensures.makes w.number w.state in
+    let made = c.in_default.ensures.makes w.parts.number w.parts.state in
     let under = subst (λ (v : WritingView g.row.D.Denot). IsUnderway d v) (sym c.self.view_is) u in
     let beside = subst (λ (v : WritingView g.row.D.Denot). IsBeside (d v.disk) v.standing v.begun) (sym c.self.view_is) b in
-    let rests : IsAtRest (d c.make.new.disk) (with_batch s commands) w.place.idle =
-    durable _ w.place.idle _ _ _ _ _ _ c.self.invariant.0 plan.body.octets plan.body.sectors (sym c.in-None.is ∙ c.next.ensures) made
+    let rests : IsAtRest (d c.make.new.disk) (with_batch s commands) w.parts.place.idle =
+    durable _ w.parts.place.idle _ _ _ _ _ _ c.self.invariant.0 plan.body.octets plan.body.sectors (sym c.in-None.is ∙ c.next.ensures)
+    made
     under in
-    let still = beside_after (d w.disk) (d c.make.new.disk) s commands (body_for s commands) (sectors_for s commands) w.phase w.place.idle
+    let still = beside_after (d w.disk) (d c.make.new.disk) s commands (body_for s commands) (sectors_for s commands) w.phase
+    w.parts.place.idle
     w.begun (fit_of _ _ _ _ c.self.invariant.0) c.self.invariant.0.in_phase
     (subst (λ (os : List ℕ). Made (call_of s os w.phase ∷ []) (d w.disk) (d c.make.new.disk)) plan.body.octets made)
     c.self.invariant.4 beside in
-    rw (c.at_rest-journal.ensures.disk, standing_after g c, c.at_rest-journal.ensures.begun)
-    (paused_behind (d w.disk) (d c.make.new.disk) s commands w.place.idle w.begun c.owing-begun.result w.plan.body (w.place.epoch + 1)
+    rw (c.at_rest.ensures.disk, standing_after g c, c.at_rest.ensures.begun)
+    (paused_behind (d w.disk) (d c.make.new.disk) s commands w.parts.place.idle w.begun c.owing-begun.result w.plan.body
+    (w.parts.place.epoch + 1)
     made.after.sectors c.self.invariant.4 c.self.invariant.0.follows plan.body refl c.owing-begun.ensures still rests)
 
 pub returns-in-None-clause-done : goal.returns-in-None-clause-done
 returns-in-None-clause-done g c =
     let d = g.D.SectorDisk.disk in
     let w = c.self.inside in
-    let s = standing_at w.place w.number w.state in
+    let s = stands w.parts in
     let commands = values w.batch.commands.items in
     let plan = c.self.invariant.1 in (
       standing_after g c ∙ ap (λ (v : WritingView g.row.D.Denot). with_batch v.standing v.commands) c.self.view_is,
-      c.at_rest-journal.ensures.idle ∙ ap (λ (v : WritingView g.row.D.Denot). v.idle) c.self.view_is,
-      c.at_rest-journal.ensures.history ∙ c.with_batch-history.ensures
+      c.at_rest.ensures.idle ∙ ap (λ (v : WritingView g.row.D.Denot). v.idle) c.self.view_is,
+      c.at_rest.ensures.history ∙ c.with_batch-parts.ensures
           ∙ ap (λ (v : WritingView g.row.D.Denot). written_behind v.history v.commands) c.self.view_is,
       c.self.invariant.2 ∙ ap (λ (v : WritingView g.row.D.Denot). v.standing.number + 1) c.self.view_is,
       ap (λ (v : WritingView g.row.D.Denot). v.commands) c.self.view_is,
-      c.at_rest-journal.ensures.begun
-          ∙ views-owing (d w.disk) (d c.make.new.disk) s w.place.idle commands w.begun c.owing-begun.result w.plan.body (w.place.epoch + 1)
-          (c.in_default.ensures.makes w.number w.state).after.sectors c.self.invariant.4 c.self.invariant.0.follows plan.body refl
+      c.at_rest.ensures.begun
+          ∙ views-owing (d w.disk) (d c.make.new.disk) s w.parts.place.idle commands w.begun c.owing-begun.result w.plan.body
+          (w.parts.place.epoch + 1)
+          (c.in_default.ensures.makes w.parts.number w.parts.state).after.sectors c.self.invariant.4 c.self.invariant.0.follows
+          plan.body refl
           c.owing-begun.ensures
           ∙ ap (λ (v : WritingView g.row.D.Denot). option_map (with_owed v.commands) v.begun) c.self.view_is,
     )
@@ -246,6 +257,6 @@ returns-in-Some-clause-run g c r writing = (
 
 pub returns-in-None-clause-run : goal.returns-in-None-clause-run
 returns-in-None-clause-run g c r writing =
-    run_of_written g.D.SectorDisk.disk c.args.self c.at_rest-journal.result (returns-in-None-clause-durable g c writing.0).0
+    run_of_written g.D.SectorDisk.disk c.args.self c.at_rest.result (returns-in-None-clause-durable g c writing.0).0
     (standing_after g c ∙ ap (λ (v : WritingView g.row.D.Denot). with_batch v.standing v.commands) c.self.view_is)
     (returns-in-None-clause-any_moment g c writing.0) (returns-in-None-clause-paused g c writing.0 writing.3) writing

@@ -1,0 +1,17 @@
+//! What a journal has beside its disk, whatever it is doing.
+
+use crate::history::History;
+use iol_layout::Place;
+use iol_types::MasterState;
+use std::alloc::Global;
+
+/// What a journal has beside its disk, whatever it is doing: where it writes next, how many commands it has, the state after
+/// them, and what it has done.
+#[derive(Drop)]
+pub struct Parts {
+    pub alloc: Global,
+    pub place: Place,
+    pub number: u64,
+    pub state: MasterState,
+    pub history: History,
+}
