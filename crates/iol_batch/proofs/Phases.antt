@@ -5,7 +5,7 @@ use Rattle.std.proofs.lemmas.Bool.{cases_lt}
 use Rattle.std.proofs.lemmas.Bool.Decides.{nat_tests}
 use Rattle.iol_types.specs.Command.{CommandValue}
 use Rattle.iol_types.specs.State.{State, after, legal}
-use Rattle.iol_disk.specs.Content.{Image, Content, reads, IsImage, IsSettled, wrote, synced}
+use Rattle.iol_disk.specs.Content.{Image, Content, reads, IsImage, IsSettled, wrote, synced, EachImage}
 use Rattle.iol_disk.specs.Disk.{Disk}
 use Rattle.iol_disk.proofs.DiskLaws.{reads-is_image, image-settled, image-synced, image-wrote, reads-wrote_here, reads-wrote_other}
 use Rattle.iol_disk.proofs.DiskLaws.{HasOnTheWay}
@@ -22,7 +22,7 @@ use Rattle.iol_disk.specs.declared.disk.TheConstants.{SECTOR_OCTETS}
 use Rattle.iol_batch.specs.Batches.{body_for, sectors_for, call_of, next_phase, IsPhase}
 use Rattle.iol_layout.specs.Standings.{standing_at, with_batch}
 use Rattle.iol_batch.specs.Planned.{CanFollow, IsPlanned}
-use Rattle.iol_batch.specs.Phases.{EachKept, IsAtRest, HasWritten, IsBetween, Holds}
+use Rattle.iol_batch.specs.Phases.{IsAtRest, HasWritten, IsBetween, Holds}
 use Rattle.iol_layout.specs.declared.idle.Idle.{Idle}
 use Rattle.iol_layout.specs.declared.place.Place.{Place}
 use Rattle.iol_batch.specs.declared.phase.Phase.{Phase}
@@ -139,8 +139,8 @@ module _ (s : Standing) (idle : Idle) (commands : List CommandValue) (body : Lis
               fit.passes,
         )
 
-    body_after : (size j : ℕ) (c : Content) → j < sectors → EachKept size s idle c × HasWritten s body j c
-        → EachKept size s idle (wrote (body_at s.layout s.area s.used j) (sector_of body j) c)
+    body_after : (size j : ℕ) (c : Content) → j < sectors → EachImage c (IsKeptAs size s idle) × HasWritten s body j c
+        → EachImage (wrote (body_at s.layout s.area s.used j) (sector_of body j) c) (IsKeptAs size s idle)
         × HasWritten s body (j + 1) (wrote (body_at s.layout s.area s.used j) (sector_of body j) c)
     body_after size j c below (each, written) = (λ image is. kept image is, written_more s body j c written)
       where
@@ -151,7 +151,7 @@ module _ (s : Standing) (idle : Idle) (commands : List CommandValue) (body : Lis
     -- what holds before the call that comes next
     next_body : (size j : ℕ) (q : Phase) (c : Content) (test : Bool) → test ≡ nat_lt (j + 1) sectors → j < sectors
         → (if test then Body (j + 1) else SyncBody) ≡ q
-        → EachKept size s idle c × HasWritten s body (j + 1) c → Holds size s idle commands body sectors q c
+        → EachImage c (IsKeptAs size s idle) × HasWritten s body (j + 1) c → Holds size s idle commands body sectors q c
     next_body size j q c true test below is holds = subst (λ (p : Phase). Holds size s idle commands body sectors p c) is holds
     next_body size j q c false test below is holds =
         let last : j + 1 ≡ sectors = grind (arith, nat_tests) in
@@ -197,7 +197,7 @@ module _ (s : Standing) (idle : Idle) (commands : List CommandValue) (body : Lis
         (holds_next d.sectors p q d.content in_phase next (holds h)))
 
     at_end : (size : ℕ) (p : Phase) (c : Content) → next_phase sectors p ≡ None → Holds size s idle commands body sectors p c
-        → EachKept size (with_batch s commands) idle (content_after (call_of s body p) c)
+        → EachImage (content_after (call_of s body p) c) (IsKeptAs size (with_batch s commands) idle)
     at_end size (Body j) c none holds = cc
     at_end size SyncBody c none holds = cc
     at_end size Gate c none holds = cc
@@ -207,12 +207,12 @@ module _ (s : Standing) (idle : Idle) (commands : List CommandValue) (body : Lis
     -- after the last call
     pub batch_durable : (d d' : Disk) (p : Phase) → next_phase sectors p ≡ None → Made (call_of s body p ∷ []) d d'
         → (IsTrue d.honest → Holds d.sectors s idle commands body sectors p d.content)
-        → IsTrue d'.honest → EachKept d'.sectors (with_batch s commands) idle d'.content
+        → IsTrue d'.honest → EachImage d'.content (IsKeptAs d'.sectors (with_batch s commands) idle)
     batch_durable d d' p none made holds h' =
         let after_ = made.after in
         let h : IsTrue d.honest = subst IsTrue after_.honest h' in
-        subst (λ (n : ℕ). EachKept n (with_batch s commands) idle d'.content) (sym after_.sectors)
-        (subst (λ (c : Content). EachKept d.sectors (with_batch s commands) idle c) (sym (after_.content h))
+        subst (λ (n : ℕ). EachImage d'.content (IsKeptAs n (with_batch s commands) idle)) (sym after_.sectors)
+        (subst (λ (c : Content). EachImage c (IsKeptAs d.sectors (with_batch s commands) idle)) (sym (after_.content h))
         (at_end d.sectors p d.content none (holds h)))
 
     -- the images on the way of a call

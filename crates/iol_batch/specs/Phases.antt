@@ -1,7 +1,7 @@
 -- What holds of an honest disk before each disk call of a batch.
 use Rattle.std.specs.Prelude.{◌≡◌, ◌<◌, ℕ, true, false, IsTrue, List}
 use Rattle.iol_types.specs.Command.{CommandValue}
-use Rattle.iol_disk.specs.Content.{Image, Content, IsImage, IsSettled, reads}
+use Rattle.iol_disk.specs.Content.{Image, Content, EachImage, IsSettled, reads}
 use Rattle.iol_disk.specs.Disk.{Disk}
 use Rattle.iol_slots.specs.Gate.{is_open}
 use Rattle.iol_layout.specs.Layout.{slot_at, body_at}
@@ -13,13 +13,9 @@ use Rattle.iol_layout.specs.declared.idle.Idle.{Idle}
 use Rattle.iol_batch.specs.declared.phase.Phase.{Phase}
 use Rattle.iol_batch.specs.declared.phase.Phase.TheVariants.{Body, SyncBody, Gate, SyncGate}
 
--- whatever a stop leaves now, the journal stands so on it, and can go on (own)
-abbrev pub EachKept : ℕ → Standing → Idle → Content → Type 0
-EachKept sectors s idle c = (image : Image) → IsImage c image → IsKeptAs sectors s idle image
-
 -- a journal is at rest: whatever a stop of its honest disk leaves now, it stands so on it, and can go on (own)
 abbrev pub IsAtRest : Disk → Standing → Idle → Type 0
-IsAtRest d s idle = IsTrue d.honest → EachKept d.sectors s idle d.content
+IsAtRest d s idle = IsTrue d.honest → EachImage d.content (IsKeptAs d.sectors s idle)
 
 -- so many sectors of the body are written, from the first free slot on (own)
 abbrev pub HasWritten : Standing → List ℕ → ℕ → Content → Type 0
@@ -33,8 +29,8 @@ IsBetween sectors s idle commands image =
 
 -- what holds of the content before the disk call of each phase (own)
 abbrev pub Holds : ℕ → Standing → Idle → List CommandValue → List ℕ → ℕ → Phase → Content → Type 0
-Holds size s idle commands body sectors (Body j) c = EachKept size s idle c × HasWritten s body j c
-Holds size s idle commands body sectors SyncBody c = EachKept size s idle c × HasWritten s body sectors c
-Holds size s idle commands body sectors Gate c = EachKept size s idle c × HasWritten s body sectors c × IsSettled c
+Holds size s idle commands body sectors (Body j) c = EachImage c (IsKeptAs size s idle) × HasWritten s body j c
+Holds size s idle commands body sectors SyncBody c = EachImage c (IsKeptAs size s idle) × HasWritten s body sectors c
+Holds size s idle commands body sectors Gate c = EachImage c (IsKeptAs size s idle) × HasWritten s body sectors c × IsSettled c
 Holds size s idle commands body sectors SyncGate c =
-    ((image : Image) → IsImage c image → IsBetween size s idle commands image) × IsKeptAs size (with_batch s commands) idle (reads c)
+    EachImage c (IsBetween size s idle commands) × IsKeptAs size (with_batch s commands) idle (reads c)

@@ -1,6 +1,9 @@
 //! What a batch writes.
 
-use iol_layout::EncodedBatch;
+use crate::batch::{Batch, apply_all, span_within};
+use crate::parts::Parts;
+use crate::refusal::BeginCause;
+use iol_layout::{EncodedBatch, LAST_NUMBER};
 use iol_types::MasterState;
 
 /// What a batch writes, and the state after it.
@@ -8,4 +11,49 @@ use iol_types::MasterState;
 pub struct Plan {
     pub body: EncodedBatch,
     pub next: MasterState,
+}
+
+impl Plan {
+    ghost use Rattle.std.specs.Prelude.{◌≡◌, ◌≤◌, ◌<◌, ◌+◌, length, None, IfOk, IfErr, OnOk};
+    ghost use Rattle.iol_batch.specs.Begin.{batch_refusal, IsBatchRefusal};
+    ghost use Rattle.iol_batch.specs.Parts.{stands};
+    ghost use Rattle.iol_batch.specs.Planned.{CanFollow, IsPlan};
+    ghost use Rattle.iol_layout.specs.Body.{slots_for, values};
+
+    /// What the batch writes into the free slots of a journal that has these parts.
+    ///
+    /// # Errors
+    /// `TooLarge`, `NeedsCheckpoint`, `Memory` or `Misfit`, in this order.
+    pub fn of(parts: &Parts, batch: &Batch) -> Result<Plan, BeginCause>
+        requires within { parts.now.place.used ≤ parts.now.place.layout.slots }
+        requires bound { parts.now.number ≤ LAST_NUMBER }
+        ensures plan { IfOk result (IsPlan (stands parts.now) (values batch.now.commands.items)) }
+        ensures can_follow { OnOk result (CanFollow (stands parts.now) (values batch.now.commands.items)) }
+        ensures first { OnOk result (batch.now.first ≡ parts.now.number + 1) }
+        ensures follows { OnOk result (batch_refusal (stands parts.now) batch.now.first (values batch.now.commands.items) ≡ None) }
+        ensures few { OnOk result (slots_for (values batch.now.commands.items) ≤ length (values batch.now.commands.items)) }
+        ensures cause { IfErr result (IsBatchRefusal (stands parts.now) batch.now.first (values batch.now.commands.items)) }
+        // Where too few slots are free, one is used.
+        ensures used { IfErr result (λ cause. cause ≡ BeginCause.NeedsCheckpoint → 0 < parts.now.place.used) }
+    {
+        let slots = parts.place.slots();
+        let Some(span) = span_within(slots, &batch.commands) else {
+            return Err(BeginCause::TooLarge);
+        };
+        if slots - parts.place.used < span {
+            return Err(BeginCause::NeedsCheckpoint);
+        }
+        let body = EncodedBatch::of(parts.alloc, parts.place.epoch, batch.first, &batch.commands)?;
+        let mut next = parts.state.copy()?;
+        let count = batch.commands.len() as u64;
+        let number = parts.number;
+        if count == 0 || batch.first != number + 1 || LAST_NUMBER - number < count {
+            return Err(BeginCause::Misfit);
+        }
+        if apply_all(&mut next, &batch.commands)? {
+            Ok(Plan { body, next })
+        } else {
+            Err(BeginCause::Misfit)
+        }
+    }
 }

@@ -3,8 +3,9 @@ use Rattle.std.proofs.Common.{◌≡◌, ℕ, ◌+◌, List, [], ◌∷◌, leng
 use Rattle.std.specs.Option.{option_map}
 use Rattle.iol_types.specs.Command.{CommandValue}
 use Rattle.iol_disk.specs.Calls.{content_after, Made}
-use Rattle.iol_disk.specs.Content.{Content}
+use Rattle.iol_disk.specs.Content.{Content, EachImage}
 use Rattle.iol_disk.specs.Disk.{Disk}
+use Rattle.iol_layout.specs.Kept.{IsKeptAs}
 use Rattle.iol_batch.specs.Batches.{sectors_for, call_of, IsPhase}
 use Rattle.iol_checkpoint.specs.BegunParts.{log_of, commands_owed, view_of, IsSetAside, AreOwing}
 use Rattle.iol_checkpoint.specs.Checkpoints.{target, first_of, snapshot_writes}
@@ -13,7 +14,7 @@ use Rattle.iol_checkpoint.specs.Drafts.{AreaHolds}
 use Rattle.iol_layout.specs.Standings.{with_batch}
 use Rattle.iol_batch.specs.Planned.{CanFollow, IsEncoded}
 use Rattle.iol_layout.specs.Meaning.{Standing}
-use Rattle.iol_batch.specs.Phases.{EachKept, IsAtRest}
+use Rattle.iol_batch.specs.Phases.{IsAtRest}
 use Rattle.iol_checkpoint.specs.declared.begun.Begun.{Begun}
 use Rattle.iol_layout.specs.declared.body.EncodedBatch.{EncodedBatch}
 use Rattle.iol_batch.specs.declared.phase.Phase.{Phase}
@@ -50,6 +51,6 @@ paused_behind d d' s batch idle (Some old) (Some new) body epoch same is follows
     (sym (view-owing d d' s batch old new body epoch same is.0 is.1 follows encoded next owes))
     (λ h. holds_owing d'.sectors (with_batch s batch) t owed batch t.layout.slots (length (snapshot_writes t))
     (sectors_for t (first_of owed)) old.stage d'.content is.1 is.0.drafted.in_stage
-    (subst (λ (i : Idle). EachKept d'.sectors (with_batch s batch) i d'.content) is.2 (rests h)) (beside h))
+    (subst (λ (i : Idle). EachImage d'.content (IsKeptAs d'.sectors (with_batch s batch) i)) is.2 (rests h)) (beside h))
 paused_behind d d' s batch idle None (Some new) body epoch same is follows encoded next owes beside rests = absurd owes
 paused_behind d d' s batch idle (Some old) None body epoch same is follows encoded next owes beside rests = absurd owes

@@ -2,11 +2,12 @@
 use Rattle.std.proofs.Common.{◌≡◌, ◌<◌, ℕ, ◌+◌, List, [], ◌∷◌, length, slice_get, get_or, Option, Some, None, unwrap_or}
 use Rattle.std.proofs.Common.{IsTrue, Result, Ok, Err, refl, sym, ◌∙◌, ap, subst, arith}
 use Rattle.iol_types.specs.Command.{CommandValue}
-use Rattle.iol_disk.specs.Calls.{Call, sync, content_after, Made, FailedIn, Makes, MakesFirst, FailsFirst}
+use Rattle.iol_disk.specs.Calls.{Call, sync, content_after, Made, FailedIn, Makes, MakesFirst}
 use Rattle.iol_disk.specs.Disk.{Disk}
 use Rattle.iol_disk.specs.Moments.{LeavesOnly}
 use Rattle.iol_disk.specs.declared.fault.DiskFault.{DiskFault}
 use Rattle.iol_disk.proofs.DiskLaws.{HasOnTheWay, made_leaves, failed_leaves}
+use Rattle.iol_disk.specs.Content.{EachImage}
 use Rattle.iol_area.specs.AreaPlans.{AreRecords, IsAreaPlan, write_of}
 use Rattle.iol_batch.specs.Batches.{sectors_for}
 use Rattle.iol_checkpoint.specs.Checkpoints.{target, checkpointed, with_batches, header_of_target}
@@ -14,10 +15,10 @@ use Rattle.iol_checkpoint.specs.Checkpoints.{first_of, snapshot_writes, call_at,
 use Rattle.iol_checkpoint.specs.Checkpoints.{first_stage, IsStage, log_behind, owed_behind, stage_calls}
 use Rattle.iol_checkpoint.specs.Drafts.{MeansSame, StageHolds, stage_behind, IsDrafted}
 use Rattle.iol_layout.specs.Standings.{IsResting}
-use Rattle.iol_layout.specs.Kept.{KeptMeans}
+use Rattle.iol_layout.specs.Kept.{KeptMeans, IsKeptAs}
 use Rattle.iol_layout.specs.Layout.{other}
 use Rattle.iol_layout.specs.Meaning.{Log, Standing}
-use Rattle.iol_batch.specs.Phases.{EachKept, IsAtRest}
+use Rattle.iol_batch.specs.Phases.{IsAtRest}
 use Rattle.iol_layout.specs.declared.area.Area.{Area}
 use Rattle.iol_area.specs.declared.area_plan.AreaPlan.{AreaPlan}
 use Rattle.iol_layout.specs.declared.idle.Idle.{Idle}
@@ -152,7 +153,7 @@ module _ (s : Standing) (log : Log) (owed : List (List CommandValue)) (stage : S
   pub durable : next ≡ None → Made (call ∷ []) old new → Before → IsAtRest new t Older
   durable is made holds h =
       let whole = subst (λ (then_ : Option Stage). HoldsBehind new.sectors s t' owed' then_ new.content) is (made-behind made holds h) in
-      subst (λ (l : Log). EachKept new.sectors (target s l) Older new.content) (unmoved is) whole.0
+      subst (λ (l : Log). EachImage new.content (IsKeptAs new.sectors (target s l) Older)) (unmoved is) whole.0
 
   -- behind the last call
   pub resting : Made (call ∷ []) old new → IsResting new t
@@ -163,27 +164,23 @@ module _ (s : Standing) (log : Log) (owed : List (List CommandValue)) (stage : S
 
   -- the first of the calls that are left is made, or fails
   pub makes_first : (q : Stage) → next ≡ Some q → Made (call ∷ []) old new
-      → MakesFirst (stage_calls t owed stage) (stage_calls t' owed' q) old new
+      → MakesFirst (stage_calls t owed stage) (stage_calls t' owed' q) old new (Ok tt)
   makes_first q is made = record {
     call = call;
     order = order ∙ ap (λ (then_ : Option Stage). call ∷ calls_behind t' owed' then_) is;
-    made = made;
+    makes = made;
   }
 
-  pub makes_last : next ≡ None → Made (call ∷ []) old new → MakesFirst (stage_calls t owed stage) [] old new
+  pub makes_last : next ≡ None → Made (call ∷ []) old new → MakesFirst (stage_calls t owed stage) [] old new (Ok tt)
   makes_last is made = record {
     call = call;
     order = order ∙ ap (λ (then_ : Option Stage). call ∷ calls_behind t' owed' then_) is;
-    made = made;
+    makes = made;
   }
 
-  pub fails_first : (told : DiskFault) → FailedIn (call ∷ []) told old new → FailsFirst (stage_calls t owed stage) told old new
-  fails_first told failed = record {
-    call = call;
-    left = calls_behind t' owed' next;
-    order = order;
-    failed = failed;
-  }
+  pub fails_first : (told : DiskFault) → FailedIn (call ∷ []) told old new
+      → (others : List Call) × MakesFirst (stage_calls t owed stage) others old new (Err told)
+  fails_first told failed = (calls_behind t' owed' next, record { call = call; order = order; makes = failed })
 
 -- with no batch
 pub with_none : (t : Standing) (owed : List (List CommandValue)) → length owed ≡ 0 → with_batches t owed ≡ t

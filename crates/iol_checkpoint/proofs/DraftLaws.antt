@@ -3,8 +3,9 @@ use Rattle.std.proofs.Common.{◌≡◌, ◌≤◌, ℕ, ◌+◌, ◌-◌, nat_l
 use Rattle.std.proofs.Common.{IfSome, refl, sym, ◌∙◌, ap, subst, arith, length-append}
 use Rattle.iol_types.specs.Command.{CommandValue}
 use Rattle.iol_types.specs.State.{State, after, legal}
-use Rattle.iol_disk.specs.Content.{Content}
+use Rattle.iol_disk.specs.Content.{Content, EachImage}
 use Rattle.iol_disk.specs.Disk.{Disk}
+use Rattle.iol_layout.specs.Kept.{IsKeptAs}
 use Rattle.iol_batch.specs.Batches.{sectors_for}
 use Rattle.iol_checkpoint.specs.Checkpoints.{target, first_of, behind_first, log_with, with_batches, snapshot_writes, next_stage}
 use Rattle.iol_checkpoint.specs.Checkpoints.{IsStage, is_carried, log_behind, owed_behind}
@@ -14,7 +15,6 @@ use Rattle.iol_layout.specs.Standings.{with_batch, IsResting}
 use Rattle.iol_batch.specs.Planned.{CanFollow}
 use Rattle.iol_layout.specs.Layout.{Layout, total}
 use Rattle.iol_layout.specs.Meaning.{Log, Standing}
-use Rattle.iol_batch.specs.Phases.{EachKept}
 use Rattle.iol_batch.specs.declared.phase.Phase.TheVariants.{Body, SyncBody, Gate, SyncGate}
 use Rattle.iol_checkpoint.specs.declared.stage.Stage.{Stage}
 use Rattle.iol_checkpoint.specs.declared.stage.Stage.TheVariants.{ClearHeader, SyncHeader, CloseGate, SyncClosed, CloseSlot, SyncSlots}
@@ -197,7 +197,7 @@ module _ (d d' : Disk) (s : Standing) (log : Log) (owed : List (List CommandValu
 
 -- what holds where a checkpoint may be paused
 pub holds_parts : (size : ℕ) (s t : Standing) (owed : List (List CommandValue)) (stage : Stage) (c : Content) → can_pause stage ≡ true
-    → StageHolds size s t owed stage c → EachKept size s (idle_at stage) c × AreaHolds size t owed stage c
+    → StageHolds size s t owed stage c → EachImage c (IsKeptAs size s (idle_at stage)) × AreaHolds size t owed stage c
 holds_parts size s t owed ClearHeader c may holds = holds
 holds_parts size s t owed SyncHeader c may holds = holds
 holds_parts size s t owed CloseGate c may holds = holds
@@ -239,7 +239,7 @@ owed-more t (first ∷ behind) batch are follows = (are.0, owed-more (with_batch
 -- what holds where a batch was written beside the checkpoint
 pub holds_owing : (size : ℕ) (s t : Standing) (owed : List (List CommandValue)) (batch : List CommandValue) (slots records sectors : ℕ)
     (stage : Stage) (c : Content)
-    → can_pause stage ≡ true → IsStage slots records sectors (length owed) stage → EachKept size s (idle_at stage) c
+    → can_pause stage ≡ true → IsStage slots records sectors (length owed) stage → EachImage c (IsKeptAs size s (idle_at stage))
     → AreaHolds size t owed stage c → StageHolds size s t (owed ++ batch ∷ []) (owing stage) c
 holds_owing size s t owed batch slots records sectors ClearHeader c may is kept holds = (kept, holds)
 holds_owing size s t owed batch slots records sectors SyncHeader c may is kept holds = (kept, holds)

@@ -6,7 +6,7 @@ use Rattle.std.proofs.lemmas.Bool.Decides.{nat_tests}
 use Rattle.std.proofs.Math.Seq.{take-length}
 use Rattle.iol_types.specs.Command.{CommandValue}
 use Rattle.iol_types.specs.State.{State}
-use Rattle.iol_disk.specs.Content.{Image, Content, IsImage, IsSettled, reads, wrote, synced}
+use Rattle.iol_disk.specs.Content.{Image, Content, IsImage, IsSettled, reads, wrote, synced, EachImage}
 use Rattle.iol_disk.specs.Calls.{Call, write, sync, content_after}
 use Rattle.iol_disk.proofs.DiskLaws.{reads-is_image, image-settled, image-wrote, image-synced, reads-wrote_here, reads-wrote_other}
 use Rattle.iol_slots.specs.Gate.{is_open, open_gate, closed_gate}
@@ -25,7 +25,7 @@ use Rattle.iol_checkpoint.specs.Checkpoints.{next_batch, next_stage, log_behind,
 use Rattle.iol_checkpoint.specs.Drafts.{AreShut, IsPrepared, OpensTo, IsTurning, MeansSame, StageHolds, IsSnapshot, IsFresh, AreOwed}
 use Rattle.iol_layout.specs.Standings.{with_batch}
 use Rattle.iol_batch.specs.Planned.{CanFollow}
-use Rattle.iol_batch.specs.Phases.{EachKept, HasWritten}
+use Rattle.iol_batch.specs.Phases.{HasWritten}
 use Rattle.iol_layout.specs.declared.area.Area.{Area}
 use Rattle.iol_layout.specs.declared.area.Area.TheVariants.{A, B}
 use Rattle.iol_layout.specs.declared.header.Header.{Header}
@@ -48,7 +48,7 @@ use Rattle.iol_layout.proofs.Headers.{header_of-octets}
 -- what holds behind the call of a stage: what its next stage asks, or at the end that the checkpoint is whole
 abbrev pub HoldsBehind : ℕ → Standing → Standing → List (List CommandValue) → Option Stage → Content → Type 0
 HoldsBehind size s t owed (Some stage) c = StageHolds size s t owed stage c
-HoldsBehind size s t owed None c = EachKept size t Older c × MeansSame t s
+HoldsBehind size s t owed None c = EachImage c (IsKeptAs size t Older) × MeansSame t s
 
 -- of two stages the one that comes next
 abbrev one_of : Bool → Stage → Stage → Option Stage
@@ -100,8 +100,8 @@ module _ (size : ℕ) (s : Standing) where
 
   -- a sector of the other area is written
   each_write : (idle : Idle) (sector : ℕ) (octets : List ℕ) (c : Content) → IsInOther s sector → Spares s idle sector
-      → EachKept size s idle c
-      → EachKept size s idle (wrote sector octets c)
+      → EachImage c (IsKeptAs size s idle)
+      → EachImage (wrote sector octets c) (IsKeptAs size s idle)
   each_write idle sector octets c inside spares kept image is =
       let w = image-wrote sector octets c image is in
       let was = kept w.0 w.1 in
@@ -109,12 +109,13 @@ module _ (size : ℕ) (s : Standing) where
       (idle_after idle sector w.0 image spares w.2 was.other_area)
 
   -- a sync, behind which the other area is harmless in this way
-  each_sync : (was idle : Idle) (c : Content) → EachKept size s was c → IsIdle s idle (reads c) → EachKept size s idle (synced c)
+  each_sync : (was idle : Idle) (c : Content) → EachImage c (IsKeptAs size s was) → IsIdle s idle (reads c)
+      → EachImage (synced c) (IsKeptAs size s idle)
   each_sync was idle c kept harmless image is =
       subst (IsKeptAs size s idle) (sym (image-synced c image is))
       (other_frame s (reads c) (reads c) (λ i apart. refl) size was idle (kept (reads c) (reads-is_image c)) harmless)
 
-  sync_again : (idle : Idle) (c : Content) → EachKept size s idle c → EachKept size s idle (synced c)
+  sync_again : (idle : Idle) (c : Content) → EachImage c (IsKeptAs size s idle) → EachImage (synced c) (IsKeptAs size s idle)
   sync_again idle c kept = each_sync idle idle c kept (kept (reads c) (reads-is_image c)).other_area
 
 -- the area that is written, as it will stand with this log
@@ -155,8 +156,8 @@ module _ (size : ℕ) (s : Standing) (log : Log) where
 
   -- the write of a sector of the records
   record_written : (owed : List (List CommandValue)) (i : ℕ) (c : Content) → AreRecords t.layout t.area t.state
-      → i < length (snapshot_writes t) → EachKept size s Closed c → IsPrepared t i (reads c)
-      → EachKept size s Closed (content_after (call_at t owed (WriteRecord i)) c)
+      → i < length (snapshot_writes t) → EachImage c (IsKeptAs size s Closed) → IsPrepared t i (reads c)
+      → EachImage (content_after (call_at t owed (WriteRecord i)) c) (IsKeptAs size s Closed)
       × IsPrepared t (i + 1) (reads (content_after (call_at t owed (WriteRecord i)) c))
   record_written owed i c records below kept ready =
       let nth = row-nth (port_at t.layout t.area 0) (slot_at t.layout t.area 0) (snapshot_writes t) i records.row below in
@@ -164,7 +165,8 @@ module _ (size : ℕ) (s : Standing) (log : Log) where
       ap (λ (found : Option Call). unwrap_or found sync) nth.at_place in
       let next : suc i ≡ i + 1 = omega arith in
       let inside : IsInOther s nth.sector = record { from = omega (arith, nth.from); below = omega (arith, nth.below) } in
-      subst (λ (made : Call). EachKept size s Closed (content_after made c) × IsPrepared t (i + 1) (reads (content_after made c)))
+      subst (λ (made : Call).
+      EachImage (content_after made c) (IsKeptAs size s Closed) × IsPrepared t (i + 1) (reads (content_after made c)))
       (sym call) (
         each_write size s Closed nth.sector nth.octets c inside (omega (arith, nth.from)) kept,
         record {
@@ -244,7 +246,7 @@ module _ (size : ℕ) (s : Standing) (log : Log) where
           whole)
 
   -- while the gate is on its way
-  turning : (c : Content) → EachKept size s Closed c → IsSettled c → OpensTo size t c → (image : Image)
+  turning : (c : Content) → EachImage c (IsKeptAs size s Closed) → IsSettled c → OpensTo size t c → (image : Image)
       → IsImage (wrote (gate_at t.layout t.area) open_gate c) image → IsTurning size s t image
   turning c kept settled opens_to image is =
       let w = image-wrote (gate_at t.layout t.area) open_gate c image is in
@@ -262,7 +264,7 @@ first_owed t [] some are = absurd (omega (arith, some))
 first_owed t (batch ∷ batches) some are = are.0
 
 -- behind the records or a batch: the next one, or the gate
-carry_next : (size : ℕ) (s t : Standing) (owed : List (List CommandValue)) (n : ℕ) (c : Content) → EachKept size s Closed c
+carry_next : (size : ℕ) (s t : Standing) (owed : List (List CommandValue)) (n : ℕ) (c : Content) → EachImage c (IsKeptAs size s Closed)
     → OpensTo size t c → IsSettled c → HoldsBehind size s t owed (Some (next_batch n)) c
 carry_next size s t owed n c kept opens_to settled = holds_one_of size s t owed 0 n (Carry (Body 0)) OpenGate c
     (λ more. (kept, (opens_to, λ j below. absurd (omega (arith, below)))))
@@ -385,7 +387,8 @@ module _ (size : ℕ) (s : Standing) (log : Log) (owed : List (List CommandValue
       (λ image is. subst (IsKeptAs size t' Older) (sym (image-synced c image is)) holds.1, holds.2)
 
 -- a checkpoint begins where the journal is at rest
-pub first_holds : (size : ℕ) (s t : Standing) (owed : List (List CommandValue)) (idle : Idle) (c : Content) → EachKept size s idle c
+pub first_holds : (size : ℕ) (s t : Standing) (owed : List (List CommandValue)) (idle : Idle) (c : Content)
+    → EachImage c (IsKeptAs size s idle)
     → StageHolds size s t owed (first_stage idle) c
 first_holds size s t owed Older c kept = (kept, tt)
 first_holds size s t owed Closed c kept = (kept, tt)

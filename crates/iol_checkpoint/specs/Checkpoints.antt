@@ -8,6 +8,7 @@ use Rattle.iol_disk.specs.Calls.{Call, write, sync}
 use Rattle.iol_slots.specs.Gate.{open_gate, closed_gate}
 use Rattle.iol_area.specs.AreaWrites.{slot_write, slot_writes, header_write, port_writes}
 use Rattle.iol_batch.specs.Batches.{body_for, sectors_for, batch_calls, calls_from, call_of, next_phase, IsPhase}
+use Rattle.iol_checkpoint.specs.BegunViews.{BegunView}
 use Rattle.iol_layout.specs.Body.{slots_for}
 use Rattle.iol_layout.specs.Standings.{with_batch}
 use Rattle.iol_layout.specs.Layout.{other, gate_at}
@@ -105,6 +106,10 @@ checkpoint_calls t owed idle =
 abbrev pub first_stage : Idle → Stage
 first_stage Older = CloseGate
 first_stage Closed = ClearHeader
+
+-- a checkpoint that is new: no batch is owed to it (own)
+abbrev pub new_begun : Standing → Idle → BegunView
+new_begun s idle = record { log = fresh_log s; owed = []; stage = first_stage idle }
 
 -- the disk call of a stage (format, Orders of disk calls)
 abbrev pub call_at : Standing → List (List CommandValue) → Stage → Call

@@ -2,7 +2,7 @@
 use Rattle.std.specs.Prelude.{◌≡◌, ◌≢◌, ◌≤◌, ◌<◌, ℕ, Bool, true, false, List, [], ◌∷◌, ◌++◌, length, take, Option}
 use Rattle.std.specs.Option.{option_map}
 use Rattle.iol_types.specs.Command.{CommandValue}
-use Rattle.iol_disk.specs.Content.{Image, Content, IsImage, IsSettled, reads}
+use Rattle.iol_disk.specs.Content.{Image, Content, EachImage, IsSettled, reads}
 use Rattle.iol_disk.specs.Disk.{Disk}
 use Rattle.iol_slots.specs.Gate.{is_open}
 use Rattle.iol_area.specs.AreaPlans.{AreRecords}
@@ -17,7 +17,7 @@ use Rattle.iol_batch.specs.Planned.{CanFollow}
 use Rattle.iol_layout.specs.Kept.{IsKeptAs}
 use Rattle.iol_layout.specs.Layout.{gate_at, header_at, slot_at}
 use Rattle.iol_layout.specs.Meaning.{Standing}
-use Rattle.iol_batch.specs.Phases.{EachKept, HasWritten}
+use Rattle.iol_batch.specs.Phases.{HasWritten}
 use Rattle.iol_batch.specs.declared.phase.Phase.{Phase}
 use Rattle.iol_batch.specs.declared.phase.Phase.TheVariants.{Body, SyncBody, Gate, SyncGate}
 use Rattle.iol_layout.specs.declared.idle.Idle.{Idle}
@@ -84,10 +84,10 @@ MeansSame t s = (t.number ≡ s.number) × (t.state ≡ s.state)
 -- what holds of the content before the disk call of each stage of a checkpoint of the first standing, which writes the second
 -- (own)
 abbrev pub StageHolds : ℕ → Standing → Standing → List (List CommandValue) → Stage → Content → Type 0
-StageHolds size s t owed OpenGate c = EachKept size s Closed c × OpensTo size t c × IsSettled c
+StageHolds size s t owed OpenGate c = EachImage c (IsKeptAs size s Closed) × OpensTo size t c × IsSettled c
 StageHolds size s t owed SyncOpen c =
-    ((image : Image) → IsImage c image → IsTurning size s t image) × IsKeptAs size t Older (reads c) × MeansSame t s
-StageHolds size s t owed stage c = EachKept size s (idle_at stage) c × AreaHolds size t owed stage c
+    EachImage c (IsTurning size s t) × IsKeptAs size t Older (reads c) × MeansSame t s
+StageHolds size s t owed stage c = EachImage c (IsKeptAs size s (idle_at stage)) × AreaHolds size t owed stage c
 
 -- the stage behind that of a checkpoint which writes this area, with these batches owed (own)
 abbrev pub stage_behind : Standing → List (List CommandValue) → Stage → Option Stage

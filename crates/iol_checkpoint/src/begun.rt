@@ -1,22 +1,25 @@
 //! A checkpoint that was begun: what it writes into the other area, and how far it is.
 
-ghost use Rattle.std.specs.Prelude.{◌≡◌, ◌≤◌, ◌<◌, List, [], ◌∷◌, length, OnOk};
+ghost use Rattle.std.specs.Prelude.{◌≡◌, ◌≤◌, ◌<◌, ◌+◌, ◌*◌, List, [], ◌∷◌, length, IfOk, OnOk};
 ghost use Rattle.std.specs.VecDeque.{deque_capacity};
 ghost use Rattle.iol_disk.specs.Disk.{Disk};
-ghost use Rattle.iol_checkpoint.specs.BegunParts.{log_of, commands_owed, IsBegun, IsOwing, AreOwing, HasRoom, AreSame};
-ghost use Rattle.iol_checkpoint.specs.Checkpoints.{target, first_stage, log_behind, owed_behind};
+ghost use Rattle.iol_checkpoint.specs.BegunParts.{log_of, commands_owed, view_of, IsBegun, IsOwing, AreOwing, HasRoom, AreSame};
+ghost use Rattle.iol_checkpoint.specs.Checkpoints.{target, new_begun, log_behind, owed_behind};
 ghost use Rattle.iol_checkpoint.specs.Drafts.{stage_behind};
+ghost use Rattle.iol_checkpoint.specs.Pauses.{calls_of};
+ghost use Rattle.iol_batch.specs.Parts.{stands};
+ghost use Rattle.iol_layout.specs.Standings.{IsResting};
 ghost use Rattle.iol_layout.specs.Body.{values};
 ghost use Rattle.iol_layout.specs.Meaning.{Standing};
 ghost use Rattle.iol_checkpoint.specs.declared.begun.OwedBatch.{OwedBatch};
 ghost use Rattle.iol_layout.specs.declared.body.TheConstants.{EPOCH_OCTETS};
+ghost use Rattle.iol_layout.specs.declared.header.TheConstants.{LAST_NUMBER};
 
 use crate::stage::Stage;
 use iol_area::AreaPlan;
-use iol_batch::{Batch, History, Phase};
-use iol_layout::{EncodedBatch, Idle};
-use iol_types::MasterState;
-use std::alloc::{AllocError, Global};
+use iol_batch::{Batch, History, Parts, Phase};
+use iol_layout::{EncodedBatch, Header};
+use std::alloc::AllocError;
 use std::collections::VecDeque;
 
 /// A batch that was written since the checkpoint was begun, as it is to be written into the other area.
@@ -40,27 +43,34 @@ pub struct Begun {
 }
 
 impl Begun {
-    /// A checkpoint before its first disk call, at the journal's number and state.
-    pub fn fresh(
-        alloc: Global,
-        plan: AreaPlan,
-        idle: Idle,
-        number: u64,
-        state: &MasterState,
-    ) -> Begun
-        ensures plan { result.plan ≡ plan }
-        ensures stage { result.stage ≡ first_stage idle }
-        ensures used { result.used ≡ 0 }
-        ensures carried { (result.carried.first ≡ number) × (result.carried.start ≡ state.now) }
-        ensures owed { length result.owed.items ≡ 0 }
+    /// A new checkpoint of a journal that has these parts, before its first disk call. Behind it no slot is used.
+    ///
+    /// # Errors
+    /// Out of memory.
+    pub fn new(parts: &Parts) -> Result<Begun, AllocError>
+        requires used { 0 < parts.now.place.used }
+        requires epoch { parts.now.place.epoch ≤ LAST_NUMBER }
+        requires ports { length parts.now.state ≡ parts.now.place.layout.ports }
+        ensures view { IfOk result (λ b. view_of b ≡ new_begun (stands parts.now) parts.now.place.idle) }
+        ensures begun { IfOk result (λ b. (d : Disk) → IsResting d (stands parts.now) → IsBegun d (stands parts.now) b) }
+        // It makes a disk call for each slot, nine for each port, and nine more, at most.
+        ensures at_most { IfOk result (λ b. length (calls_of (stands parts.now) (view_of b))
+            ≤ parts.now.place.layout.slots + 9 * parts.now.place.layout.ports + 9) }
     {
-        Begun {
+        let header = Header {
+            epoch: parts.place.epoch + 1,
+            base: parts.number,
+        };
+        let _sectors = parts.place.port_sectors();
+        let area = parts.place.area.other();
+        let plan = AreaPlan::of(parts.alloc, parts.place.layout, area, header, &parts.state)?;
+        Ok(Begun {
             plan,
-            stage: Stage::first(idle),
+            stage: Stage::first(parts.place.idle),
             used: 0,
-            carried: History::begun(number, state),
-            owed: VecDeque::new(alloc),
-        }
+            carried: History::begun(parts.number, &parts.state),
+            owed: VecDeque::new(parts.alloc),
+        })
     }
 
     // The sectors of the first batch that is owed, or none.

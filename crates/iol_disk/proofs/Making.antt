@@ -19,7 +19,7 @@ pub makes_sync : (result : Result Unit DiskFault) (old new : Disk) → OnOk resu
     → FailsOnlyAs Sync old new result → Makes (sync ∷ []) old new result
 makes_sync (Ok done) old new synced_is same fault = made_one sync old new synced_is fault
 makes_sync (Err told) old new synced_is same fault =
-    failed_one sync told old new (record { kind = fault.0; left = same; counted = fault.1 })
+    failed_one sync told old new fault.0 same fault.1
 
 -- a write, whether or not it failed
 pub makes_write : (result : Result Unit DiskFault) {here : ℕ} (sector : ℕ) {written : List ℕ} (octets : List ℕ) (old new : Disk) → here
@@ -30,8 +30,7 @@ makes_write (Ok done) {here = here} sector {written = written} octets old new at
     subst (λ (i : ℕ). Made (write i octets ∷ []) old new) at
     (subst (λ (os : List ℕ). Made (write here os ∷ []) old new) same (made_one (write here written) old new wrote_is fault))
 makes_write (Err told) {here = here} sector {written = written} octets old new at same wrote_is some fault =
-    failed_one (write sector octets) told old new
-    (record { kind = fault.0; left = subst (λ (i : ℕ). WroteSome i old new) at some; counted = fault.1 })
+    failed_one (write sector octets) told old new fault.0 (subst (λ (i : ℕ). WroteSome i old new) at some) fault.1
 
 -- further calls behind those that succeeded
 pub makes_then : (first second : List Call) (result : Result Unit DiskFault) {old between : Disk} (new : Disk) → Made first old between

@@ -5,9 +5,9 @@ use Rattle.std.proofs.Math.Seq.{take-append-add}
 use Rattle.std.proofs.lemmas.List.{take-append-le}
 use Rattle.std.proofs.lemmas.Option.{slice_get_within, same_Some}
 use Rattle.iol_disk.specs.Content.{Image, Content, IsImage, wrote}
-use Rattle.iol_disk.specs.Disk.{Disk, After, Same}
+use Rattle.iol_disk.specs.Disk.{Disk, After, Same, HasFailed}
 use Rattle.iol_disk.specs.Moments.{LeavesOnly}
-use Rattle.iol_disk.specs.Calls.{Call, write, sync, content_after, content_after_all, Made, LeftBy, Failed, FailedIn}
+use Rattle.iol_disk.specs.Calls.{Call, write, sync, content_after, content_after_all, Made, fault_of, LeftBy, FailedIn}
 use Rattle.iol_disk.specs.declared.fault.DiskFault.{DiskFault}
 use Rattle.iol_disk.proofs.Images.{Follows, follows-wrote, follows-synced}
 use Rattle.iol_disk.proofs.Moments.{started, goes_on, leaves_same, and_then}
@@ -57,14 +57,17 @@ made_then_same calls old between new made same quiet = record {
   no_failure = quiet ∙ made.no_failure;
 }
 
-pub failed_one : (call : Call) (fault : DiskFault) (old new : Disk) → Failed call fault old new → FailedIn (call ∷ []) fault old new
-failed_one call fault old new failed = record {
+pub failed_one : (call : Call) (fault : DiskFault) (old new : Disk) → fault ≡ fault_of call → LeftBy call old new → HasFailed old new
+    → FailedIn (call ∷ []) fault old new
+failed_one call fault old new kind left counted = record {
   place = 0;
   call = call;
   between = old;
   at_place = refl;
   before = made_none old old (record { sectors = refl; honest = refl; failures = omega arith; content = λ h. refl }) refl;
-  failed = failed;
+  kind = kind;
+  left = left;
+  counted = counted;
 }
 
 slice_get-append-lt : {A : Type 0} (xs ys : List A) (k : ℕ) → k < length xs → slice_get (xs ++ ys) k ≡ slice_get xs k
@@ -88,7 +91,9 @@ failed_first first second fault old new failed = record {
       ∙ failed.at_place;
   before = subst (λ (calls : List Call). Made calls old failed.between) (sym (take-append-le failed.place first second within))
       failed.before;
-  failed = failed.failed;
+  kind = failed.kind;
+  left = failed.left;
+  counted = failed.counted;
 }
   where
     within : failed.place ≤ length first
@@ -104,7 +109,9 @@ failed_later first second fault old between new made failed = record {
   at_place = slice_get-append-add first second failed.place ∙ failed.at_place;
   before = subst (λ (calls : List Call). Made calls old failed.between) (sym (take-append-add first second failed.place))
       (made_append first (take failed.place second) old between failed.between made failed.before);
-  failed = failed.failed;
+  kind = failed.kind;
+  left = failed.left;
+  counted = failed.counted;
 }
 
 -- Each image that a stop may leave on the way has P: before the first call, and behind each.
@@ -182,7 +189,7 @@ failed_leaves calls fault old new P failed has =
     (λ h n image is.
     let (less, same) = take-take calls n failed.place in
     has h less image (subst (λ (cs : List Call). IsImage (content_after_all cs old.content) image) same is)))
-    (left_by_leaves failed.call failed.between new P failed.failed.left
+    (left_by_leaves failed.call failed.between new P failed.left
     (λ h image is. has (honest h) failed.place image (subst (λ (c : Content). IsImage c image) (failed.before.after.content (honest h)) is))
     (λ h image is. has (honest h) (suc failed.place) image (subst (λ (c : Content). IsImage c image) (behind (honest h)) is)))
   where

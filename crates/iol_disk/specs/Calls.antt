@@ -35,20 +35,17 @@ abbrev pub LeftBy : Call → Disk → Disk → Type 0
 LeftBy (write sector octets) = WroteSome sector
 LeftBy sync = Same
 
--- the call failed, with the fault of its kind, and the failure was counted (own)
-pub record Failed (call : Call) (fault : DiskFault) (old new : Disk) : Type 0 where
-  pub kind : fault ≡ fault_of call
-  pub left : LeftBy call old new
-  pub counted : HasFailed old new
-
--- the calls were made in their order up to one that failed, with this fault (own)
+-- the calls were made in their order up to one that failed, with this fault, which is of its kind, and the failure was counted
+-- (own)
 pub record FailedIn (calls : List Call) (fault : DiskFault) (old new : Disk) : Type 0 where
   pub place : ℕ
   pub call : Call
   pub between : Disk
   pub at_place : slice_get calls place ≡ Some call
   pub before : Made (take place calls) old between
-  pub failed : Failed call fault between new
+  pub kind : fault ≡ fault_of call
+  pub left : LeftBy call between new
+  pub counted : HasFailed between new
 
 -- the calls were made in their order: each with success, or up to one that failed with this fault (format, Orders of
 -- disk calls)
@@ -56,15 +53,9 @@ abbrev pub Makes : List Call → Disk → Disk → Result Unit DiskFault → Typ
 Makes calls old new (Ok done) = Made calls old new
 Makes calls old new (Err fault) = FailedIn calls fault old new
 
--- the first of the calls was made, and these are left (own)
-pub record MakesFirst (calls left : List Call) (old new : Disk) : Type 0 where
+-- the first of the calls, behind which these are left, was made: with success, or it failed with this fault (format, Orders of
+-- disk calls)
+pub record MakesFirst (calls left : List Call) (old new : Disk) (result : Result Unit DiskFault) : Type 0 where
   pub call : Call
   pub order : calls ≡ call ∷ left
-  pub made : Made (call ∷ []) old new
-
--- the first of the calls failed, with this fault (own)
-pub record FailsFirst (calls : List Call) (fault : DiskFault) (old new : Disk) : Type 0 where
-  pub call : Call
-  pub left : List Call
-  pub order : calls ≡ call ∷ left
-  pub failed : FailedIn (call ∷ []) fault old new
+  pub makes : Makes (call ∷ []) old new result

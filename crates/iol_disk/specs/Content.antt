@@ -44,6 +44,10 @@ now c = record { durable = c.durable; pending = λ i. is_some (c.written i) }
 abbrev pub IsImage : Content → Image → Type 0
 IsImage c image = IsImageOf (now c) image
 
+-- each image that a power stop may leave now has this property (own)
+abbrev pub EachImage : Content → (Image → Type 0) → Type 0
+EachImage c P = (image : Image) → IsImage c image → P image
+
 -- the number of syncs that have succeeded (own)
 abbrev pub clock : Content → ℕ
 clock c = length c.past

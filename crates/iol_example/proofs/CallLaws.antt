@@ -2,7 +2,7 @@
 use Rattle.std.proofs.Common.{◌≡◌, Bool, false, if◌then◌else◌, List, [], ◌∷◌, ◌++◌, Result, Ok, Err, refl, sym, ◌∙◌, ap, subst, arith}
 use Rattle.std.specs.Prelude.{nat_lt}
 use mathlib.Core.List.{append_assoc, append-nil}
-use Rattle.iol_disk.specs.Calls.{Call, Made, FailedIn, MakesFirst, FailsFirst}
+use Rattle.iol_disk.specs.Calls.{Call, Made, FailedIn, MakesFirst}
 use Rattle.iol_disk.specs.Disk.{Disk}
 use Rattle.iol_disk.specs.declared.fault.DiskFault.{DiskFault}
 use Rattle.iol_disk.proofs.DiskLaws.{failed_first, failed_later, made_append, made_none}
@@ -33,28 +33,29 @@ none_yet calls left old now same_calls same = record {
 }
 
 -- behind one call more
-pub one_more : (calls left rest : List Call) (old now new : Disk) → IsAhead calls left old now → MakesFirst left rest now new
+pub one_more : (calls left rest : List Call) (old now new : Disk) → IsAhead calls left old now → MakesFirst left rest now new (Ok tt)
     → IsAhead calls rest old new
 one_more calls left rest old now new so_far makes = record {
   first = so_far.first ++ makes.call ∷ [];
   order = so_far.order ∙ (ap (λ (cs : List Call). so_far.first ++ cs) makes.order ∙ sym (append_assoc so_far.first (makes.call ∷ []) rest));
-  made = made_append so_far.first (makes.call ∷ []) old now new so_far.made makes.made;
+  made = made_append so_far.first (makes.call ∷ []) old now new so_far.made makes.makes;
 }
 
 -- behind the last call
-pub all_made : (calls left : List Call) (old now new : Disk) → IsAhead calls left old now → MakesFirst left [] now new → Made calls old new
+pub all_made : (calls left : List Call) (old now new : Disk) → IsAhead calls left old now → MakesFirst left [] now new (Ok tt)
+    → Made calls old new
 all_made calls left old now new so_far makes =
     let all = one_more calls left [] old now new so_far makes in
     subst (λ (cs : List Call). Made cs old new) (sym (all.order ∙ append-nil all.first)) all.made
 
 -- where the next call failed
 pub one_failed : (calls left : List Call) (fault : DiskFault) (old now new : Disk) → IsAhead calls left old now
-    → FailsFirst left fault now new
+    → (others : List Call) × MakesFirst left others now new (Err fault)
     → FailedIn calls fault old new
-one_failed calls left fault old now new so_far fails =
+one_failed calls left fault old now new so_far (others, fails) =
     subst (λ (cs : List Call). FailedIn cs fault old new) (sym (so_far.order ∙ ap (λ (cs : List Call). so_far.first ++ cs) fails.order))
-    (failed_later so_far.first (fails.call ∷ fails.left) fault old now new so_far.made
-    (failed_first (fails.call ∷ []) fails.left fault now new fails.failed))
+    (failed_later so_far.first (fails.call ∷ others) fault old now new so_far.made
+    (failed_first (fails.call ∷ []) others fault now new fails.makes))
 
 -- calls of which others would have come behind, had they not ended in a fault
 pub ended_early : {D : Type 0} (disk : D → Disk) (first second : List Call) (old : Disk) (fault : WriteFault D)

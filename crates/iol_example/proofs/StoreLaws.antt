@@ -99,6 +99,12 @@ still_queued d r batch behind none queued run = record {
           subst (λ (cs : List CommandValue). HasPrefix d.sectors r.first r.start cs mark.acknowledged image) same (was.each h image left);
     }
 
+-- where a write ends in a fault, its run is what it was
+pub faulted_run : {D : Type 0} (disk : D → Disk) (r written other : Run) (fault : WriteFault D)
+    → LeavesRun disk r written (Err fault) → LeavesRun disk r other (Err fault)
+faulted_run disk r written other (Refused back cause) run = run
+faulted_run disk r written other (Failed left fault) run = run
+
 -- what a refusal that leaves the journal as it was says of it
 pub refused_as_it_was : {D : Type 0} (disk : D → Disk) (j : JournalView D) (answer : Result (JournalView D) (WriteFault D))
     → IfRefused answer (λ back cause. (back ≡ j) × (cause ≡ Memory)) → Rests disk j

@@ -4,17 +4,17 @@ use Rattle.std.proofs.Common.{inl, inr, Option, Some, None, is_some, Result, Ok,
 use Rattle.std.proofs.lemmas.List.Sums.{fold-append}
 use Rattle.iol_types.specs.Command.{CommandValue}
 use Rattle.iol_types.specs.State.{State, apply, after}
-use Rattle.iol_disk.specs.Calls.{Call, MakesFirst, FailsFirst}
+use Rattle.iol_disk.specs.Calls.{Call, MakesFirst}
 use Rattle.iol_disk.specs.Disk.{Disk}
 use Rattle.iol_disk.specs.declared.fault.DiskFault.{DiskFault}
 use Rattle.iol_front.specs.Fronts.{Start}
 use Rattle.iol_journal.specs.Batches.{batch_calls}
 use Rattle.iol_journal.specs.Begin.{batch_refusal, is_too_large, follows}
 use Rattle.iol_journal.specs.BegunViews.{BegunView}
-use Rattle.iol_journal.specs.CheckpointViews.{CheckpointingView, begun_in, end_of, stages_left}
-use Rattle.iol_journal.specs.Pauses.{calls_of, end_in}
-use Rattle.iol_journal.specs.Drafts.{begun_behind}
-use Rattle.iol_journal.specs.Journals.{JournalView, WritingView, calls_left}
+use Rattle.iol_journal.specs.CheckpointViews.{CheckpointingView, begun_in, checkpoint_of, stages_left}
+use Rattle.iol_journal.specs.Checkpointing.{IsCheckpointMoved, IsCheckpointDone}
+use Rattle.iol_journal.specs.Pauses.{calls_of}
+use Rattle.iol_journal.specs.Journals.{JournalView, WritingView, calls_left, writing_of}
 use Rattle.iol_journal.specs.Planned.{LeadsTo, written_behind}
 use Rattle.iol_journal.specs.Body.{values}
 use Rattle.iol_journal.specs.Standings.{with_batch}
@@ -23,11 +23,9 @@ use Rattle.iol_journal.specs.History.{History}
 use Rattle.iol_journal.specs.Batch.{Batch}
 use Rattle.iol_journal.specs.BeginCause.{BeginCause}
 use Rattle.iol_journal.specs.BeginCause.TheVariants.{TooLarge, NeedsCheckpoint, Misfit}
-use Rattle.iol_journal.specs.Phase.TheVariants.{Body}
 use Rattle.iol_flush.specs.Stages.{is_due, wants_checkpoint, disk_of, next_calls, calls_owed, failure_of, paused_calls}
 use Rattle.iol_flush.specs.Stages.{HasHistory, StandsBehind, IsInStep}
-use Rattle.iol_flush.specs.Steps.{writing_of, checkpoint_of, HasMadeOfBatch, HasBegun, HasMadeOfCheckpoint, HasMade, IsDiskStep}
-use Rattle.iol_flush.specs.Steps.{HasAdvanced, HasEnded, IsLeftPaused}
+use Rattle.iol_flush.specs.Steps.{HasMadeOfBatch, HasBegun, HasMadeOfCheckpoint, HasMade, HasAdvanced, IsLeftPaused, IsDiskStep}
 use Rattle.iol_flush.specs.declared.need.Need.TheVariants as need
 use Rattle.iol_flush.specs.declared.fault.FlushFault.{FlushFault}
 use Rattle.iol_flush.specs.declared.fault.FlushFault.TheVariants as fault
@@ -55,21 +53,6 @@ next_of_batch j batch none =
     ap (λ (full : Bool). if full then calls_of j.standing (begun_in j) else batch_calls j.standing (values batch.commands.items))
     (not_full j batch none)
 
--- a batch is as it was begun where each of its parts is
-pub as_begun : {D : Type 0} (w : WritingView D) (j : JournalView D) (commands : List CommandValue)
-    → (w.disk ≡ j.disk) × (w.standing ≡ j.standing) × (w.idle ≡ j.idle) × (w.history ≡ j.history) × (w.commands ≡ commands)
-    × (w.phase ≡ Body 0) × (w.begun ≡ j.begun)
-    → w ≡ writing_of j commands
-as_begun w j commands is = λ i. record {
-  disk = is.0 i;
-  standing = is.1 i;
-  idle = is.2 i;
-  history = is.3 i;
-  begun = is.6 i;
-  commands = is.4 i;
-  phase = is.5 i;
-}
-
 -- what a batch is before its first disk call
 pub record IsBegun {D : Type 0} (j : JournalView D) (batch : Batch) (w : WritingView D) : Type 0 where
   pub same : w ≡ writing_of j (values batch.commands.items)
@@ -82,17 +65,18 @@ pub begun : {D : Type 0} (disk : D → Disk) (j : JournalView D) (batch : Batch)
 begun {D} disk j batch w new (Ok done) is step = (
   subst (λ (full : Bool). HasBegun full j batch new) (sym (not_full j batch is.refusal))
       (is.refusal, subst (λ (v : WritingView D). HasMadeOfBatch v new) is.same step.0),
-  subst (λ (calls : List Call). MakesFirst calls (calls_owed new) (disk j.disk) (disk (disk_of new))) (is.calls
+  subst (λ (calls : List Call). MakesFirst calls (calls_owed new) (disk j.disk) (disk (disk_of new)) (Ok done)) (is.calls
       ∙ sym (next_of_batch j batch is.refusal))
-      (subst (λ (d : D). MakesFirst (calls_left w) (calls_owed new) (disk d) (disk (disk_of new)))
+      (subst (λ (d : D). MakesFirst (calls_left w) (calls_owed new) (disk d) (disk (disk_of new)) (Ok done))
       (ap (λ (v : WritingView D). v.disk) is.same) step.1),
 )
 begun {D} disk j batch w new (Err (fault.Disk cause)) is step = (
   step.0,
-  subst (λ (calls : List Call). FailsFirst calls cause (disk j.disk) (disk (disk_of new))) (is.calls
+  step.1,
+  subst (λ (calls : List Call). MakesFirst calls step.1 (disk j.disk) (disk (disk_of new)) (Err cause)) (is.calls
       ∙ sym (next_of_batch j batch is.refusal))
-      (subst (λ (d : D). FailsFirst (calls_left w) cause (disk d) (disk (disk_of new))) (ap (λ (v : WritingView D). v.disk) is.same)
-      step.1),
+      (subst (λ (d : D). MakesFirst (calls_left w) step.1 (disk d) (disk (disk_of new)) (Err cause))
+      (ap (λ (v : WritingView D). v.disk) is.same) step.2),
 )
 begun disk j batch w new (Err fault.Stopped) is step = let stopped : need.Disk ≡ need.Stopped = step.0 in search rules
 begun disk j batch w new (Err fault.Memory) is step = absurd step.0
@@ -105,11 +89,6 @@ half_used j half is used due none =
     used (is ∙ (ap (λ (paused : Option BegunView). is_some paused || nat_le j.standing.layout.slots (2 * j.standing.used)) (sym none)
     ∙ due))
 
--- the checkpoint that is due is as it is gone on with where each of its parts is
-pub as_gone_on : {D : Type 0} (c : CheckpointingView D) (j : JournalView D)
-    → (c.disk ≡ j.disk) × (c.standing ≡ j.standing) × (c.history ≡ j.history) × (c.begun ≡ begun_in j) → c ≡ checkpoint_of j
-as_gone_on c j is = λ i. record { disk = is.0 i; standing = is.1 i; history = is.2 i; begun = is.3 i }
-
 next_of_due : {D : Type 0} (j : JournalView D) → is_due j ≡ true → next_calls (Resting j) ≡ calls_of j.standing (begun_in j)
 next_of_due j due = ap (λ (due : Bool). if due then calls_of j.standing (begun_in j) else []) due
 
@@ -119,54 +98,40 @@ pub gone_on : {D : Type 0} (disk : D → Disk) (j : JournalView D) (c : Checkpoi
     → is_due j ≡ true → c ≡ checkpoint_of j → IsDiskStep disk (Opening c) new answer → IsDiskStep disk (Resting j) new answer
 gone_on {D} disk j c new (Ok done) due same step = (
   (due, subst (λ (d : CheckpointingView D). HasAdvanced d new) same step.0),
-  subst (λ (calls : List Call). MakesFirst calls (calls_owed new) (disk j.disk) (disk (disk_of new))) (sym (next_of_due j due))
-      (subst (λ (d : CheckpointingView D). MakesFirst (stages_left d) (calls_owed new) (disk d.disk) (disk (disk_of new))) same step.1),
+  subst (λ (calls : List Call). MakesFirst calls (calls_owed new) (disk j.disk) (disk (disk_of new)) (Ok done)) (sym (next_of_due j due))
+      (subst (λ (d : CheckpointingView D). MakesFirst (stages_left d) (calls_owed new) (disk d.disk) (disk (disk_of new)) (Ok done)) same
+      step.1),
 )
 gone_on {D} disk j c new (Err (fault.Disk cause)) due same step = (
   step.0,
-  subst (λ (calls : List Call). FailsFirst calls cause (disk j.disk) (disk (disk_of new))) (sym (next_of_due j due))
-      (subst (λ (d : CheckpointingView D). FailsFirst (stages_left d) cause (disk d.disk) (disk (disk_of new))) same step.1),
+  step.1,
+  subst (λ (calls : List Call). MakesFirst calls step.1 (disk j.disk) (disk (disk_of new)) (Err cause)) (sym (next_of_due j due))
+      (subst (λ (d : CheckpointingView D). MakesFirst (stages_left d) step.1 (disk d.disk) (disk (disk_of new)) (Err cause)) same step.2),
 )
 gone_on disk j c new (Err fault.Stopped) due same step = let stopped : need.Disk ≡ need.Stopped = step.0 in search rules
 gone_on disk j c new (Err fault.Memory) due same step = absurd step.0
 gone_on disk j c new (Err fault.Misfit) due same step = absurd step.0
 
 -- it is paused behind that disk call, where it can be
-pub set_aside_step : {D : Type 0} (disk : D → Disk) (c more : CheckpointingView D) (new : FlushStage D)
-    → (more.standing ≡ c.standing) × (more.history ≡ c.history) × (begun_behind c.standing c.begun ≡ Some more.begun)
-    × (end_of more ≡ end_of c)
-    → MakesFirst (stages_left c) (stages_left more) (disk c.disk) (disk more.disk) → IsLeftPaused more new
+pub set_aside_step : {D : Type 0} (disk : D → Disk) (c more : CheckpointingView D) (new : FlushStage D) → IsCheckpointMoved c more
+    → MakesFirst (stages_left c) (stages_left more) (disk c.disk) (disk more.disk) (Ok tt) → IsLeftPaused more new
     → IsDiskStep disk (Opening c) new (Ok tt)
-set_aside_step {D} disk c more (Resting j) is made aside = (
-  inr (record {
-    begun = more.begun;
-    behind = is.2;
-    paused = aside.4;
-    idle = aside.2;
-    standing = aside.1 ∙ is.0;
-    history = aside.3 ∙ is.1;
-    end = ap (λ (s : Standing). end_in s more.begun) aside.1 ∙ is.3;
-  }),
-  subst (λ (begun : Option BegunView). MakesFirst (stages_left c) (paused_calls j.standing begun) (disk c.disk) (disk j.disk))
-      (sym aside.4)
-      (subst (λ (s : Standing). MakesFirst (stages_left c) (calls_of s more.begun) (disk c.disk) (disk j.disk)) (sym aside.1)
-      (subst (λ (d : D). MakesFirst (stages_left c) (stages_left more) (disk c.disk) (disk d)) (sym aside.0) made)),
-)
-set_aside_step {D} disk c more (Opening d) is made aside =
-    subst (λ (e : CheckpointingView D). IsDiskStep disk (Opening c) (Opening e) (Ok tt)) (sym aside)
-    (record { behind = is.2; standing = is.0; history = is.1; end = is.3 }, made)
-set_aside_step disk c more (Given j b) is made aside = absurd aside
-set_aside_step disk c more (Checkpointing d b) is made aside = absurd aside
-set_aside_step disk c more (Writing w) is made aside = absurd aside
-set_aside_step disk c more (Publishing j written) is made aside = absurd aside
-set_aside_step disk c more (Failed left f) is made aside = absurd aside
+set_aside_step {D} disk c more (Resting j) moved made aside =
+    subst (λ (k : JournalView D). IsDiskStep disk (Opening c) (Resting k) (Ok tt)) (sym aside) (inr (more, moved, refl), made)
+set_aside_step {D} disk c more (Opening d) moved made aside =
+    subst (λ (e : CheckpointingView D). IsDiskStep disk (Opening c) (Opening e) (Ok tt)) (sym aside) (moved, made)
+set_aside_step disk c more (Given j b) moved made aside = absurd aside
+set_aside_step disk c more (Checkpointing d b) moved made aside = absurd aside
+set_aside_step disk c more (Writing w) moved made aside = absurd aside
+set_aside_step disk c more (Publishing j written) moved made aside = absurd aside
+set_aside_step disk c more (Failed left f) moved made aside = absurd aside
 
 -- it is done
-pub ended_step : {D : Type 0} (disk : D → Disk) (c : CheckpointingView D) (j : JournalView D) → HasEnded c j
-    → MakesFirst (stages_left c) [] (disk c.disk) (disk j.disk) → IsDiskStep disk (Opening c) (Resting j) (Ok tt)
+pub ended_step : {D : Type 0} (disk : D → Disk) (c : CheckpointingView D) (j : JournalView D) → IsCheckpointDone c j
+    → MakesFirst (stages_left c) [] (disk c.disk) (disk j.disk) (Ok tt) → IsDiskStep disk (Opening c) (Resting j) (Ok tt)
 ended_step disk c j is made = (
   inl is,
-  subst (λ (begun : Option BegunView). MakesFirst (stages_left c) (paused_calls j.standing begun) (disk c.disk) (disk j.disk))
+  subst (λ (begun : Option BegunView). MakesFirst (stages_left c) (paused_calls j.standing begun) (disk c.disk) (disk j.disk) (Ok tt))
       (sym is.none) made,
 )
 
@@ -195,11 +160,11 @@ same_in_step start published s t h i standing history was =
 written_in_step : {D : Type 0} (start : Start) (published : List CommandValue) (w : WritingView D) (new : FlushStage D)
     → HasMadeOfBatch w new → StandsBehind start published w.standing w.history → IsInStep start new published
 written_in_step start published w (Writing v) has was =
-    same_in_step start published w.standing v.standing w.history v.history has.0 has.2 was
+    same_in_step start published w.standing v.standing w.history v.history has.standing has.history was
 written_in_step start published w (Publishing j written) has was = (
-  subst (λ (cs : List CommandValue). StandsBehind start (published ++ cs) j.standing j.history) (sym has.4)
-      (with_more start published w.commands w.standing j.standing w.history j.history has.0 has.2 was),
-  has.3 ∙ ap (λ (n : ℕ). n + 1) was.number,
+  subst (λ (cs : List CommandValue). StandsBehind start (published ++ cs) j.standing j.history) (sym has.commands)
+      (with_more start published w.commands w.standing j.standing w.history j.history has.standing has.history was),
+  has.first ∙ ap (λ (n : ℕ). n + 1) was.number,
 )
 written_in_step start published w (Resting j) has was = absurd has
 written_in_step start published w (Opening c) has was = absurd has
@@ -207,16 +172,21 @@ written_in_step start published w (Given j b) has was = absurd has
 written_in_step start published w (Checkpointing c b) has was = absurd has
 written_in_step start published w (Failed d f) has was = absurd has
 
+-- behind a checkpoint the journal is at the same number and state
+done_in_step : {D : Type 0} (start : Start) (published : List CommandValue) (c : CheckpointingView D) (j : JournalView D)
+    → IsCheckpointDone c j → StandsBehind start published c.standing c.history → StandsBehind start published j.standing j.history
+done_in_step start published c j is was = record {
+  history_is = subst (HasHistory start published) (sym is.history) was.history_is;
+  number = is.number ∙ was.number;
+  state = is.state ∙ was.state;
+}
+
 checkpointed_in_step : {D : Type 0} (start : Start) (published : List CommandValue) (c : CheckpointingView D) (batch : Batch)
     (new : FlushStage D)
     → HasMadeOfCheckpoint c batch new → StandsBehind start published c.standing c.history → IsInStep start new published
 checkpointed_in_step start published c batch (Checkpointing d kept) has was =
-    same_in_step start published c.standing d.standing c.history d.history has.0 has.1 was
-checkpointed_in_step start published c batch (Given j kept) has was = record {
-  history_is = subst (HasHistory start published) (sym has.1) was.history_is;
-  number = has.4 ∙ was.number;
-  state = has.5 ∙ was.state;
-}
+    same_in_step start published c.standing d.standing c.history d.history has.0.standing has.0.history was
+checkpointed_in_step start published c batch (Given j kept) has was = done_in_step start published c j has.0 was
 checkpointed_in_step start published c batch (Resting j) has was = absurd has
 checkpointed_in_step start published c batch (Opening d) has was = absurd has
 checkpointed_in_step start published c batch (Writing w) has was = absurd has
@@ -225,13 +195,10 @@ checkpointed_in_step start published c batch (Failed d f) has was = absurd has
 
 advanced_in_step : {D : Type 0} (start : Start) (published : List CommandValue) (c : CheckpointingView D) (new : FlushStage D)
     → HasAdvanced c new → StandsBehind start published c.standing c.history → IsInStep start new published
-advanced_in_step start published c (Resting j) (inl is) was = record {
-  history_is = subst (HasHistory start published) (sym is.history) was.history_is;
-  number = is.number ∙ was.number;
-  state = is.state ∙ was.state;
-}
-advanced_in_step start published c (Resting j) (inr is) was =
-    same_in_step start published c.standing j.standing c.history j.history is.standing is.history was
+advanced_in_step start published c (Resting j) (inl is) was = done_in_step start published c j is was
+advanced_in_step {D} start published c (Resting j) (inr (more, moved, is)) was =
+    same_in_step start published c.standing j.standing c.history j.history
+    (ap (λ (k : JournalView D). k.standing) is ∙ moved.standing) (ap (λ (k : JournalView D). k.history) is ∙ moved.history) was
 advanced_in_step start published c (Opening d) is was =
     same_in_step start published c.standing d.standing c.history d.history is.standing is.history was
 advanced_in_step start published c (Given j b) is was = absurd is

@@ -8,11 +8,11 @@ use Rattle.iol_journal.specs.Batches.{batch_calls}
 use Rattle.iol_journal.specs.Begin.{is_too_large, follows}
 use Rattle.iol_journal.specs.Body.{slots_for, values}
 use Rattle.iol_journal.specs.BegunViews.{BegunView}
-use Rattle.iol_journal.specs.CheckpointViews.{CheckpointingView, begun_in, end_of, stages_left}
+use Rattle.iol_journal.specs.CheckpointViews.{CheckpointingView, begun_in, end_of, stages_left, checkpoint_of}
 use Rattle.iol_journal.specs.Pauses.{calls_of}
 use Rattle.iol_journal.specs.Checkpoints.{checkpointed, first_stage, stage_calls}
 use Rattle.iol_journal.specs.Layout.{Layout}
-use Rattle.iol_journal.specs.Journals.{JournalView, WritingView, calls_left}
+use Rattle.iol_journal.specs.Journals.{JournalView, WritingView, calls_left, writing_of}
 use Rattle.iol_journal.specs.Meaning.{Standing}
 use Rattle.iol_journal.specs.Batch.{Batch}
 use Rattle.iol_types.specs.Command.{CommandValue}
@@ -25,7 +25,6 @@ use Rattle.iol_disk.specs.declared.fault.DiskFault.{DiskFault}
 use Rattle.iol_flush.specs.Flushing.{FitsBatch, GoesOn}
 use Rattle.iol_flush.specs.Stages.{failure_of, wants_checkpoint, disk_of, calls_owed, HasFewCalls, most_batch_calls, most_checkpoint_calls}
 use Rattle.iol_flush.specs.Steps.{HasAdvanced, HasMadeOfBatch, HasMadeOfCheckpoint, HasBegun, HasMade, IsDiskStep, IsUnfit}
-use Rattle.iol_flush.specs.Steps.{writing_of, checkpoint_of}
 use Rattle.iol_flush.specs.Turns.{freeing_calls, given_calls, calls_again, calls_needed}
 use Rattle.iol_flush.specs.declared.fault.FlushFault.{FlushFault}
 use Rattle.iol_flush.specs.declared.fault.FlushFault.TheVariants as fault
@@ -33,7 +32,7 @@ use Rattle.iol_flush.specs.declared.stage.FlushStage.{FlushStage}
 use Rattle.iol_flush.specs.declared.stage.FlushStage.TheVariants.{Resting, Opening, Given, Checkpointing, Writing, Publishing, Failed}
 
 -- one call less is owed
-one_less : (calls left : List Call) (old new : Disk) → MakesFirst calls left old new → length calls ≡ length left + 1
+one_less : (calls left : List Call) (old new : Disk) → MakesFirst calls left old new (Ok tt) → length calls ≡ length left + 1
 one_less calls left old new made = ap length made.order ∙ omega arith
 
 -- a batch that fits an area finds room where no slot is used
@@ -92,19 +91,19 @@ module _ {D : Type 0} (disk : D → Disk) where
       → HasMadeOfCheckpoint c batch new
       → length (calls_owed new) + 1 ≤ n → calls_needed new + 1 ≤ most_batch_calls (values batch.commands.items) + 2 + n + calls_again c
   checkpointed_needs c batch (Checkpointing d kept) n small has le =
-      omega (arith, le, ap (λ (b : Batch). most_batch_calls (values b.commands.items)) has.2, same_again)
+      omega (arith, le, ap (λ (b : Batch). most_batch_calls (values b.commands.items)) has.1, same_again)
     where
       same_again : calls_again d ≡ calls_again c
       same_again =
-          ap (λ (s : Standing). if nat_lt 0 s.used then most_checkpoint_calls d.standing.layout + 1 else 0) has.4
-          ∙ ap (λ (s : Standing). if nat_lt 0 (end_of c).used then most_checkpoint_calls s.layout + 1 else 0) has.0
+          ap (λ (s : Standing). if nat_lt 0 s.used then most_checkpoint_calls d.standing.layout + 1 else 0) has.0.end
+          ∙ ap (λ (s : Standing). if nat_lt 0 (end_of c).used then most_checkpoint_calls s.layout + 1 else 0) has.0.standing
   checkpointed_needs c batch (Given j kept) n small has le =
       let commands = values batch.commands.items in
-      let again = given_again c commands j.standing (nat_lt 0 (end_of c).used) small has.0 has.6 refl in
+      let again = given_again c commands j.standing (nat_lt 0 (end_of c).used) small has.0.standing has.0.layout refl in
       subst (λ (begun : Option BegunView). given_calls j.standing.layout (values kept.commands.items) begun
-      (wants_checkpoint j.standing (values kept.commands.items)) + 1 ≤ most_batch_calls commands + 2 + n + calls_again c) (sym has.3)
+      (wants_checkpoint j.standing (values kept.commands.items)) + 1 ≤ most_batch_calls commands + 2 + n + calls_again c) (sym has.0.none)
       (subst (λ (b : Batch). given_calls j.standing.layout (values b.commands.items) None
-      (wants_checkpoint j.standing (values b.commands.items)) + 1 ≤ most_batch_calls commands + 2 + n + calls_again c) (sym has.2)
+      (wants_checkpoint j.standing (values b.commands.items)) + 1 ≤ most_batch_calls commands + 2 + n + calls_again c) (sym has.1)
       (omega (arith, le, again)))
   checkpointed_needs c batch (Resting j) n small has le = absurd has
   checkpointed_needs c batch (Opening d) n small has le = absurd has
@@ -127,22 +126,23 @@ module _ {D : Type 0} (disk : D → Disk) where
   begun_needs : (full : Bool) (j : JournalView D) (batch : Batch) (new : FlushStage D) (old next : Disk) → HasBegun full j batch new
       → HasFewCalls new
       → MakesFirst (if full then calls_of j.standing (begun_in j) else batch_calls j.standing (values batch.commands.items))
-      (calls_owed new) old next
+      (calls_owed new) old next (Ok tt)
       → calls_needed new + 1 ≤ given_calls j.standing.layout (values batch.commands.items) j.begun full
   begun_needs true j batch (Checkpointing c kept) old next has few made =
       omega (
         arith,
         few.1,
-        ap (λ (b : Batch). most_batch_calls (values b.commands.items)) has.1.2,
-        ap (λ (s : Standing). most_checkpoint_calls s.layout) has.1.0,
+        ap (λ (b : Batch). most_batch_calls (values b.commands.items)) has.1.1,
+        ap (λ (s : Standing). most_checkpoint_calls s.layout) has.1.0.standing,
         again_in j j.begun refl,
         same_again,
       )
     where
       same_again : calls_again c ≡ calls_again (checkpoint_of j)
       same_again =
-          ap (λ (s : Standing). if nat_lt 0 s.used then most_checkpoint_calls c.standing.layout + 1 else 0) has.1.4
-          ∙ ap (λ (s : Standing). if nat_lt 0 (end_of (checkpoint_of j)).used then most_checkpoint_calls s.layout + 1 else 0) has.1.0
+          ap (λ (s : Standing). if nat_lt 0 s.used then most_checkpoint_calls c.standing.layout + 1 else 0) has.1.0.end
+          ∙ ap (λ (s : Standing). if nat_lt 0 (end_of (checkpoint_of j)).used then most_checkpoint_calls s.layout + 1 else 0)
+          has.1.0.standing
   begun_needs true j batch (Given k kept) old next has few made = by_begun j.begun refl
     where
       by_begun : (begun : Option BegunView) → j.begun ≡ begun
@@ -152,13 +152,13 @@ module _ {D : Type 0} (disk : D → Disk) where
       by_begun (Some b) some =
           subst (λ (begun : Option BegunView). given_calls k.standing.layout (values kept.commands.items) begun
           (wants_checkpoint k.standing (values kept.commands.items)) + 1
-          ≤ given_calls j.standing.layout (values batch.commands.items) (Some b) true) (sym has.1.3)
+          ≤ given_calls j.standing.layout (values batch.commands.items) (Some b) true) (sym has.1.0.none)
           (subst (λ (l : Layout). given_calls l (values kept.commands.items) None
           (wants_checkpoint k.standing (values kept.commands.items)) + 1
-          ≤ given_calls j.standing.layout (values batch.commands.items) (Some b) true) (sym has.1.6)
+          ≤ given_calls j.standing.layout (values batch.commands.items) (Some b) true) (sym has.1.0.layout)
           (subst (λ (kept : Batch). given_calls j.standing.layout (values kept.commands.items) None
           (wants_checkpoint k.standing (values kept.commands.items)) + 1
-          ≤ given_calls j.standing.layout (values batch.commands.items) (Some b) true) (sym has.1.2)
+          ≤ given_calls j.standing.layout (values batch.commands.items) (Some b) true) (sym has.1.1)
           (either (wants_checkpoint k.standing (values batch.commands.items)))))
         where
           either : (full : Bool) → given_calls j.standing.layout (values batch.commands.items) None full + 1
@@ -171,7 +171,7 @@ module _ {D : Type 0} (disk : D → Disk) where
   begun_needs true j batch (Publishing k written) old next has few made = absurd has.1
   begun_needs true j batch (Failed d f) old next has few made = absurd has.1
   begun_needs false j batch (Writing w) old next has few made =
-      omega (arith, few, ap most_batch_calls has.1.3)
+      omega (arith, few, ap most_batch_calls has.1.commands)
   begun_needs false j batch (Publishing k written) old next has few made = omega arith
   begun_needs false j batch (Given k kept) old next has few made = absurd has.1
   begun_needs false j batch (Checkpointing c kept) old next has few made = absurd has.1
@@ -226,11 +226,11 @@ is_fit (Failed d f) goes unfit = unfit
 checkpointed_goes : {D : Type 0} (c : CheckpointingView D) (batch : Batch) (new : FlushStage D) → HasMadeOfCheckpoint c batch new
     → FitsBatch c.standing batch → GoesOn new
 checkpointed_goes c batch (Checkpointing d kept) has goes =
-    subst (λ (b : Batch). FitsBatch d.standing b) (sym has.2) (subst (λ (s : Standing). FitsBatch s batch) (sym has.0) goes)
+    subst (λ (b : Batch). FitsBatch d.standing b) (sym has.1) (subst (λ (s : Standing). FitsBatch s batch) (sym has.0.standing) goes)
 checkpointed_goes c batch (Given j kept) has goes =
-    subst (λ (b : Batch). FitsBatch j.standing b) (sym has.2) (record {
-      small = ap (λ (l : Layout). is_too_large l.slots (values batch.commands.items)) has.6 ∙ goes.small;
-      next = ap (λ (n : ℕ). follows_at n j.standing.state) has.4 ∙ ap (follows_at c.standing.number) has.5 ∙ goes.next;
+    subst (λ (b : Batch). FitsBatch j.standing b) (sym has.1) (record {
+      small = ap (λ (l : Layout). is_too_large l.slots (values batch.commands.items)) has.0.layout ∙ goes.small;
+      next = ap (λ (n : ℕ). follows_at n j.standing.state) has.0.number ∙ ap (follows_at c.standing.number) has.0.state ∙ goes.next;
     })
   where
     -- whether it follows depends on number and state alone

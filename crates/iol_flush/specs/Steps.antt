@@ -3,21 +3,15 @@ use Rattle.std.specs.Prelude.{◌≡◌, ◌+◌, ◌⊎◌, Bool, true, false, 
 use Rattle.iol_types.specs.Command.{CommandValue}
 use Rattle.iol_disk.specs.Disk.{Disk}
 use Rattle.iol_front.specs.Fronts.{CommittedView}
-use Rattle.std.specs.Option.{option_map}
 use Rattle.iol_journal.specs.Begin.{batch_refusal, is_too_large}
-use Rattle.iol_journal.specs.BegunViews.{BegunView}
-use Rattle.iol_journal.specs.CheckpointViews.{CheckpointingView, begun_in, end_of}
-use Rattle.iol_journal.specs.Pauses.{end_in}
-use Rattle.iol_journal.specs.Drafts.{begun_behind, idle_at, with_owed}
-use Rattle.iol_journal.specs.Journals.{JournalView, WritingView}
+use Rattle.iol_journal.specs.CheckpointViews.{CheckpointingView, checkpoint_of, paused_in}
+use Rattle.iol_journal.specs.Checkpointing.{IsCheckpointMoved, IsCheckpointDone}
+use Rattle.iol_journal.specs.Journals.{JournalView, WritingView, writing_of}
+use Rattle.iol_journal.specs.Progress.{IsBatchMoved, IsBatchDone}
 use Rattle.iol_journal.specs.Body.{values}
-use Rattle.iol_journal.specs.Standings.{with_batch}
-use Rattle.iol_journal.specs.Planned.{written_behind}
-use Rattle.iol_disk.specs.Calls.{MakesFirst, FailsFirst}
+use Rattle.iol_disk.specs.Calls.{Call, MakesFirst}
 use Rattle.iol_journal.specs.Batch.{Batch}
 use Rattle.iol_journal.specs.BeginCause.TheVariants.{TooLarge, Misfit}
-use Rattle.iol_journal.specs.Phase.TheVariants.{Body}
-use Rattle.iol_journal.specs.Idle.TheVariants.{Older}
 use Rattle.iol_journal.specs.Written.{WrittenView}
 use Rattle.iol_flush.specs.Stages.{FlusherView, wants_checkpoint, disk_of, next_calls, calls_owed, is_due, names_batch, need_of, failure_of}
 use Rattle.iol_flush.specs.declared.need.Need.TheVariants as need
@@ -30,81 +24,32 @@ use Rattle.iol_flush.specs.declared.flusher.FlushEnd.TheVariants as end
 use Rattle.iol_flush.specs.declared.stage.FlushStage.{FlushStage}
 use Rattle.iol_flush.specs.declared.stage.FlushStage.TheVariants.{Resting, Opening, Given, Checkpointing, Writing, Publishing, Failed}
 
--- a journal with a batch before its first disk call (own)
-abbrev pub writing_of : {D : Type 0} → JournalView D → List CommandValue → WritingView D
-writing_of journal commands = record {
-  disk = journal.disk;
-  standing = journal.standing;
-  idle = journal.idle;
-  history = journal.history;
-  begun = journal.begun;
-  commands = commands;
-  phase = Body 0;
-}
-
--- a journal with a checkpoint before its next disk call: the one that is paused, or a new one (own)
-abbrev pub checkpoint_of : {D : Type 0} → JournalView D → CheckpointingView D
-checkpoint_of journal =
-    record { disk = journal.disk; standing = journal.standing; history = journal.history; begun = begun_in journal }
-
 -- a disk call of a batch is made: the batch is still on its way, or it is durable (own)
 abbrev pub HasMadeOfBatch : {D : Type 0} → WritingView D → FlushStage D → Type 0
-HasMadeOfBatch w (Writing v) =
-    (v.standing ≡ w.standing) × (v.idle ≡ w.idle) × (v.history ≡ w.history) × (v.commands ≡ w.commands) × (v.begun ≡ w.begun)
-HasMadeOfBatch w (Publishing j written) =
-    (j.standing ≡ with_batch w.standing w.commands) × (j.idle ≡ w.idle) × (j.history ≡ written_behind w.history w.commands)
-    × (written.first ≡ w.standing.number + 1) × (written.commands ≡ w.commands)
-    × (j.begun ≡ option_map (with_owed w.commands) w.begun)
+HasMadeOfBatch w (Writing v) = IsBatchMoved w v
+HasMadeOfBatch w (Publishing j written) = IsBatchDone w j written
 HasMadeOfBatch w stage = ⊥
 
 -- a disk call of a checkpoint is made: the checkpoint is still on its way, or done. The batch waits meanwhile (own)
 abbrev pub HasMadeOfCheckpoint : {D : Type 0} → CheckpointingView D → Batch → FlushStage D → Type 0
-HasMadeOfCheckpoint c batch (Checkpointing d kept) =
-    (d.standing ≡ c.standing) × (d.history ≡ c.history) × (kept ≡ batch) × (begun_behind c.standing c.begun ≡ Some d.begun)
-    × (end_of d ≡ end_of c)
-HasMadeOfCheckpoint c batch (Given j kept) =
-    (j.standing ≡ end_of c) × (j.history ≡ c.history) × (kept ≡ batch) × (j.begun ≡ None)
-    × (j.standing.number ≡ c.standing.number) × (j.standing.state ≡ c.standing.state) × (j.standing.layout ≡ c.standing.layout)
+HasMadeOfCheckpoint c batch (Checkpointing d kept) = IsCheckpointMoved c d × (kept ≡ batch)
+HasMadeOfCheckpoint c batch (Given j kept) = IsCheckpointDone c j × (kept ≡ batch)
 HasMadeOfCheckpoint c batch stage = ⊥
 
--- a checkpoint for which no batch waits is done (own)
-pub record HasEnded {D : Type 0} (c : CheckpointingView D) (j : JournalView D) : Type 0 where
-  pub standing : j.standing ≡ end_of c
-  pub history : j.history ≡ c.history
-  pub idle : j.idle ≡ Older
-  pub none : j.begun ≡ None
-  pub number : j.standing.number ≡ c.standing.number
-  pub state : j.standing.state ≡ c.standing.state
-  pub layout : j.standing.layout ≡ c.standing.layout
+-- a checkpoint is paused behind a disk call, and the journal at rest meanwhile (own)
+abbrev pub HasPaused : {D : Type 0} → CheckpointingView D → JournalView D → Type 0
+HasPaused {D} c j = (more : CheckpointingView D) × IsCheckpointMoved c more × (j ≡ paused_in more)
 
--- it is paused behind a disk call, and the journal at rest meanwhile (own)
-pub record HasPaused {D : Type 0} (c : CheckpointingView D) (j : JournalView D) : Type 0 where
-  pub begun : BegunView
-  pub behind : begun_behind c.standing c.begun ≡ Some begun
-  pub paused : j.begun ≡ Some begun
-  pub idle : j.idle ≡ idle_at begun.stage
-  pub standing : j.standing ≡ c.standing
-  pub history : j.history ≡ c.history
-  pub end : end_in j.standing begun ≡ end_of c
-
--- it cannot be paused behind a disk call, which wrote its gate (own)
-pub record HasOpened {D : Type 0} (c d : CheckpointingView D) : Type 0 where
-  pub behind : begun_behind c.standing c.begun ≡ Some d.begun
-  pub standing : d.standing ≡ c.standing
-  pub history : d.history ≡ c.history
-  pub end : end_of d ≡ end_of c
-
--- a disk call of a checkpoint is made for which no batch waits (own)
+-- a disk call of a checkpoint is made for which no batch waits: it is done, or paused, or its gate is written, behind which it cannot
+-- be paused (own)
 abbrev pub HasAdvanced : {D : Type 0} → CheckpointingView D → FlushStage D → Type 0
-HasAdvanced c (Resting j) = HasEnded c j ⊎ HasPaused c j
-HasAdvanced c (Opening d) = HasOpened c d
+HasAdvanced c (Resting j) = IsCheckpointDone c j ⊎ HasPaused c j
+HasAdvanced c (Opening d) = IsCheckpointMoved c d
 HasAdvanced c stage = ⊥
 
 -- a checkpoint is paused where it can be (own)
 abbrev pub IsLeftPaused : {D : Type 0} → CheckpointingView D → FlushStage D → Type 0
-IsLeftPaused c (Resting j) =
-    (j.disk ≡ c.disk) × (j.standing ≡ c.standing) × (j.idle ≡ idle_at c.begun.stage) × (j.history ≡ c.history)
-    × (j.begun ≡ Some c.begun)
+IsLeftPaused c (Resting j) = j ≡ paused_in c
 IsLeftPaused c (Opening d) = d ≡ c
 IsLeftPaused c stage = ⊥
 
@@ -145,9 +90,11 @@ MayWant stage = ⊥
 -- the first of the disk calls that come next is made, or fails; or none is made and nothing changes: a call failed before,
 -- memory runs out where a batch or a checkpoint is begun, or the batch does not fit (own)
 abbrev pub IsDiskStep : {D : Type 0} → (D → Disk) → FlushStage D → FlushStage D → Result Unit FlushFault → Type 0
-IsDiskStep disk old new (Ok done) = HasMade old new × MakesFirst (next_calls old) (calls_owed new) (disk (disk_of old)) (disk (disk_of new))
+IsDiskStep disk old new (Ok done) =
+    HasMade old new × MakesFirst (next_calls old) (calls_owed new) (disk (disk_of old)) (disk (disk_of new)) (Ok done)
 IsDiskStep disk old new (Err (fault.Disk cause)) =
-    (failure_of new ≡ Some cause) × FailsFirst (next_calls old) cause (disk (disk_of old)) (disk (disk_of new))
+    (failure_of new ≡ Some cause)
+    × (others : List Call) × MakesFirst (next_calls old) others (disk (disk_of old)) (disk (disk_of new)) (Err cause)
 IsDiskStep disk old new (Err fault.Stopped) = (need_of old ≡ need.Stopped) × (new ≡ old)
 IsDiskStep disk old new (Err fault.Memory) = MayWant old × (new ≡ old)
 IsDiskStep disk old new (Err fault.Misfit) = IsUnfit old × (new ≡ old)

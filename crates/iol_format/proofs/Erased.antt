@@ -176,7 +176,7 @@ there_of sectors image is = by_test (nat_lt DISK_GATE sectors) _ (λ large. grin
 
 failed_in_first : (gate : Bool) (told : DiskFault) (old new : Disk) → FailedIn (sync ∷ []) told old new
     → MakesErasureOf gate old new (Err told)
-failed_in_first gate Read old new failed = absurd (no_read failed.call failed.failed.kind)
+failed_in_first gate Read old new failed = absurd (no_read failed.call failed.kind)
 failed_in_first true Write old new failed = failed_first (sync ∷ []) (write DISK_GATE closed_gate ∷ sync ∷ []) Write old new failed
 failed_in_first false Write old new failed = failed
 failed_in_first true Sync old new failed = failed_first (sync ∷ []) (write DISK_GATE closed_gate ∷ sync ∷ []) Sync old new failed
@@ -228,7 +228,7 @@ module _ (gate : Bool) (old mid read : Disk) (after : After synced old mid) (cou
   closes : (result : Result Unit DiskFault) (new : Disk) → Makes (write DISK_GATE closed_gate ∷ sync ∷ []) read new result
       → MakesErasureOf true old new result
   closes (Ok done) new made = made_append (sync ∷ []) (write DISK_GATE closed_gate ∷ sync ∷ []) old read new first made
-  closes (Err Read) new failed = absurd (no_read failed.call failed.failed.kind)
+  closes (Err Read) new failed = absurd (no_read failed.call failed.kind)
   closes (Err Write) new failed = failed_later (sync ∷ []) (write DISK_GATE closed_gate ∷ sync ∷ []) Write old read new first failed
   closes (Err Sync) new failed = failed_later (sync ∷ []) (write DISK_GATE closed_gate ∷ sync ∷ []) Sync old read new first failed
 

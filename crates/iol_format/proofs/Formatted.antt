@@ -129,6 +129,6 @@ untouched (Err (DiskFailed fault)) P p = tt
 -- no call of a format but a write or a sync fails so
 pub format_failed : (g : Geometry) (told : DiskFault) (old new : Disk) → FailedIn (format_calls g) told old new
     → MakesFormat g old new (Err (DiskFailed told))
-format_failed g Read old new failed = absurd (no_read failed.call failed.failed.kind)
+format_failed g Read old new failed = absurd (no_read failed.call failed.kind)
 format_failed g Write old new failed = failed
 format_failed g Sync old new failed = failed

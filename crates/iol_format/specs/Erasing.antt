@@ -1,6 +1,6 @@
 -- What an erasure answers, and what it leaves.
 use Rattle.std.specs.Prelude.{◌≡◌, ◌<◌, ◌⊎◌, ℕ, Bool, true, false, IsTrue, List, [], ◌∷◌, Result, Ok, Err}
-use Rattle.iol_disk.specs.Content.{Image, Content, IsImage, reads}
+use Rattle.iol_disk.specs.Content.{Image, Content, IsImage, EachImage, reads}
 use Rattle.iol_disk.specs.Calls.{Call, write, sync, content_after_all, Made, FailedIn}
 use Rattle.iol_disk.specs.Disk.{Disk, After, HasFailed}
 use Rattle.iol_disk.specs.declared.fault.DiskFault.{DiskFault}
@@ -37,4 +37,4 @@ MeansAsBeforeOrNothing sectors c image =
 
 -- each image of an honest disk is not formatted (own)
 abbrev pub EachUnformatted : Disk → Type 0
-EachUnformatted d = IsTrue d.honest → (image : Image) → IsImage d.content image → meaning d.sectors image ≡ Err unformatted
+EachUnformatted d = IsTrue d.honest → EachImage d.content (λ image. meaning d.sectors image ≡ Err unformatted)

@@ -1,7 +1,7 @@
 -- What a format answers, and what it leaves.
 use Rattle.std.specs.Prelude.{◌≡◌, ◌<◌, ◌⊎◌, ◌+◌, ℕ, IsTrue, Ok, Err}
 use Rattle.iol_types.specs.State.{empty_state}
-use Rattle.iol_disk.specs.Content.{Image, IsImage, IsImageSince, clock}
+use Rattle.iol_disk.specs.Content.{Image, EachImage, IsImageSince, clock}
 use Rattle.iol_disk.specs.Disk.{Disk}
 use Rattle.iol_area.specs.AreaPlans.{IsAreaPlan}
 use Rattle.iol_layout.specs.Geometry.{Geometry}
@@ -26,7 +26,7 @@ pub record IsEmptyJournalOf (g : Geometry) (sectors : ℕ) (image : Image) : Typ
 
 -- each image of an honest disk is an empty journal of this geometry (own)
 abbrev pub EachIsEmptyJournal : Disk → Geometry → Type 0
-EachIsEmptyJournal d g = IsTrue d.honest → (image : Image) → IsImage d.content image → IsEmptyJournalOf g d.sectors image
+EachIsEmptyJournal d g = IsTrue d.honest → EachImage d.content (IsEmptyJournalOf g d.sectors)
 
 -- an image of so many sectors is not formatted, or an empty journal of this geometry (own)
 abbrev pub IsEmptyOrUnformatted : Geometry → ℕ → Image → Type 0

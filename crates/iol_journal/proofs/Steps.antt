@@ -3,18 +3,19 @@ use Rattle.std.proofs.Common.{◌≡◌, ◌≤◌, ℕ, ◌+◌, nat_lt, if◌t
 use Rattle.std.proofs.Common.{List, [], ◌∷◌, Option, Some, None, IsTrue, Result, Ok, Err, refl, sym, ◌∙◌, ap, subst, arith}
 use Rattle.std.proofs.lemmas.Bool.Decides.{nat_tests}
 use Rattle.iol_types.specs.Command.{CommandValue}
-use Rattle.iol_disk.specs.Calls.{Call, Made, FailedIn, Makes, MakesFirst, FailsFirst}
+use Rattle.iol_disk.specs.Calls.{Call, Made, FailedIn, Makes, MakesFirst}
 use Rattle.iol_disk.specs.Disk.{Disk}
 use Rattle.iol_disk.specs.Moments.{LeavesOnly}
 use Rattle.iol_disk.specs.declared.fault.DiskFault.{DiskFault}
 use Rattle.iol_disk.proofs.DiskLaws.{HasOnTheWay, made_leaves, failed_leaves}
+use Rattle.iol_disk.specs.Content.{EachImage}
 use Rattle.iol_batch.specs.Batches.{body_for, sectors_for, call_of, calls_from, next_phase, IsPhase}
 use Rattle.iol_journal.specs.Journals.{WritingView}
 use Rattle.iol_batch.specs.Planned.{IsPlanned, IsPlan}
 use Rattle.iol_layout.specs.Standings.{IsResting, with_batch}
-use Rattle.iol_layout.specs.Kept.{KeptEither}
+use Rattle.iol_layout.specs.Kept.{KeptEither, IsKeptAs}
 use Rattle.iol_layout.specs.Meaning.{Standing}
-use Rattle.iol_batch.specs.Phases.{EachKept, Holds}
+use Rattle.iol_batch.specs.Phases.{Holds}
 use Rattle.iol_journal.specs.Underway.{IsUnderway}
 use Rattle.iol_layout.specs.declared.idle.Idle.{Idle}
 use Rattle.iol_layout.specs.Layout.{total}
@@ -74,7 +75,7 @@ module _ (s : Standing) (idle : Idle) (commands : List CommandValue) (body : Lis
 
   -- behind the last call
   pub durable : None ≡ next_phase sectors p → Made (call_of s body p ∷ []) old new → Before
-      → IsTrue new.honest → EachKept new.sectors (with_batch s commands) idle new.content
+      → IsTrue new.honest → EachImage new.content (IsKeptAs new.sectors (with_batch s commands) idle)
   durable is made holds =
       batch_durable s idle commands (body_for s commands) (sectors_for s commands) (fit_of old s commands p planned) old new p
       (sym (next_is None is)) (subst (λ (b : List ℕ). Made (call_of s b p ∷ []) old new) same_body made) holds
@@ -93,28 +94,31 @@ module _ (s : Standing) (idle : Idle) (commands : List CommandValue) (body : Lis
 
   -- the first of the calls that are left is made, or fails
   pub makes_first : (q : Phase) → Some q ≡ next_phase sectors p → Made (call_of s body p ∷ []) old new
-      → MakesFirst (left p) (left q) old new
+      → MakesFirst (left p) (left q) old new (Ok tt)
   makes_first q is made = record {
     call = call_of s (body_for s commands) p;
     order = first_call s (body_for s commands) (sectors_for s commands) p q planned.in_phase (sym (next_is (Some q) is));
-    made = subst (λ (b : List ℕ). Made (call_of s b p ∷ []) old new) same_body made;
+    makes = subst (λ (b : List ℕ). Made (call_of s b p ∷ []) old new) same_body made;
   }
 
-  pub makes_last : None ≡ next_phase sectors p → Made (call_of s body p ∷ []) old new → MakesFirst (left p) [] old new
+  pub makes_last : None ≡ next_phase sectors p → Made (call_of s body p ∷ []) old new → MakesFirst (left p) [] old new (Ok tt)
   makes_last is made = record {
     call = call_of s (body_for s commands) p;
     order = last_call s (body_for s commands) (sectors_for s commands) p (sym (next_is None is));
-    made = subst (λ (b : List ℕ). Made (call_of s b p ∷ []) old new) same_body made;
+    makes = subst (λ (b : List ℕ). Made (call_of s b p ∷ []) old new) same_body made;
   }
 
-  pub fails_first : (told : DiskFault) → FailedIn (call_of s body p ∷ []) told old new → FailsFirst (left p) told old new
+  pub fails_first : (told : DiskFault) → FailedIn (call_of s body p ∷ []) told old new
+      → (others : List Call) × MakesFirst (left p) others old new (Err told)
   fails_first told failed =
-      let some = some_call s (body_for s commands) (sectors_for s commands) p planned.in_phase in record {
-        call = call_of s (body_for s commands) p;
-        left = some.0;
-        order = some.1;
-        failed = subst (λ (b : List ℕ). FailedIn (call_of s b p ∷ []) told old new) same_body failed;
-      }
+      let some = some_call s (body_for s commands) (sectors_for s commands) p planned.in_phase in (
+        some.0,
+        record {
+          call = call_of s (body_for s commands) p;
+          order = some.1;
+          makes = subst (λ (b : List ℕ). FailedIn (call_of s b p ∷ []) told old new) same_body failed;
+        },
+      )
 
 -- the journal rests behind its last call
 pub resting_behind : (d d' : Disk) (s : Standing) (commands : List CommandValue) (p : Phase) → IsPlanned d s commands p → d'.sectors

@@ -1,6 +1,6 @@
 -- Facts of how a journal stands, said of what contracts see of it.
-use Rattle.std.proofs.Common.{◌≡◌, ◌≤◌, ℕ, ◌+◌, List, [], ◌∷◌}
-use Rattle.std.proofs.Common.{Result, subst}
+use Rattle.std.proofs.Common.{◌≡◌, ℕ, ◌+◌, List, [], ◌∷◌, Result, Ok, Err, IfOk, OnOk, subst, arith}
+use Rattle.iol_types.specs.Command.{CommandValue}
 use Rattle.iol_disk.specs.Calls.{Makes}
 use Rattle.iol_disk.specs.Disk.{Disk}
 use Rattle.iol_disk.specs.Moments.{LeavesOnly}
@@ -10,12 +10,12 @@ use Rattle.iol_checkpoint.specs.Checkpoints.{call_at}
 use Rattle.iol_checkpoint.specs.Drafts.{IsDrafted}
 use Rattle.iol_journal.specs.CheckpointViews.{CheckpointingView, IsCheckpointUnderway}
 use Rattle.iol_layout.specs.Kept.{KeptMeans}
-use Rattle.std.proofs.Common.{◌≡◌, ◌≤◌, ◌+◌, false, ℕ, List, subst}
-use Rattle.iol_types.specs.declared.command.Command.{Command}
-use Rattle.iol_batch.specs.Begin.{is_too_large, IsBatchRefusal}
-use Rattle.iol_layout.specs.Body.{slots_for, values}
-use Rattle.iol_journal.specs.Journals.{JournalView}
-use Rattle.iol_batch.specs.declared.refusal.BeginCause.TheVariants.{Memory}
+use Rattle.iol_layout.specs.Meaning.{Standing}
+use Rattle.iol_layout.specs.Standings.{IsResting}
+use Rattle.iol_batch.specs.Planned.{CanFollow, IsPlan, IsPlanned}
+use Rattle.iol_batch.specs.declared.phase.Phase.TheVariants.{Body}
+use Rattle.iol_batch.specs.declared.plan.Plan.{Plan}
+use Rattle.iol_batch.proofs.BatchCalls.{sectors_for-some}
 use Rattle.iol_checkpoint.proofs.CheckpointSteps.{moment}
 
 -- the same of the checkpoint as contracts see it
@@ -29,9 +29,19 @@ moment_of {D = D} disk {c = c} left result view drafted makes =
     → LeavesOnly (disk u.disk) (disk left) (KeptMeans (disk u.disk).sectors u.standing.number u.standing.state)) view
     (moment c.standing c.begun.log c.begun.owed c.begun.stage (disk c.disk) (disk left) drafted result makes)
 
--- memory is asked for behind the size of the batch and the free slot
-pub out_of_memory : {D : Type 0} {w v : JournalView D} (first : ℕ) (commands : List Command) → w ≡ v
-    → is_too_large w.standing.layout.slots (values commands) ≡ false
-    → w.standing.used + slots_for (values commands) ≤ w.standing.layout.slots → IsBatchRefusal v.standing first (values commands) Memory
-out_of_memory {D = D} first commands view fits room =
-    subst (λ (u : JournalView D). IsBatchRefusal u.standing first (values commands) Memory) view (fits, room)
+-- a batch that was planned for a journal at rest
+pub planned_in : {E : Type 0} (d : Disk) (s : Standing) (commands : List CommandValue) (first : ℕ) (result : Result Plan E)
+    → IsResting d s → IfOk result (IsPlan s commands) → OnOk result (CanFollow s commands) → OnOk result (first ≡ s.number + 1)
+    → IfOk result (λ plan. IsPlanned d s commands (Body 0) × IsPlan s commands plan × (first ≡ s.number + 1))
+planned_in d s commands first (Ok plan) rests is follows next = (
+  record {
+    fits = rests.fits;
+    follows = follows;
+    in_phase = omega (arith, sectors_for-some s commands);
+    begun = rests.begun;
+    count = rests.count;
+  },
+  is,
+  next,
+)
+planned_in d s commands first (Err cause) rests is follows next = tt

@@ -1,9 +1,10 @@
 -- A checkpoint on its way as contracts see it.
-use Rattle.std.specs.Prelude.{List, [], unwrap_or}
+use Rattle.std.specs.Prelude.{List, Some, unwrap_or}
 use Rattle.iol_disk.specs.Calls.{Call}
 use Rattle.iol_disk.specs.Disk.{Disk}
 use Rattle.iol_checkpoint.specs.BegunViews.{BegunView}
-use Rattle.iol_checkpoint.specs.Checkpoints.{fresh_log, first_stage}
+use Rattle.iol_checkpoint.specs.Checkpoints.{new_begun}
+use Rattle.iol_checkpoint.specs.Drafts.{idle_at}
 use Rattle.iol_journal.specs.Journals.{JournalView}
 use Rattle.iol_layout.specs.Meaning.{Standing}
 use Rattle.iol_batch.specs.declared.history.History.{History}
@@ -19,8 +20,23 @@ pub record CheckpointingView (D : Type 0) : Type 0 where
 
 -- the checkpoint that a journal at rest is to go on with: the one that is paused, or a new one (own)
 abbrev pub begun_in : {D : Type 0} → JournalView D → BegunView
-begun_in j = unwrap_or j.begun (record { log = fresh_log j.standing; owed = []; stage = first_stage j.idle })
+begun_in j = unwrap_or j.begun (new_begun j.standing j.idle)
 
+-- a journal with a checkpoint before its next disk call: the one that is paused, or a new one (own)
+abbrev pub checkpoint_of : {D : Type 0} → JournalView D → CheckpointingView D
+checkpoint_of j = record { disk = j.disk; standing = j.standing; history = j.history; begun = begun_in j }
+
+-- the journal at rest while a checkpoint is paused (own)
+abbrev pub paused_in : {D : Type 0} → CheckpointingView D → JournalView D
+paused_in c = record {
+  disk = c.disk;
+  standing = c.standing;
+  idle = idle_at c.begun.stage;
+  history = c.history;
+  begun = Some c.begun;
+}
+
+-- how the journal stands once the checkpoint is done (own)
 abbrev pub end_of : {D : Type 0} → CheckpointingView D → Standing
 end_of c = end_in c.standing c.begun
 

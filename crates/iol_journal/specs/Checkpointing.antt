@@ -1,11 +1,13 @@
 -- A checkpoint on its way as contracts see it, and what its step answers.
-use Rattle.std.specs.Prelude.{List, []}
-use Rattle.iol_disk.specs.Calls.{Call, MakesFirst, FailsFirst}
+use Rattle.std.specs.Prelude.{◌≡◌, List, [], Some, None, Ok, Err}
+use Rattle.iol_disk.specs.Calls.{Call, MakesFirst}
 use Rattle.iol_disk.specs.Disk.{Disk}
+use Rattle.iol_checkpoint.specs.Drafts.{begun_behind}
+use Rattle.iol_layout.specs.declared.idle.Idle.TheVariants.{Older}
 use Rattle.iol_journal.specs.Journals.{JournalView}
 use Rattle.iol_journal.specs.declared.checkpointing.CheckpointProgress.{CheckpointProgress}
 use Rattle.iol_journal.specs.declared.checkpointing.CheckpointProgress.TheVariants.{More, Done, Failed}
-use Rattle.iol_journal.specs.CheckpointViews.{CheckpointingView, stages_left}
+use Rattle.iol_journal.specs.CheckpointViews.{CheckpointingView, end_of, stages_left}
 
 -- the disk of what a step answers (own)
 abbrev pub checkpoint_disk : {D : Type 0} → CheckpointProgress D → D
@@ -22,8 +24,26 @@ abbrev pub IfCheckpointed : {D : Type 0} → CheckpointProgress D → (JournalVi
 IfCheckpointed (Done journal) P = P journal
 IfCheckpointed progress P = Unit {0}
 
+-- a checkpoint behind one of its disk calls, where more are owed (own)
+pub record IsCheckpointMoved {D : Type 0} (c d : CheckpointingView D) : Type 0 where
+  pub standing : d.standing ≡ c.standing
+  pub history : d.history ≡ c.history
+  pub behind : begun_behind c.standing c.begun ≡ Some d.begun
+  pub end : end_of d ≡ end_of c
+
+-- the journal behind the last disk call of a checkpoint: the other area is in use, under the next epoch, with the batches that were
+-- carried, at the same number and state (own)
+pub record IsCheckpointDone {D : Type 0} (c : CheckpointingView D) (j : JournalView D) : Type 0 where
+  pub standing : j.standing ≡ end_of c
+  pub idle : j.idle ≡ Older
+  pub history : j.history ≡ c.history
+  pub none : j.begun ≡ None
+  pub number : j.standing.number ≡ c.standing.number
+  pub state : j.standing.state ≡ c.standing.state
+  pub layout : j.standing.layout ≡ c.standing.layout
+
 -- a step makes the first of the calls that are left, or it fails in it (own)
 abbrev pub CheckpointStepMakes : {D : Type 0} → (D → Disk) → List Call → CheckpointProgress D → Disk → Type 0
-CheckpointStepMakes disk calls (More checkpointing) old = MakesFirst calls (stages_left checkpointing) old (disk checkpointing.disk)
-CheckpointStepMakes disk calls (Done journal) old = MakesFirst calls [] old (disk journal.disk)
-CheckpointStepMakes disk calls (Failed left fault) old = FailsFirst calls fault old (disk left)
+CheckpointStepMakes disk calls (More checkpointing) old = MakesFirst calls (stages_left checkpointing) old (disk checkpointing.disk) (Ok tt)
+CheckpointStepMakes disk calls (Done journal) old = MakesFirst calls [] old (disk journal.disk) (Ok tt)
+CheckpointStepMakes disk calls (Failed left fault) old = (others : List Call) × MakesFirst calls others old (disk left) (Err fault)

@@ -6,6 +6,7 @@ use Rattle.iol_layout.specs.Meaning.{Standing}
 use Rattle.iol_batch.specs.declared.history.History.{History}
 use Rattle.iol_layout.specs.declared.idle.Idle.{Idle}
 use Rattle.iol_batch.specs.declared.phase.Phase.{Phase}
+use Rattle.iol_batch.specs.declared.phase.Phase.TheVariants.{Body}
 use Rattle.iol_disk.specs.Calls.{Call}
 use Rattle.iol_batch.specs.Batches.{body_for, sectors_for, calls_from}
 
@@ -30,6 +31,18 @@ pub record WritingView (D : Type 0) : Type 0 where
   -- the commands of the batch, and the disk call that comes next
   pub commands : List CommandValue
   pub phase : Phase
+
+-- a batch of these commands before its first disk call (own)
+abbrev pub writing_of : {D : Type 0} → JournalView D → List CommandValue → WritingView D
+writing_of j commands = record {
+  disk = j.disk;
+  standing = j.standing;
+  idle = j.idle;
+  history = j.history;
+  begun = j.begun;
+  commands = commands;
+  phase = Body 0;
+}
 
 -- the disk calls that a batch on its way still makes (own)
 abbrev pub calls_left : {D : Type 0} → WritingView D → List Call

@@ -1,7 +1,11 @@
 -- What a step of a batch answers.
-use Rattle.std.specs.Prelude.{List, []}
-use Rattle.iol_disk.specs.Calls.{Call, MakesFirst, FailsFirst}
+use Rattle.std.specs.Prelude.{◌≡◌, ◌+◌, List, [], Ok, Err}
+use Rattle.std.specs.Option.{option_map}
+use Rattle.iol_disk.specs.Calls.{Call, MakesFirst}
 use Rattle.iol_disk.specs.Disk.{Disk}
+use Rattle.iol_batch.specs.Planned.{written_behind}
+use Rattle.iol_checkpoint.specs.Drafts.{with_owed}
+use Rattle.iol_layout.specs.Standings.{with_batch}
 use Rattle.iol_journal.specs.Journals.{JournalView, WritingView, calls_left}
 use Rattle.iol_journal.specs.Written.{WrittenView}
 use Rattle.iol_journal.specs.declared.writing.Progress.{Progress}
@@ -22,8 +26,26 @@ abbrev pub IfDone : {D : Type 0} → Progress D → (JournalView D → WrittenVi
 IfDone (Done journal written) P = P journal written
 IfDone progress P = Unit {0}
 
+-- a batch behind one of its disk calls, where more are owed: disk and phase apart it is as it was (own)
+pub record IsBatchMoved {D : Type 0} (w v : WritingView D) : Type 0 where
+  pub standing : v.standing ≡ w.standing
+  pub idle : v.idle ≡ w.idle
+  pub history : v.history ≡ w.history
+  pub begun : v.begun ≡ w.begun
+  pub commands : v.commands ≡ w.commands
+
+-- the journal behind the last disk call of a batch: the batch is behind those before it, and owed to the checkpoint that is paused
+-- (own)
+pub record IsBatchDone {D : Type 0} (w : WritingView D) (j : JournalView D) (written : WrittenView) : Type 0 where
+  pub standing : j.standing ≡ with_batch w.standing w.commands
+  pub idle : j.idle ≡ w.idle
+  pub history : j.history ≡ written_behind w.history w.commands
+  pub begun : j.begun ≡ option_map (with_owed w.commands) w.begun
+  pub first : written.first ≡ w.standing.number + 1
+  pub commands : written.commands ≡ w.commands
+
 -- a step makes the first of the calls that are left, or it fails in it (own)
 abbrev pub StepMakes : {D : Type 0} → (D → Disk) → List Call → Progress D → Disk → Type 0
-StepMakes disk calls (More writing) old = MakesFirst calls (calls_left writing) old (disk writing.disk)
-StepMakes disk calls (Done journal written) old = MakesFirst calls [] old (disk journal.disk)
-StepMakes disk calls (Failed left fault) old = FailsFirst calls fault old (disk left)
+StepMakes disk calls (More writing) old = MakesFirst calls (calls_left writing) old (disk writing.disk) (Ok tt)
+StepMakes disk calls (Done journal written) old = MakesFirst calls [] old (disk journal.disk) (Ok tt)
+StepMakes disk calls (Failed left fault) old = (others : List Call) × MakesFirst calls others old (disk left) (Err fault)

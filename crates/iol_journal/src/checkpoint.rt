@@ -2,18 +2,16 @@
 
 use crate::checkpointing::Checkpointing;
 use crate::journal::{CheckpointFault, Journal};
-use iol_area::AreaPlan;
 use iol_checkpoint::Begun;
 use iol_disk::SectorDisk;
-use iol_layout::Header;
 use std::alloc::AllocError;
 
 impl<D: SectorDisk> Journal<D> {
     ghost use Rattle.std.specs.Prelude.{◌≡◌, ◌≤◌, ◌<◌, ◌+◌, ◌*◌, true, [], length, Some, None, is_some, IfOk, IfErr, OnOk};
-    ghost use Rattle.iol_area.specs.AreaPlans.{AreRecords, IsAreaPlan};
-    ghost use Rattle.iol_checkpoint.specs.Checkpoints.{checkpointed, checkpoint_calls, first_stage, fresh_log, header_of_target};
-    ghost use Rattle.iol_journal.specs.CheckpointViews.{begun_in, stages_left, IsCheckpointUnderway};
-    ghost use Rattle.iol_checkpoint.specs.Pauses.{IsPaused};
+    ghost use Rattle.iol_checkpoint.specs.BegunParts.{view_of, IsBegun};
+    ghost use Rattle.iol_checkpoint.specs.Checkpoints.{checkpointed, checkpoint_calls, new_begun};
+    ghost use Rattle.iol_journal.specs.CheckpointViews.{checkpoint_of, stages_left, IsCheckpointUnderway};
+    ghost use Rattle.iol_checkpoint.specs.Pauses.{calls_of, IsPaused};
     ghost use Rattle.iol_journal.specs.CheckpointRuns.{IsRunCheckpointing};
     ghost use Rattle.iol_journal.specs.Runs.{Run};
     ghost use Rattle.iol_journal.specs.Running.{IsRunAtRest};
@@ -26,8 +24,7 @@ impl<D: SectorDisk> Journal<D> {
     /// Out of memory, where none is paused; the journal is handed back.
     pub fn checkpoint(self) -> Result<Checkpointing<D>, CheckpointFault<D>>
         requires { self.begun ≡ None → 0 < self.standing.used }
-        ensures begun { IfOk result (λ c. (c.disk ≡ self.disk) × (c.standing ≡ self.standing) × (c.history ≡ self.history)
-            × (c.begun ≡ begun_in self)) }
+        ensures begun { IfOk result (λ c. c ≡ checkpoint_of self) }
         // A new one makes these disk calls: one for each slot, nine for each port, and nine more, at most.
         ensures calls { self.begun ≡ None
             → IfOk result (λ c. stages_left c ≡ checkpoint_calls (checkpointed self.standing) [] self.idle) }
@@ -48,8 +45,8 @@ impl<D: SectorDisk> Journal<D> {
         if self.begun.is_some() {
             return Ok(self.go_on());
         }
-        match self.plan_area() {
-            Ok(plan) => Ok(self.begin_checkpoint(plan)),
+        match self.new_checkpoint() {
+            Ok(begun) => Ok(self.with_checkpoint(begun)),
             Err(cause) => Err(CheckpointFault {
                 cause,
                 journal: self,
@@ -60,8 +57,7 @@ impl<D: SectorDisk> Journal<D> {
     // Goes on with the checkpoint that is paused.
     fn go_on(self) -> Checkpointing<D>
         requires { is_some self.begun ≡ true }
-        ensures disk { (result.disk ≡ self.disk) × (result.standing ≡ self.standing) × (result.history ≡ self.history) }
-        ensures begun { Some result.begun ≡ self.begun }
+        ensures begun { result ≡ checkpoint_of self }
         ensures carrying { length (stages_left result) ≤ 20 * self.standing.layout.slots + 9 * self.standing.layout.ports + 9 }
     {
         let Journal { disk, parts, begun } = self;
@@ -70,50 +66,27 @@ impl<D: SectorDisk> Journal<D> {
         Checkpointing::of(disk, parts, begun)
     }
 
-    // A checkpoint that writes this plan into the other area.
-    fn begin_checkpoint(self, plan: AreaPlan) -> Checkpointing<D>
-        requires used { 0 < self.standing.used }
-        requires plan { IsAreaPlan self.standing.layout (checkpointed self.standing).area (header_of_target (checkpointed self.standing))
-            self.standing.state plan }
-        requires records { AreRecords self.standing.layout (checkpointed self.standing).area self.standing.state }
-        ensures disk { (result.disk ≡ self.disk) × (result.standing ≡ self.standing) × (result.history ≡ self.history) }
-        ensures begun { result.begun ≡ record { log = fresh_log self.standing; owed = []; stage = first_stage self.idle } }
+    // Goes on with this checkpoint.
+    fn with_checkpoint(self, begun: Begun) -> Checkpointing<D>
+        requires { IsBegun (D.disk self.disk) self.standing begun }
+        ensures { result ≡ record { disk = self.disk; standing = self.standing; history = self.history; begun = view_of begun } }
     {
         let Journal {
             disk,
             parts,
             begun: _,
         } = self;
-        let begun = Begun::fresh(
-            parts.alloc,
-            plan,
-            parts.place.idle,
-            parts.number,
-            &parts.state,
-        );
         Checkpointing::of(disk, parts, begun)
     }
 
-    // What a checkpoint writes into the other area.
-    fn plan_area(&self) -> Result<AreaPlan, AllocError>
+    // A new checkpoint.
+    fn new_checkpoint(&self) -> Result<Begun, AllocError>
         requires { 0 < self.now.standing.used }
-        ensures plan { IfOk result (IsAreaPlan self.now.standing.layout (checkpointed self.now.standing).area
-            (header_of_target (checkpointed self.now.standing)) self.now.standing.state) }
-        ensures records { OnOk result (AreRecords self.now.standing.layout (checkpointed self.now.standing).area
-            self.now.standing.state) }
-        ensures sectors { OnOk result (self.now.standing.layout.port_sectors ≤ 9) }
+        ensures begun { IfOk result (IsBegun (D.disk self.now.disk) self.now.standing) }
+        ensures view { IfOk result (λ b. view_of b ≡ new_begun self.now.standing self.now.idle) }
+        ensures at_most { IfOk result (λ b. length (calls_of self.now.standing (view_of b))
+            ≤ self.now.standing.layout.slots + 9 * self.now.standing.layout.ports + 9) }
     {
-        let header = Header {
-            epoch: self.parts.place.epoch + 1,
-            base: self.parts.number,
-        };
-        let _sectors = self.parts.place.layout.port_sectors();
-        AreaPlan::of(
-            self.parts.alloc,
-            self.parts.place.layout,
-            self.parts.place.area.other(),
-            header,
-            &self.parts.state,
-        )
+        Begun::new(&self.parts)
     }
 }

@@ -51,13 +51,14 @@ impl<D: SectorDisk> Checkpointing<D> {
     ghost use Rattle.std.specs.Prelude.{◌≡◌, true, Some, None};
     ghost use Rattle.iol_disk.specs.Moments.{LeavesOnly};
     ghost use Rattle.iol_checkpoint.specs.BegunParts.{view_of, IsBegun};
-    ghost use Rattle.iol_checkpoint.specs.Drafts.{begun_behind, can_pause, idle_at};
+    ghost use Rattle.iol_checkpoint.specs.Drafts.{can_pause};
     ghost use Rattle.iol_layout.specs.Standings.{IsResting};
     ghost use Rattle.iol_batch.specs.Parts.{stands};
     ghost use Rattle.iol_batch.specs.Planned.{LeadsTo};
-    ghost use Rattle.iol_journal.specs.CheckpointViews.{end_of, stages_left, IsCheckpointUnderway};
+    ghost use Rattle.iol_journal.specs.CheckpointViews.{paused_in, stages_left, IsCheckpointUnderway};
     ghost use Rattle.iol_checkpoint.specs.Pauses.{IsPaused};
     ghost use Rattle.iol_journal.specs.Checkpointing.{checkpoint_disk, IfGoesOn, IfCheckpointed, CheckpointStepMakes};
+    ghost use Rattle.iol_journal.specs.Checkpointing.{IsCheckpointMoved, IsCheckpointDone};
     ghost use Rattle.iol_journal.specs.CheckpointRuns.{IsRunCheckpointing, HasCheckpointed};
     ghost use Rattle.iol_layout.specs.Kept.{KeptMeans, EachMeans};
     ghost use Rattle.iol_journal.specs.Runs.{Run};
@@ -102,8 +103,7 @@ impl<D: SectorDisk> Checkpointing<D> {
     /// Sets it aside. Batches may then be written, until [`Journal::checkpoint`] goes on with it.
     pub fn pause(self) -> Journal<D>
         requires { can_pause self.begun.stage ≡ true }
-        ensures paused { (result.disk ≡ self.disk) × (result.standing ≡ self.standing) × (result.idle ≡ idle_at self.begun.stage)
-            × (result.history ≡ self.history) × (result.begun ≡ Some self.begun) }
+        ensures paused { result ≡ paused_in self }
         // It changes no meaning.
         ensures rest { IsCheckpointUnderway D.disk self → IsAtRest (D.disk result.disk) result.standing result.idle
             × IsPaused (D.disk result.disk) result.standing result.begun }
@@ -128,13 +128,8 @@ impl<D: SectorDisk> Checkpointing<D> {
         ensures underway { IsCheckpointUnderway D.disk self → IfGoesOn result (λ c. IsCheckpointUnderway D.disk c) }
         // Each run of the journal goes on: each image since a moment of it has all that was acknowledged by then.
         ensures run { (r : Run) → IsRunCheckpointing D.disk r self → HasCheckpointed D.disk r result }
-        ensures more { IfGoesOn result (λ c. (c.standing ≡ self.standing) × (c.history ≡ self.history)
-            × (begun_behind self.standing self.begun ≡ Some c.begun) × (end_of c ≡ end_of self)) }
-        // The other area is in use, under the next epoch, with the batches that were carried, at the same number and state.
-        ensures done { IfCheckpointed result (λ journal. (journal.standing ≡ end_of self)
-            × (journal.idle ≡ Older) × (journal.history ≡ self.history) × (journal.begun ≡ None)) }
-        ensures same { IfCheckpointed result (λ journal. (journal.standing.number ≡ self.standing.number)
-            × (journal.standing.state ≡ self.standing.state) × (journal.standing.layout ≡ self.standing.layout)) }
+        ensures more { IfGoesOn result (IsCheckpointMoved self) }
+        ensures done { IfCheckpointed result (IsCheckpointDone self) }
         ensures durable { IsCheckpointUnderway D.disk self
             → IfCheckpointed result (λ journal. IsAtRest (D.disk journal.disk) journal.standing journal.idle
             × EachMeans (D.disk journal.disk) journal.standing.number journal.standing.state) }

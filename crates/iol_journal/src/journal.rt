@@ -1,10 +1,10 @@
 //! A journal at rest, and which batches it takes.
 
 use crate::writing::Writing;
-use iol_batch::{Batch, BeginCause, Parts, Plan, apply_all, span_within};
+use iol_batch::{Batch, BeginCause, Parts, Plan};
 use iol_checkpoint::{Begun, make_room};
 use iol_disk::SectorDisk;
-use iol_layout::{BODY_HEAD_OCTETS, BODY_OCTETS, EncodedBatch, LAST_NUMBER};
+use iol_layout::{BODY_HEAD_OCTETS, BODY_OCTETS};
 use std::alloc::AllocError;
 use std::marker::Model;
 
@@ -71,7 +71,7 @@ impl<D: SectorDisk> Journal<D> {
     ghost use Rattle.iol_layout.specs.Standings.{IsResting};
     ghost use Rattle.iol_batch.specs.Parts.{stands};
     ghost use Rattle.iol_layout.specs.Body.{values};
-    ghost use Rattle.iol_journal.specs.Journals.{calls_left};
+    ghost use Rattle.iol_journal.specs.Journals.{calls_left, writing_of};
     ghost use Rattle.iol_batch.specs.Planned.{IsPlan, IsPlanned, LeadsTo};
     ghost use Rattle.iol_layout.specs.Body.{slots_of, slots_for};
     ghost use Rattle.iol_layout.specs.declared.body.TheConstants.{MOST_RECORD_OCTETS};
@@ -155,9 +155,7 @@ impl<D: SectorDisk> Journal<D> {
     /// # Errors
     /// `TooLarge`, `NeedsCheckpoint`, `Memory` or `Misfit`, in this order; journal and batch are handed back.
     pub fn begin(self, batch: Batch) -> Result<Writing<D>, BeginFault<D>>
-        ensures begun { IfOk result (λ w. (w.disk ≡ self.disk) × (w.standing ≡ self.standing) × (w.idle ≡ self.idle)
-            × (w.history ≡ self.history)
-            × (w.commands ≡ values batch.commands.items) × (w.phase ≡ Body 0) × (w.begun ≡ self.begun)) }
+        ensures begun { IfOk result (λ w. w ≡ writing_of self (values batch.commands.items)) }
         // Its steps make these disk calls: 16 for each slot, and three more, at most.
         ensures calls { IfOk result (λ w. calls_left w ≡ batch_calls self.standing (values batch.commands.items)) }
         ensures at_most { IfOk result (λ w. length (calls_left w) ≤ BODY_SECTORS * slots_for (values batch.commands.items) + 3) }
@@ -191,15 +189,7 @@ impl<D: SectorDisk> Journal<D> {
         requires planned { IsPlanned (D.disk self.disk) self.standing (values batch.commands.items) (Body 0) }
         requires plan { IsPlan self.standing (values batch.commands.items) plan }
         requires first { batch.first ≡ self.standing.number + 1 }
-        ensures begun { IfOk result (λ w. w ≡ record {
-          disk = self.disk;
-          standing = self.standing;
-          idle = self.idle;
-          history = self.history;
-          begun = self.begun;
-          commands = values batch.commands.items;
-          phase = Body 0;
-        }) }
+        ensures begun { IfOk result (λ w. w ≡ writing_of self (values batch.commands.items)) }
         ensures beside { IfOk result (λ w. IsPaused (D.disk self.disk) self.standing self.begun
             → IsBeside (D.disk w.disk) w.standing w.begun) }
         ensures back { IfErr result (λ fault. (fault.cause ≡ BeginCause.Memory) × (fault.journal ≡ self) × (fault.batch ≡ batch)) }
@@ -229,29 +219,6 @@ impl<D: SectorDisk> Journal<D> {
         ensures cause { IfErr result (IsBatchRefusal self.now.standing batch.now.first (values batch.now.commands.items)) }
         ensures used { IfErr result (λ cause. cause ≡ BeginCause.NeedsCheckpoint → 0 < self.now.standing.used) }
     {
-        let slots = self.parts.place.layout.slots();
-        let Some(span) = span_within(slots, &batch.commands) else {
-            return Err(BeginCause::TooLarge);
-        };
-        if slots - self.parts.place.used < span {
-            return Err(BeginCause::NeedsCheckpoint);
-        }
-        let body = EncodedBatch::of(
-            self.parts.alloc,
-            self.parts.place.epoch,
-            batch.first,
-            &batch.commands,
-        )?;
-        let mut next = self.parts.state.copy()?;
-        let count = batch.commands.len() as u64;
-        let number = self.parts.number;
-        if count == 0 || batch.first != number + 1 || LAST_NUMBER - number < count {
-            return Err(BeginCause::Misfit);
-        }
-        if apply_all(&mut next, &batch.commands)? {
-            Ok(Plan { body, next })
-        } else {
-            Err(BeginCause::Misfit)
-        }
+        Plan::of(&self.parts, batch)
     }
 }

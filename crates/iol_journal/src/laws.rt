@@ -2,7 +2,7 @@
 
 ghost use Rattle.std.specs.Prelude.{◌≡◌, ◌<◌, ◌⊎◌, ◌+◌, ℕ, true, false, IsTrue, List, Some, None};
 ghost use Rattle.iol_types.specs.Command.{CommandValue};
-ghost use Rattle.iol_disk.specs.Content.{Image, IsImage};
+ghost use Rattle.iol_disk.specs.Content.{EachImage};
 ghost use Rattle.iol_disk.specs.Disk.{Disk};
 ghost use Rattle.iol_layout.specs.Body.{slots_for};
 ghost use Rattle.iol_batch.specs.Begin.{follows, is_too_large, batch_refusal};
@@ -20,8 +20,8 @@ use iol_disk::SectorDisk;
 /// While a batch is under way each image of an honest disk is kept, and means the state before it or the state after it.
 pub fn underway_means_either<D: SectorDisk>()
     ensures { (w : WritingView D) → IsUnderway D.disk w → IsTrue (D.disk w.disk).honest
-        → (image : Image) → IsImage (D.disk w.disk).content image
-        → KeptEither (D.disk w.disk).sectors w.standing.number w.standing.state w.commands image }
+        → EachImage (D.disk w.disk).content
+        (KeptEither (D.disk w.disk).sectors w.standing.number w.standing.state w.commands) }
 {}
 
 /// While a checkpoint is under way each image of an honest disk is kept, and means the number and the state.

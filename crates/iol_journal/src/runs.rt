@@ -4,7 +4,7 @@
 ghost use Rattle.std.specs.Prelude.{◌≡◌, ◌≤◌, ◌<◌, ℕ, ◌+◌, true, IsTrue, List, [], ◌++◌, length, take};
 ghost use Rattle.iol_types.specs.Command.{CommandValue};
 ghost use Rattle.iol_types.specs.State.{State, after, legal};
-ghost use Rattle.iol_disk.specs.Content.{Image, IsImage, IsImageSince, clock};
+ghost use Rattle.iol_disk.specs.Content.{Image, EachImage, IsImageSince, clock};
 ghost use Rattle.iol_disk.specs.Disk.{Disk};
 ghost use Rattle.iol_disk.specs.Moments.{LeavesOnly};
 ghost use Rattle.iol_journal.specs.CheckpointRuns.{IsRunCheckpointing};
@@ -31,7 +31,7 @@ pub fn accepts()
 /// What is written may be acknowledged: each image since then has it.
 pub fn marked()
     ensures { (d : Disk) (r : Run) (acknowledged : ℕ) → acknowledged ≤ number_of r
-        → (IsTrue d.honest → (image : Image) → IsImage d.content image → KeptEither d.sectors (number_of r) (state_of r) r.underway image)
+        → (IsTrue d.honest → EachImage d.content (KeptEither d.sectors (number_of r) (state_of r) r.underway))
         → IsRun d r → IsRun d (with_mark r (record { clock = clock d.content; acknowledged = acknowledged })) }
 {}
 

@@ -111,7 +111,7 @@ impl<D: SectorDisk> Writing<D> {
     ghost use Rattle.iol_layout.specs.Standings.{with_batch};
     ghost use Rattle.iol_batch.specs.Parts.{stands};
     ghost use Rattle.iol_layout.specs.Body.{values};
-    ghost use Rattle.iol_journal.specs.Progress.{stepped_disk, IfMore, IfDone, StepMakes};
+    ghost use Rattle.iol_journal.specs.Progress.{stepped_disk, IfMore, IfDone, IsBatchMoved, IsBatchDone, StepMakes};
     ghost use Rattle.iol_journal.specs.Runs.{Run};
     ghost use Rattle.iol_journal.specs.Running.{IsRunWriting, HasStepped};
     ghost use Rattle.iol_batch.specs.declared.phase.Phase.TheVariants.{Body};
@@ -182,14 +182,8 @@ impl<D: SectorDisk> Writing<D> {
             IsPaused (D.disk journal.disk) journal.standing journal.begun) }
         // Each run whose batch this is goes on: each image since a moment of it has all that was acknowledged by then.
         ensures run { (r : Run) → IsRunWriting D.disk r self → HasStepped D.disk r result }
-        ensures more { IfMore result (λ w. (w.standing ≡ self.standing) × (w.idle ≡ self.idle) × (w.history ≡ self.history)
-            × (w.commands ≡ self.commands) × (w.begun ≡ self.begun)) }
-        // The batch is behind those before it, and owed to the checkpoint that is paused.
-        ensures done { IfDone result (λ journal written. (journal.standing ≡ with_batch self.standing self.commands)
-            × (journal.idle ≡ self.idle)
-            × (journal.history ≡ written_behind self.history self.commands)
-            × (written.first ≡ self.standing.number + 1) × (written.commands ≡ self.commands)
-            × (journal.begun ≡ option_map (with_owed self.commands) self.begun)) }
+        ensures more { IfMore result (IsBatchMoved self) }
+        ensures done { IfDone result (IsBatchDone self) }
     {
         let Writing {
             mut disk,

@@ -2,7 +2,7 @@
 use Rattle.std.specs.Prelude.{◌≡◌, ◌≤◌, ◌<◌, ◌⊎◌, ℕ, ◌+◌, false, IsTrue, List, length, Ok}
 use Rattle.iol_types.specs.Command.{CommandValue}
 use Rattle.iol_types.specs.State.{State, after}
-use Rattle.iol_disk.specs.Content.{Image, IsImage}
+use Rattle.iol_disk.specs.Content.{Image, EachImage}
 use Rattle.iol_disk.specs.Disk.{Disk}
 use Rattle.iol_slots.specs.Gate.{is_open}
 use Rattle.iol_layout.specs.Layout.{other, gate_at, header_at, slot_at}
@@ -37,4 +37,4 @@ KeptEither sectors number state commands image =
 
 -- each image of an honest disk is kept, and means this number and state (own)
 abbrev pub EachMeans : Disk → ℕ → State → Type 0
-EachMeans d number state = IsTrue d.honest → (image : Image) → IsImage d.content image → KeptMeans d.sectors number state image
+EachMeans d number state = IsTrue d.honest → EachImage d.content (KeptMeans d.sectors number state)

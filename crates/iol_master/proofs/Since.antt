@@ -6,14 +6,14 @@ use Rattle.iol_disk.specs.Calls.{Call}
 use Rattle.iol_disk.specs.Disk.{Disk, HasFailed}
 use Rattle.iol_disk.specs.declared.fault.DiskFault.{DiskFault}
 use Rattle.iol_front.specs.Fronts.{CommittedView}
-use Rattle.iol_journal.specs.CheckpointViews.{CheckpointingView}
-use Rattle.iol_journal.specs.Journals.{JournalView, WritingView}
+use Rattle.iol_journal.specs.CheckpointViews.{CheckpointingView, checkpoint_of}
+use Rattle.iol_journal.specs.Journals.{JournalView, WritingView, writing_of}
 use Rattle.iol_journal.specs.Body.{values}
 use Rattle.iol_journal.specs.Batch.{Batch}
 use Rattle.iol_flush.specs.Flushing.{IsSound}
 use Rattle.iol_flush.specs.Stages.{FlusherView, disk_of, failure_of, wants_checkpoint, next_calls}
 use Rattle.iol_flush.specs.Steps.{HasAdvanced, HasBegun, HasMadeOfCheckpoint, HasMade, HasPublished}
-use Rattle.iol_flush.specs.Steps.{HasTaken, HasMadeOfBatch, IsDiskStep, IsGift, IsPublished, checkpoint_of, writing_of}
+use Rattle.iol_flush.specs.Steps.{HasTaken, HasMadeOfBatch, IsDiskStep, IsGift, IsPublished}
 use Rattle.iol_flush.specs.declared.fault.FlushFault.{FlushFault}
 use Rattle.iol_flush.specs.declared.fault.FlushFault.TheVariants as fault
 use Rattle.iol_flush.specs.declared.fault.GiveFault.{GiveFault}
@@ -132,15 +132,15 @@ module _ {D : Type 0} (disk : D → Disk) where
       let none = made_none old new step.0 in
       record {
         sound = sound;
-        counts = λ was. counts_none (failure_of new) (disk (disk_of old)) (disk (disk_of new)) none.1 step.1.made.no_failure;
+        counts = λ was. counts_none (failure_of new) (disk (disk_of old)) (disk (disk_of new)) none.1 step.1.makes.no_failure;
         failed = λ cause told. absurd (tells_none (failure_of old) cause none.0 told);
       }
   since_step old new (Err (fault.Disk cause)) step sound = record {
     sound = sound;
     counts = λ none. counts_failed new cause (disk (disk_of old)) step.0
-        (fails_from (disk (disk_of old)) step.1.failed.between (disk (disk_of new)) step.1.failed.before.no_failure
-        step.1.failed.failed.counted);
-    failed = λ was told. absurd (owes_none old was step.1.call step.1.left told step.1.order);
+        (fails_from (disk (disk_of old)) step.2.makes.between (disk (disk_of new)) step.2.makes.before.no_failure
+        step.2.makes.counted);
+    failed = λ was told. absurd (owes_none old was step.2.call step.1 told step.2.order);
   }
   since_step old new (Err fault.Stopped) step sound = since_same old new step.1
   since_step old new (Err fault.Memory) step sound = since_same old new step.1

@@ -50,6 +50,6 @@ chosen_after old first second layout used after same laid_out in_use h =
 -- a sync that failed ends a recovery
 pub recovery_failed : (T : Type 0) (told : DiskFault) (old new : Disk) → FailedIn (sync ∷ []) told old new
     → MakesRecovery {T = T} old new (Err (cause.Disk told))
-recovery_failed T Read old new failed = absurd (no_read failed.call failed.failed.kind)
+recovery_failed T Read old new failed = absurd (no_read failed.call failed.kind)
 recovery_failed T Write old new failed = failed
 recovery_failed T Sync old new failed = failed

@@ -1,7 +1,7 @@
 //! What a recovery finds on a disk.
 
 ghost use Rattle.std.specs.Prelude.{◌≡◌, Err, IfOk, OnOk};
-ghost use Rattle.iol_disk.specs.Content.{Image, IsImage};
+ghost use Rattle.iol_disk.specs.Content.{EachImage, IsImage};
 ghost use Rattle.iol_disk.specs.Moments.{LeavesOnly};
 ghost use Rattle.iol_layout.specs.Standings.{standing_at, IsResting};
 ghost use Rattle.iol_layout.specs.Meaning.{standing_in};
@@ -40,7 +40,7 @@ pub fn find<D: SectorDisk>(alloc: Global, disk: &mut D) -> Result<Found, Recover
         Shows (D.disk disk.old) (λ image. found.place.idle ≡ idle_in (standing_at found.place found.number found.state) image)) }
     // What it read is the only image.
     ensures settled { OnOk result
-        (Shows (D.disk disk.old) (λ read. (image : Image) → IsImage (D.disk disk.new).content image → image ≡ read)) }
+        (Shows (D.disk disk.old) (λ read. EachImage (D.disk disk.new).content (λ image. image ≡ read))) }
     ensures any_moment { LeavesOnly (D.disk disk.old) (D.disk disk.new) (IsImage (D.disk disk.old).content) }
     ensures resting { IfOk result (λ found. IsResting (D.disk disk.new) (standing_at found.place found.number found.state)) }
     ensures copy { IfOk result (λ found. found.copy ≡ found.state) }

@@ -1,7 +1,7 @@
 -- The disk's clock does not go back in a step.
-use Rattle.std.proofs.Common.{◌≡◌, refl, ◌≤◌, ℕ, Bool, IsTrue, List, [], ◌∷◌, ◌++◌, take, sym, ◌∙◌, subst, arith}
+use Rattle.std.proofs.Common.{◌≡◌, refl, ◌≤◌, ℕ, Bool, IsTrue, List, [], ◌∷◌, ◌++◌, take, Ok, Err, sym, ◌∙◌, subst, arith}
 use Rattle.iol_disk.proofs.Images.{follows-wrote, follows-synced}
-use Rattle.iol_disk.specs.Calls.{Call, write, sync, Made, LeftBy, content_after, content_after_all, MakesFirst, FailsFirst}
+use Rattle.iol_disk.specs.Calls.{Call, write, sync, Made, LeftBy, content_after, content_after_all, MakesFirst}
 use Rattle.iol_disk.specs.Content.{Content, clock, wrote}
 use Rattle.iol_disk.specs.Disk.{Disk, After}
 use Rattle.iol_disk.specs.declared.fault.DiskFault.{DiskFault}
@@ -53,20 +53,20 @@ left_later : (call : Call) (old new : Disk) → LeftBy call old new → IsLater 
 left_later (write n octets) old new is = after_later (wrote n is.0) (λ c. (follows-wrote n is.0 c).later) old new is.1
 left_later sync old new is = after_later (λ c. c) (λ c. omega arith) old new is
 
-first_later : (calls left : List Call) (old new : Disk) → MakesFirst calls left old new → IsLater old new
-first_later calls left old new is = made_later (is.call ∷ []) old new is.made
+first_later : (calls left : List Call) (old new : Disk) → MakesFirst calls left old new (Ok tt) → IsLater old new
+first_later calls left old new is = made_later (is.call ∷ []) old new is.makes
 
-failed_later : (calls : List Call) (why : DiskFault) (old new : Disk) → FailsFirst calls why old new → IsLater old new
-failed_later calls why old new is =
-    let failed = is.failed in
+failed_later : (calls left : List Call) (why : DiskFault) (old new : Disk) → MakesFirst calls left old new (Err why) → IsLater old new
+failed_later calls left why old new is =
+    let failed = is.makes in
     later_still old failed.between new (made_later (take failed.place (is.call ∷ [])) old failed.between failed.before)
-    (left_later failed.call failed.between new failed.failed.left)
+    (left_later failed.call failed.between new failed.left)
 
 -- a step's
 step_later : (old new : Disk) (told : List Event) → DiskStep old new told → IsLater old new
 step_later old new told (Stays same sound) = subst (λ (d : Disk). IsLater old d) (sym same) (later_same old)
 step_later old new told (Makes calls left made silent) = first_later calls left old new made
-step_later old new told (Fails calls why failed telling) = failed_later calls why old new failed
+step_later old new told (Fails calls left why failed telling) = failed_later calls left why old new failed
 
 -- events with the clock at the end behind others
 rise_stamped : (before t : ℕ) (told : List Event) → before ≤ t → ClocksRise before t (stamped t told)

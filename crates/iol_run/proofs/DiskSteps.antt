@@ -4,7 +4,7 @@ use Rattle.std.proofs.Common.{Err, ap, sym, subst}
 use Rattle.iol_types.specs.Command.{CommandValue, command_of}
 use Rattle.iol_core.specs.Core.{CoreView}
 use Rattle.iol_core.specs.declared.ticket.SubmitFault.{SubmitFault}
-use Rattle.iol_disk.specs.Calls.{Call, MakesFirst, FailsFirst}
+use Rattle.iol_disk.specs.Calls.{Call, MakesFirst}
 use Rattle.iol_disk.specs.Disk.{Disk}
 use Rattle.iol_disk.specs.declared.fault.DiskFault.{DiskFault}
 use Rattle.iol_flush.specs.Stages.{FlusherView, disk_of}
@@ -38,9 +38,9 @@ TellsNone told = (t : ℕ) → HasFailure (stamped t told) → ⊥
 -- the disk stays, and no failure is told; a call is made, and nothing told; or one fails, and that is told
 pub data DiskStep (old new : Disk) (told : List Event) : Type 0 where
   Stays : (same : new ≡ old) (sound : TellsNone told) → DiskStep old new told
-  Makes : (calls left : List Call) (made : MakesFirst calls left old new) (silent : told ≡ []) → DiskStep old new told
-  Fails : (calls : List Call) (why : DiskFault) (failed : FailsFirst calls why old new) (telling : told ≡ DiskFailed ∷ [])
-      → DiskStep old new told
+  Makes : (calls left : List Call) (made : MakesFirst calls left old new (Ok tt)) (silent : told ≡ []) → DiskStep old new told
+  Fails : (calls left : List Call) (why : DiskFault) (failed : MakesFirst calls left old new (Err why))
+      (telling : told ≡ DiskFailed ∷ []) → DiskStep old new told
 
 silent : (told : List Event) → told ≡ [] → TellsNone told
 silent told is t failed = subst (λ (es : List Event). HasFailure (stamped t es)) is failed
@@ -104,7 +104,7 @@ module _ {D : Type 0} (disk : D → Disk) where
   called_step : (old new : CoreOnDiskView D) (told : List Event) → HasCalled disk old new told
       → StageStep old.flusher.stage new.flusher.stage told
   called_step old new [] is = Makes _ _ is.1.1 refl
-  called_step old new (e ∷ told) is = Fails _ is.0 is.3.1 is.1
+  called_step old new (e ∷ told) is = Fails _ _ is.0 is.3.2 is.1
 
   serves_step : (needs : Need) (old new : CoreOnDiskView D) (told : List Event) (turned : Turned) → Serves disk needs old new told turned
       → StageStep old.flusher.stage new.flusher.stage told

@@ -62,13 +62,13 @@ counts_more old mid new told more one two = record {
 step_counts : (t : ℕ) (old new : Disk) (told : List Event) → DiskStep old new told → Counts old new (stamped t told)
 step_counts t old new told (Stays same sound) = counts_same old new (stamped t told) (ap (λ (d : Disk). d.failures) same) (sound t)
 step_counts t old new told (Makes calls left made silent) =
-    subst (λ (es : List Event). Counts old new (stamped t es)) (sym silent) (counts_same old new [] made.made.no_failure (λ never. never))
-step_counts t old new told (Fails calls why failed telling) =
-    let in_ = failed.failed in
-    let counted : HasFailed old new = failed_then old in_.between new (omega (arith, in_.before.no_failure)) in_.failed.counted in
+    subst (λ (es : List Event). Counts old new (stamped t es)) (sym silent) (counts_same old new [] made.makes.no_failure (λ never. never))
+step_counts t old new told (Fails calls left why failed telling) =
+    let in_ = failed.makes in
+    let counted : HasFailed old new = failed_then old in_.between new (omega (arith, in_.before.no_failure)) in_.counted in
     subst (λ (es : List Event). Counts old new (stamped t es)) (sym telling) (record {
       tells = record { told = λ is. counted; untold = λ none. absurd (none (inl tt)) };
-      most = omega (arith, in_.before.no_failure, left_most in_.call in_.between new in_.failed.left);
+      most = omega (arith, in_.before.no_failure, left_most in_.call in_.between new in_.left);
     })
 
 module _ {D L : Type 0} (disk : D → Disk) (connection : L → ℕ) (allows : L → LinkCall → LinkAnswer → L → Type 0) where

@@ -11,7 +11,7 @@ use Rattle.iol_core.specs.Submit.{has_failed}
 use Rattle.iol_flush.proofs.Turns.{advances}
 use Rattle.iol_flush.proofs.LastCalls.{none_behind}
 use Rattle.iol_flush.specs.Stages.{FlusherView, HasFewCalls, is_due, wants_checkpoint, room_of, need_of}
-use Rattle.iol_flush.specs.Steps.{checkpoint_of, HasAdvanced, HasTaken, HasPublished, IsDiskStep}
+use Rattle.iol_flush.specs.Steps.{HasAdvanced, HasTaken, HasPublished, IsDiskStep}
 use Rattle.iol_flush.specs.Turns.{calls_needed, given_calls}
 use Rattle.iol_flush.specs.declared.need.Need.{Need}
 use Rattle.iol_flush.specs.declared.need.Need.TheVariants as need
@@ -19,7 +19,7 @@ use Rattle.iol_flush.specs.declared.stage.FlushStage.{FlushStage}
 use Rattle.iol_flush.specs.declared.stage.FlushStage.TheVariants.{Resting, Opening, Given, Checkpointing, Writing, Publishing, Failed}
 use Rattle.iol_front.specs.Fronts.{CommittedView}
 use Rattle.iol_types.specs.Command.{CommandValue}
-use Rattle.iol_journal.specs.CheckpointViews.{CheckpointingView}
+use Rattle.iol_journal.specs.CheckpointViews.{CheckpointingView, checkpoint_of}
 use Rattle.iol_journal.specs.Layout.{Layout}
 use Rattle.iol_journal.specs.Body.{values}
 use Rattle.iol_journal.specs.Batch.{Batch}

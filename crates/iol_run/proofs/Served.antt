@@ -15,14 +15,13 @@ use Rattle.iol_core.specs.declared.ticket.SubmitFault.{SubmitFault}
 use Rattle.iol_core.specs.declared.ticket.SubmitFault.TheVariants as fault
 use Rattle.iol_flush.specs.Stages.{FlusherView, HasFewCalls, wants_checkpoint, room_of, failure_of}
 use Rattle.iol_flush.specs.Steps.{HasAdvanced, HasMadeOfBatch, HasMadeOfCheckpoint, HasBegun, HasMade, HasTaken, HasPublished}
-use Rattle.iol_flush.specs.Steps.{writing_of, checkpoint_of}
 use Rattle.iol_flush.specs.declared.need.Need.{Need}
 use Rattle.iol_flush.specs.declared.need.Need.TheVariants as need
 use Rattle.iol_flush.specs.declared.stage.FlushStage.{FlushStage}
 use Rattle.iol_flush.specs.declared.stage.FlushStage.TheVariants.{Resting, Opening, Given, Checkpointing, Writing, Publishing, Failed}
 use Rattle.iol_front.specs.Fronts.{CommittedView}
-use Rattle.iol_journal.specs.CheckpointViews.{CheckpointingView}
-use Rattle.iol_journal.specs.Journals.{JournalView, WritingView}
+use Rattle.iol_journal.specs.CheckpointViews.{CheckpointingView, checkpoint_of}
+use Rattle.iol_journal.specs.Journals.{JournalView, WritingView, writing_of}
 use Rattle.iol_journal.specs.Body.{values}
 use Rattle.iol_journal.specs.Layout.{Layout}
 use Rattle.iol_journal.specs.Meaning.{Standing}
@@ -180,8 +179,8 @@ module _ {D : Type 0} (layout : Layout) where
 
   -- the layout stays in a disk call
   written_layout : (w : WritingView D) (new : FlushStage D) → HasMadeOfBatch w new → w.standing.layout ≡ layout → HasLayout layout new
-  written_layout w (Writing v) has is = ap (λ (s : Standing). s.layout) has.0 ∙ is
-  written_layout w (Publishing j written) has is = ap (λ (s : Standing). s.layout) has.0 ∙ is
+  written_layout w (Writing v) has is = ap (λ (s : Standing). s.layout) has.standing ∙ is
+  written_layout w (Publishing j written) has is = ap (λ (s : Standing). s.layout) has.standing ∙ is
   written_layout w (Resting j) has is = absurd has
   written_layout w (Opening c) has is = absurd has
   written_layout w (Given j b) has is = absurd has
@@ -191,8 +190,8 @@ module _ {D : Type 0} (layout : Layout) where
   checkpointed_layout : (c : CheckpointingView D) (batch : Batch) (new : FlushStage D) → HasMadeOfCheckpoint c batch new
       → c.standing.layout ≡ layout
       → HasLayout layout new
-  checkpointed_layout c batch (Checkpointing d kept) has is = ap (λ (s : Standing). s.layout) has.0 ∙ is
-  checkpointed_layout c batch (Given j kept) has is = has.6 ∙ is
+  checkpointed_layout c batch (Checkpointing d kept) has is = ap (λ (s : Standing). s.layout) has.0.standing ∙ is
+  checkpointed_layout c batch (Given j kept) has is = has.0.layout ∙ is
   checkpointed_layout c batch (Resting j) has is = absurd has
   checkpointed_layout c batch (Opening d) has is = absurd has
   checkpointed_layout c batch (Writing w) has is = absurd has
@@ -207,7 +206,8 @@ module _ {D : Type 0} (layout : Layout) where
 
   advanced_layout : (c : CheckpointingView D) (new : FlushStage D) → HasAdvanced c new → c.standing.layout ≡ layout → HasLayout layout new
   advanced_layout c (Resting j) (inl has) is = has.layout ∙ is
-  advanced_layout c (Resting j) (inr has) is = ap (λ (s : Standing). s.layout) has.standing ∙ is
+  advanced_layout c (Resting j) (inr (more, moved, has)) is =
+      ap (λ (k : JournalView D). k.standing.layout) has ∙ ap (λ (s : Standing). s.layout) moved.standing ∙ is
   advanced_layout c (Opening d) has is = ap (λ (s : Standing). s.layout) has.standing ∙ is
   advanced_layout c (Given j b) has is = absurd has
   advanced_layout c (Checkpointing d b) has is = absurd has

@@ -10,14 +10,13 @@ use Rattle.iol_core.specs.declared.stop.StopCause.TheVariants as cause
 use Rattle.iol_flush.proofs.Turns.{goes_on}
 use Rattle.iol_flush.specs.Flushing.{IsFlushing, KeepsRun}
 use Rattle.iol_flush.specs.Stages.{FlusherView, wants_checkpoint, failure_of}
-use Rattle.iol_flush.specs.Steps.{HasAdvanced, HasMadeOfBatch, HasMadeOfCheckpoint, HasBegun, HasMade, IsDiskStep, writing_of}
-use Rattle.iol_flush.specs.Steps.{checkpoint_of}
+use Rattle.iol_flush.specs.Steps.{HasAdvanced, HasMadeOfBatch, HasMadeOfCheckpoint, HasBegun, HasMade, IsDiskStep}
 use Rattle.iol_flush.specs.declared.fault.FlushFault.TheVariants as fault
 use Rattle.iol_flush.specs.declared.stage.FlushStage.{FlushStage}
 use Rattle.iol_flush.specs.declared.stage.FlushStage.TheVariants.{Resting, Opening, Given, Checkpointing, Writing, Publishing, Failed}
 use Rattle.iol_front.specs.Fronts.{Start}
-use Rattle.iol_journal.specs.CheckpointViews.{CheckpointingView}
-use Rattle.iol_journal.specs.Journals.{JournalView, WritingView}
+use Rattle.iol_journal.specs.CheckpointViews.{CheckpointingView, checkpoint_of}
+use Rattle.iol_journal.specs.Journals.{JournalView, WritingView, writing_of}
 use Rattle.iol_journal.specs.Body.{values}
 use Rattle.iol_journal.specs.Batch.{Batch}
 use Rattle.iol_run.specs.CoreOnDisk.{IsInFlight, IsDurable, HasFlight, IsInStep, KeepsRunning}
@@ -32,8 +31,8 @@ module _ {D : Type 0} where
   -- what a flusher has in flight after a disk call is what it had before
   written_flight : (core : CoreView) (w : WritingView D) (new : FlushStage D) → HasMadeOfBatch w new → IsInFlight core w.commands
       → HasFlight core new
-  written_flight core w (Writing v) has is = subst (λ (cs : List CommandValue). IsInFlight core cs) (sym has.3) is
-  written_flight core w (Publishing j written) has is = subst (λ (cs : List CommandValue). IsInFlight core cs) (sym has.4) is
+  written_flight core w (Writing v) has is = subst (λ (cs : List CommandValue). IsInFlight core cs) (sym has.commands) is
+  written_flight core w (Publishing j written) has is = subst (λ (cs : List CommandValue). IsInFlight core cs) (sym has.commands) is
   written_flight core w (Resting j) has is = absurd has
   written_flight core w (Opening c) has is = absurd has
   written_flight core w (Given j b) has is = absurd has
@@ -43,8 +42,8 @@ module _ {D : Type 0} where
   checkpointed_flight : (core : CoreView) (c : CheckpointingView D) (batch : Batch) (new : FlushStage D) → HasMadeOfCheckpoint c batch new
       → IsInFlight core (values batch.commands.items) → HasFlight core new
   checkpointed_flight core c batch (Checkpointing d kept) has is =
-      subst (λ (b : Batch). IsInFlight core (values b.commands.items)) (sym has.2) is
-  checkpointed_flight core c batch (Given j kept) has is = subst (λ (b : Batch). IsInFlight core (values b.commands.items)) (sym has.2) is
+      subst (λ (b : Batch). IsInFlight core (values b.commands.items)) (sym has.1) is
+  checkpointed_flight core c batch (Given j kept) has is = subst (λ (b : Batch). IsInFlight core (values b.commands.items)) (sym has.1) is
   checkpointed_flight core c batch (Resting j) has is = absurd has
   checkpointed_flight core c batch (Opening d) has is = absurd has
   checkpointed_flight core c batch (Writing w) has is = absurd has

@@ -1,7 +1,7 @@
 -- Gates, and what stands behind them.
 use Rattle.std.specs.Prelude.{◌≡◌, ◌<◌, ◌+◌, ◌/◌, ℕ, Bool, false, IsTrue, List, ◌++◌, replicate, nat_eq, None}
 use Rattle.std.specs.List.{starts_with}
-use Rattle.iol_disk.specs.Content.{Image, IsImage}
+use Rattle.iol_disk.specs.Content.{EachImage}
 use Rattle.iol_disk.specs.Disk.{Disk}
 use Rattle.iol_slots.specs.declared.slot.TheConstants.{GATE_MARK, BODY_SECTORS}
 use Rattle.iol_disk.specs.declared.disk.TheConstants.{SECTOR_OCTETS}
@@ -19,7 +19,7 @@ closed_gate = replicate SECTOR_OCTETS 0
 
 -- whatever a stop leaves now, this gate is closed (own)
 abbrev pub IsShut : ℕ → Disk → Type 0
-IsShut gate d = IsTrue d.honest → (image : Image) → IsImage d.content image → is_open (image gate) ≡ false
+IsShut gate d = IsTrue d.honest → EachImage d.content (λ image. is_open (image gate) ≡ false)
 
 -- sector j of a body that begins here, and may go on over further slots, whose gates are left out; sectors are counted
 -- from 0 (format, Slots)

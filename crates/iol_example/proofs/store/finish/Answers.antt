@@ -27,8 +27,8 @@ pub loop-next-preserved : goal.loop-next-preserved
 loop-next-preserved g c =
     let so_far = c.loop-next.invariant in
     let more = c.in-More.ensures.more in (
-      more.0 ∙ so_far.0,
-      more.3 ∙ so_far.1,
+      more.standing ∙ so_far.0,
+      more.commands ∙ so_far.1,
       λ under. c.in-More.ensures.underway (so_far.2 under),
       λ under. batch_goes_on _ _ _ _ _ _ _ so_far.0 so_far.1 (so_far.3 under) (c.in-More.ensures.any_moment (so_far.2 under)),
       λ r run. c.in-More.ensures.run r (so_far.4 r run),

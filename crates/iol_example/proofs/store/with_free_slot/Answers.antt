@@ -1,5 +1,6 @@
 use Rattle.std.proofs.Common.{List, length, refl, sym, ap, ◌∙◌, subst, arith}
 use Rattle.iol_disk.specs.Calls.{Call, Made, FailedIn}
+use Rattle.iol_journal.specs.CheckpointViews.{CheckpointingView}
 use Rattle.iol_journal.specs.Journals.{JournalView}
 use Rattle.iol_example.proofs.CallLaws.{none_yet, one_more, all_made, one_failed, same_end, same_calls, none_free, full_slot}
 use Rattle.iol_example.proofs.StoreLaws.{from_rest, none_paused, checkpoint_goes_on}
@@ -15,13 +16,15 @@ returns-in-Err-clause-any_moment g c = λ rests.
 
 pub loop-next-init : goal.loop-next-init
 loop-next-init g c =
-    let begun = c.in-Ok.ensures.begun in (
-      begun.1,
-      same_end _ _ _ _ begun.1 begun.3,
+    let standing = ap (λ (k : CheckpointingView g.row.D.Denot). k.standing) c.in-Ok.ensures.begun in
+    let begun = ap (λ (k : CheckpointingView g.row.D.Denot). k.begun) c.in-Ok.ensures.begun in
+    let disk = ap (λ (k : CheckpointingView g.row.D.Denot). g.D.SectorDisk.disk k.disk) c.in-Ok.ensures.begun in (
+      standing,
+      same_end _ _ _ _ standing begun,
       λ rests. c.in-Ok.ensures.underway rests.0 rests.1,
-      λ rests. from_rest _ _ c.args.journal.standing c.args.journal.idle (ap g.D.SectorDisk.disk begun.0) rests.0,
+      λ rests. from_rest _ _ c.args.journal.standing c.args.journal.idle disk rests.0,
       c.in-Ok.ensures.run,
-      none_yet _ _ _ _ (same_calls _ _ _ _ begun.1 begun.3) (ap g.D.SectorDisk.disk begun.0),
+      none_yet _ _ _ _ (same_calls _ _ _ _ standing begun) disk,
     )
 
 pub loop-next-smaller : goal.loop-next-smaller
@@ -30,8 +33,8 @@ loop-next-smaller g c = omega (arith, ap (λ (calls : List Call). length calls) 
 pub loop-next-preserved : goal.loop-next-preserved
 loop-next-preserved g c =
     let so_far = c.loop-next.invariant in (
-      c.in-More.ensures.more.0 ∙ so_far.0,
-      c.in-More.ensures.more.3 ∙ so_far.1,
+      c.in-More.ensures.more.standing ∙ so_far.0,
+      c.in-More.ensures.more.end ∙ so_far.1,
       λ rests. c.in-More.ensures.underway (so_far.2 rests),
       λ rests. checkpoint_goes_on _ _ _ _ _ so_far.0 (so_far.3 rests) (c.in-More.ensures.any_moment (so_far.2 rests)),
       λ r run. c.in-More.ensures.run r (so_far.4 r run),
@@ -45,11 +48,12 @@ returns-in-Done-clause-any_moment g c = λ rests.
 
 pub returns-in-Done-clause-rests : goal.returns-in-Done-clause-rests
 returns-in-Done-clause-rests g c = λ rests.
-    none_paused g.D.SectorDisk.disk c.in-Done.journal (c.in-Done.ensures.durable (c.loop-next.invariant.2 rests)).0 c.in-Done.ensures.done.3
+    none_paused g.D.SectorDisk.disk c.in-Done.journal (c.in-Done.ensures.durable (c.loop-next.invariant.2 rests)).0
+    c.in-Done.ensures.done.none
 
 pub returns-in-Done-clause-slot : goal.returns-in-Done-clause-slot
 returns-in-Done-clause-slot g c =
-    c.in-Done.ensures.done.0 ∙ c.loop-next.invariant.1 ∙ full_slot c.args.journal (sym c.has_free_slot.ensures.free
+    c.in-Done.ensures.done.standing ∙ c.loop-next.invariant.1 ∙ full_slot c.args.journal (sym c.has_free_slot.ensures.free
     ∙ c.if-has_free_slot.false)
 
 pub returns-in-Done-clause-run : goal.returns-in-Done-clause-run

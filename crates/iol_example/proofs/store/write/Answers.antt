@@ -3,14 +3,14 @@ use Rattle.std.proofs.lemmas.Result.{err_from_is_err_and}
 use Rattle.iol_types.specs.Command.{CommandValue, value_of}
 use Rattle.iol_disk.specs.Calls.{Call}
 use Rattle.iol_journal.specs.Batches.{batch_calls}
-use Rattle.iol_journal.specs.Journals.{calls_left}
+use Rattle.iol_journal.specs.Journals.{WritingView, calls_left}
 use Rattle.iol_journal.specs.Body.{values}
 use Rattle.iol_journal.specs.Meaning.{Standing}
-use Rattle.iol_journal.specs.Runs.{with_batch_begun}
+use Rattle.iol_journal.specs.Runs.{with_batch_begun, with_batch_written}
 use Rattle.iol_journal.specs.Running.{IsRunWriting}
 use Rattle.iol_example.specs.Store.{left_disk, freeing_calls, with_slot, IsRefusal, MakesCalls, RestsAt}
 use Rattle.iol_example.proofs.CallLaws.{ended_early, then_makes}
-use Rattle.iol_example.proofs.StoreLaws.{rests_at, or_after, batch_behind, none_refused, refused_as_it_was}
+use Rattle.iol_example.proofs.StoreLaws.{rests_at, or_after, batch_behind, faulted_run, none_refused, refused_as_it_was}
 use Rattle.iol_example.proofs.StoreLaws.{run_of_queued, written_is, written_rests}
 use Rattle.iol_example.proofs.store.write.Goals as goal
 
@@ -36,6 +36,12 @@ returns-in_err-journal-clause-calls g c =
     (ended_early d (freeing_calls j) (batch_calls (with_slot j) (value_of c.args.command ∷ [])) (d j.disk)
     c.in_err-journal.field-0.0
     c.in_err-journal.ensures.calls)
+
+pub returns-in_err-journal-clause-run : goal.returns-in_err-journal-clause-run
+returns-in_err-journal-clause-run g c = λ r behind queued run.
+    let p = err_from_is_err_and c.from_residual.result c.from_residual.ensures.1 in
+    let written = with_batch_written (with_batch_begun r (value_of c.args.command ∷ []) behind) in
+    rw (p.1, p.2) (faulted_run g.D.SectorDisk.disk r r written c.in_err-journal.field-0.0 (c.in_err-journal.ensures.run r run))
 
 -- memory ran out
 pub returns-in_default-clause-any_moment : goal.returns-in_default-clause-any_moment
@@ -64,10 +70,10 @@ returns-in-Ok-begin-clause-any_moment g c = λ rests.
     let freed = c.in_ok-journal.ensures in
     let begun = c.in-Ok-begin.ensures in
     batch_behind _ _ _ _ _ _ _ _ _ _
-    (ap g.D.SectorDisk.disk begun.begun.0)
-    (ap (λ (s : Standing). s.number) begun.begun.1 ∙ freed.same.0)
-    (ap (λ (s : Standing). s.state) begun.begun.1 ∙ freed.same.1)
-    (begun.begun.4 ∙ ap values c.in-Ok.ensures.items)
+    (ap (λ (w : WritingView g.row.D.Denot). g.D.SectorDisk.disk w.disk) begun.begun)
+    (ap (λ (w : WritingView g.row.D.Denot). w.standing.number) begun.begun ∙ freed.same.0)
+    (ap (λ (w : WritingView g.row.D.Denot). w.standing.state) begun.begun ∙ freed.same.1)
+    (ap (λ (w : WritingView g.row.D.Denot). w.commands) begun.begun ∙ ap values c.in-Ok.ensures.items)
     (freed.any_moment rests)
     (c.finish.ensures.any_moment (begun.underway (freed.rests rests).0))
 
@@ -76,9 +82,9 @@ returns-in-Ok-begin-clause-written g c =
     let freed = c.in_ok-journal.ensures in
     let begun = c.in-Ok-begin.ensures in
     written_is c.in-Ok-begin.writing _ _ (value_of c.args.command) c.finish.result
-    (ap (λ (s : Standing). s.number) begun.begun.1 ∙ freed.same.0)
-    (ap (λ (s : Standing). s.state) begun.begun.1 ∙ freed.same.1)
-    (begun.begun.4 ∙ ap values c.in-Ok.ensures.items)
+    (ap (λ (w : WritingView g.row.D.Denot). w.standing.number) begun.begun ∙ freed.same.0)
+    (ap (λ (w : WritingView g.row.D.Denot). w.standing.state) begun.begun ∙ freed.same.1)
+    (ap (λ (w : WritingView g.row.D.Denot). w.commands) begun.begun ∙ ap values c.in-Ok.ensures.items)
     c.finish.ensures.done
 
 pub returns-in-Ok-begin-clause-cause : goal.returns-in-Ok-begin-clause-cause
@@ -95,9 +101,9 @@ returns-in-Ok-begin-clause-durable g c = λ rests.
     let freed = c.in_ok-journal.ensures in
     let begun = c.in-Ok-begin.ensures in
     written_rests g.D.SectorDisk.disk c.in-Ok-begin.writing _ _ (value_of c.args.command) c.finish.result
-    (ap (λ (s : Standing). s.number) begun.begun.1 ∙ freed.same.0)
-    (ap (λ (s : Standing). s.state) begun.begun.1 ∙ freed.same.1)
-    (begun.begun.4 ∙ ap values c.in-Ok.ensures.items)
+    (ap (λ (w : WritingView g.row.D.Denot). w.standing.number) begun.begun ∙ freed.same.0)
+    (ap (λ (w : WritingView g.row.D.Denot). w.standing.state) begun.begun ∙ freed.same.1)
+    (ap (λ (w : WritingView g.row.D.Denot). w.commands) begun.begun ∙ ap values c.in-Ok.ensures.items)
     c.finish.ensures.done
     (c.finish.ensures.rests (begun.underway (freed.rests rests).0) (begun.beside (freed.rests rests).1))
 
@@ -124,7 +130,8 @@ returns-in-Ok-begin-clause-calls g c =
     (d freed.journal.disk) c.finish.result
     freed.ensures.calls
     (subst (λ (calls : List Call). MakesCalls d calls (d freed.journal.disk) c.finish.result) order
-    (subst (λ (disk : g.row.D.Denot). MakesCalls d (calls_left begun.writing) (d disk) c.finish.result) begun.ensures.begun.0
+    (subst (λ (disk : g.row.D.Denot). MakesCalls d (calls_left begun.writing) (d disk) c.finish.result)
+    (ap (λ (w : WritingView g.row.D.Denot). w.disk) begun.ensures.begun)
     c.finish.ensures.calls))
 
 -- the batch was refused

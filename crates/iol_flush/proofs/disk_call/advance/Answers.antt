@@ -16,17 +16,7 @@ returns-in-More-clause-sound g c = λ sound. c.set_aside.ensures.sound (c.in-Mor
 
 pub returns-in-Done-clause-step : goal.returns-in-Done-clause-step
 returns-in-Done-clause-step g c =
-    let done = c.in-Done.ensures.done in
-    let same = c.in-Done.ensures.same in
-    ended_step g.D.SectorDisk.disk c.args.checkpointing c.in-Done.journal (record {
-      standing = done.0;
-      idle = done.1;
-      history = done.2;
-      none = done.3;
-      number = same.0;
-      state = same.1;
-      layout = same.2;
-    }) c.in-Done.ensures.call
+    ended_step g.D.SectorDisk.disk c.args.checkpointing c.in-Done.journal c.in-Done.ensures.done c.in-Done.ensures.call
 
 pub returns-in-Done-clause-run : goal.returns-in-Done-clause-run
 returns-in-Done-clause-run g c =
@@ -34,7 +24,7 @@ returns-in-Done-clause-run g c =
 
 pub returns-in-Done-clause-sound : goal.returns-in-Done-clause-sound
 returns-in-Done-clause-sound g c = λ sound.
-    rests_behind g.D.SectorDisk.disk c.in-Done.journal (c.in-Done.ensures.durable sound).0 c.in-Done.ensures.done.3
+    rests_behind g.D.SectorDisk.disk c.in-Done.journal (c.in-Done.ensures.durable sound).0 c.in-Done.ensures.done.none
 
 pub returns-in-Failed-clause-run : goal.returns-in-Failed-clause-run
 returns-in-Failed-clause-run g c =

@@ -1,17 +1,16 @@
-use Rattle.std.proofs.Common.{◌≤◌, List, length, sym, subst}
+use Rattle.std.proofs.Common.{◌≤◌, List, length, sym, ap, subst}
 use Rattle.iol_types.specs.Command.{CommandValue}
-use Rattle.iol_journal.specs.Body.{values}
-use Rattle.iol_journal.specs.Journals.{calls_left}
+use Rattle.iol_journal.specs.Journals.{WritingView, calls_left}
 use Rattle.iol_flush.specs.Stages.{most_batch_calls}
 use Rattle.iol_flush.proofs.Keeping.{begins_batch, keeps_given, rests_still}
-use Rattle.iol_flush.proofs.Steps.{as_begun, begun}
+use Rattle.iol_flush.proofs.Steps.{begun}
 use Rattle.iol_flush.proofs.disk_call.begin.Goals as goal
 
 pub returns-in-Ok-clause-step : goal.returns-in-Ok-clause-step
 returns-in-Ok-clause-step g c =
     begun g.D.SectorDisk.disk c.args.journal c.args.batch c.in-Ok.writing c.write.result.0 c.write.result.1
     (record {
-      same = as_begun c.in-Ok.writing c.args.journal (values c.args.batch.commands.items) c.in-Ok.ensures.begun;
+      same = c.in-Ok.ensures.begun;
       refusal = c.in-Ok.ensures.follows;
       calls = c.in-Ok.ensures.calls;
     })
@@ -19,8 +18,8 @@ returns-in-Ok-clause-step g c =
 
 pub returns-in-Ok-clause-run : goal.returns-in-Ok-clause-run
 returns-in-Ok-clause-run g c =
-    begins_batch g.D.SectorDisk.disk c.args.journal c.in-Ok.writing c.args.batch c.write.result.0 c.in-Ok.ensures.begun.4
-    c.in-Ok.ensures.run c.write.ensures.run
+    begins_batch g.D.SectorDisk.disk c.args.journal c.in-Ok.writing c.args.batch c.write.result.0
+    (ap (λ (w : WritingView g.row.D.Denot). w.commands) c.in-Ok.ensures.begun) c.in-Ok.ensures.run c.write.ensures.run
 
 pub returns-in-Memory-clause-run : goal.returns-in-Memory-clause-run
 returns-in-Memory-clause-run g c =
@@ -61,5 +60,5 @@ returns-in-Misfit-clause-sound g c = λ rest.
 pub write-requires : goal.write-requires
 write-requires g c = record {
   few = subst (λ (commands : List CommandValue). length (calls_left c.in-Ok.writing) ≤ most_batch_calls commands)
-      (sym c.in-Ok.ensures.begun.4) c.in-Ok.ensures.few;
+      (sym (ap (λ (w : WritingView g.row.D.Denot). w.commands) c.in-Ok.ensures.begun)) c.in-Ok.ensures.few;
 }

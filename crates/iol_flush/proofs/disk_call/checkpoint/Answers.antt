@@ -15,4 +15,4 @@ returns-in-Failed-clause-run g c =
 
 pub returns-in-Done-clause-sound : goal.returns-in-Done-clause-sound
 returns-in-Done-clause-sound g c = λ sound.
-    rests_behind g.D.SectorDisk.disk c.in-Done.journal (c.in-Done.ensures.durable sound).0 c.in-Done.ensures.done.3
+    rests_behind g.D.SectorDisk.disk c.in-Done.journal (c.in-Done.ensures.durable sound).0 c.in-Done.ensures.done.none

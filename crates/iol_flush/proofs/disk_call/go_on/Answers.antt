@@ -1,5 +1,5 @@
 use Rattle.iol_flush.proofs.Keeping.{goes_from_rest, keeps_rested, rests_still}
-use Rattle.iol_flush.proofs.Steps.{as_gone_on, gone_on, half_used}
+use Rattle.iol_flush.proofs.Steps.{gone_on, half_used}
 use Rattle.iol_flush.proofs.disk_call.go_on.Goals as goal
 
 pub checkpoint-requires : goal.checkpoint-requires
@@ -9,7 +9,7 @@ checkpoint-requires g c =
 pub returns-in-Ok-clause-step : goal.returns-in-Ok-clause-step
 returns-in-Ok-clause-step g c =
     gone_on g.D.SectorDisk.disk c.args.journal c.in-Ok.checkpointing c.advance.result.0 c.advance.result.1 c.requires.due
-    (as_gone_on c.in-Ok.checkpointing c.args.journal c.in-Ok.ensures.begun) c.advance.ensures.step
+    c.in-Ok.ensures.begun c.advance.ensures.step
 
 pub returns-in-Ok-clause-run : goal.returns-in-Ok-clause-run
 returns-in-Ok-clause-run g c =

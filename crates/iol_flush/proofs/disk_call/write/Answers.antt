@@ -3,11 +3,11 @@ use Rattle.iol_flush.proofs.disk_call.write.Goals as goal
 
 pub returns-in-More-clause-run : goal.returns-in-More-clause-run
 returns-in-More-clause-run g c =
-    still_written g.D.SectorDisk.disk c.args.writing c.in-More.more c.in-More.ensures.more.3 c.in-More.ensures.run
+    still_written g.D.SectorDisk.disk c.args.writing c.in-More.more c.in-More.ensures.more.commands c.in-More.ensures.run
 
 pub returns-in-Done-clause-run : goal.returns-in-Done-clause-run
 returns-in-Done-clause-run g c =
-    is_written g.D.SectorDisk.disk c.args.writing c.in-Done.journal c.in-Done.written c.in-Done.ensures.done.4 c.in-Done.ensures.run
+    is_written g.D.SectorDisk.disk c.args.writing c.in-Done.journal c.in-Done.written c.in-Done.ensures.done.commands c.in-Done.ensures.run
 
 pub returns-in-Failed-clause-run : goal.returns-in-Failed-clause-run
 returns-in-Failed-clause-run g c = not_written g.D.SectorDisk.disk c.args.writing c.in-Failed.disk c.in-Failed.fault c.in-Failed.ensures.run

@@ -1,4 +1,4 @@
-use Rattle.std.proofs.Common.{◌≡◌, [], Option, Some, refl, sym, ◌∙◌, ap, subst}
+use Rattle.std.proofs.Common.{◌≡◌, List, [], Option, Some, Ok, Err, refl, sym, ◌∙◌, ap, subst}
 use Rattle.iol_checkpoint.specs.BegunParts.{log_of, commands_owed, view_of}
 use Rattle.iol_checkpoint.specs.BegunViews.{BegunView}
 use Rattle.iol_checkpoint.specs.Checkpoints.{target, with_batches}
@@ -8,7 +8,7 @@ use Rattle.iol_checkpoint.specs.Drafts.{begun_behind, stage_behind}
 use Rattle.iol_layout.specs.Standings.{IsResting}
 use Rattle.iol_batch.specs.Parts.{stands}
 use Rattle.iol_layout.specs.Meaning.{Standing}
-use Rattle.iol_disk.specs.Calls.{MakesFirst, FailsFirst}
+use Rattle.iol_disk.specs.Calls.{Call, MakesFirst}
 use Rattle.iol_batch.specs.Phases.{IsAtRest}
 use Rattle.iol_layout.specs.declared.idle.Idle.TheVariants.{Older}
 use Rattle.iol_checkpoint.proofs.BegunLaws.{moved_view, begun_next, begun-behind, view-moved, ends-moved, stands_there, ends_there}
@@ -31,8 +31,8 @@ returns-in-Err-clause-call g c =
     let w = c.self.inside in
     let s = stands w.parts in
     let is = c.self.invariant.1 in
-    subst (λ (v : CheckpointingView g.row.D.Denot). FailsFirst (stages_left v) c.in-Err.fault (d v.disk) (d c.make_stage.new.disk))
-    c.self.view_is
+    subst (λ (v : CheckpointingView g.row.D.Denot).
+    (others : List Call) × MakesFirst (stages_left v) others (d v.disk) (d c.make_stage.new.disk) (Err c.in-Err.fault)) c.self.view_is
     (fails_first s (log_of w.begun) (commands_owed w.begun.owed.items) w.begun.stage _ _ is.drafted c.in-Err.fault
     (c.in-Err.ensures w.parts.number w.parts.state is))
 
@@ -97,8 +97,8 @@ returns-in-Some-clause-call g c =
     let s = stands w.parts in
     let is = c.self.invariant.1 in
     subst (λ (v : CheckpointingView g.row.D.Denot).
-    MakesFirst (stages_left v) (calls_of s (view_of c.moved_to.result)) (d v.disk) (d c.make_stage.new.disk)) c.self.view_is
-    (subst (λ (b : BegunView). MakesFirst (calls_of s (view_of w.begun)) (calls_of s b) (d w.disk) (d c.make_stage.new.disk))
+    MakesFirst (stages_left v) (calls_of s (view_of c.moved_to.result)) (d v.disk) (d c.make_stage.new.disk) (Ok tt)) c.self.view_is
+    (subst (λ (b : BegunView). MakesFirst (calls_of s (view_of w.begun)) (calls_of s b) (d w.disk) (d c.make_stage.new.disk) (Ok tt))
     (sym (view_told g c))
     (makes_first s (log_of w.begun) (commands_owed w.begun.owed.items) w.begun.stage _ _ is.drafted c.in-Some.stage (next_told g c)
     (c.in_default.ensures w.parts.number w.parts.state is)))
@@ -123,17 +123,18 @@ returns-in-Some-clause-underway g c u =
 pub returns-in-Some-clause-more : goal.returns-in-Some-clause-more
 returns-in-Some-clause-more g c =
     let w = c.self.inside in
-    let moved = c.moved_to.ensures in (
-      ap (λ (v : CheckpointingView g.row.D.Denot). v.standing) c.self.view_is,
-      ap (λ (v : CheckpointingView g.row.D.Denot). v.history) c.self.view_is,
-      subst (λ (v : CheckpointingView g.row.D.Denot). begun_behind v.standing v.begun ≡ Some (view_of c.moved_to.result)) c.self.view_is
+    let moved = c.moved_to.ensures in record {
+      standing = ap (λ (v : CheckpointingView g.row.D.Denot). v.standing) c.self.view_is;
+      history = ap (λ (v : CheckpointingView g.row.D.Denot). v.history) c.self.view_is;
+      behind =
+          subst (λ (v : CheckpointingView g.row.D.Denot). begun_behind v.standing v.begun ≡ Some (view_of c.moved_to.result)) c.self.view_is
           (begun-behind (stands w.parts) w.begun c.moved_to.result c.in-Some.stage
           (next_told g c) moved.log moved.owed
-          moved.stage),
-      ap (λ (b : BegunView). with_batches (target (stands w.parts) b.log) b.owed) (view_told g c)
+          moved.stage);
+      end = ap (λ (b : BegunView). with_batches (target (stands w.parts) b.log) b.owed) (view_told g c)
           ∙ ends-moved (g.D.SectorDisk.disk w.disk) (stands w.parts) w.begun c.self.invariant.1
-          ∙ ap (λ (v : CheckpointingView g.row.D.Denot). end_of v) c.self.view_is,
-    )
+          ∙ ap (λ (v : CheckpointingView g.row.D.Denot). end_of v) c.self.view_is;
+    }
 
 pub returns-in-Some-clause-run : goal.returns-in-Some-clause-run
 returns-in-Some-clause-run g c r run =
@@ -169,7 +170,8 @@ returns-in-None-clause-call g c =
     let is = c.self.invariant.1 in
     let none = sym (c.next_stage.ensures (d w.disk) s is c.slots-slots.ensures.value) ∙ c.in-None.is in
     rw c.at_rest.ensures.disk
-    (subst (λ (v : CheckpointingView g.row.D.Denot). MakesFirst (stages_left v) [] (d v.disk) (d c.make_stage.new.disk)) c.self.view_is
+    (subst (λ (v : CheckpointingView g.row.D.Denot). MakesFirst (stages_left v) [] (d v.disk) (d c.make_stage.new.disk) (Ok tt))
+    c.self.view_is
     (makes_last s (log_of w.begun) (commands_owed w.begun.owed.items) w.begun.stage _ _ is.drafted none
     (c.in_default.ensures w.parts.number w.parts.state is)))
 
@@ -204,22 +206,18 @@ stands_at_end g c =
     stands_in_other g c ∙ sym (ends_there d s w.begun is none)
 
 pub returns-in-None-clause-done : goal.returns-in-None-clause-done
-returns-in-None-clause-done g c = (
-  stands_at_end g c ∙ ap (λ (v : CheckpointingView g.row.D.Denot). end_of v) c.self.view_is,
-  c.at_rest.ensures.idle,
-  c.at_rest.ensures.history ∙ ap (λ (v : CheckpointingView g.row.D.Denot). v.history) c.self.view_is,
-  c.at_rest.ensures.begun,
-)
-
-pub returns-in-None-clause-same : goal.returns-in-None-clause-same
-returns-in-None-clause-same g c = (
-  ap (λ (t : Standing). t.number) c.at_rest.ensures.standing
-      ∙ ap (λ (v : CheckpointingView g.row.D.Denot). v.standing.number) c.self.view_is,
-  ap (λ (t : Standing). t.state) c.at_rest.ensures.standing
-      ∙ ap (λ (v : CheckpointingView g.row.D.Denot). v.standing.state) c.self.view_is,
-  ap (λ (t : Standing). t.layout) c.at_rest.ensures.standing
-      ∙ ap (λ (v : CheckpointingView g.row.D.Denot). v.standing.layout) c.self.view_is,
-)
+returns-in-None-clause-done g c = record {
+  standing = stands_at_end g c ∙ ap (λ (v : CheckpointingView g.row.D.Denot). end_of v) c.self.view_is;
+  idle = c.at_rest.ensures.idle;
+  history = c.at_rest.ensures.history ∙ ap (λ (v : CheckpointingView g.row.D.Denot). v.history) c.self.view_is;
+  none = c.at_rest.ensures.begun;
+  number = ap (λ (t : Standing). t.number) c.at_rest.ensures.standing
+      ∙ ap (λ (v : CheckpointingView g.row.D.Denot). v.standing.number) c.self.view_is;
+  state = ap (λ (t : Standing). t.state) c.at_rest.ensures.standing
+      ∙ ap (λ (v : CheckpointingView g.row.D.Denot). v.standing.state) c.self.view_is;
+  layout = ap (λ (t : Standing). t.layout) c.at_rest.ensures.standing
+      ∙ ap (λ (v : CheckpointingView g.row.D.Denot). v.standing.layout) c.self.view_is;
+}
 
 pub returns-in-None-clause-durable : goal.returns-in-None-clause-durable
 returns-in-None-clause-durable g c u =
@@ -237,9 +235,10 @@ returns-in-None-clause-durable g c u =
 pub returns-in-None-clause-run : goal.returns-in-None-clause-run
 returns-in-None-clause-run g c r run =
     let d = g.D.SectorDisk.disk in
-    let same = returns-in-None-clause-same g c in (
+    let done = returns-in-None-clause-done g c in (
       (returns-in-None-clause-durable g c run.0).0,
-      run_of_same_meaning (d c.args.self.disk) (d c.at_rest.result.disk) c.args.self.standing c.at_rest.result.standing r same.0 same.1
+      run_of_same_meaning (d c.args.self.disk) (d c.at_rest.result.disk) c.args.self.standing c.at_rest.result.standing r
+          done.number done.state
           (returns-in-None-clause-any_moment g c run.0) run.1,
       run.2,
       subst (λ (begun : Option BegunView). IsPaused (d c.at_rest.result.disk) c.at_rest.result.standing begun)

@@ -1,8 +1,8 @@
-use Rattle.std.proofs.Common.{arith, ◌≡◌, ◌+◌, ◌∙◌, ℕ, List, [], ◌∷◌, length, refl, sym, ap, subst}
+use Rattle.std.proofs.Common.{arith, ◌≡◌, ◌+◌, ◌∙◌, ℕ, List, [], ◌∷◌, length, Ok, Err, refl, sym, ap, subst}
 use Rattle.std.proofs.lemmas.List.{length-map}
 use Rattle.iol_types.specs.Command.{value_of}
 use Rattle.std.specs.Option.{option_map}
-use Rattle.iol_disk.specs.Calls.{Made, MakesFirst, FailsFirst}
+use Rattle.iol_disk.specs.Calls.{Call, Made, MakesFirst}
 use Rattle.iol_batch.specs.Batches.{body_for, sectors_for, call_of, calls_from}
 use Rattle.iol_checkpoint.specs.BegunParts.{IsSetAside}
 use Rattle.iol_checkpoint.specs.Pauses.{IsBeside}
@@ -29,7 +29,8 @@ returns-in-Err-clause-call g c =
     let d = g.D.SectorDisk.disk in
     let w = c.self.inside in
     let plan = c.self.invariant.1 in
-    subst (λ (v : WritingView g.row.D.Denot). FailsFirst (calls_left v) c.in-Err.fault (d v.disk) (d c.make.new.disk)) c.self.view_is
+    subst (λ (v : WritingView g.row.D.Denot).
+    (others : List Call) × MakesFirst (calls_left v) others (d v.disk) (d c.make.new.disk) (Err c.in-Err.fault)) c.self.view_is
     (fails_first _ w.parts.place.idle _ _ _ _ _ _ c.self.invariant.0 plan.body.octets plan.body.sectors c.in-Err.fault
     (c.in-Err.ensures.makes w.parts.number w.parts.state))
 
@@ -47,7 +48,7 @@ returns-in-Some-clause-call g c =
     let s = stands w.parts in
     let commands = values w.batch.commands.items in
     let behind = calls_from s (body_for s commands) (sectors_for s commands) c.in-Some.phase in
-    subst (λ (v : WritingView g.row.D.Denot). MakesFirst (calls_left v) behind (d v.disk) (d c.make.new.disk)) c.self.view_is
+    subst (λ (v : WritingView g.row.D.Denot). MakesFirst (calls_left v) behind (d v.disk) (d c.make.new.disk) (Ok tt)) c.self.view_is
     (makes_first _ w.parts.place.idle _ _ _ _ _ _ c.self.invariant.0 plan.body.octets plan.body.sectors c.in-Some.phase
     (sym c.in-Some.is ∙ c.next.ensures)
     (c.in_default.ensures.makes w.parts.number w.parts.state))
@@ -125,7 +126,7 @@ returns-in-None-clause-call g c =
     let w = c.self.inside in
     let plan = c.self.invariant.1 in
     rw c.at_rest.ensures.disk
-    (subst (λ (v : WritingView g.row.D.Denot). MakesFirst (calls_left v) [] (d v.disk) (d c.make.new.disk)) c.self.view_is
+    (subst (λ (v : WritingView g.row.D.Denot). MakesFirst (calls_left v) [] (d v.disk) (d c.make.new.disk) (Ok tt)) c.self.view_is
     (makes_last _ w.parts.place.idle _ _ _ _ _ _ c.self.invariant.0 plan.body.octets plan.body.sectors (sym c.in-None.is ∙ c.next.ensures)
     (c.in_default.ensures.makes w.parts.number w.parts.state)))
 
@@ -221,21 +222,21 @@ returns-in-None-clause-done g c =
     let w = c.self.inside in
     let s = stands w.parts in
     let commands = values w.batch.commands.items in
-    let plan = c.self.invariant.1 in (
-      standing_after g c ∙ ap (λ (v : WritingView g.row.D.Denot). with_batch v.standing v.commands) c.self.view_is,
-      c.at_rest.ensures.idle ∙ ap (λ (v : WritingView g.row.D.Denot). v.idle) c.self.view_is,
-      c.at_rest.ensures.history ∙ c.with_batch-parts.ensures
-          ∙ ap (λ (v : WritingView g.row.D.Denot). written_behind v.history v.commands) c.self.view_is,
-      c.self.invariant.2 ∙ ap (λ (v : WritingView g.row.D.Denot). v.standing.number + 1) c.self.view_is,
-      ap (λ (v : WritingView g.row.D.Denot). v.commands) c.self.view_is,
-      c.at_rest.ensures.begun
+    let plan = c.self.invariant.1 in record {
+      standing = standing_after g c ∙ ap (λ (v : WritingView g.row.D.Denot). with_batch v.standing v.commands) c.self.view_is;
+      idle = c.at_rest.ensures.idle ∙ ap (λ (v : WritingView g.row.D.Denot). v.idle) c.self.view_is;
+      history = c.at_rest.ensures.history ∙ c.with_batch-parts.ensures
+          ∙ ap (λ (v : WritingView g.row.D.Denot). written_behind v.history v.commands) c.self.view_is;
+      begun = c.at_rest.ensures.begun
           ∙ views-owing (d w.disk) (d c.make.new.disk) s w.parts.place.idle commands w.begun c.owing-begun.result w.plan.body
           (w.parts.place.epoch + 1)
           (c.in_default.ensures.makes w.parts.number w.parts.state).after.sectors c.self.invariant.4 c.self.invariant.0.follows
           plan.body refl
           c.owing-begun.ensures
-          ∙ ap (λ (v : WritingView g.row.D.Denot). option_map (with_owed v.commands) v.begun) c.self.view_is,
-    )
+          ∙ ap (λ (v : WritingView g.row.D.Denot). option_map (with_owed v.commands) v.begun) c.self.view_is;
+      first = c.self.invariant.2 ∙ ap (λ (v : WritingView g.row.D.Denot). v.standing.number + 1) c.self.view_is;
+      commands = ap (λ (v : WritingView g.row.D.Denot). v.commands) c.self.view_is;
+    }
 
 -- ---- runs
 

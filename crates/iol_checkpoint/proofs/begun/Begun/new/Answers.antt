@@ -1,0 +1,26 @@
+use Rattle.std.proofs.Common.{◌≤◌, List, [], length, ap, subst, arith}
+use Rattle.std.proofs.Math.Nat.{mul-le-mul_right}
+use Rattle.iol_area.specs.AreaPlans.{AreRecords}
+use Rattle.iol_batch.specs.Parts.{stands}
+use Rattle.iol_disk.specs.Calls.{Call}
+use Rattle.iol_layout.specs.declared.area.Area.{Area}
+use Rattle.iol_checkpoint.specs.Checkpoints.{checkpointed}
+use Rattle.iol_checkpoint.proofs.CheckpointSizes.{at_most}
+use Rattle.iol_checkpoint.proofs.StageCalls.{all_calls}
+use Rattle.iol_checkpoint.proofs.begun.Begun.new.Goals as goal
+
+pub returns-clause-at_most : goal.returns-clause-at_most
+returns-clause-at_most c =
+    let parts = c.args.parts.now in
+    let s = stands parts in
+    let idle = parts.place.idle in
+    let all = ap (λ (calls : List Call). length calls) (all_calls (checkpointed s) [] idle) in
+    let records = subst (λ (a : Area). AreRecords s.layout a s.state) c.other-area.ensures c.in_ok-plan.ensures.records in
+    let nine : s.layout.port_sectors ≤ 9 = omega (arith, c.port_sectors-sectors.ensures.value, c.port_sectors-sectors.ensures.bound) in
+    rw (c.first.ensures, c.begun.ensures, c.new.ensures.items)
+    (omega (
+      arith,
+      all,
+      at_most (checkpointed s) [] idle records,
+      mul-le-mul_right s.layout.ports nine,
+    ))
