@@ -1,10 +1,10 @@
 //! Facts with values of docs/FORMATS.md, worked out by the check: a number that is wrong in a definition and in the code
 //! alike is refused here.
 
-ghost use Rattle.std.specs.Prelude.{◌≡◌, ◌++◌, [], ◌∷◌, replicate, map, true, false};
+ghost use Rattle.std.specs.Prelude.{◌≡◌, ◌++◌, ◌==◌, if◌then◌else◌, [], ◌∷◌, drop, replicate, map, take, true, false};
 ghost use Rattle.iol_types.specs.Command.{Configure};
 ghost use Rattle.iol_types.specs.Examples.{example_config};
-ghost use Rattle.iol_layout.specs.Body.{body_octets, fits, slots_of};
+ghost use Rattle.iol_layout.specs.Body.{batch_of, body_octets, commands_of, fits, head_of, slots_of};
 ghost use Rattle.iol_layout.specs.Examples.{two_by_four, first_body};
 ghost use Rattle.iol_layout.specs.Geometry.{IsGeometry, geometry_of, geometry_octets};
 ghost use Rattle.iol_layout.specs.Header.{header_of, header_octets, is_sound};
@@ -55,6 +55,8 @@ pub fn sector_0()
         ≡ None }
     ensures other_body { geometry_of ((0x49 ∷ 0x4F ∷ 0x4C ∷ 0x53 ∷ 0x01 ∷ 0x02 ∷ 0x00 ∷ 0x04 ∷ 0x00 ∷ 0x11 ∷ []) ++ replicate 502 0)
         ≡ None }
+    ensures larger_body { geometry_of ((0x49 ∷ 0x4F ∷ 0x4C ∷ 0x53 ∷ 0x01 ∷ 0x02 ∷ 0x00 ∷ 0x04 ∷ 0x01 ∷ 0x10 ∷ []) ++ replicate 502 0)
+        ≡ None }
 {}
 
 /// The header of an area in its first epoch, and which headers are sound.
@@ -95,13 +97,26 @@ pub fn the_first_body()
     ensures { body_octets 1 1 (Configure 1 example_config ∷ []) ≡ first_body }
 {}
 
+/// What is read of a body: its head, each number octet by octet, and its commands, whose records fill the octets exactly.
+#[tactic(auto, unfolding(crate::specs::Body::head_of, crate::specs::Body::batch_of, iol_record::specs::Reading::command_at, iol_record::specs::Reading::arguments_at, iol_record::specs::Reading::config_at))]
+pub fn bodies_read()
+    ensures head { head_of (0 ∷ 1 ∷ 2 ∷ 3 ∷ 4 ∷ 5 ∷ 6 ∷ 7 ∷ 8 ∷ 9 ∷ 10 ∷ 11 ∷ 12 ∷ 13 ∷ 14 ∷ 15 ∷ 16 ∷ 17 ∷ 18 ∷ 19 ∷ 20 ∷ 21 ∷ [])
+        ≡ record { epoch = 283686952306183; first = 579005069656919567; count = 4113; octets = 303240213 } }
+    ensures batch { batch_of 1 1 first_body ≡ Some (Configure 1 example_config ∷ []) }
+    ensures a_command_less { commands_of 0 (drop 22 (take 32 first_body)) ≡ None }
+    ensures an_octet_more { commands_of 1 (drop 22 (take 33 first_body)) ≡ None }
+    ensures a_command_more { commands_of 2 (drop 22 (take 32 first_body)) ≡ None }
+{}
+
 /// Why an image means nothing: there is no gate of the disk, the disk is smaller than its geometry, no area is open, both are
 /// open under one epoch, or the header in use is out of its bounds.
-#[tactic(auto, unfolding(crate::specs::Geometry::geometry_of, iol_slots::specs::Gate::is_open, iol_slots::specs::Gate::open_gate, iol_slots::specs::Gate::closed_gate))]
+#[tactic(auto, unfolding(crate::specs::Geometry::geometry_of, crate::specs::Octets::padded, iol_slots::specs::Gate::is_open, iol_slots::specs::Gate::open_gate, iol_slots::specs::Gate::closed_gate))]
 pub fn first_causes()
     ensures one_sector { layout_in 1 (λ i. open_gate) ≡ Err unformatted }
     ensures closed_disk { layout_in 178 (λ i. closed_gate) ≡ Err unformatted }
     ensures no_geometry { layout_in 2 (λ i. open_gate) ≡ Err (damaged 0) }
+    ensures smaller_disk { layout_in 177 (λ i. if i == 0 then geometry_octets two_by_four else open_gate) ≡ Err (damaged 0) }
+    ensures large_enough { layout_in 178 (λ i. if i == 0 then geometry_octets two_by_four else open_gate) ≡ Ok (layout_of two_by_four) }
     ensures no_area { greatest (layout_of two_by_four) None None ≡ Err (damaged 2) }
     ensures one_epoch { greatest (layout_of two_by_four) (Some (record { epoch = 1; base = 0 })) (Some (record { epoch = 1; base = 5 }))
         ≡ Err (damaged 91) }
