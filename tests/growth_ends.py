@@ -101,13 +101,15 @@ class Subject:
     shim: str = ""
     seconds: int = SECONDS
 
-    def run(self, growth=0):
-        """What is said where this request for memory is refused, or none."""
+    def run(self, growth=0, all_behind=False):
+        """What is said where this request for memory is refused, also with all behind it, or none."""
         with tempfile.TemporaryDirectory() as room:
             for name, octets in self.files.items():
                 with open(f"{room}/{name}", "wb") as file:
                     file.write(octets)
             refused = {"REFUSE_GROWTH": str(growth), "REFUSE_MET": f"{room}/met", "LD_PRELOAD": self.shim if growth else ""}
+            if all_behind:
+                refused["REFUSE_ALL"] = "1"
             told = self.told_in(room, {**os.environ, **refused})
             image = None
             if os.path.exists(f"{room}/a.img"):
@@ -122,6 +124,13 @@ class Subject:
         except subprocess.TimeoutExpired:
             return "", f"no end within {self.seconds} seconds", None
         return ran.stdout.decode(errors="replace"), ran.stderr.decode(errors="replace"), ran.returncode
+
+    def end_of_all(self, said):
+        """The end of a run that has no memory from the refused request on: it says all, if it had all that it needs by then, or
+        else that memory ran out or, where a sync found none for its record, that the disk failed."""
+        if said.told == self.whole.told:
+            return "whole"
+        return "no memory from there on" if said.told in (MEMORY, DISK) else None
 
     @functools.cached_property
     def whole(self):
@@ -277,6 +286,17 @@ class Schedule(Subject):
         is_known = recovered(out) in self.states and self.has_failed_sync(out)
         return "failed sync" if is_known else None
 
+    def end_of_all(self, said):
+        """The last recovery finds no memory either, if only for the record of its sync: no journal is found behind what was told."""
+        if said.told == self.whole.told:
+            return "whole"
+        out, errors, status = said.told
+        if out == "" and status == 1 and errors in NO_MEMORY:
+            return "no memory from there on"
+        told, _, found = out.partition("stopped\n")
+        is_none = found in ("no journal Memory\n", "no journal Disk(Sync)\n") and last("acknowledged", told) <= last("accepted", told)
+        return "no memory from there on" if is_none and not errors and status == 0 else None
+
     def is_not_begun(self, out, begun):
         """Whether no run was made for want of memory, and the disk has an empty journal, or none where its format failed."""
         causes = ("Memory", "Disk(Sync)") if begun[1] == "format" else ("Memory", "Recover Memory", "Recover Disk(Sync)")
@@ -314,6 +334,9 @@ class Schedule(Subject):
 class Image(Subject):
     """A format, a show or a map of an image file of two ports and four slots."""
 
+    def end_of_all(self, said):
+        return self.end(said)
+
     def end(self, said):
         if said.told == self.whole.told and said.image == self.whole.image:
             return "whole"
@@ -329,6 +352,9 @@ class Image(Subject):
 
 class Picture(Subject):
     """The run of a script, drawn into a file that is named as an image is. What a run may come to is for `Script`."""
+
+    def end_of_all(self, said):
+        return self.end(said)
 
     def end(self, said):
         if said.told == self.whole.told and said.image == self.whole.image:

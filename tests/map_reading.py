@@ -1,5 +1,7 @@
 """The lines of a map, by another reading of an image file than the program's."""
 
+from __future__ import annotations
+
 import dataclasses
 import struct
 

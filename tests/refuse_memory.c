@@ -1,10 +1,12 @@
-// Refuses one request for memory of the program that this is loaded before (LD_PRELOAD): the REFUSE_GROWTH-th. So want of
-// memory is tried on the very program that is proved and built. The request is answered as the C library answers where it
-// has none: no block, ENOMEM, and a block that was to grow as it was. All others go to the C library.
+// Refuses one request for memory of the program that this is loaded before (LD_PRELOAD): the REFUSE_GROWTH-th; with
+// REFUSE_ALL also all that come behind it. So want of memory is tried on the very program that is proved and built. A request
+// that is refused is answered as the C library answers where it has none: no block, ENOMEM, and a block that was to grow as it
+// was. All others go to the C library.
 //
 // Requests are counted from the program's own start on, not those of the loader and the C library before it, and each is
 // one, whether a block is new, grows or shrinks. At the one that is refused the file REFUSE_MET is made, which says that the
-// program has made so many. No header is included, so that the toolchain's compiler alone can make this. One thread.
+// program has made so many. Threads count together. No header is included, so that the toolchain's compiler alone can make
+// this.
 
 typedef __SIZE_TYPE__ size_t;
 
@@ -20,18 +22,23 @@ extern void *__libc_calloc(size_t count, size_t octets);
 extern void *__libc_realloc(void *block, size_t octets);
 extern void *__libc_memalign(size_t alignment, size_t octets);
 
-// How many requests are left up to the one that is refused, 0 where none is to come.
-static long left;
+// Which request is refused, 0 where none is; whether all behind it are; and how many were made.
+static long refused;
+static int refuses_all;
+static long made;
 
 __attribute__((constructor)) static void begin(void) {
     const char *growth = getenv("REFUSE_GROWTH");
-    left = growth ? atol(growth) : 0;
+    refused = growth ? atol(growth) : 0;
+    refuses_all = getenv("REFUSE_ALL") != 0;
 }
 
 static int is_refused(void) {
-    if (left == 0 || --left > 0) return 0;
+    if (refused == 0) return 0;
+    long request = __atomic_add_fetch(&made, 1, __ATOMIC_SEQ_CST);
+    if (request < refused || (request > refused && !refuses_all)) return 0;
     const char *met = getenv("REFUSE_MET");
-    if (met) close(open(met, WRITE_CREATE, OWNER_MAY_WRITE));
+    if (met && request == refused) close(open(met, WRITE_CREATE, OWNER_MAY_WRITE));
     *__errno_location() = NO_MEMORY;
     return 1;
 }

@@ -8,6 +8,9 @@ use std::alloc::Global;
 use std::sync::Wait;
 use std::{fmt, thread};
 
+// The device that examples speak of.
+const SENSOR: u32 = 0xABCD;
+
 /// A client, where its answers go, and where its receipts go and others' come from.
 #[derive(Drop)]
 pub(crate) struct Asking<F: Name> {
@@ -74,14 +77,18 @@ impl<F: Name> Asking<F> {
                 let answer = self.client.clear(rt, port);
                 self.tell_call(rt, answer);
             }
-            b'f' => {
-                if let Some(config) = config_for(place) {
-                    let answer = self.client.configure(rt, port, config);
-                    self.tell_call(rt, answer);
-                }
-            }
+            b'f' => self.configure(rt, port, u32::try_from(place).unwrap_or(0)),
+            b's' => self.configure(rt, port, SENSOR),
             b'm' => self.meet(rt),
             _ => self.read(rt, port),
+        }
+    }
+
+    // Configures a port for the device with this number.
+    fn configure<R: Wait>(&mut self, rt: &R, port: PortId, device: u32) {
+        if let Some(config) = config_for(device) {
+            let answer = self.client.configure(rt, port, config);
+            self.tell_call(rt, answer);
         }
     }
 
@@ -133,11 +140,11 @@ impl<F: Name> Asking<F> {
 }
 
 // The configuration for the device with this number, whose parameters are kept.
-fn config_for(device: usize) -> Option<PortConfig> {
+fn config_for(device: u32) -> Option<PortConfig> {
     Some(PortConfig {
         mode: PortMode::IolManual,
         validation: Validation::BackupAndRestore,
         vendor: 500,
-        device: DeviceId::new(u32::try_from(device).ok()?)?,
+        device: DeviceId::new(device)?,
     })
 }

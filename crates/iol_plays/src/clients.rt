@@ -21,8 +21,8 @@ use std::sync::{Arc, Wait};
 use std::thread;
 use std::thread::{JoinHandle, Threads};
 
-/// Runs a master on a disk with these links and a client for each word. Prints what each is answered, as it comes; where the passes
-/// of all receipts stand, once each has met the one before; and how the master ends.
+/// Runs a master on a disk with these links and a client for each word, and gives the disk. Prints what each is answered, as it
+/// comes; where the passes of all receipts stand, once each has met the one before; and how the master ends.
 pub(crate) fn play_clients<
     D: SectorDisk + Drop + Send + 'static,
     R: Threads + Wait + Input + Copy + Send + 'static,
@@ -34,7 +34,7 @@ pub(crate) fn play_clients<
     links: Vec<MeetingLink<SimLink>>,
     words: &[String],
     out: &mut W,
-) -> anyhow::Result<()> {
+) -> anyhow::Result<D> {
     let (journal, state) = match Journal::recover(alloc, disk) {
         Ok(found) => found,
         Err(_) => bail!("no recovery"),
@@ -43,17 +43,26 @@ pub(crate) fn play_clients<
     play::<_, Brand, _, _>(rt, alloc, front, journal, state, links, words, out)
 }
 
-/// So many links, at which no device ever is, and none of which gives a page before so many were asked for.
-pub(crate) fn links_of(
+/// So many links, at which no device ever is.
+pub(crate) fn empty_links(alloc: Global, count: u8) -> anyhow::Result<Vec<SimLink>> {
+    let mut links = Vec::new(alloc);
+    for _link in 0..count {
+        links.push(SimLink::new(Vec::new(alloc)))?;
+    }
+    Ok(links)
+}
+
+/// These links, none of which gives a page before so many were asked for.
+pub(crate) fn meeting(
     alloc: Global,
-    links: u8,
+    links: Vec<SimLink>,
     pages: u64,
 ) -> anyhow::Result<Vec<MeetingLink<SimLink>>> {
     let asked = Arc::new(alloc, AtomicU64::new(0))?;
     let mut made = Vec::new(alloc);
-    for _link in 0..links {
+    for link in links {
         made.push(MeetingLink {
-            link: SimLink::new(Vec::new(alloc)),
+            link,
             asked: Arc::try_clone(&asked)?,
             pages,
         })?;
@@ -76,7 +85,7 @@ fn play<
     links: Vec<MeetingLink<SimLink>>,
     words: &[String],
     out: &mut W,
-) -> anyhow::Result<()>
+) -> anyhow::Result<D>
     requires name { front ≡ F.front }
     requires state { state ≡ front.start.state }
     requires history { HasHistory front.start [] journal.history }
@@ -88,25 +97,29 @@ fn play<
         Err(_) => bail!("no master"),
     };
     let asked = ask::<D, F, R, W>(rt, alloc, &mut master, words, out);
-    end(rt, master, out)?;
-    asked
+    let disk = end(rt, master, out)?;
+    if asked.is_err() {
+        writeln!(out, "not all was asked")?;
+    }
+    Ok(disk)
 }
 
-// Ends the master, and prints how.
+// Ends the master, prints how, and gives its disk.
 fn end<D: SectorDisk + Drop + Send + 'static, F: Name + 'static, R: Threads + Wait, W: Write>(
     rt: &R,
     master: Master<D, F>,
     out: &mut W,
-) -> anyhow::Result<()> {
+) -> anyhow::Result<D> {
     match master.shutdown(rt) {
         Ending::Closed(journal, _publisher) => {
-            let number = journal.number();
-            drop(journal);
-            writeln!(out, "closed behind {number}")?;
+            writeln!(out, "closed behind {}", journal.number())?;
+            Ok(journal.disk())
         }
-        Ending::Faulted(_disk, fault) => writeln!(out, "{fault}")?,
+        Ending::Faulted(disk, fault) => {
+            writeln!(out, "{fault}")?;
+            Ok(disk)
+        }
     }
-    Ok(())
 }
 
 // Starts a client for each word, and prints what they are answered.

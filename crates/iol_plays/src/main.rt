@@ -5,8 +5,10 @@
 //! - `iol_plays live SCRIPT` runs a master in threads on a disk in memory, and prints what `iolmaster live` prints of an image.
 //! - `iol_plays clients IMAGE LINKS PAGES CLIENT..` runs a master on an image, and prints what each call of each client is answered.
 //!   It has so many links, which give no page before so many were asked for. A client is a word of calls, two letters each: what
-//!   is asked (`c` for Clear, `f` for Configure, `r` for a read, `m` to meet another's receipt) and of which port. In the place of a
-//!   client, `-` waits for a line of standard input.
+//!   is asked (`c` for Clear, `f` and `s` for Configure, `r` for a read, `m` to meet another's receipt) and of which port; `s` is
+//!   for device 43981. In the place of a client, `-` waits for a line of standard input.
+//! - `iol_plays clients SCRIPT.toml 2 PAGES CLIENT..` runs it on a new disk in memory with the devices of a script, and prints what a
+//!   recovery then finds behind a power stop.
 //! - `iol_plays two_clients` plays an example to read (`two_clients`).
 //! - `iol_plays measure FOLDER ROUNDS` times a journal on files in a folder (`measures`); `bench/run` makes medians of it.
 //! - `iol_plays longest FOLDER TURNS` times commits with so many turns of the flusher between two of them; `bench/longest` shows the
@@ -17,17 +19,19 @@ mod asking;
 mod behind;
 mod clients;
 mod live;
+mod master;
 mod measures;
 mod meeting_link;
 mod schedule;
 mod two_clients;
 
 use anyhow::bail;
-use clients::{links_of, play_clients};
+use clients::{empty_links, meeting, play_clients};
 use iol_commands::opened;
 use live::text_of_live;
+use master::play_in_memory;
 use measures::{measure, time_commits};
-use schedule::play_schedule;
+use schedule::{play_schedule, show};
 use two_clients::play_two_clients;
 
 fn main(rt: HostRuntime) -> anyhow::Result<()> {
@@ -50,11 +54,22 @@ fn main(rt: HostRuntime) -> anyhow::Result<()> {
             measure(&rt, folder.as_str(), count.as_str().parse()?)
         }
         [_, _, path, links, pages, clients @ ..] => {
+            let pages = pages.as_str().parse()?;
+            if path.as_str().ends_with(".toml") {
+                let script = std::fs::read(&rt, path.as_str())?;
+                let out = &mut rt.stdout();
+                return show(
+                    &rt,
+                    play_in_memory(&rt, rt.alloc(), &script, pages, clients, out)?,
+                );
+            }
             let Ok(disk) = opened(&rt, path.as_str()) else {
                 bail!("no image")
             };
-            let links = links_of(rt.alloc(), links.as_str().parse()?, pages.as_str().parse()?)?;
-            play_clients(&rt, rt.alloc(), disk, links, clients, &mut rt.stdout())
+            let links = empty_links(rt.alloc(), links.as_str().parse()?)?;
+            let links = meeting(rt.alloc(), links, pages)?;
+            let _disk = play_clients(&rt, rt.alloc(), disk, links, clients, &mut rt.stdout())?;
+            Ok(())
         }
         _ => Ok(()),
     }

@@ -91,8 +91,8 @@ fn tell(rt: &HostRuntime, events: &[Stamped]) -> anyhow::Result<()> {
     Ok(())
 }
 
-// Stops the power, and prints what is then recovered. A recovery that finds no memory is made again.
-fn show(rt: &HostRuntime, disk: MemoryDisk) -> anyhow::Result<()> {
+/// Stops the power, and prints what is then recovered. A recovery that finds no memory is made again.
+pub(crate) fn show(rt: &HostRuntime, disk: MemoryDisk) -> anyhow::Result<()> {
     println!(rt; "stopped")?;
     match Journal::recover(rt.alloc(), disk.stop(Pick::Pattern)) {
         Ok((journal, state)) => print_found(rt, journal.number(), state),
