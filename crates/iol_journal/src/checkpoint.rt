@@ -7,7 +7,7 @@ use iol_disk::SectorDisk;
 use std::alloc::AllocError;
 
 impl<D: SectorDisk> Journal<D> {
-    ghost use Rattle.std.specs.Prelude.{◌≡◌, ◌≤◌, ◌<◌, ◌+◌, ◌*◌, true, [], length, Some, None, is_some, IfOk, IfErr, OnOk};
+    ghost use Rattle.std.specs.Prelude.{◌≡◌, ◌≤◌, ◌<◌, ◌+◌, ◌*◌, true, [], length, Some, None, is_some, IfOk, IfErr};
     ghost use Rattle.iol_checkpoint.specs.BegunParts.{view_of, IsBegun};
     ghost use Rattle.iol_checkpoint.specs.Checkpoints.{checkpointed, checkpoint_calls, new_begun};
     ghost use Rattle.iol_journal.specs.CheckpointViews.{checkpoint_of, stages_left, IsCheckpointUnderway};

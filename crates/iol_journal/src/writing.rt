@@ -102,13 +102,11 @@ impl<D: SectorDisk> Writing<D> {
     ghost use Rattle.iol_disk.specs.Moments.{LeavesOnly};
     ghost use Rattle.iol_checkpoint.specs.BegunParts.{view_of, IsSetAside, HasRoom};
     ghost use Rattle.iol_checkpoint.specs.Pauses.{IsPaused, IsBeside};
-    ghost use Rattle.iol_checkpoint.specs.Drafts.{with_owed};
     ghost use Rattle.iol_layout.specs.Kept.{KeptEither, EachMeans};
     ghost use Rattle.iol_batch.specs.Phases.{IsAtRest};
     ghost use Rattle.iol_journal.specs.Underway.{IsUnderway};
-    ghost use Rattle.iol_batch.specs.Planned.{IsPlan, IsPlanned, LeadsTo, written_behind};
+    ghost use Rattle.iol_batch.specs.Planned.{IsPlan, IsPlanned, LeadsTo};
     ghost use Rattle.iol_journal.specs.Journals.{calls_left};
-    ghost use Rattle.iol_layout.specs.Standings.{with_batch};
     ghost use Rattle.iol_batch.specs.Parts.{stands};
     ghost use Rattle.iol_layout.specs.Body.{values};
     ghost use Rattle.iol_journal.specs.Progress.{stepped_disk, IfMore, IfDone, IsBatchMoved, IsBatchDone, StepMakes};
