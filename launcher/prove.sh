@@ -127,7 +127,7 @@ words_of() {
 build_crate() {
     crate=$1
     set -- $(words_of "$crate" "$2")
-    (make_room "$crate" && cd "$(room_of "$crate")/crates/$crate" && exec rt "$@") </dev/null >"$out/build.$crate.log" 2>&1 &
+    (make_room "$crate" && cd "$(room_of "$crate")/crates/$crate" && exec "$top/launcher/quick_rt.py" "$@") </dev/null >"$out/build.$crate.log" 2>&1 &
     child=$!
     trap 'kill "$child" 2>/dev/null; wait "$child"; give_back "$crate"; exit 1' HUP INT TERM
     wait "$child"
