@@ -1,11 +1,12 @@
 //! What durable commits, checkpoints, stores and recoveries of a journal on an image file cost, beside the same calls of a plain file in
 //! the same folder. Nothing is promised of times.
 //!
-//! Modules in reading order: `commits`, `stores`, `recovery` and `longest`, the four measurements; `commands`, what is written; `plain`,
-//! the calls of a plain file.
+//! Modules in reading order: `commits`, `stores`, `encoding`, `recovery` and `longest`, the five measurements; `commands`, what is
+//! written; `plain`, the calls of a plain file.
 
 mod commands;
 mod commits;
+mod encoding;
 mod longest;
 mod plain;
 mod recovery;
@@ -13,6 +14,7 @@ mod stores;
 
 use anyhow::bail;
 use commits::measure_commits;
+use encoding::measure_encoding;
 pub(crate) use longest::time_commits;
 use plain::Files;
 use recovery::measure_recovery;
@@ -37,5 +39,6 @@ fn measure_each(rt: &HostRuntime, files: Files<'_>, rounds: usize) -> anyhow::Re
     measure_commits(rt, files, rounds)?;
     measure_stores(rt, files, rounds, "32 stores together", 32)?;
     measure_stores(rt, files, rounds, "32 stores one by one", 1)?;
+    measure_encoding(rt, rounds)?;
     measure_recovery(rt, files.image, rounds)
 }

@@ -24,6 +24,15 @@ pub(crate) fn configure(port: u8) -> anyhow::Result<Command> {
     })
 }
 
+/// A set that counts 4,096 octets: 1,024 parameters without octets.
+pub(crate) fn set_of_short_parameters(alloc: Global) -> anyhow::Result<DataSet> {
+    let mut set = SetBuilder::new(alloc);
+    for index in 0x100..0x500 {
+        set.add(Key { index, subindex: 0 }, &[])?;
+    }
+    Ok(set.finish(500, config()?.device, 0))
+}
+
 /// A set that counts 4,096 octets: 17 entries of 232 octets, and one of 80.
 pub(crate) fn largest_set(alloc: Global) -> anyhow::Result<DataSet> {
     let octets = [0xA7; 232];
