@@ -5,6 +5,6 @@
 pub enum StopCause {
     /// The master is shut down: what waits is still written.
     Closed,
-    /// A call of the disk failed: nothing more is written.
+    /// A call of the disk failed, or no memory came for what waits as the run was to end: nothing more is written.
     DiskFailed,
 }

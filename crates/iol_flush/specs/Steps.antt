@@ -1,5 +1,5 @@
 -- What a disk call of the flusher does.
-use Rattle.std.specs.Prelude.{◌≡◌, ◌+◌, ◌⊎◌, Bool, true, false, List, ◌++◌, Option, Some, None, Result, Ok, Err}
+use Rattle.std.specs.Prelude.{◌≡◌, ◌⊎◌, Bool, true, false, List, ◌++◌, Option, Some, None, Result, Ok, Err}
 use Rattle.iol_types.specs.Command.{CommandValue}
 use Rattle.iol_disk.specs.Disk.{Disk}
 use Rattle.iol_front.specs.Fronts.{CommittedView}
@@ -107,6 +107,13 @@ HasTaken stage batch new = ⊥
 abbrev pub IsGift : {D : Type 0} → FlushStage D → Batch → FlushStage D → Result Unit GiveFault → Type 0
 IsGift old batch new (Ok done) = HasTaken old batch new
 IsGift old batch new (Err (give.Stopped back)) = (need_of old ≡ need.Stopped) × (new ≡ old) × (back ≡ batch)
+
+-- the batch for which no disk call was made is taken back, and the journal is at rest; where there is none nothing changes (own)
+abbrev pub IsWithdrawn : {D : Type 0} → FlushStage D → FlushStage D → Option Batch → Type 0
+IsWithdrawn (Given journal batch) new (Some back) = (new ≡ Resting journal) × (back ≡ batch)
+IsWithdrawn (Given journal batch) new None = ⊥
+IsWithdrawn old new (Some back) = ⊥
+IsWithdrawn old new None = new ≡ old
 
 -- the batch that is durable is taken out of the stage; none is, as a disk call has failed (own)
 abbrev pub HasGivenUp : {D : Type 0} → FlushStage D → FlushStage D → Option WrittenView → Type 0

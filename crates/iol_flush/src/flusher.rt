@@ -3,7 +3,7 @@
 ghost use Rattle.std.specs.Prelude.{◌≡◌, ◌≤◌, ◌⊎◌, true};
 ghost use Rattle.iol_flush.specs.Stages.{need_of, names_batch, names_disk, room_of, failure_of};
 ghost use Rattle.iol_flush.specs.Stages.{FitsArea, HasHistory, HasFewCalls, IsInStep};
-ghost use Rattle.iol_flush.specs.Steps.{IsDiskStep, IsGift, HasGivenUp, IsPublished, IsEnd};
+ghost use Rattle.iol_flush.specs.Steps.{IsDiskStep, IsGift, HasGivenUp, IsPublished, IsEnd, IsWithdrawn};
 ghost use Rattle.iol_flush.specs.Flushing.{KeepsRun, IsSound};
 ghost use Rattle.iol_flush.specs.declared.need.Need.TheVariants as need;
 ghost use Rattle.iol_flush.specs.declared.stage.FlushStage.TheVariants as stage;
@@ -105,6 +105,15 @@ impl<D: SectorDisk, F: Name> Flusher<D, F> {
         replace_with(&mut self.stage, batch, with_batch)
     }
 
+    /// Hands back the batch that was given, if no disk call was made for it: it may find no memory for long. The journal is then at
+    /// rest. It takes no memory.
+    pub fn withdraw(&mut self) -> Option<Batch>
+        ensures withdrawn { IsWithdrawn self.old.stage self.new.stage result }
+        ensures published { self.new.published ≡ self.old.published }
+    {
+        replace_with(&mut self.stage, (), without_batch)
+    }
+
     /// Makes the journal's next disk call: of the batch that was given or, where too few slots are free for it, of a checkpoint;
     /// where no batch was given, of the checkpoint that is due, which is then paused until the next call.
     ///
@@ -179,6 +188,16 @@ fn with_batch<D: SectorDisk>(
             )
         }
         _ => unreachable!(),
+    }
+}
+
+// The stage without the batch for which no disk call was made, and that batch.
+fn without_batch<D: SectorDisk>(stage: FlushStage<D>, _call: ()) -> (FlushStage<D>, Option<Batch>)
+    ensures { IsWithdrawn stage result.0 result.1 }
+{
+    match stage {
+        FlushStage::Given(journal, batch) => (FlushStage::Resting(journal), Some(batch)),
+        other => (other, None),
     }
 }
 

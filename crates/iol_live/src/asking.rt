@@ -9,7 +9,7 @@ use crossbeam_channel::{Receiver, Sender};
 use iol_commands::Fault;
 use iol_disk::SectorDisk;
 use iol_front::Name;
-use iol_master::{Client, Master};
+use iol_master::{CallFault, Client, Master};
 use iol_types::{Change, PORTS, PortId};
 use std::alloc::{AllocError, Global};
 use std::io::Write;
@@ -20,15 +20,15 @@ use std::thread::{JoinHandle, Threads};
 // How many receipts may wait until they are told.
 const ROOM: usize = 64;
 
-// The clients that were started: each brings back whether all that it asked for was granted.
-type Asking = Vec<JoinHandle<bool>>;
+// The clients that were started: each ends with why one of its calls has no receipt, if one has none.
+type Asking = Vec<JoinHandle<Result<(), CallFault>>>;
 
 // Asks a master for changes, those of each port one after another, and tells each receipt as it comes. There is one for each
 // change.
 //
 // # Errors
-// `Memory`, `Thread` where a client's thread was not made, and `Call` where a change has no receipt, once all clients have
-// ended.
+// `Memory`, `Thread` where a client's thread was not made, and `Call` where a change was refused, once all clients have ended. A
+// change that was taken and has no receipt is `Memory`: no memory came for it, unless the disk failed, which is told in its place.
 pub(crate) fn ask_all<
     D: SectorDisk + Drop + Send + 'static,
     F: Name + 'static,
@@ -55,7 +55,8 @@ pub(crate) fn ask_all<
     let count = hear(rt, heard, telling, err);
     let granted = join_all(rt, clients);
     started?;
-    if granted && count == changes.len() {
+    granted?;
+    if count == changes.len() {
         Ok(())
     } else {
         Err(Fault::Call)
@@ -198,38 +199,40 @@ fn spawn_client<F: Name + 'static, R: Threads + Wait + Copy + Send + 'static>(
     }
 }
 
-// Asks for changes, one after another, and tells each receipt. Whether each was granted.
+// Asks for changes, one after another, and tells each receipt. Ends at the first that has none.
 fn ask<F: Name, R: Wait>(
     rt: &R,
     mut client: Client<F>,
     asked: &[Change],
     told: &Sender<Told, Global>,
-) -> bool {
+) -> Result<(), CallFault> {
     for change in asked {
-        let Some(number) = number_of(rt, &mut client, *change) else {
-            return false;
-        };
-        if !tell(rt, told, port_of(*change), number) {
-            return false;
+        match number_of(rt, &mut client, *change) {
+            Ok(number) => tell(rt, told, port_of(*change), number),
+            Err(fault) => return Err(fault),
         }
     }
-    true
+    Ok(())
 }
 
-// Tells a receipt, and says whether it is heard.
-fn tell<R: Wait>(rt: &R, told: &Sender<Told, Global>, port: PortId, number: u64) -> bool {
-    told.send(rt, Told { port, number }).is_ok()
+// Tells a receipt. One that is not heard is not counted.
+fn tell<R: Wait>(rt: &R, told: &Sender<Told, Global>, port: PortId, number: u64) {
+    let _ = told.send(rt, Told { port, number });
 }
 
 // The number under which a change is durable, where the client gets its receipt.
-fn number_of<F: Name, R: Wait>(rt: &R, client: &mut Client<F>, change: Change) -> Option<u64> {
+fn number_of<F: Name, R: Wait>(
+    rt: &R,
+    client: &mut Client<F>,
+    change: Change,
+) -> Result<u64, CallFault> {
     let answer = match change {
         Change::Configure { port, config } => client.configure(rt, port, config),
         Change::Clear { port } => client.clear(rt, port),
     };
     match answer {
-        Ok(receipt) => Some(receipt.number),
-        Err(_) => None,
+        Ok(receipt) => Ok(receipt.number),
+        Err(fault) => Err(fault),
     }
 }
 
@@ -251,11 +254,28 @@ fn hear<E: Write, R: Wait>(
     count
 }
 
-// Waits until these clients have ended. Whether each was granted all that it asked for.
-fn join_all<R: Threads>(rt: &R, clients: Asking) -> bool {
-    let mut all = true;
+// Waits until these clients have ended, and says why one has no receipt.
+//
+// # Errors
+// `Memory` where a change was taken and has no receipt, or else `Call` where one was refused.
+fn join_all<R: Threads>(rt: &R, clients: Asking) -> Result<(), Fault<'static>>
+    ensures cause { IfErr result IsRunCause }
+    ensures status { IfErr result (λ fault. status_of fault ≡ 1) }
+{
+    let mut refused = false;
+    let mut unsure = false;
     for client in clients {
-        all &= client.join(rt);
+        match client.join(rt) {
+            Ok(()) => {}
+            Err(CallFault::Unsure) => unsure = true,
+            Err(_) => refused = true,
+        }
     }
-    all
+    if unsure {
+        Err(Fault::Memory)
+    } else if refused {
+        Err(Fault::Call)
+    } else {
+        Ok(())
+    }
 }

@@ -1,6 +1,7 @@
 -- What a client reads, and why it reads nothing.
 use Rattle.std.proofs.Common.{◌≡◌, refl, ◌≤◌, ℕ, ◌+◌, ◌-◌, zero, suc, nat_le, Bool, true, false, if◌then◌else◌, List, [], ◌∷◌, length, take}
-use Rattle.std.proofs.Common.{Option, Some, None, IsNone, IfSome, Result, Ok, Err, IfOk, OnOk, slice_get, sym, ap, ◌∙◌, subst, arith}
+use Rattle.std.proofs.Common.{Option, Some, None, true≢false, IsNone, IsSome, IfSome, Result, Ok, Err, IfOk, OnErr, OnOk, slice_get, sym}
+use Rattle.std.proofs.Common.{ap, ◌∙◌, subst, arith}
 use Rattle.std.specs.Option.{option_map}
 use mathlib.Core.List.{IsPrefix}
 use Rattle.iol_types.proofs.StateLemmas.{length-after}
@@ -9,6 +10,7 @@ use Rattle.iol_types.specs.State.{Port, State, port_numbered}
 use Rattle.iol_front.specs.Fronts.{Start}
 use Rattle.iol_core.proofs.Standing.{stands_later}
 use Rattle.iol_core.specs.Core.{CoreView}
+use Rattle.iol_core.specs.Downloads.{durable_set, stored_at}
 use Rattle.iol_core.specs.Ports.{view_at}
 use Rattle.iol_core.specs.Standing.{Stands, state_at}
 use Rattle.iol_core.specs.declared.port.View.{View}
@@ -32,6 +34,13 @@ unknown_before : (start : Start) (seen : List CommandValue) (number port : ℕ) 
 unknown_before start seen number port state stands is =
     lacks_place (nat_le 1 port) state start.state (port - 1)
     (sym (ap length stands.state ∙ length-after start.state (take (number - start.number) seen))) is
+
+-- a port that the state lacked before, it lacks after some commands
+unknown_later : (start : Start) (seen : List CommandValue) (number port : ℕ) (state : State) → Stands start seen number state
+    → IsUnknown start.state port → IsUnknown state port
+unknown_later start seen number port state stands is =
+    lacks_place (nat_le 1 port) start.state state (port - 1)
+    (ap length stands.state ∙ length-after start.state (take (number - start.number) seen)) is
 
 -- the port that is answered is that of the client's own list
 pub view_later : (start : Start) (core : CoreView) (later : List CommandValue) (port : ℕ) (p : Port)
@@ -93,3 +102,15 @@ no_views start core new port (Ok found) is others stands = λ none.
     no_view (port_numbered core.durable port) core.number (subst (λ (v : Option View). IsNone v) is none) in
     unknown_before start new.seen new.number port new.durable stands
     (ap (λ (c : CoreView). port_numbered c.durable port) others ∙ gone)
+
+-- a port for whose set memory is out is one that the master has
+pub refused_known : {A E : Type 0} (start : Start) (core new : CoreView) (port : ℕ) (answer : Result A E)
+    → OnErr answer (IsSome (durable_set core port)) → new ≡ record core { seen = new.seen }
+    → Stands start new.seen new.number new.durable → OnErr answer (IsUnknown start.state port → ⊥)
+refused_known start core new port (Ok a) some others stands = tt
+refused_known start core new port (Err why) some others stands = λ unknown.
+    let later : IsUnknown new.durable port = unknown_later start new.seen new.number port new.durable stands unknown in
+    let durable : new.durable ≡ core.durable = ap (λ (c : CoreView). c.durable) others in
+    let none : IsUnknown core.durable port = subst (λ (s : State). IsUnknown s port) durable later in
+    let wrong : IsSome (stored_at None) = subst (λ (p : Option Port). IsSome (stored_at p)) none some in
+    absurd (true≢false (sym wrong))

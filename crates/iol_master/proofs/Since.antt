@@ -13,7 +13,7 @@ use Rattle.iol_journal.specs.Batch.{Batch}
 use Rattle.iol_flush.specs.Flushing.{IsSound}
 use Rattle.iol_flush.specs.Stages.{FlusherView, disk_of, failure_of, wants_checkpoint, next_calls}
 use Rattle.iol_flush.specs.Steps.{HasAdvanced, HasBegun, HasMadeOfCheckpoint, HasMade, HasPublished}
-use Rattle.iol_flush.specs.Steps.{HasTaken, HasMadeOfBatch, IsDiskStep, IsGift, IsPublished}
+use Rattle.iol_flush.specs.Steps.{HasTaken, HasMadeOfBatch, IsDiskStep, IsGift, IsPublished, IsWithdrawn}
 use Rattle.iol_flush.specs.declared.fault.FlushFault.{FlushFault}
 use Rattle.iol_flush.specs.declared.fault.FlushFault.TheVariants as fault
 use Rattle.iol_flush.specs.declared.fault.GiveFault.{GiveFault}
@@ -164,6 +164,27 @@ module _ {D : Type 0} (disk : D → Disk) where
       → IsSince disk old new
   since_gift old batch new (Ok done) gift = given old batch new gift
   since_gift old batch new (Err (give.Stopped back)) gift = since_same old new gift.1
+
+  -- a batch is taken back
+  pub since_withdrawn : (old new : FlushStage D) (back : Option Batch) → IsWithdrawn old new back → IsSince disk old new
+  since_withdrawn (Given j b) new (Some back) is = subst (λ (s : FlushStage D). IsSince disk (Given j b) s) (sym is.0) (record {
+    sound = λ sound. sound;
+    counts = λ none. refl;
+    failed = λ cause told. absurd (tells_none None cause refl told);
+  })
+  since_withdrawn (Given j b) new None is = absurd is
+  since_withdrawn (Resting j) new (Some back) is = absurd is
+  since_withdrawn (Resting j) new None is = since_same (Resting j) new is
+  since_withdrawn (Opening c) new (Some back) is = absurd is
+  since_withdrawn (Opening c) new None is = since_same (Opening c) new is
+  since_withdrawn (Checkpointing k b) new (Some back) is = absurd is
+  since_withdrawn (Checkpointing k b) new None is = since_same (Checkpointing k b) new is
+  since_withdrawn (Writing w) new (Some back) is = absurd is
+  since_withdrawn (Writing w) new None is = since_same (Writing w) new is
+  since_withdrawn (Publishing j w) new (Some back) is = absurd is
+  since_withdrawn (Publishing j w) new None is = since_same (Publishing j w) new is
+  since_withdrawn (Failed d f) new (Some back) is = absurd is
+  since_withdrawn (Failed d f) new None is = since_same (Failed d f) new is
 
   -- a batch is published
   published : (old : FlushStage D) (list : List CommandValue) (new : FlusherView D) (committed : CommittedView)

@@ -79,6 +79,14 @@ pub nobody_waits : (queue : List CommandValue) → AreCallersOf queue (replicate
 nobody_waits [] = tt
 nobody_waits (command ∷ queue) = nobody_waits queue
 
+-- once all who wait were let go, nobody waits at the places that they had
+pub nobody_left : (was queue : List CommandValue) (before after : List (Option Change)) (places : ℕ) → AreCallersOf was before
+    → length queue ≡ length was → length before ≡ places → after ≡ replicate places None → AreCallersOf queue after
+nobody_left was queue before after places are same count is =
+    let all : places ≡ length queue = sym count ∙ (as_many was before are ∙ sym same) in
+    subst (λ (callers : List (Option Change)). AreCallersOf queue callers)
+    (sym (is ∙ ap (λ (n : ℕ). replicate n None) all)) (nobody_waits queue)
+
 -- who asked at a place asked for the command there
 pub asked_at : (queue : List CommandValue) (callers : List (Option Change)) (place : ℕ) (change : Change) → AreCallersOf queue callers
     → slice_get callers place ≡ Some (Some change) → slice_get queue place ≡ Some (command_of change)

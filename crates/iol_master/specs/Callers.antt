@@ -1,11 +1,14 @@
 -- What the lock of a master guards: the core, and who waits for which of its commands.
-use Rattle.std.specs.Prelude.{◌≡◌, ℕ, List, [], ◌∷◌, Option, Some, None}
+use Rattle.std.specs.Prelude.{◌≡◌, ℕ, Bool, true, false, List, [], ◌∷◌, Option, Some, None}
 use Rattle.std.specs.Option.{option_map}
 use Rattle.iol_types.specs.Command.{CommandValue, command_of}
 use Rattle.iol_types.specs.declared.command.Change.{Change}
 use Rattle.iol_core.specs.Core.{CoreView}
+use Rattle.iol_core.specs.Submit.{stopped_by}
+use Rattle.iol_core.specs.declared.stop.StopCause.TheVariants.{DiskFailed}
 use Rattle.iol_master.specs.declared.caller.Caller.{Caller}
 use Rattle.iol_master.specs.declared.guarded.Phase.{Phase}
+use Rattle.iol_master.specs.declared.guarded.Phase.TheVariants.{Running}
 
 -- what a caller asked for that waits, if one does (own)
 abbrev pub asked : {F : Type 0} → Option (Caller F) → Option Change
@@ -25,3 +28,13 @@ pub record GuardedView : Type 0 where
   pub callers : List (Option Change)
   pub wakes : List ℕ
   pub phase : Phase
+
+-- a run is to end once ports are no longer served as they come (own)
+abbrev pub ends : Phase → Bool
+ends Running = false
+ends phase = true
+
+-- a core for whose commands no memory comes: where the run is to end nothing more is written, as if a disk call had failed (own)
+abbrev pub given_up : Phase → CoreView → CoreView
+given_up Running core = core
+given_up phase core = record core { stopped = Some (stopped_by core.stopped DiskFailed) }

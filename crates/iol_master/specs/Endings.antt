@@ -11,8 +11,9 @@ use Rattle.iol_flush.specs.declared.flusher.FlushEnd.{FlushEnd}
 use Rattle.iol_flush.specs.declared.flusher.FlushEnd.TheVariants as flush
 use Rattle.iol_flush.specs.declared.need.Need.TheVariants as need
 use Rattle.iol_flush.specs.declared.stage.FlushStage.{FlushStage}
+use Rattle.iol_flush.specs.declared.stage.FlushStage.TheVariants.{Resting, Given}
 use Rattle.iol_master.specs.declared.flushing.Turned.{Turned}
-use Rattle.iol_master.specs.declared.flushing.Turned.TheVariants.{Made, Ended}
+use Rattle.iol_master.specs.declared.flushing.Turned.TheVariants.{Made, Waited, Ended}
 use Rattle.iol_master.specs.declared.ending.Ending.{Ending}
 use Rattle.iol_master.specs.declared.ending.Ending.TheVariants as ending
 use Rattle.iol_master.specs.declared.ending.StartFault.{StartFault}
@@ -21,7 +22,20 @@ use Rattle.iol_master.specs.declared.ending.StartFault.TheVariants as start_faul
 -- a flusher ends where it may be given a batch, or where a disk call has failed (own)
 abbrev pub MayEnd : {D : Type 0} → FlushStage D → Turned → Type 0
 MayEnd stage Made = Unit {0}
+MayEnd stage Waited = Unit {0}
 MayEnd stage Ended = (names_batch (need_of stage) ≡ true) ⊎ (need_of stage ≡ need.Stopped)
+
+-- a flusher waits for memory where no disk call of a batch is made: its journal is at rest (own)
+abbrev pub MayWait : {D : Type 0} → FlushStage D → Type 0
+MayWait (Resting journal) = Unit {0}
+MayWait (Given journal batch) = Unit {0}
+MayWait stage = ⊥
+
+-- a turn leaves a flusher where it may wait, or where it may end, if it does (own)
+abbrev pub MayTurn : {D : Type 0} → FlushStage D → Turned → Type 0
+MayTurn stage Made = Unit {0}
+MayTurn stage Waited = MayWait stage
+MayTurn stage Ended = MayEnd stage Ended
 
 -- all that a journal has written in this run is published; and where each image was kept at the start, each is, and means the state
 -- after what is published (own)
@@ -47,9 +61,9 @@ IsLeft {D} disk start first left =
     HasFailed (disk first.disk) (disk left)
     ⊎ ((last : JournalView D) × (published : List CommandValue) × IsWhole disk start first last published × (left ≡ last.disk))
 
--- why a master does not start, and what it hands back: there is not one link for each port, or memory is out, and the disk is the
--- journal's; or a thread was not made, and the threads that were have ended again (own)
+-- why a master does not start, and what it hands back: there is not one link for each port, and the disk is the journal's. Where there
+-- is one, memory is out, and the disk is the journal's; or a thread was not made, and the threads that were have ended again (own)
 abbrev pub IsStartFault : {D : Type 0} → (D → Disk) → Start → JournalView D → ℕ → StartFault D → Type 0
 IsStartFault disk start first links (start_fault.Ports left) = (left ≡ first.disk) × (links ≢ length start.state)
-IsStartFault disk start first links (start_fault.Memory left) = left ≡ first.disk
-IsStartFault disk start first links (start_fault.Thread left) = IsLeft disk start first left
+IsStartFault disk start first links (start_fault.Memory left) = (left ≡ first.disk) × (links ≡ length start.state)
+IsStartFault disk start first links (start_fault.Thread left) = IsLeft disk start first left × (links ≡ length start.state)

@@ -28,8 +28,9 @@ abbrev pub IsCallFault : Start → ℕ → CommandValue → CallFault → Type 0
 IsCallFault start seen command (call.Submit fault) = IsRefused start seen command fault
 IsCallFault start seen command fault = Unit {0}
 
--- why a client that had seen so many commands reads nothing: the master has no such port, or it answered of fewer commands (own)
+-- why a client that had seen so many commands reads nothing: the master has no such port, memory is out for one that it has, or it
+-- answered of fewer commands (own)
 abbrev pub IsReadFault : State → ℕ → ℕ → ReadFault → Type 0
 IsReadFault state port count read.UnknownPort = IsUnknown state port
-IsReadFault state port count read.Memory = Unit {0}
+IsReadFault state port count read.Memory = IsUnknown state port → ⊥
 IsReadFault state port count (read.Behind seen) = seen ≡ count

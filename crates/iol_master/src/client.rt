@@ -1,6 +1,6 @@
 //! Clients, which any threads may have.
 
-ghost use Rattle.std.specs.Prelude.{◌≡◌, ◌+◌, ◌<◌, ◌≤◌, length, IfErr, IfOk, IfSome, IsNone, IsTrue, Some};
+ghost use Rattle.std.specs.Prelude.{◌≡◌, ◌+◌, ◌<◌, ◌≤◌, length, IfErr, IfOk, IfSome, IsNone, IsTrue, OnErr, Some};
 ghost use mathlib.Core.List.{IsPrefix};
 ghost use Rattle.iol_types.specs.Command.{command_of};
 ghost use Rattle.iol_types.specs.State.{port_numbered};
@@ -65,8 +65,8 @@ pub enum CallFault {
     /// The core did not take it.
     #[error("{0}")]
     Submit(SubmitFault),
-    /// The disk failed before it was known to be durable: after a recovery it may be there or not.
-    #[error("the disk failed before the answer")]
+    /// The disk failed before it was known to be durable, or no memory came for it: after a recovery it may be there or not.
+    #[error("not known to be durable")]
     Unsure,
 }
 
@@ -103,7 +103,8 @@ impl<F: Name> Client<F> {
     ///
     /// # Errors
     /// `Memory` before anything is asked for; `Submit` with the first cause for which the core refuses it; `Unsure` where the disk
-    /// failed meanwhile. What the client has seen is as before.
+    /// failed meanwhile, or no memory came for the command within a second or so: it is still written where memory comes later. What
+    /// the client has seen is as before.
     pub fn configure<R: Wait>(
         &mut self,
         rt: &R,
@@ -168,7 +169,7 @@ impl<F: Name> Client<F> {
     /// The durable state of a port, with the number of the last durable command: no fewer than the client had seen.
     ///
     /// # Errors
-    /// `Memory`; `UnknownPort`; and `Behind`, after which the call may be made again.
+    /// `Memory`, of a port that the master has; `UnknownPort`; and `Behind`, after which the call may be made again.
     pub fn read<R: Wait>(&mut self, rt: &R, port: PortId) -> Result<View, ReadFault>
         ensures kept { IsPrefix self.old self.new }
         ensures number { IfOk result (λ view. (F.front.start.number + length self.old ≤ view.number)
@@ -241,6 +242,7 @@ fn view<F: Name, R: Wait>(
     ensures port { IfOk result (λ found. IfSome found (λ view.
         port_numbered (state_at F.front.start pass.new view.number) port ≡ Some view.port)) }
     ensures unknown { IfOk result (λ found. IsNone found → IsUnknown F.front.start.state port) }
+    ensures memory { OnErr result (IsUnknown F.front.start.state port → ⊥) }
 {
     shared.guarded.lock(rt).view(port, pass)
 }

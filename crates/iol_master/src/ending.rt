@@ -7,7 +7,7 @@ use iol_journal::Journal;
 /// How a master ends.
 #[derive(Drop)]
 pub enum Ending<D: SectorDisk, F: Name> {
-    /// All that was taken is durable and published.
+    /// All that was taken is durable and published, but for what no memory came for at the end.
     Closed(Journal<D>, Publisher<F>),
     /// A disk call failed. The disk may be recovered again, unless it was a sync: such a disk is not gone on with.
     Faulted(D, DiskFault),

@@ -5,7 +5,7 @@ ghost use Rattle.iol_record.specs.declared.encode.TheConstants.{LARGEST_COMMAND_
 ghost use Rattle.iol_flush.specs.Stages.{HasHistory, names_disk, need_of};
 ghost use Rattle.iol_flush.specs.declared.need.Need.TheVariants as need;
 ghost use Rattle.iol_flush.specs.declared.stage.FlushStage.TheVariants as stage;
-ghost use Rattle.iol_master.specs.Endings.{EndsFrom, MayEnd};
+ghost use Rattle.iol_master.specs.Endings.{EndsFrom, MayEnd, MayTurn, MayWait};
 ghost use Rattle.iol_master.specs.Since.{IsSince};
 
 use crate::client::Shared;
@@ -20,6 +20,9 @@ use std::snapshot::Snapshot;
 use std::sync::{Arc, MutexGuard, Wait};
 use std::thread;
 use std::thread::Promise;
+
+// How often in a row a batch may find no memory until those who wait are told so: about a second.
+const MOST_WAITS: u32 = 250_000;
 
 /// What the thread of the flusher is given: a journal and the publisher of its list. It makes the flusher itself, which may hold a
 /// batch that is durable and so goes into no closure. A contract sees the journal.
@@ -68,7 +71,8 @@ impl<D: SectorDisk, F: Name> Promise<FlushEnd<D, F>> for FromCharge<D, F> {
     ghost kept_by = { λ p end. EndsFrom D.disk F.front.start p.0.value end };
 }
 
-// Brings batches to the disk until no more is taken and nothing waits, or a disk call fails.
+// Brings batches to the disk until no more is taken and nothing waits, or a disk call fails; or until no memory is left for a batch,
+// where the run is to end.
 pub(crate) fn flush_all<D: SectorDisk, F: Name, R: Wait + Copy>(
     rt: R,
     shared: Arc<Shared<F>, Global>,
@@ -77,10 +81,10 @@ pub(crate) fn flush_all<D: SectorDisk, F: Name, R: Wait + Copy>(
     ensures { EndsFrom D.disk F.front.start charge result }
 {
     let mut flusher = charge.flusher();
+    let mut waits = 0;
     for _ in rt.forever() {
-        match turn(&rt, &shared, &mut flusher) {
-            Turned::Made => {}
-            Turned::Ended => return flusher.end(),
+        if let Turned::Ended = turn(&rt, &shared, &mut flusher, &mut waits) {
+            return flusher.end();
         }
     }
     unreachable!()
@@ -90,17 +94,64 @@ pub(crate) fn flush_all<D: SectorDisk, F: Name, R: Wait + Copy>(
 #[derive(Clone, Copy)]
 pub(crate) enum Turned {
     Made,
+    // There was no memory for a batch or for a checkpoint.
+    Waited,
     Ended,
 }
 
-// Meets the flusher's next need.
+// Meets the flusher's next need, or waits for memory.
 fn turn<D: SectorDisk, F: Name, R: Wait>(
+    rt: &R,
+    shared: &Shared<F>,
+    flusher: &mut Flusher<D, F>,
+    waits: &mut u32,
+) -> Turned
+    ensures since { IsSince D.disk flusher.old.stage flusher.new.stage }
+    ensures ended { MayEnd flusher.new.stage result }
+{
+    match meet_need(rt, shared, flusher) {
+        Turned::Waited => wait(rt, shared, flusher, waits),
+        Turned::Made => {
+            *waits = 0;
+            Turned::Made
+        }
+        Turned::Ended => Turned::Ended,
+    }
+}
+
+// Waits for memory. Where none came so often, those who wait for a command are let go. If the run is to end, the flusher ends too, and
+// the batch that waits is not written.
+fn wait<D: SectorDisk, F: Name, R: Wait>(
+    rt: &R,
+    shared: &Shared<F>,
+    flusher: &mut Flusher<D, F>,
+    waits: &mut u32,
+) -> Turned
+    requires { MayWait flusher.old.stage }
+    ensures since { IsSince D.disk flusher.old.stage flusher.new.stage }
+    ensures ended { MayEnd flusher.new.stage result }
+{
+    thread::yield_now();
+    if *waits < MOST_WAITS {
+        *waits += 1;
+        return Turned::Waited;
+    }
+    *waits = 0;
+    if !shared.guarded.lock(rt).give_up() {
+        return Turned::Waited;
+    }
+    let _unwritten = flusher.withdraw();
+    Turned::Ended
+}
+
+// Meets the flusher's next need.
+fn meet_need<D: SectorDisk, F: Name, R: Wait>(
     rt: &R,
     shared: &Shared<F>,
     flusher: &mut Flusher<D, F>,
 ) -> Turned
     ensures since { IsSince D.disk flusher.old.stage flusher.new.stage }
-    ensures ended { MayEnd flusher.new.stage result }
+    ensures turned { MayTurn flusher.new.stage result }
 {
     match flusher.needs() {
         Need::Batch => take(rt, shared, flusher),
@@ -111,7 +162,7 @@ fn turn<D: SectorDisk, F: Name, R: Wait>(
     }
 }
 
-// Makes the next disk call, without the lock. One that wants memory, or whose batch does not fit, is made again.
+// Makes the next disk call, without the lock. One that finds no memory, or whose batch does not fit, is made again.
 fn call_disk<D: SectorDisk, F: Name, R: Wait>(
     rt: &R,
     shared: &Shared<F>,
@@ -119,14 +170,18 @@ fn call_disk<D: SectorDisk, F: Name, R: Wait>(
 ) -> Turned
     requires { names_disk (need_of flusher.old.stage) ≡ true }
     ensures since { IsSince D.disk flusher.old.stage flusher.new.stage }
-    ensures ended { MayEnd flusher.new.stage result }
+    ensures turned { MayTurn flusher.new.stage result }
 {
     match flusher.disk_step() {
-        Ok(()) => {}
-        Err(FlushFault::Disk(_)) => shared.guarded.lock(rt).fail(),
-        Err(_) => thread::yield_now(),
+        Ok(()) => Turned::Made,
+        Err(FlushFault::Disk(_)) => {
+            shared.guarded.lock(rt).fail();
+            Turned::Made
+        }
+        Err(FlushFault::Stopped) => Turned::Made,
+        Err(FlushFault::Memory) => Turned::Waited,
+        Err(FlushFault::Misfit) => Turned::Waited,
     }
-    Turned::Made
 }
 
 // Publishes the batch that is durable, and has it acknowledged.
@@ -137,7 +192,7 @@ fn publish<D: SectorDisk, F: Name, R: Wait>(
 ) -> Turned
     requires { need_of flusher.old.stage ≡ need.Publish }
     ensures since { IsSince D.disk flusher.old.stage flusher.new.stage }
-    ensures ended { MayEnd flusher.new.stage result }
+    ensures turned { MayTurn flusher.new.stage result }
 {
     if let Ok(committed) = flusher.publish() {
         let _ = shared.guarded.lock(rt).acknowledge(rt, committed);
@@ -175,7 +230,7 @@ fn take<D: SectorDisk, F: Name, R: Wait>(
 ) -> Turned
     requires { need_of flusher.old.stage ≡ need.Batch }
     ensures since { IsSince D.disk flusher.old.stage flusher.new.stage }
-    ensures ended { MayEnd flusher.new.stage result }
+    ensures turned { MayTurn flusher.new.stage result }
 {
     let guarded = shared
         .work
@@ -183,11 +238,15 @@ fn take<D: SectorDisk, F: Name, R: Wait>(
     match find(guarded, flusher.room()) {
         Found::Batch(batch) => {
             let _ = flusher.give(batch);
+            Turned::Made
         }
-        Found::Closed => return Turned::Ended,
-        Found::Nothing | Found::NoMemory => thread::yield_now(),
+        Found::Nothing => {
+            thread::yield_now();
+            Turned::Made
+        }
+        Found::Closed => Turned::Ended,
+        Found::NoMemory => Turned::Waited,
     }
-    Turned::Made
 }
 
 // Takes a batch, or where there is none makes the next disk call of the checkpoint that is due. At the end it is left paused.
@@ -198,15 +257,15 @@ fn take_or_call<D: SectorDisk, F: Name, R: Wait>(
 ) -> Turned
     requires { need_of flusher.old.stage ≡ need.BatchOrDisk }
     ensures since { IsSince D.disk flusher.old.stage flusher.new.stage }
-    ensures ended { MayEnd flusher.new.stage result }
+    ensures turned { MayTurn flusher.new.stage result }
 {
     match find(shared.guarded.lock(rt), flusher.room()) {
         Found::Batch(batch) => {
             let _ = flusher.give(batch);
+            Turned::Made
         }
-        Found::Nothing => return call_disk(rt, shared, flusher),
-        Found::Closed => return Turned::Ended,
-        Found::NoMemory => thread::yield_now(),
+        Found::Nothing => call_disk(rt, shared, flusher),
+        Found::Closed => Turned::Ended,
+        Found::NoMemory => Turned::Waited,
     }
-    Turned::Made
 }

@@ -1,20 +1,21 @@
 //! What the lock guards: the core, who waits for which of its commands, and what wakes the ports.
 
 ghost use Rattle.std.specs.Prelude.{◌≡◌, ◌++◌, ◌≤◌, [], ◌∷◌, drop, length, map, replicate, take, true, IfErr, IfOk, OnErr, OnOk};
-ghost use Rattle.std.specs.Prelude.{None, Some, ◌-◌, slice_get, slice_index};
+ghost use Rattle.std.specs.Prelude.{None, Some, IsSome, ◌-◌, slice_get, slice_index};
 ghost use Rattle.std.specs.VecDeque.{deque_capacity};
 ghost use mathlib.Core.List.{IsPrefix};
 ghost use Rattle.iol_types.specs.Command.{command_of};
 ghost use Rattle.iol_record.specs.declared.encode.TheConstants.{LARGEST_COMMAND_RECORD};
 ghost use Rattle.iol_core.specs.Batches.{IsInFlight, IsStranger, IsTake, acknowledged, has_batch};
 ghost use Rattle.iol_core.specs.Core.{IsCore, live_number};
+ghost use Rattle.iol_core.specs.Downloads.{durable_set};
 ghost use Rattle.iol_core.specs.Ports.{view_at};
 ghost use Rattle.iol_core.specs.Standing.{Stands};
 ghost use Rattle.iol_core.specs.Submit.{IsSubmit, stopped_by};
 ghost use Rattle.iol_core.specs.declared.stop.StopCause.TheVariants.{Closed, DiskFailed};
 ghost use Rattle.iol_port.specs.Calls.{IsReplyTo, MayBeMade, Replies, call_of};
 ghost use Rattle.iol_port.specs.Ending.{ended};
-ghost use Rattle.iol_master.specs.Callers.{AreCallersOf, asked};
+ghost use Rattle.iol_master.specs.Callers.{AreCallersOf, asked, ends, given_up};
 ghost use Rattle.iol_master.specs.Wakes.{AreWoken, port_of, woken};
 ghost use Rattle.iol_master.specs.declared.guarded.Phase.TheVariants as phase;
 
@@ -116,6 +117,7 @@ impl<F: Name> Guarded<F> {
         pass: &mut Pass<F>,
     ) -> Result<Option<View>, AllocError>
         ensures view { IfOk result (λ view. view ≡ view_at self.old.core port) }
+        ensures memory { OnErr result (IsSome (durable_set self.old.core port)) }
         ensures others { self.new ≡ record self.old { core = record self.old.core { seen = self.new.core.seen } } }
         ensures kept { IsPrefix self.old.core.seen self.new.core.seen × IsPrefix pass.old pass.new }
         ensures met { OnOk result (IsPrefix self.new.core.seen pass.new) }
@@ -185,6 +187,22 @@ impl<F: Name> Guarded<F> {
     {
         self.core.stop(StopCause::DiskFailed);
         let_go(&mut self.callers);
+    }
+
+    // Memory for what waits did not come: who waits hears that. Where the run is to end nothing more is written, which is answered.
+    pub(crate) fn give_up(&mut self) -> bool
+        ensures core { self.new.core ≡ given_up self.old.phase self.old.core }
+        ensures callers { self.new.callers ≡ replicate (length self.old.callers) None }
+        ensures phase { self.new.phase ≡ self.old.phase }
+        ensures ends { result ≡ ends self.old.phase }
+    {
+        if self.phase == Phase::Running {
+            let_go(&mut self.callers);
+            false
+        } else {
+            self.fail();
+            true
+        }
     }
 
     // Ports end where they settle, once each has been woken.

@@ -87,7 +87,7 @@ impl<D: SectorDisk + Drop + Send + 'static, F: Name + 'static> Master<D, F> {
     }
 
     /// Ends the run: each port is woken once more and runs until it is settled, what waits is brought to the disk, and all threads
-    /// have ended.
+    /// have ended. Where no memory comes for what waits, within a second or so, it is not written; those who waited for it heard so.
     pub fn shutdown<R: Threads + Wait>(self, rt: &R) -> Ending<D, F>
         ensures { IsEnding D.disk F.front.start self result }
     {

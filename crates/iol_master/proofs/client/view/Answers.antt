@@ -3,7 +3,7 @@ use Rattle.iol_types.specs.State.{port_numbered}
 use Rattle.iol_core.specs.Standing.{state_at}
 use Rattle.iol_core.specs.declared.port.View.{View}
 use Rattle.iol_master.specs.Callers.{GuardedView}
-use Rattle.iol_master.proofs.Reading.{first_of, no_views, second_of, views}
+use Rattle.iol_master.proofs.Reading.{first_of, no_views, refused_known, second_of, views}
 use Rattle.iol_master.proofs.client.view.Goals as goal
 
 pub returns-clause-number : goal.returns-clause-number
@@ -25,4 +25,9 @@ returns-clause-port g c =
 pub returns-clause-unknown : goal.returns-clause-unknown
 returns-clause-unknown g c =
     no_views g.F.Name.front.start c.deref_mut.result.now.core c.view.new.self.core c.args.port c.view.result c.view.ensures.view
+    (ap (λ (v : GuardedView). v.core) c.view.ensures.others) c.view.ensures.stands
+
+pub returns-clause-memory : goal.returns-clause-memory
+returns-clause-memory g c =
+    refused_known g.F.Name.front.start c.deref_mut.result.now.core c.view.new.self.core c.args.port c.view.result c.view.ensures.memory
     (ap (λ (v : GuardedView). v.core) c.view.ensures.others) c.view.ensures.stands

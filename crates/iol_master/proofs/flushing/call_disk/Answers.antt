@@ -15,7 +15,17 @@ returns-in-Err-Disk-clause-since g c =
     since_step g.D.SectorDisk.disk c.args.flusher.now.stage c.disk_step.new.self.stage c.disk_step.result c.disk_step.ensures.step
     c.disk_step.ensures.sound
 
-pub returns-in-Err-clause-since : goal.returns-in-Err-clause-since
-returns-in-Err-clause-since g c =
+pub returns-in-Err-Stopped-clause-since : goal.returns-in-Err-Stopped-clause-since
+returns-in-Err-Stopped-clause-since g c =
+    since_step g.D.SectorDisk.disk c.args.flusher.now.stage c.disk_step.new.self.stage c.disk_step.result c.disk_step.ensures.step
+    c.disk_step.ensures.sound
+
+pub returns-in-Err-Memory-clause-since : goal.returns-in-Err-Memory-clause-since
+returns-in-Err-Memory-clause-since g c =
+    since_step g.D.SectorDisk.disk c.args.flusher.now.stage c.disk_step.new.self.stage c.disk_step.result c.disk_step.ensures.step
+    c.disk_step.ensures.sound
+
+pub returns-in-Err-Misfit-clause-since : goal.returns-in-Err-Misfit-clause-since
+returns-in-Err-Misfit-clause-since g c =
     since_step g.D.SectorDisk.disk c.args.flusher.now.stage c.disk_step.new.self.stage c.disk_step.result c.disk_step.ensures.step
     c.disk_step.ensures.sound

@@ -13,4 +13,4 @@ returns-in-Ended g c =
 pub loop-preserved : goal.loop-preserved
 loop-preserved g c =
     let disk = g.D.SectorDisk.disk in
-    since_both disk (Resting c.args.charge) c.loop.flusher.stage c.turn.new.flusher.stage c.loop.invariant c.in-Made.ensures.since
+    since_both disk (Resting c.args.charge) c.loop.flusher.stage c.turn.new.flusher.stage c.loop.invariant c.turn.ensures.since

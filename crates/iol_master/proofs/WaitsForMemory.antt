@@ -1,0 +1,58 @@
+-- Where a flusher waits for memory, and that it may end from there.
+use Rattle.std.proofs.Common.{◌≡◌, true, false, Option, Some, None, if◌then◌else◌, refl, sym, ap, ◌∙◌, subst}
+use Rattle.iol_journal.specs.Batch.{Batch}
+use Rattle.iol_journal.specs.Journals.{JournalView}
+use Rattle.iol_flush.specs.Stages.{is_due, names_batch, need_of}
+use Rattle.iol_flush.specs.Steps.{IsUnfit, IsWithdrawn, MayWant}
+use Rattle.iol_flush.specs.declared.need.Need.TheVariants as need
+use Rattle.iol_flush.specs.declared.stage.FlushStage.{FlushStage}
+use Rattle.iol_flush.specs.declared.stage.FlushStage.TheVariants.{Resting, Opening, Given, Checkpointing, Writing, Publishing, Failed}
+use Rattle.iol_master.specs.Endings.{MayWait}
+
+module _ {D : Type 0} where
+  -- a disk call that wants memory is made of a journal at rest
+  wants : (stage : FlushStage D) → MayWant stage → MayWait stage
+  wants (Resting j) want = tt
+  wants (Given j b) want = tt
+  wants (Opening c) want = absurd want
+  wants (Checkpointing k b) want = absurd want
+  wants (Writing w) want = absurd want
+  wants (Publishing j w) want = absurd want
+  wants (Failed d f) want = absurd want
+
+  pub waits_for_memory : (old new : FlushStage D) → MayWant old → new ≡ old → MayWait new
+  waits_for_memory old new want same = subst (λ (s : FlushStage D). MayWait s) (sym same) (wants old want)
+
+  -- so is one whose batch does not fit
+  unfit : (stage : FlushStage D) → IsUnfit stage → MayWait stage
+  unfit (Given j b) is = tt
+  unfit (Resting j) is = absurd is
+  unfit (Opening c) is = absurd is
+  unfit (Checkpointing k b) is = absurd is
+  unfit (Writing w) is = absurd is
+  unfit (Publishing j w) is = absurd is
+  unfit (Failed d f) is = absurd is
+
+  pub waits_unfit : (old new : FlushStage D) → IsUnfit old → new ≡ old → MayWait new
+  waits_unfit old new is same = subst (λ (s : FlushStage D). MayWait s) (sym same) (unfit old is)
+
+  -- a journal at rest may be given a batch
+  rest_names : (j : JournalView D) → names_batch (need_of (Resting j)) ≡ true
+  rest_names j =
+      elim (is_due j) as (λ due. names_batch (if due then need.BatchOrDisk else need.Batch) ≡ true) [ true ↦ refl | false ↦ refl ]
+
+  names : (new : FlushStage D) (j : JournalView D) → new ≡ Resting j → names_batch (need_of new) ≡ true
+  names new j is = ap (λ (s : FlushStage D). names_batch (need_of s)) is ∙ rest_names j
+
+  -- once the batch that waits is taken back, the flusher may end
+  pub ends_withdrawn : (old new : FlushStage D) (back : Option Batch) → MayWait old → IsWithdrawn old new back
+      → names_batch (need_of new) ≡ true
+  ends_withdrawn (Resting j) new None may is = names new j is
+  ends_withdrawn (Resting j) new (Some back) may is = absurd is
+  ends_withdrawn (Given j b) new (Some back) may is = names new j is.0
+  ends_withdrawn (Given j b) new None may is = absurd is
+  ends_withdrawn (Opening c) new back may is = absurd may
+  ends_withdrawn (Checkpointing k b) new back may is = absurd may
+  ends_withdrawn (Writing w) new back may is = absurd may
+  ends_withdrawn (Publishing j w) new back may is = absurd may
+  ends_withdrawn (Failed d f) new back may is = absurd may
