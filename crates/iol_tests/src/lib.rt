@@ -2,6 +2,7 @@
 //!
 //! - `answers`: ports whose devices give answers that no simulated device gives. `rows` is a table of these, and of what a
 //!   port makes of each; `exchanges` has what is said in them.
+//! - `random_devices`: ports whose devices answer random octets, over `random_link`; `random_told` judges what is told of them.
 //! - `isdu`: the codec beside a plain reader of ISDUs. `link`: a link of which nothing is said.
 //! - `plain`: a recovery beside `plain_reading`, which is written from docs/FORMATS.md alone. `example_store`: the store of `iol_example`.
 //! - `paused`: a checkpoint that is paused while batches are written.
@@ -42,6 +43,12 @@ mod paused;
 mod plain;
 #[cfg(test)]
 mod plain_reading;
+#[cfg(test)]
+mod random_devices;
+#[cfg(test)]
+mod random_link;
+#[cfg(test)]
+mod random_told;
 #[cfg(test)]
 mod rows;
 #[cfg(test)]
