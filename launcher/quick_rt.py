@@ -3,7 +3,8 @@
 
 `rt` compares sums to see what is built already. It makes the sum of a crate anew for each way that leads down to the crate: there are
 some 87,000 ways down from the program, so that most of a proof's time went there. Nothing else is changed: behind each call of the
-prover or the compiler all sums are made anew, so that a source that was changed meanwhile is seen.
+prover or the compiler all sums are made anew, so that a source that was changed meanwhile is seen. An `rt` that is another program than
+this one knows is run as it is.
 """
 
 import functools
@@ -46,5 +47,13 @@ def load():
     return rt
 
 
+def main(words):
+    try:
+        rt = load()
+    except (AttributeError, ImportError, OSError, SyntaxError):
+        os.execvp("rt", ["rt", *words])
+    return rt.main(words)
+
+
 if __name__ == "__main__":
-    sys.exit(load().main(sys.argv[1:]))
+    sys.exit(main(sys.argv[1:]))
