@@ -119,6 +119,14 @@ def over_all_slots():
     return image
 
 
+def over_17_slots():
+    image = Image(32, 18)
+    image.area("B", True, 2, 32, [port(IN_USE, 1)] * 32)
+    image.batch("B", 0, 2, 33, [store(1 + place, 1, LARGE_SET) for place in range(32)])
+    image.batch("B", 17, 2, 65, [bytes([2, 32])])
+    return image
+
+
 def with_large_sets():
     image = Image(32, 3)
     ports = [port(IN_USE, n, IN_USE, LARGE_SET) if n % 2 else port(IN_USE, n) for n in range(1, 33)]
@@ -143,6 +151,7 @@ IMAGES = {
     "a checkpoint": with_a_checkpoint,
     "long batches": with_long_batches,
     "all slots": over_all_slots,
+    "17 slots": over_17_slots,
     "large sets": with_large_sets,
     "the largest": largest,
 }
