@@ -4,9 +4,10 @@
 use crate::blank::{blank, config};
 use crate::random_link::{Chance, RandomLink};
 use crate::random_told::{Told, link_of, port, told_in};
+use arrayvec::ArrayVec;
 use iol_disk::{MemoryDisk, Pick};
-use iol_dsindex::{DATA_STORAGE, PARAMETER_CHECKSUM};
-use iol_isdu::{Answer, Request, read_answer, read_request};
+use iol_dsindex::{DATA_STORAGE, INDEX_LIST, PARAMETER_CHECKSUM};
+use iol_isdu::{Answer, DATA_OCTETS, Request, read_answer, read_request};
 use iol_journal::{Geometry, Journal, format};
 use iol_port::{PortFault, PortStatus};
 use iol_record::encode_port;
@@ -106,55 +107,113 @@ fn schedule<R: Abort>(rt: &R, alloc: Global, seed: u64) -> Vec<Task> {
     tasks
 }
 
-// Whether at this place of the trace an object was read, and had these octets.
-fn is_read(events: &[Stamped], place: Option<&usize>, key: Key, octets: &[u8]) -> bool {
-    let Some(place) = place else {
-        return false;
-    };
-    let Some(stamped) = events.get(*place) else {
-        return false;
-    };
-    match &stamped.event {
-        Event::Exchange { octets: said, .. } => {
-            is_answered(said.request.as_slice(), said.answer.as_slice(), key, octets)
+// What was read of an object, where that was at this place of the trace.
+fn read_at(
+    events: &[Stamped],
+    place: Option<&usize>,
+    key: Key,
+) -> Option<ArrayVec<u8, DATA_OCTETS>> {
+    match &events.get(*place?)?.event {
+        Event::Exchange { octets, .. } => {
+            answered(octets.request.as_slice(), octets.answer.as_slice(), key)
         }
-        _ => false,
+        _ => None,
     }
 }
 
-fn is_answered(request: &[u8], answer: &[u8], key: Key, octets: &[u8]) -> bool {
+fn answered(request: &[u8], answer: &[u8], key: Key) -> Option<ArrayVec<u8, DATA_OCTETS>> {
     match (read_request(request), read_answer(answer)) {
-        (Ok(Request::Read { index, subindex }), Ok(Answer::ReadOk(data))) => {
-            index == key.index && subindex == key.subindex && data.as_slice() == octets
-        }
-        _ => false,
+        (Ok(Request::Read { index, subindex }), Ok(Answer::ReadOk(data)))
+            if index == key.index && subindex == key.subindex => { Some(data) }
+        _ => None,
     }
 }
 
-// A set is what was read, value by value and in this order, and behind them its checksum.
-fn assert_filed<R: Abort>(rt: &R, events: &[Stamped], filed: &[usize], set: &DataSet) {
-    let last = filed.len().saturating_sub(1);
-    let first = last.saturating_sub(set.len());
-    for place in 0..set.len() {
-        let (key, value) = set.entry(place).expect(rt, "an entry");
-        let read = filed.get(first.saturating_add(place));
-        assert!(rt; is_read(events, read, key, value), "{key:?}");
+// Adds the keys of a list that are not there yet; the Index of the next list, if it names one.
+fn add_listed<R: Abort>(rt: &R, keys: &mut Vec<Key>, list: &[u8]) -> Option<u16> {
+    for entry in list.chunks(3) {
+        match entry {
+            [0, 0, ..] => return None,
+            [high, low] => return Some(u16::from_be_bytes([*high, *low])),
+            [high, low, subindex] => {
+                let key = Key {
+                    index: u16::from_be_bytes([*high, *low]),
+                    subindex: *subindex,
+                };
+                if !keys.as_slice().contains(&key) {
+                    keys.push(key).expect(rt, "memory");
+                }
+            }
+            _ => {}
+        }
     }
-    let checksum = Key {
+    None
+}
+
+// The keys that were listed behind the size, each at its first place, and in how many lists.
+fn listed<R: Abort>(
+    rt: &R,
+    alloc: Global,
+    events: &[Stamped],
+    filed: &[usize],
+) -> (Vec<Key>, usize) {
+    let mut keys = Vec::new(alloc);
+    let mut list = object(INDEX_LIST);
+    for place in 1..=16_usize {
+        let octets = read_at(events, filed.get(place), list).expect(rt, "a list");
+        match add_listed(rt, &mut keys, octets.as_slice()) {
+            Some(index) => list = Key { index, subindex: 0 },
+            None => return (keys, place),
+        }
+    }
+    panic!(rt; "sixteen lists at most")
+}
+
+// A part of the Data Storage object.
+fn object(subindex: u8) -> Key {
+    Key {
         index: DATA_STORAGE,
-        subindex: PARAMETER_CHECKSUM,
-    };
-    let octets = set.checksum().to_be_bytes();
-    assert!(rt; is_read(events, filed.get(last), checksum, &octets));
+        subindex,
+    }
+}
+
+// A set is what was read behind its size and its lists: each key that was listed, with its value, and then the checksum.
+fn assert_filed<R: Abort>(
+    rt: &R,
+    alloc: Global,
+    events: &[Stamped],
+    filed: &[usize],
+    set: &DataSet,
+) {
+    let (keys, lists) = listed(rt, alloc, events, filed);
+    let last = lists.saturating_add(keys.len()).saturating_add(1);
+    assert!(rt; set.len() == keys.len() && filed.len() == last.saturating_add(1));
+    for (place, key) in keys.iter().enumerate() {
+        let at = lists.saturating_add(1).saturating_add(place);
+        let value = read_at(events, filed.get(at), *key).expect(rt, "a value");
+        assert!(rt;
+            set.entry(place) == Some((*key, value.as_slice())),
+            "{key:?}"
+        );
+    }
+    let checksum = read_at(events, filed.get(last), object(PARAMETER_CHECKSUM));
+    let octets = checksum.expect(rt, "a checksum");
+    assert!(rt; octets.as_slice() == set.checksum().to_be_bytes().as_slice());
 }
 
 // Each port has the set that it filed last, if it filed one.
-fn assert_sets<R: Abort>(rt: &R, events: &[Stamped], all: &[Told], state: &MasterState) {
+fn assert_sets<R: Abort>(
+    rt: &R,
+    alloc: Global,
+    events: &[Stamped],
+    all: &[Told],
+    state: &MasterState,
+) {
     for number in 1..=PORTS {
         let port = port(rt, number);
         let told = all.get(port.place()).expect(rt, "a port");
         match (state.port(port).expect(rt, "a port").stored(), &told.filed) {
-            (Some(stored), Some(filed)) => assert_filed(rt, events, filed, &stored.set),
+            (Some(stored), Some(filed)) => assert_filed(rt, alloc, events, filed, &stored.set),
             (None, None) => {}
             _ => panic!(rt; "a set that was filed"),
         }
@@ -257,7 +316,7 @@ fn assert_run<R: Abort>(rt: &R, alloc: Global, seed: u64, pick: Pick) {
     let (all, acknowledged) = told_in(rt, alloc, seed, &events);
     assert_links(rt, &all, &links);
     assert_deep(rt, &events);
-    assert_sets(rt, &events, &all, &state);
+    assert_sets(rt, alloc, &events, &all, &state);
     assert_found(rt, alloc, disk.stop(pick), acknowledged, &state);
 }
 
