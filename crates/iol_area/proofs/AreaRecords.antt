@@ -8,6 +8,7 @@ use Rattle.iol_record.specs.Reading.{port_record_at}
 use Rattle.iol_record.specs.Record.{port_octets}
 use Rattle.iol_record.specs.declared.encode.TheConstants.{LARGEST_PORT_RECORD}
 use Rattle.iol_record.proofs.RecordLaws.{length-port_octets, port_record_at-record}
+use Rattle.iol_record.specs.declared.version.Version.{Version}
 use Rattle.iol_disk.specs.Content.{Image}
 use Rattle.iol_disk.specs.Calls.{write}
 use Rattle.iol_disk.specs.declared.disk.TheConstants.{SECTOR_OCTETS}
@@ -38,26 +39,29 @@ length-padded octets =
     omega (arith, length-append octets (replicate {A = ℕ} zeros 0), length-replicate {A = ℕ} zeros 0)
 
 -- whatever stands behind them, they are read as the port whose record they are
-read-padded : (port : Port) (rest : List ℕ) → IsPort port → port_of (port_record_at (padded (port_octets port) ++ rest)) ≡ Some port
+read-padded : (version : Version) (port : Port) (rest : List ℕ) → IsPort port
+    → port_of (port_record_at version (padded (port_octets version port) ++ rest)) ≡ Some port
 unfolding padded
-read-padded port rest is =
-    let octets = port_octets port in
+read-padded version port rest is =
+    let octets = port_octets version port in
     let zeros = replicate {A = ℕ} (SECTOR_OCTETS * sectors_reached (length octets) - length octets) 0 in
-    ap (λ (all : List ℕ). port_of (port_record_at all)) (append_assoc octets zeros rest)
-    ∙ ap port_of (port_record_at-record octets (zeros ++ rest) port (record { spelling = refl; in_range = is }))
+    ap (λ (all : List ℕ). port_of (port_record_at version all)) (append_assoc octets zeros rest)
+    ∙ ap port_of (port_record_at-record version octets (zeros ++ rest) port (record { spelling = refl; in_range = is }))
 
 -- a record reaches nine sectors at most
-reaches : (port : Port) (sectors : ℕ) → IsPort port → LARGEST_PORT_RECORD ≤ SECTOR_OCTETS * sectors
-    → sectors_reached (length (port_octets port)) ≤ sectors
-reaches port sectors is room = let long = length-port_octets port is in omega (arith, long.1, room)
+reaches : (version : Version) (port : Port) (sectors : ℕ) → IsPort port → LARGEST_PORT_RECORD ≤ SECTOR_OCTETS * sectors
+    → sectors_reached (length (port_octets version port)) ≤ sectors
+reaches version port sectors is room = let long = length-port_octets version port is in omega (arith, long.1, room)
 
-port-read : (image : Image) (first sectors : ℕ) (port : Port) → IsPort port → LARGEST_PORT_RECORD ≤ SECTOR_OCTETS * sectors
-    → HasWrites (record_writes first (port_octets port)) image → port_in image first sectors ≡ Ok port
-port-read image first sectors port is room has =
-    read_at (octets_at-in_slot image (padded octets) first reached sectors there (length-padded octets) (reaches port sectors is room))
+port-read : (version : Version) (image : Image) (first sectors : ℕ) (port : Port) → IsPort port
+    → LARGEST_PORT_RECORD ≤ SECTOR_OCTETS * sectors
+    → HasWrites (record_writes first (port_octets version port)) image → port_in version image first sectors ≡ Ok port
+port-read version image first sectors port is room has =
+    read_at (octets_at-in_slot image (padded octets) first reached sectors there (length-padded octets)
+        (reaches version port sectors is room))
   where
     octets : List ℕ
-    octets = port_octets port
+    octets = port_octets version port
 
     reached : ℕ
     reached = sectors_reached (length octets)
@@ -65,18 +69,18 @@ port-read image first sectors port is room has =
     there : (j : ℕ) → j < reached → image (first + j) ≡ sector_of (padded octets) j
     there j below = has-map (λ i. first + i) (λ i. sector_of (padded octets) i) 0 reached image has j (omega arith) (omega (arith, below))
 
-    read_at : (rest : List ℕ) × (octets_at image first sectors ≡ padded octets ++ rest) → port_in image first sectors ≡ Ok port
+    read_at : (rest : List ℕ) × (octets_at image first sectors ≡ padded octets ++ rest) → port_in version image first sectors ≡ Ok port
     read_at (rest, at) =
-        let found : port_of (port_record_at (octets_at image first sectors)) ≡ Some port =
-        ap (λ (all : List ℕ). port_of (port_record_at all)) at ∙ read-padded port rest is in
+        let found : port_of (port_record_at version (octets_at image first sectors)) ≡ Some port =
+        ap (λ (all : List ℕ). port_of (port_record_at version all)) at ∙ read-padded version port rest is in
         rw found refl
 
-record-row : (first sectors : ℕ) (port : Port) → IsPort port → LARGEST_PORT_RECORD ≤ SECTOR_OCTETS * sectors
-    → IsRow first (first + sectors) (record_writes first (port_octets port))
-record-row first sectors port is room =
-    row-map (λ j. first + j) (λ j. sector_of (padded (port_octets port)) j) first (first + sectors) 0
-    (sectors_reached (length (port_octets port)))
-    (λ k. omega arith) (omega arith) (omega (arith, reaches port sectors is room))
+record-row : (version : Version) (first sectors : ℕ) (port : Port) → IsPort port → LARGEST_PORT_RECORD ≤ SECTOR_OCTETS * sectors
+    → IsRow first (first + sectors) (record_writes first (port_octets version port))
+record-row version first sectors port is room =
+    row-map (λ j. first + j) (λ j. sector_of (padded (port_octets version port)) j) first (first + sectors) 0
+    (sectors_reached (length (port_octets version port)))
+    (λ k. omega arith) (omega arith) (omega (arith, reaches version port sectors is room))
 
 -- ---- the records of all ports
 
@@ -88,8 +92,8 @@ module _ (layout : Layout) (a : Area) (room : LARGEST_PORT_RECORD ≤ SECTOR_OCT
       let next : port_at layout a p + layout.port_sectors ≡ port_at layout a (p + 1) = omega arith in
       let last : p + 1 + length ports ≡ p + length (port ∷ ports) = omega arith in
       row-append (port_at layout a p) (port_at layout a (p + 1)) (port_at layout a (p + length (port ∷ ports))) _ _
-      (subst (λ (high : ℕ). IsRow (port_at layout a p) high (record_writes (port_at layout a p) (port_octets port))) next
-      (record-row (port_at layout a p) layout.port_sectors port are.0 room))
+      (subst (λ (high : ℕ). IsRow (port_at layout a p) high (record_writes (port_at layout a p) (port_octets layout.version port))) next
+      (record-row layout.version (port_at layout a p) layout.port_sectors port are.0 room))
       (subst (λ (n : ℕ). IsRow (port_at layout a (p + 1)) (port_at layout a n) (port_writes layout a (p + 1) ports)) last
       (records-row (p + 1) ports are.1))
 
@@ -98,14 +102,17 @@ module _ (layout : Layout) (a : Area) (room : LARGEST_PORT_RECORD ≤ SECTOR_OCT
   unfolding ports_from
   records-read p [] image are has = refl
   records-read p (port ∷ ports) image are has =
-      let parts = has-append (record_writes (port_at layout a p) (port_octets port)) (port_writes layout a (p + 1) ports) image has in
-      rw (port-read image (port_at layout a p) layout.port_sectors port are.0 room parts.0, records-read (p + 1) ports image are.1 parts.1)
+      let parts = has-append (record_writes (port_at layout a p) (port_octets layout.version port))
+          (port_writes layout a (p + 1) ports) image has in
+      rw (port-read layout.version image (port_at layout a p) layout.port_sectors port are.0 room parts.0, records-read
+          (p + 1) ports image are.1 parts.1)
       refl
 
   pub length-records : (p : ℕ) (ports : State) → ArePorts ports → length (port_writes layout a p ports) ≤ layout.port_sectors * length ports
   length-records p [] are = omega arith
   length-records p (port ∷ ports) are =
-      let here = length-map-range_with_len (λ j. write (port_at layout a p + j) (sector_of (padded (port_octets port)) j)) 0
-      (sectors_reached (length (port_octets port))) in
-      let both = length-append (record_writes (port_at layout a p) (port_octets port)) (port_writes layout a (p + 1) ports) in
-      omega (arith, here, both, reaches port layout.port_sectors are.0 room, length-records (p + 1) ports are.1)
+      let here = length-map-range_with_len (λ j. write (port_at layout a p + j) (sector_of (padded (port_octets layout.version port)) j)) 0
+      (sectors_reached (length (port_octets layout.version port))) in
+      let both = length-append (record_writes (port_at layout a p) (port_octets layout.version port))
+          (port_writes layout a (p + 1) ports) in
+      omega (arith, here, both, reaches layout.version port layout.port_sectors are.0 room, length-records (p + 1) ports are.1)

@@ -11,6 +11,7 @@ use Rattle.iol_types.specs.State.{Port, State, IsPort, port_numbered, blank}
 use Rattle.iol_record.specs.Record.{port_octets}
 use Rattle.iol_record.specs.declared.encode.TheConstants.{LARGEST_PORT_RECORD}
 use Rattle.iol_record.proofs.RecordLaws.{length-port_octets}
+use Rattle.iol_record.specs.declared.version.Version.{Version}
 use Rattle.iol_disk.specs.Calls.{Call, write}
 use Rattle.iol_disk.specs.declared.disk.TheConstants.{SECTOR_OCTETS}
 use Rattle.iol_area.specs.AreaPlans.{AreRecords, write_of}
@@ -65,23 +66,25 @@ is-there None state number place at below is =
 
 -- one record more
 pub record-pushed : (layout : Layout) (a : Area) (state : State) (place first : ℕ) (port : Port) (octets : List ℕ) (old new all : List Call)
-    → slice_get state place ≡ Some port → first ≡ port_at layout a place → octets ≡ padded (port_octets port)
+    → slice_get state place ≡ Some port → first ≡ port_at layout a place → octets ≡ padded (port_octets layout.version port)
     → new ≡ old ++ map (λ j. write (first + j) (sector_of octets j)) (range_with_len 0 (length octets / SECTOR_OCTETS))
     → old ++ port_writes layout a place (drop place state) ≡ all → new ++ port_writes layout a (place + 1) (drop (place + 1) state) ≡ all
 record-pushed layout a state place first port octets old new all there at spelled pushed so_far =
     let rest = port_writes layout a (place + 1) (drop (place + 1) state) in
     let next : suc place ≡ place + 1 = omega arith in
-    let reached : length octets / SECTOR_OCTETS ≡ sectors_reached (length (port_octets port)) =
-    omega (arith, ap (λ (os : List ℕ). length os) spelled, length-padded (port_octets port)) in
+    let reached : length octets / SECTOR_OCTETS ≡ sectors_reached (length (port_octets layout.version port)) =
+    omega (arith, ap (λ (os : List ℕ). length os) spelled, length-padded (port_octets layout.version port)) in
     let written : map (λ j. write (first + j) (sector_of octets j)) (range_with_len 0 (length octets / SECTOR_OCTETS))
-    ≡ record_writes (port_at layout a place) (port_octets port) =
+    ≡ record_writes (port_at layout a place) (port_octets layout.version port) =
     ap (λ (n : ℕ). map (λ j. write (first + j) (sector_of octets j)) (range_with_len 0 n)) reached
-    ∙ ap (λ (n : ℕ). map (λ j. write (n + j) (sector_of octets j)) (range_with_len 0 (sectors_reached (length (port_octets port))))) at
+    ∙ ap (λ (n : ℕ). map (λ j. write (n + j) (sector_of octets j))
+        (range_with_len 0 (sectors_reached (length (port_octets layout.version port))))) at
     ∙ ap (λ (os : List ℕ).
-    map (λ j. write (port_at layout a place + j) (sector_of os j)) (range_with_len 0 (sectors_reached (length (port_octets port)))))
+    map (λ j. write (port_at layout a place + j) (sector_of os j))
+        (range_with_len 0 (sectors_reached (length (port_octets layout.version port)))))
     spelled in
     ap (λ (calls : List Call). calls ++ rest) (pushed ∙ ap (λ (calls : List Call). old ++ calls) written)
-    ∙ append_assoc old (record_writes (port_at layout a place) (port_octets port)) rest
+    ∙ append_assoc old (record_writes (port_at layout a place) (port_octets layout.version port)) rest
     ∙ ap (λ (n : ℕ). old ++ port_writes layout a place (port ∷ drop n state)) (sym next)
     ∙ ap (λ (ports : State). old ++ port_writes layout a place ports) (sym (drop-port state place port there))
     ∙ so_far
@@ -95,9 +98,10 @@ port-more state place port there is are =
     subst ArePorts (sym more) (ports-append (take place state) (port ∷ []) are (is, tt))
 
 -- a padded record reaches nine sectors at most
-pub record-short : (port : Port) (octets : List ℕ) → octets ≡ padded (port_octets port) → IsPort port → length octets ≤ 4608
-record-short port octets spelled is =
-    omega (arith, ap (λ (os : List ℕ). length os) spelled, length-padded (port_octets port), (length-port_octets port is).1)
+pub record-short : (version : Version) (port : Port) (octets : List ℕ) → octets ≡ padded (port_octets version port) → IsPort port
+    → length octets ≤ 4608
+record-short version port octets spelled is =
+    omega (arith, ap (λ (os : List ℕ). length os) spelled, length-padded (port_octets version port), (length-port_octets version port is).1)
 
 pub are-records : (layout : Layout) (a : Area) (state : State) → LARGEST_PORT_RECORD ≤ SECTOR_OCTETS * layout.port_sectors → length state
     ≡ layout.ports → ArePorts state

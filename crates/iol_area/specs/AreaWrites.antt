@@ -31,7 +31,8 @@ record_writes first octets = map (λ j. write (first + j) (sector_of (padded oct
 -- of disk calls)
 abbrev pub port_writes : Layout → Area → ℕ → State → List Call
 port_writes layout a p [] = []
-port_writes layout a p (port ∷ ports) = record_writes (port_at layout a p) (port_octets port) ++ port_writes layout a (p + 1) ports
+port_writes layout a p (port ∷ ports) = record_writes (port_at layout a p) (port_octets layout.version port)
+    ++ port_writes layout a (p + 1) ports
 
 -- writes to sectors one behind the other, from this sector on and below that one (own)
 abbrev pub IsRow : ℕ → ℕ → List Call → Type 0

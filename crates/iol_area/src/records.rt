@@ -11,7 +11,7 @@ ghost use Rattle.iol_layout.specs.Octets.{padded, sector_of};
 
 use iol_disk::{DiskFault, SECTOR_OCTETS, SectorDisk};
 use iol_layout::{Area, Layout};
-use iol_record::encode_port;
+use iol_record::{Version, encode_port};
 use iol_types::{MasterState, PortId, PortState};
 use std::alloc::{AllocError, Global};
 
@@ -36,11 +36,11 @@ impl RecordSector {
 }
 
 // The record of a port in whole sectors.
-fn padded_record(alloc: Global, port: &PortState) -> Result<Vec<u8>, AllocError>
-    ensures octets { IfOk result (λ octets. octets.items ≡ padded (port_octets port.now)) }
+fn padded_record(alloc: Global, version: Version, port: &PortState) -> Result<Vec<u8>, AllocError>
+    ensures octets { IfOk result (λ octets. octets.items ≡ padded (port_octets version port.now)) }
     ensures in_range { OnOk result (IsPort port.now) }
 {
-    let mut octets = encode_port(alloc, port)?;
+    let mut octets = encode_port(alloc, version, port)?;
     let sectors = octets.len().div_ceil(SECTOR_OCTETS);
     octets.resize(SECTOR_OCTETS * sectors, 0)?;
     Ok(octets)
@@ -81,11 +81,12 @@ pub(crate) fn record_sectors(
     ensures sound { OnOk result (AreRecords layout area state.now) }
 {
     let _sectors = layout.port_sectors();
+    let version = layout.version();
     let mut records = Vec::with_capacity(alloc, usize::from(layout.ports()))?;
     for place in 0..layout.ports() {
         let first = layout.port(area, usize::from(place));
         let port = state.port(PortId::new(place + 1).unwrap()).unwrap();
-        let octets = padded_record(alloc, port)?;
+        let octets = padded_record(alloc, version, port)?;
         push_record(&mut records, first, &octets)?;
     }
     Ok(records)

@@ -13,6 +13,7 @@ use Rattle.iol_slots.specs.Gate.{is_open, open_gate}
 use Rattle.iol_slots.proofs.SlotLaws.{is_open-open_gate}
 use Rattle.iol_layout.specs.Layout.{slot_at, body_at}
 use Rattle.iol_layout.specs.Octets.{sector_of}
+use Rattle.iol_record.specs.Record.{newest}
 use Rattle.iol_layout.specs.Body.{head_of, slots_of, records_of, slots_for, batch_of}
 use Rattle.iol_layout.specs.declared.body.Head.{Head}
 use Rattle.iol_layout.specs.Meaning.{Standing, body_in, span_in}
@@ -50,7 +51,7 @@ pub record IsFit (s : Standing) (commands : List CommandValue) (body : List ℕ)
   pub least : 1 ≤ sectors
   pub short : sectors ≤ BODY_SECTORS * slots_for commands
   pub tells : (head_of body).octets ≡ length (records_of commands)
-  pub read_back : (rest : List ℕ) → batch_of s.epoch (s.number + 1) (body ++ rest) ≡ Some commands
+  pub read_back : (rest : List ℕ) → batch_of newest s.epoch (s.number + 1) (body ++ rest) ≡ Some commands
   pub passes : legal s.state commands ≡ true
 
 -- one sector more of a body is written
@@ -104,7 +105,7 @@ module _ (s : Standing) (idle : Idle) (commands : List CommandValue) (body : Lis
         ∙ ap (λ (i : Image). i (body_at s.layout s.area s.used j)) (image-settled c was settled is) ∙ written j below
 
     pub body_read : (image : Image) → ((j : ℕ) → j < sectors → image (body_at s.layout s.area s.used j) ≡ sector_of body j)
-        → batch_of s.epoch (s.number + 1) (body_in s.layout s.area image s.used (slots_for commands)) ≡ Some commands
+        → batch_of newest s.epoch (s.number + 1) (body_in s.layout s.area image s.used (slots_for commands)) ≡ Some commands
     body_read image there =
         read_at (octets_at-in_slot (λ j. image (body_at s.layout s.area s.used j)) body 0 sectors (BODY_SECTORS * slots_for commands)
         from_first fit.whole fit.short)
@@ -116,8 +117,8 @@ module _ (s : Standing) (idle : Idle) (commands : List CommandValue) (body : Lis
             ap image place ∙ there j below
 
         read_at : (rest : List ℕ) × (body_in s.layout s.area image s.used (slots_for commands) ≡ body ++ rest)
-            → batch_of s.epoch (s.number + 1) (body_in s.layout s.area image s.used (slots_for commands)) ≡ Some commands
-        read_at (rest, at) = ap (batch_of s.epoch (s.number + 1)) at ∙ fit.read_back rest
+            → batch_of newest s.epoch (s.number + 1) (body_in s.layout s.area image s.used (slots_for commands)) ≡ Some commands
+        read_at (rest, at) = ap (batch_of newest s.epoch (s.number + 1)) at ∙ fit.read_back rest
 
     pub span_read : (image : Image) → ((j : ℕ) → j < sectors → image (body_at s.layout s.area s.used j) ≡ sector_of body j)
         → span_in s.layout s.area image s.used ≡ slots_for commands

@@ -7,7 +7,7 @@ ghost use Rattle.iol_batch.specs.Begin.{is_too_large};
 ghost use Rattle.iol_layout.specs.Body.{records_of, slots_of, slots_for, values};
 
 use iol_layout::{MOST_COMMANDS, slots_of};
-use iol_record::command_record_octets;
+use iol_record::{Version, command_record_octets};
 use iol_types::{Command, MasterState};
 use std::alloc::AllocError;
 
@@ -27,7 +27,7 @@ fn record_octets(commands: &[Command]) -> usize
 {
     let mut octets = 0;
     for command in commands {
-        octets += command_record_octets(command);
+        octets += command_record_octets(Version::newest(), command);
     }
     octets
 }

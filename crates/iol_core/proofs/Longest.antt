@@ -2,7 +2,7 @@
 use Rattle.std.proofs.Common.{◌≡◌, ◌<◌, ℕ, zero, suc, ◌+◌, ◌≤◌, List, [], ◌∷◌, ◌++◌, length, take, arith, ⊎_elim, length-append}
 use Rattle.std.proofs.lemmas.Bool.{cases_lt}
 use Rattle.iol_types.specs.Command.{CommandValue}
-use Rattle.iol_record.specs.Record.{command_octets}
+use Rattle.iol_record.specs.Record.{command_octets, newest}
 use Rattle.iol_journal.specs.Body.{records_of}
 use Rattle.iol_core.specs.Batches.{IsLongest}
 
@@ -14,10 +14,12 @@ records_grow [] (suc n) m h = omega arith
 records_grow (c ∷ cs) (suc n) zero h = absurd (omega arith)
 records_grow (c ∷ cs) (suc n) (suc m) h =
     let rest : length (records_of (take n cs)) ≤ length (records_of (take m cs)) = records_grow cs n m (omega arith) in
-    let few : length (command_octets c ++ records_of (take n cs)) ≡ length (command_octets c) + length (records_of (take n cs)) =
-    length-append (command_octets c) (records_of (take n cs)) in
-    let many : length (command_octets c ++ records_of (take m cs)) ≡ length (command_octets c) + length (records_of (take m cs)) =
-    length-append (command_octets c) (records_of (take m cs)) in
+    let few : length (command_octets newest c ++ records_of (take n cs))
+        ≡ length (command_octets newest c) + length (records_of (take n cs)) =
+    length-append (command_octets newest c) (records_of (take n cs)) in
+    let many : length (command_octets newest c ++ records_of (take m cs))
+        ≡ length (command_octets newest c) + length (records_of (take m cs)) =
+    length-append (command_octets newest c) (records_of (take m cs)) in
     omega (arith, rest, few, many)
 
 -- so many are the longest where they fit and one more does not

@@ -9,7 +9,7 @@ use Rattle.std.proofs.lemmas.List.Sums.{fold-append}
 use Rattle.std.specs.List.{flat_map}
 use Rattle.std.proofs.lemmas.Grind.{flat_map-append}
 use Rattle.iol_types.specs.declared.command.Command.{Command}
-use Rattle.iol_record.specs.Record.{command_octets}
+use Rattle.iol_record.specs.Record.{command_octets, newest}
 use Rattle.iol_journal.specs.Body.{records_of, values}
 use Rattle.iol_core.specs.Core.{CoreView, out_at}
 use Rattle.iol_core.specs.Batches.{has_batch}
@@ -40,16 +40,17 @@ values_more queue i command within is =
 
 -- what the records of commands have, and of one more
 records_more : (commands : List CommandValue) (command : CommandValue)
-    → length (records_of (commands ++ command ∷ [])) ≡ length (records_of commands) + length (command_octets command)
+    → length (records_of (commands ++ command ∷ [])) ≡ length (records_of commands) + length (command_octets newest command)
 records_more commands command =
-    ap length (flat_map-append command_octets commands (command ∷ []))
-    ∙ (length-append (flat_map command_octets commands) (flat_map command_octets (command ∷ []))
-    ∙ ap (λ (octets : List ℕ). length (flat_map command_octets commands) + length octets) (append-nil (command_octets command)))
+    ap length (flat_map-append (command_octets newest) commands (command ∷ []))
+    ∙ (length-append (flat_map (command_octets newest) commands) (flat_map (command_octets newest) (command ∷ []))
+    ∙ ap (λ (octets : List ℕ). length (flat_map (command_octets newest) commands) + length octets)
+        (append-nil (command_octets newest command)))
 
 -- what the records of the first commands of a queue have, and of one more
 pub records_next : (queue : List Command) (i : ℕ) (command : Command) → i < length queue → get_or queue i command ≡ command
     → length (records_of (take (i + 1) (values queue))) ≡ length (records_of (take i (values queue)))
-    + length (command_octets (value_of command))
+    + length (command_octets newest (value_of command))
 records_next queue i command within is =
     ap (λ (commands : List CommandValue). length (records_of commands)) (values_more queue i command within is)
     ∙ records_more (take i (values queue)) (value_of command)

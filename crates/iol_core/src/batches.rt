@@ -14,7 +14,7 @@ ghost use Rattle.iol_core.specs.Batches.{IsLongest, IsTake, IsInFlight, has_batc
 use crate::core_value::{Core, QUEUE_COMMANDS};
 use iol_front::{Committed, Name};
 use iol_journal::Batch;
-use iol_record::command_record_octets;
+use iol_record::{Version, command_record_octets};
 use iol_types::{Command, MasterState};
 use std::alloc::{AllocError, Global};
 use std::collections::VecDeque;
@@ -102,7 +102,7 @@ fn longest(queue: &VecDeque<Command>, room: usize) -> usize
 {
     let mut octets = 0;
     for count in 0..queue.len() {
-        let next = command_record_octets(&queue[count]);
+        let next = command_record_octets(Version::newest(), &queue[count]);
         if room - octets < next {
             return count;
         }

@@ -10,7 +10,7 @@ use Rattle.std.specs.Int.{w16, w32, w64, to_be_bytes}
 use Rattle.std.proofs.lemmas.Nat.{from_be_bytes-to_be_bytes_2, from_be_bytes-to_be_bytes_4, from_be_bytes-to_be_bytes_8}
 use Rattle.iol_types.specs.Command.{CommandValue, value_of}
 use Rattle.iol_types.specs.declared.command.Command.{Command}
-use Rattle.iol_record.specs.Record.{IsCommandRecord, command_octets}
+use Rattle.iol_record.specs.Record.{IsCommandRecord, command_octets, newest}
 use Rattle.iol_record.proofs.RecordLaws.{command_at-record}
 use Rattle.iol_disk.specs.Content.{Image}
 use Rattle.iol_disk.specs.declared.disk.TheConstants.{SECTOR_OCTETS}
@@ -22,34 +22,36 @@ use Rattle.iol_layout.proofs.Sectors.{octets_at-add}
 
 -- in front of the records of other commands, these octets are read as these commands
 pub record Encodes (octets : List ℕ) (commands : List CommandValue) : Type 0 where
-  pub reads : (n : ℕ) (rest : List ℕ) (others : List CommandValue) → commands_of n rest ≡ Some others
-      → commands_of (length commands + n) (octets ++ rest) ≡ Some (commands ++ others)
+  pub reads : (n : ℕ) (rest : List ℕ) (others : List CommandValue) → commands_of newest n rest ≡ Some others
+      → commands_of newest (length commands + n) (octets ++ rest) ≡ Some (commands ++ others)
 
 pub encodes-none : Encodes [] []
 encodes-none = record { reads = λ n rest others is. rw zero-add is }
 
 pub encodes-more : (octets front : List ℕ) (commands : List CommandValue) (command : CommandValue) → Encodes octets commands
-    → IsCommandRecord front command
+    → IsCommandRecord newest front command
     → Encodes (octets ++ front) (commands ++ command ∷ [])
 encodes-more octets front commands command encodes is = record { reads = λ n rest others read. go n rest others read }
   where
-    first : (n : ℕ) (rest : List ℕ) (others : List CommandValue) → commands_of n rest ≡ Some others → commands_of (suc n) (front ++ rest)
+    first : (n : ℕ) (rest : List ℕ) (others : List CommandValue) → commands_of newest n rest ≡ Some others
+        → commands_of newest (suc n) (front ++ rest)
         ≡ Some (command ∷ others)
-    first n rest others read = rw (command_at-record front rest command is, read) refl
+    first n rest others read = rw (command_at-record newest front rest command is, read) refl
 
-    go : (n : ℕ) (rest : List ℕ) (others : List CommandValue) → commands_of n rest ≡ Some others
-        → commands_of (length (commands ++ command ∷ []) + n) ((octets ++ front) ++ rest) ≡ Some ((commands ++ command ∷ []) ++ others)
+    go : (n : ℕ) (rest : List ℕ) (others : List CommandValue) → commands_of newest n rest ≡ Some others
+        → commands_of newest (length (commands ++ command ∷ []) + n) ((octets ++ front) ++ rest)
+            ≡ Some ((commands ++ command ∷ []) ++ others)
     go n rest others read =
         let count : length (commands ++ command ∷ []) + n ≡ length commands + suc n =
         omega (arith, length-append commands (command ∷ [])) in
         let whole = encodes.reads (suc n) (front ++ rest) (command ∷ others) (first n rest others read) in
         rw (count, append_assoc octets front rest, append_assoc commands (command ∷ []) others) whole
 
-pub encodes-all : (octets : List ℕ) (commands : List CommandValue) → Encodes octets commands → commands_of (length commands) octets
+pub encodes-all : (octets : List ℕ) (commands : List CommandValue) → Encodes octets commands → commands_of newest (length commands) octets
     ≡ Some commands
 encodes-all octets commands encodes =
-    ap (λ (o : List ℕ). commands_of (length commands) o) (sym (append-nil octets))
-    ∙ ap (λ (n : ℕ). commands_of n (octets ++ [])) (sym (add-zero (length commands)))
+    ap (λ (o : List ℕ). commands_of newest (length commands) o) (sym (append-nil octets))
+    ∙ ap (λ (n : ℕ). commands_of newest n (octets ++ [])) (sym (add-zero (length commands)))
     ∙ encodes.reads 0 [] [] refl
     ∙ ap Some (append-nil commands)
 
@@ -104,12 +106,20 @@ fits-true : (epoch first count octets : ℕ) → 1 ≤ count → count ≤ MOST_
     → fits (record { epoch = epoch; first = first; count = count; octets = octets }) epoch first ≡ true
 fits-true epoch first count octets some most last = grind (arith, nat_tests)
 
+-- one command more of a list of commands
+pub values-more : (commands : List Command) (i : ℕ) (command : Command) → i < length commands → command ≡ get_or commands i command
+    → values (take (i + 1) commands) ≡ values (take i commands) ++ value_of command ∷ []
+values-more commands i command below is =
+    ap values (take_more commands i command below ∙ ap (λ (c : Command). take i commands ++ c ∷ []) (sym is))
+    ∙ map-append value_of (take i commands) (command ∷ [])
+
 -- a body is read as its commands, whatever follows the records
 pub batch_of-body : (epoch first : ℕ) (commands : List CommandValue) (rest : List ℕ) → epoch < 2 ^ 64
     → 1 ≤ length commands → length commands ≤ MOST_COMMANDS → length (records_of commands) < 2 ^ 32
     → first + length commands ≤ LAST_NUMBER + 1
-    → commands_of (length commands) (records_of commands) ≡ Some commands
-    → batch_of epoch first (head_octets epoch first (length commands) (length (records_of commands)) ++ (records_of commands ++ rest))
+    → commands_of newest (length commands) (records_of commands) ≡ Some commands
+    → batch_of newest epoch first (head_octets epoch first (length commands) (length (records_of commands))
+        ++ (records_of commands ++ rest))
     ≡ Some commands
 unfolding batch_of head_of
 batch_of-body epoch first commands rest small some most short last is =
@@ -160,33 +170,26 @@ body_octets-under epoch other first commands = refl
 pub batch_of-body_octets : (epoch first : ℕ) (commands : List CommandValue) (rest : List ℕ) → epoch < 2 ^ 64
     → 1 ≤ length commands → length commands ≤ MOST_COMMANDS → length (records_of commands) < 2 ^ 32
     → first + length commands ≤ LAST_NUMBER + 1
-    → commands_of (length commands) (records_of commands) ≡ Some commands
-    → batch_of epoch first (body_octets epoch first commands ++ rest) ≡ Some commands
+    → commands_of newest (length commands) (records_of commands) ≡ Some commands
+    → batch_of newest epoch first (body_octets epoch first commands ++ rest) ≡ Some commands
 unfolding body_octets padded
 batch_of-body_octets epoch first commands rest small some most short last is =
     let head = head_octets epoch first (length commands) (length (records_of commands)) in
     let records = records_of commands in
     let zeros = replicate {A = ℕ} (SECTOR_OCTETS * sectors_reached (length (head ++ records)) - length (head ++ records)) 0 in
-    ap (batch_of epoch first) (append_assoc (head ++ records) zeros rest ∙ append_assoc head records (zeros ++ rest))
+    ap (batch_of newest epoch first) (append_assoc (head ++ records) zeros rest ∙ append_assoc head records (zeros ++ rest))
     ∙ batch_of-body epoch first commands (zeros ++ rest) small some most short last is
 
 -- the records of one command more
 pub records-more : (octets front : List ℕ) (commands : List CommandValue) (command : CommandValue) → octets ≡ records_of commands
-    → IsCommandRecord front command
+    → IsCommandRecord newest front command
     → octets ++ front ≡ records_of (commands ++ command ∷ [])
-records-more octets front commands command so_far is = rw (so_far, is.spelling) (flat_map_more command_octets [] commands command)
-
--- one command more of a list of commands
-pub values-more : (commands : List Command) (i : ℕ) (command : Command) → i < length commands → command ≡ get_or commands i command
-    → values (take (i + 1) commands) ≡ values (take i commands) ++ value_of command ∷ []
-values-more commands i command below is =
-    ap values (take_more commands i command below ∙ ap (λ (c : Command). take i commands ++ c ∷ []) (sym is))
-    ∙ map-append value_of (take i commands) (command ∷ [])
+records-more octets front commands command so_far is = rw (so_far, is.spelling) (flat_map_more (command_octets newest) [] commands command)
 
 -- the records of one command more
 pub length-records-more : (commands : List CommandValue) (command : CommandValue)
-    → length (records_of (commands ++ command ∷ [])) ≡ length (records_of commands) + length (command_octets command)
+    → length (records_of (commands ++ command ∷ [])) ≡ length (records_of commands) + length (command_octets newest command)
 length-records-more commands command =
-    ap length (flat_map-append command_octets commands (command ∷ [])
-    ∙ ap (λ (more : List ℕ). records_of commands ++ more) (append-nil (command_octets command)))
-    ∙ length-append (records_of commands) (command_octets command)
+    ap length (flat_map-append (command_octets newest) commands (command ∷ [])
+    ∙ ap (λ (more : List ℕ). records_of commands ++ more) (append-nil (command_octets newest command)))
+    ∙ length-append (records_of commands) (command_octets newest command)

@@ -6,6 +6,8 @@ use Rattle.iol_types.specs.Command.{CommandValue}
 use Rattle.iol_types.specs.State.{State, legal}
 use Rattle.iol_disk.specs.Content.{Image}
 use Rattle.iol_slots.specs.Gate.{is_open}
+use Rattle.iol_record.specs.Record.{newest}
+use Rattle.iol_record.specs.declared.version.Version.{Version}
 use Rattle.iol_layout.specs.Layout.{Layout, other, gate_at, header_at, slot_at}
 use Rattle.iol_layout.specs.Header.{header_of}
 use Rattle.iol_layout.specs.Body.{records_of, slots_for, batch_of}
@@ -21,6 +23,7 @@ use Rattle.iol_layout.specs.declared.geometry.TheConstants.{GEOMETRY, DISK_GATE}
 use Rattle.iol_layout.proofs.Chains.{IsRead, read_stands, stands_read}
 use Rattle.iol_layout.proofs.Sectors.{ports_from-same}
 use Rattle.iol_layout.proofs.Logs.{log-same, log-more}
+use Rattle.iol_layout.proofs.Geometries.{layout_in-newest}
 use Rattle.iol_layout.proofs.Spans.{slots_of-some}
 
 -- outside of the first free slots, so many, the images are the same, and so are the gates of all slots but the first free one
@@ -125,7 +128,7 @@ pub kept_open : (sectors : ℕ) (s : Standing) (idle : Idle) (old new : Image) (
     → SameButSlots s (slots_for commands) old new
     → IsKeptAs sectors s idle old → is_open (new (slot_at s.layout s.area s.used)) ≡ true
     → span_in s.layout s.area new s.used ≡ slots_for commands
-    → batch_of s.epoch (s.number + 1) (body_in s.layout s.area new s.used (slots_for commands)) ≡ Some commands
+    → batch_of newest s.epoch (s.number + 1) (body_in s.layout s.area new s.used (slots_for commands)) ≡ Some commands
     → legal s.state commands ≡ true
     → IsKeptAs sectors (with_batch s commands) idle new
 kept_open sectors s idle old new commands room same kept gate span batch passes = stand (stands_read sectors old s kept.stands)
@@ -135,6 +138,12 @@ kept_open sectors s idle old new commands room same kept gate span batch passes 
 
     behind : (k : ℕ) → s.used + slots_for commands ≤ k → k < s.layout.slots → is_open (new (slot_at s.layout s.area k)) ≡ false
     behind k above below = rest_same s (slots_for commands) old new same kept.rest k (omega (arith, above, some)) below
+
+    in_version : layout_in sectors old ≡ Ok s.layout
+        → batch_of s.layout.version s.epoch (s.number + 1) (body_in s.layout s.area new s.used (slots_for commands)) ≡ Some commands
+    in_version laid_out =
+        ap (λ (v : Version). batch_of v s.epoch (s.number + 1) (body_in s.layout s.area new s.used (slots_for commands)))
+        (layout_in-newest sectors old s.layout laid_out) ∙ batch
 
     idle_with : (idle : Idle) → IsIdle s idle new → IsIdle (with_batch s commands) idle new
     idle_with Older is = is
@@ -146,7 +155,7 @@ kept_open sectors s idle old new commands room same kept gate span batch passes 
           (fronts_same s (slots_for commands) old new room some same sectors base ports is _
           (log-more s.layout s.area s.epoch old new 0 0 s.layout.slots base (slots_for commands) ports _ commands (omega arith) is.log
           (λ i above below. same.outside i (inl below))
-          (omega (arith, room)) gate span batch passes
+          (omega (arith, room)) gate span (in_version is.layout) passes
           (λ less. behind (s.used + slots_for commands) (omega arith) (omega (arith, less)))));
       rest = behind;
       other_area = idle_with idle (idle_same s (slots_for commands) old new room some same idle kept.other_area);

@@ -1,11 +1,12 @@
 -- The numbers of a geometry, as tests, as octets and as places.
 use Rattle.std.proofs.Common.{◌≡◌, ◌≤◌, ◌<◌, ◌==◌, ℕ, ◌+◌, ◌*◌, ◌/◌, ◌%◌, nat_eq, nat_le, Bool, true, false, ◌&&◌, if◌then◌else◌, List}
-use Rattle.std.proofs.Common.{Option, Some, None, Ok, Err, refl, subst, arith, rules}
+use Rattle.std.proofs.Common.{Option, Some, None, Ok, Err, refl, ap, subst, arith, rules}
 use Rattle.std.proofs.lemmas.Bool.Decides.{nat_tests}
 use Rattle.std.specs.Int.{w8, w16}
 use Rattle.std.specs.List.{starts_with}
 use Rattle.iol_record.specs.Reading.{◌>>=◌}
 use Rattle.iol_disk.specs.Content.{Image}
+use Rattle.iol_record.specs.Record.{newest}
 use Rattle.iol_layout.specs.Geometry.{Geometry, IsGeometry, is_geometry, geometry_of, geometry_octets}
 use Rattle.iol_layout.specs.Layout.{Layout, layout_of, slot_at, total}
 use Rattle.iol_layout.specs.Meaning.{unformatted, if_sound, or_damaged, is_formatted, layout_in}
@@ -69,6 +70,10 @@ layout_in-geometry sectors image layout is =
         sound : (test : Bool) → if_sound test GEOMETRY (layout_of g) ≡ Ok layout → layout ≡ layout_of g
         sound true h = cc
         sound false h = search rules
+
+-- and is in the version that is written
+pub layout_in-newest : (sectors : ℕ) (image : Image) (layout : Layout) → layout_in sectors image ≡ Ok layout → layout.version ≡ newest
+layout_in-newest sectors image layout is = ap (λ (l : Layout). l.version) (layout_in-geometry sectors image layout is).2
 
 -- a slot, with its gate and its body, lies within the sectors of the journal
 pub slot-inside : (layout : Layout) (a : Area) (k : ℕ) → k < layout.slots → slot_at layout a k + 1 + BODY_SECTORS ≤ total layout

@@ -114,7 +114,7 @@ open-same layout a epoch old new k left number state log end at o same leads =
     (record {
       commands = o.commands;
       batch = batch_in-there layout a epoch new k (span_in layout a old k) (suc left) (number + 1) (Some o.commands) span b.0
-          (ap (batch_of epoch (number + 1)) body ∙ b.1);
+          (ap (batch_of layout.version epoch (number + 1)) body ∙ b.1);
       passes = o.passes;
       behind = ap (λ (n : ℕ). log_from layout a epoch new (k + 1) (n - 1) left (number + length o.commands) (after state o.commands)) span
           ∙ leads;
@@ -149,7 +149,7 @@ log-same layout a epoch old new k zero (suc left) number state log within is sam
 at_end : (layout : Layout) (a : Area) (epoch : ℕ) (new : Image) (n left : ℕ) (log : Log) (commands : List CommandValue)
     → is_open (new (slot_at layout a log.used)) ≡ true
     → span_in layout a new log.used ≡ n → n ≤ suc left
-    → batch_of epoch (log.number + 1) (body_in layout a new log.used n) ≡ Some commands
+    → batch_of layout.version epoch (log.number + 1) (body_in layout a new log.used n) ≡ Some commands
     → legal log.state commands ≡ true
     → (log.used + n < log.used + suc left → is_open (new (slot_at layout a (log.used + n))) ≡ false)
     → log_from layout a epoch new log.used 0 (suc left) log.number log.state
@@ -188,7 +188,7 @@ pub log-more : (layout : Layout) (a : Area) (epoch : ℕ) (old new : Image) (k s
     → log.used + n ≤ k + left
     → is_open (new (slot_at layout a log.used)) ≡ true
     → span_in layout a new log.used ≡ n
-    → batch_of epoch (log.number + 1) (body_in layout a new log.used n) ≡ Some commands
+    → batch_of layout.version epoch (log.number + 1) (body_in layout a new log.used n) ≡ Some commands
     → legal log.state commands ≡ true
     → (log.used + n < k + left → is_open (new (slot_at layout a (log.used + n))) ≡ false)
     → log_from layout a epoch new k skipped left number state

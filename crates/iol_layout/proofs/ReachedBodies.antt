@@ -6,6 +6,7 @@ use Rattle.std.proofs.lemmas.List.{append-nil, take-append-le, drop-append-le, l
 use Rattle.iol_disk.specs.Content.{Image, reads}
 use Rattle.iol_disk.specs.Disk.{Disk, Same, Shows}
 use Rattle.iol_disk.specs.declared.disk.TheConstants.{SECTOR_OCTETS}
+use Rattle.iol_record.specs.declared.version.Version.{Version}
 use Rattle.iol_layout.specs.Octets.{octets_at, sector_of}
 use Rattle.iol_layout.specs.Body.{head_of, fits, commands_of, batch_of, HoldsRecords}
 use Rattle.iol_slots.specs.Gate.{body_sector}
@@ -96,17 +97,17 @@ head_of-first body sectors whole some =
     ∙ ap head_of (take-append-drop SECTOR_OCTETS body)
 
 -- behind the octets that the head tells of nothing is read
-batch_of-append : (epoch first : ℕ) (body more : List ℕ) → BODY_HEAD_OCTETS ≤ length body
+batch_of-append : (version : Version) (epoch first : ℕ) (body more : List ℕ) → BODY_HEAD_OCTETS ≤ length body
     → HoldsRecords body
-    → batch_of epoch first (body ++ more) ≡ batch_of epoch first body
+    → batch_of version epoch first (body ++ more) ≡ batch_of version epoch first body
 unfolding batch_of
-batch_of-append epoch first body more some reach = rw (head_of-append body more some) (by_head (head_of body) reach)
+batch_of-append version epoch first body more some reach = rw (head_of-append body more some) (by_head (head_of body) reach)
   where
     by_head : (head : Head) → BODY_HEAD_OCTETS + head.octets ≤ length body
-        → (if fits head epoch first then commands_of head.count (take head.octets (drop BODY_HEAD_OCTETS (body ++ more))) else None)
-        ≡ (if fits head epoch first then commands_of head.count (take head.octets (drop BODY_HEAD_OCTETS body)) else None)
+        → (if fits head epoch first then commands_of version head.count (take head.octets (drop BODY_HEAD_OCTETS (body ++ more))) else None)
+        ≡ (if fits head epoch first then commands_of version head.count (take head.octets (drop BODY_HEAD_OCTETS body)) else None)
     by_head head reach =
-        ap (λ octets. if fits head epoch first then commands_of head.count octets else None)
+        ap (λ octets. if fits head epoch first then commands_of version head.count octets else None)
         (front-kept head.octets BODY_HEAD_OCTETS body more reach)
 
 -- the sectors from the first on begin with it
@@ -137,21 +138,22 @@ holds_records image sector n most front body read =
 
 -- their batch is that of the whole body
 pub batch_of-front : (image : Image) (sector n most : ℕ) (front body : List ℕ) → HaveRead image sector n most front body
-    → (epoch first : ℕ)
-    → batch_of epoch first body ≡ batch_of epoch first (octets_at image sector most)
-batch_of-front image sector n most front body read epoch first =
+    → (version : Version) (epoch first : ℕ)
+    → batch_of version epoch first body ≡ batch_of version epoch first (octets_at image sector most)
+batch_of-front image sector n most front body read version epoch first =
     let count : n + (most - n) ≡ most = omega (arith, read.within) in
-    sym (batch_of-append epoch first body (octets_at image (sector + n) (most - n)) (omega (arith, read.size, read.some))
+    sym (batch_of-append version epoch first body (octets_at image (sector + n) (most - n)) (omega (arith, read.size, read.some))
     (holds_records image sector n most front body read))
-    ∙ ap (λ (octets : List ℕ). batch_of epoch first (octets ++ octets_at image (sector + n) (most - n))) read.all
-    ∙ ap (batch_of epoch first) (sym (octets_at-add image sector n (most - n)) ∙ ap (octets_at image sector) count)
+    ∙ ap (λ (octets : List ℕ). batch_of version epoch first (octets ++ octets_at image (sector + n) (most - n))) read.all
+    ∙ ap (batch_of version epoch first) (sym (octets_at-add image sector n (most - n)) ∙ ap (octets_at image sector) count)
 
-pub batch_of-misfit : (epoch first : ℕ) (body : List ℕ) (head : Head) → head ≡ head_of body → fits head epoch first ≡ false
-    → batch_of epoch first body ≡ None
+pub batch_of-misfit : (version : Version) (epoch first : ℕ) (body : List ℕ) (head : Head) → head ≡ head_of body → fits head epoch first
+    ≡ false
+    → batch_of version epoch first body ≡ None
 unfolding batch_of
-batch_of-misfit epoch first body head is misfit = rw (← is, misfit) refl
+batch_of-misfit version epoch first body head is misfit = rw (← is, misfit) refl
 
-pub batch_of-fits : (epoch first : ℕ) (body : List ℕ) (head : Head) → head ≡ head_of body → fits head epoch first ≡ true
-    → batch_of epoch first body ≡ commands_of head.count (take head.octets (drop BODY_HEAD_OCTETS body))
+pub batch_of-fits : (version : Version) (epoch first : ℕ) (body : List ℕ) (head : Head) → head ≡ head_of body → fits head epoch first ≡ true
+    → batch_of version epoch first body ≡ commands_of version head.count (take head.octets (drop BODY_HEAD_OCTETS body))
 unfolding batch_of
-batch_of-fits epoch first body head is fit = rw (← is, fit) refl
+batch_of-fits version epoch first body head is fit = rw (← is, fit) refl

@@ -68,20 +68,22 @@ span_in-same layout a old new k same = ap (λ (octets : List ℕ). slots_of (hea
 -- a batch that is there, ends within the slots
 pub batch_in-within : (layout : Layout) (a : Area) (epoch : ℕ) (image : Image) (k most first : ℕ) (commands : List CommandValue)
     → batch_in layout a epoch image k most first ≡ Some commands
-    → (span_in layout a image k ≤ most) × (batch_of epoch first (body_in layout a image k (span_in layout a image k)) ≡ Some commands)
+    → (span_in layout a image k ≤ most) × (batch_of layout.version epoch first (body_in layout a image k (span_in layout a image k))
+        ≡ Some commands)
 batch_in-within layout a epoch image k most first commands is = tested (nat_le (span_in layout a image k) most) refl is
   where
     tested : (test : Bool) → nat_le (span_in layout a image k) most ≡ test
         → if◌then◌else◌ {A = Option (List CommandValue)} test
-        (batch_of epoch first (body_in layout a image k (span_in layout a image k))) None
+        (batch_of layout.version epoch first (body_in layout a image k (span_in layout a image k))) None
         ≡ Some commands
-        → (span_in layout a image k ≤ most) × (batch_of epoch first (body_in layout a image k (span_in layout a image k)) ≡ Some commands)
+        → (span_in layout a image k ≤ most) × (batch_of layout.version epoch first (body_in layout a image k (span_in layout a image k))
+            ≡ Some commands)
     tested true at is = (grind (arith, nat_tests), is)
     tested false at is = absurd cc
 
 -- a batch whose slots are there
 pub batch_in-there : (layout : Layout) (a : Area) (epoch : ℕ) (image : Image) (k n most first : ℕ) (answer : Option (List CommandValue))
-    → span_in layout a image k ≡ n → n ≤ most → batch_of epoch first (body_in layout a image k n) ≡ answer
+    → span_in layout a image k ≡ n → n ≤ most → batch_of layout.version epoch first (body_in layout a image k n) ≡ answer
     → batch_in layout a epoch image k most first ≡ answer
 batch_in-there layout a epoch image k n most first answer span within is =
     let test : nat_le n most ≡ true = grind (arith, nat_tests) in
@@ -104,7 +106,7 @@ batch_in-same layout a epoch old new k most first some same =
     (λ at.
     let within : span_in layout a old k ≤ most = grind (arith, nat_tests) in
     batch_in-there layout a epoch new k (span_in layout a old k) most first _ span within
-    (ap (batch_of epoch first)
+    (ap (batch_of layout.version epoch first)
     (body_in-same layout a old new k (span_in layout a old k) (λ i above below. same i above (omega (arith, below, within))))
     ∙ sym (batch_in-there layout a epoch old k (span_in layout a old k) most first _ refl within refl)))
     (λ at.

@@ -6,8 +6,9 @@ use Rattle.std.specs.Int.{w16, w32, w64, to_be_bytes}
 use Rattle.std.specs.List.{flat_map}
 use Rattle.iol_types.specs.Command.{CommandValue, value_of}
 use Rattle.iol_record.specs.Reading.{command_at}
-use Rattle.iol_record.specs.Record.{command_octets}
+use Rattle.iol_record.specs.Record.{command_octets, newest}
 use Rattle.iol_record.specs.declared.fault.RecordFault.{RecordFault}
+use Rattle.iol_record.specs.declared.version.Version.{Version}
 use Rattle.iol_layout.specs.Octets.{number_at, padded}
 use Rattle.iol_layout.specs.declared.body.Head.{Head}
 use Rattle.iol_layout.specs.declared.header.TheConstants.{LAST_NUMBER}
@@ -45,28 +46,28 @@ first_then (Err fault) others = None
 first_then (Ok read) others = prepended read.0 (others read.1)
 
 -- so many commands, whose records fill the octets exactly (format, Slots)
-abbrev pub commands_of : ℕ → List ℕ → Option (List CommandValue)
-commands_of zero [] = Some []
-commands_of zero (octet ∷ octets) = None
-commands_of (suc n) octets = first_then (command_at octets) (λ rest. commands_of n rest)
+abbrev pub commands_of : Version → ℕ → List ℕ → Option (List CommandValue)
+commands_of version zero [] = Some []
+commands_of version zero (octet ∷ octets) = None
+commands_of version (suc n) octets = first_then (command_at version octets) (λ rest. commands_of version n rest)
 
 -- the commands of a slot's body, if it is a batch under this epoch whose first command has this number (format,
 -- Slots)
-unfoldable pub batch_of : ℕ → ℕ → List ℕ → Option (List CommandValue)
-batch_of epoch first body =
+unfoldable pub batch_of : Version → ℕ → ℕ → List ℕ → Option (List CommandValue)
+batch_of version epoch first body =
     let head = head_of body in
-    if fits head epoch first then commands_of head.count (take head.octets (drop BODY_HEAD_OCTETS body)) else None
+    if fits head epoch first then commands_of version head.count (take head.octets (drop BODY_HEAD_OCTETS body)) else None
 
--- the records of commands, one behind the other (format, Slots)
+-- the records of commands as they are written, one behind the other (format, Slots)
 abbrev pub records_of : List CommandValue → List ℕ
-records_of commands = flat_map command_octets commands
+records_of commands = flat_map (command_octets newest) commands
 
 -- commands of which a body can be made: one to 64, whose records fit the slots of an area and are read as they are (format, Slots)
 pub record IsBatch (commands : List CommandValue) : Type 0 where
   pub some : 1 ≤ length commands
   pub most : length commands ≤ MOST_COMMANDS
   pub short : length (records_of commands) < BODY_OCTETS * MOST_SLOTS
-  pub read : commands_of (length commands) (records_of commands) ≡ Some commands
+  pub read : commands_of newest (length commands) (records_of commands) ≡ Some commands
 
 -- how many slots commands take (format, Slots)
 abbrev pub slots_for : List CommandValue → ℕ

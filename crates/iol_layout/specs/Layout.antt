@@ -1,5 +1,7 @@
 -- Where things stand on a disk (docs/FORMATS.md, "Disk layout").
 use Rattle.std.specs.Prelude.{ℕ, ◌+◌, ◌*◌, ◌/◌}
+use Rattle.iol_record.specs.declared.version.Version.{Version}
+use Rattle.iol_record.specs.Record.{newest}
 use Rattle.iol_layout.specs.Geometry.{Geometry}
 use Rattle.iol_slots.specs.declared.slot.TheConstants.{BODY_SECTORS}
 use Rattle.iol_layout.specs.declared.geometry.TheConstants.{PORT_SECTORS}
@@ -11,9 +13,11 @@ abbrev pub other : Area → Area
 other A = B
 other B = A
 
--- how an area is laid out: its ports with the sectors of a port's record, its slots, and the sectors behind them that
+-- how an area is laid out: the version that its records are spelled in, its ports with the sectors of a port's record, its slots, and
+-- the sectors behind them that
 -- it leaves unused (format, Disk layout)
 pub record Layout : Type 0 where
+  pub version : Version
   pub ports : ℕ
   pub port_sectors : ℕ
   pub slots : ℕ
@@ -21,7 +25,7 @@ pub record Layout : Type 0 where
 
 -- the layout of a geometry (format, Disk layout)
 abbrev pub layout_of : Geometry → Layout
-layout_of g = record { ports = g.ports; port_sectors = PORT_SECTORS; slots = g.slots; spare_sectors = 0 }
+layout_of g = record { version = newest; ports = g.ports; port_sectors = PORT_SECTORS; slots = g.slots; spare_sectors = 0 }
 
 -- the sectors of an area: a gate, a header, the ports' records, slots of a gate and a body, and what is unused
 -- (format, Disk layout)

@@ -4,6 +4,7 @@ use Rattle.std.specs.Prelude.{length, Option, Some, None, Result, Ok, Err}
 use Rattle.iol_types.specs.State.{Port, State, after, legal}
 use Rattle.iol_record.specs.Reading.{◌>>=◌, port_record_at}
 use Rattle.iol_record.specs.declared.fault.RecordFault.{RecordFault}
+use Rattle.iol_record.specs.declared.version.Version.{Version}
 use Rattle.iol_disk.specs.Content.{Image}
 use Rattle.iol_slots.specs.Gate.{is_open}
 use Rattle.iol_layout.specs.Geometry.{geometry_of}
@@ -73,14 +74,14 @@ port_of (Ok read) = Some read.0
 port_of (Err fault) = None
 
 -- the port whose record lies in so many sectors from the first one on (format, Recovery)
-abbrev pub port_in : Image → ℕ → ℕ → Result Port Cause
-port_in image first sectors = or_damaged (port_of (port_record_at (octets_at image first sectors))) first
+abbrev pub port_in : Version → Image → ℕ → ℕ → Result Port Cause
+port_in version image first sectors = or_damaged (port_of (port_record_at version (octets_at image first sectors))) first
 
 -- the ports from this one on, as their records say (format, Recovery)
 unfoldable pub ports_from : Layout → Area → Image → ℕ → ℕ → Result State Cause
 ports_from layout a image p zero = Ok []
 ports_from layout a image p (suc left) =
-    port_in image (port_at layout a p) layout.port_sectors
+    port_in layout.version image (port_at layout a p) layout.port_sectors
     >>= λ port. ports_from layout a image (p + 1) left >>= λ ports. Ok (port ∷ ports)
 
 -- where a journal goes on: slots used, commands so far, the state after them (own)
@@ -101,7 +102,8 @@ span_in layout a image k = slots_of (head_of (image (body_at layout a k 0))).oct
 -- this number of its first command (format, Slots)
 abbrev pub batch_in : Layout → Area → ℕ → Image → ℕ → ℕ → ℕ → Option (List CommandValue)
 batch_in layout a epoch image k most first =
-    if nat_le (span_in layout a image k) most then batch_of epoch first (body_in layout a image k (span_in layout a image k)) else None
+    if nat_le (span_in layout a image k) most
+    then batch_of layout.version epoch first (body_in layout a image k (span_in layout a image k)) else None
 
 -- the batches from a slot on, so many slots of which belong to the batch before, up to the first head place whose gate
 -- is closed, on top of a number of commands and a state (format, Recovery)

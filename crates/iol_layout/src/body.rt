@@ -2,13 +2,14 @@
 
 ghost use Rattle.std.specs.Prelude.{◌≡◌, ◌≤◌, ◌<◌, ◌+◌, ◌^◌, ◌++◌, length, drop, Some, IfOk, OnOk};
 ghost use Rattle.std.specs.Int.{w64, to_be_bytes};
+ghost use Rattle.iol_record.specs.Record.{newest};
 ghost use Rattle.iol_layout.specs.Octets.{sectors_reached};
 ghost use Rattle.iol_layout.specs.Body.{commands_of, records_of, slots_of, slots_for, head_octets, body_octets, values};
 
 use crate::header::LAST_NUMBER;
 use crate::numbers::array_at;
 use iol_disk::SECTOR_OCTETS;
-use iol_record::encode_command;
+use iol_record::{Version, encode_command};
 use iol_types::Command;
 use std::alloc::{AllocError, Global};
 
@@ -100,11 +101,11 @@ pub fn slots_of(octets: usize) -> usize
 fn records(alloc: Global, commands: &[Command]) -> Result<Vec<u8>, AllocError>
     requires { length (records_of (values commands.now)) < 2 ^ 31 }
     ensures records { IfOk result (λ octets. octets.items ≡ records_of (values commands.now)) }
-    ensures read { IfOk result (λ octets. commands_of (length commands.now) octets.items ≡ Some (values commands.now)) }
+    ensures read { IfOk result (λ octets. commands_of newest (length commands.now) octets.items ≡ Some (values commands.now)) }
 {
     let mut octets = Vec::new(alloc);
     for command in commands {
-        let record = encode_command(alloc, command)?;
+        let record = encode_command(alloc, Version::newest(), command)?;
         octets.extend_from_slice(record.as_slice())?;
     }
     Ok(octets)
@@ -127,7 +128,7 @@ impl EncodedBatch {
         ensures span { IfOk result (λ body. body.span ≡ slots_for (values commands.now)) }
         ensures sectors { IfOk result (λ body. body.sectors ≡ sectors_reached (length body.octets.items)) }
         // The records are read as these commands.
-        ensures read { OnOk result (commands_of (length (values commands.now)) (records_of (values commands.now))
+        ensures read { OnOk result (commands_of newest (length (values commands.now)) (records_of (values commands.now))
             ≡ Some (values commands.now)) }
     {
         let records = records(alloc, commands)?;

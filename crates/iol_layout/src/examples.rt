@@ -4,6 +4,7 @@
 ghost use Rattle.std.specs.Prelude.{◌≡◌, ◌++◌, ◌==◌, if◌then◌else◌, [], ◌∷◌, drop, replicate, map, take, true, false};
 ghost use Rattle.iol_types.specs.Command.{Configure};
 ghost use Rattle.iol_types.specs.Examples.{example_config};
+ghost use Rattle.iol_record.specs.declared.version.Version.TheVariants.{One};
 ghost use Rattle.iol_layout.specs.Body.{batch_of, body_octets, commands_of, fits, head_of, slots_of};
 ghost use Rattle.iol_layout.specs.Examples.{two_by_four, first_body};
 ghost use Rattle.iol_layout.specs.Geometry.{IsGeometry, geometry_of, geometry_octets};
@@ -98,14 +99,14 @@ pub fn the_first_body()
 {}
 
 /// What is read of a body: its head, each number octet by octet, and its commands, whose records fill the octets exactly.
-#[tactic(auto, unfolding(crate::specs::Body::head_of, crate::specs::Body::batch_of, iol_record::specs::Reading::command_at, iol_record::specs::Reading::arguments_at, iol_record::specs::Reading::config_at))]
+#[tactic(auto, unfolding(crate::specs::Body::head_of, crate::specs::Body::batch_of, iol_record::specs::Reading::command_at, iol_record::specs::Reading::arguments_at, iol_record::specs::Reading::config_at, iol_record::specs::Reading::numbers_at, iol_record::specs::Reading::spare_at))]
 pub fn bodies_read()
     ensures head { head_of (0 ∷ 1 ∷ 2 ∷ 3 ∷ 4 ∷ 5 ∷ 6 ∷ 7 ∷ 8 ∷ 9 ∷ 10 ∷ 11 ∷ 12 ∷ 13 ∷ 14 ∷ 15 ∷ 16 ∷ 17 ∷ 18 ∷ 19 ∷ 20 ∷ 21 ∷ [])
         ≡ record { epoch = 283686952306183; first = 579005069656919567; count = 4113; octets = 303240213 } }
-    ensures batch { batch_of 1 1 first_body ≡ Some (Configure 1 example_config ∷ []) }
-    ensures a_command_less { commands_of 0 (drop 22 (take 32 first_body)) ≡ None }
-    ensures an_octet_more { commands_of 1 (drop 22 (take 33 first_body)) ≡ None }
-    ensures a_command_more { commands_of 2 (drop 22 (take 32 first_body)) ≡ None }
+    ensures batch { batch_of One 1 1 first_body ≡ Some (Configure 1 example_config ∷ []) }
+    ensures a_command_less { commands_of One 0 (drop 22 (take 32 first_body)) ≡ None }
+    ensures an_octet_more { commands_of One 1 (drop 22 (take 33 first_body)) ≡ None }
+    ensures a_command_more { commands_of One 2 (drop 22 (take 32 first_body)) ≡ None }
 {}
 
 /// Why an image means nothing: there is no gate of the disk, the disk is smaller than its geometry, no area is open, both are

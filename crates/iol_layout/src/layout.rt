@@ -2,6 +2,7 @@
 
 use crate::area::Area;
 use crate::geometry::{Geometry, PORT_SECTORS};
+use iol_record::Version;
 use iol_slots::{BODY_SECTORS, Slot};
 use std::marker::Model;
 
@@ -38,6 +39,14 @@ impl Layout {
     {
         let _ports = geometry.ports();
         Layout { geometry }
+    }
+
+    /// The version that its records are spelled in.
+    pub fn version(self) -> Version
+        ensures { result ≡ self.version }
+    {
+        let _geometry = &self.geometry;
+        Version::newest()
     }
 
     /// How many ports there are, 1 to 32.

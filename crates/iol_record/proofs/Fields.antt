@@ -17,14 +17,15 @@ use Rattle.iol_types.specs.Numbers.{IsPortNumber, IsDeviceNumber}
 use Rattle.iol_types.specs.Config.{mode_octet, mode_of, validation_octet, validation_of}
 use Rattle.iol_record.specs.declared.fault.RecordFault.{RecordFault}
 use Rattle.iol_record.specs.declared.fault.RecordFault.TheVariants.{BadTag, BadField}
-use Rattle.iol_record.specs.declared.reader.TheConstants.{NO_SET, SET}
+use Rattle.iol_record.specs.declared.reader.TheConstants.{NO_SET, SET, SPARE}
 use Rattle.iol_types.specs.declared.key.Key.{Key}
 use Rattle.iol_types.specs.declared.data_set.TheConstants.{MOST_ENTRY_OCTETS, ENTRY_HEAD_OCTETS, MOST_SET_OCTETS}
 use Rattle.iol_types.specs.Key.{is_reserved}
 use Rattle.iol_types.specs.DataSet.{Entry, data_at, octets_of}
 use Rattle.iol_record.specs.declared.reader.Tag.{Tag}
 use Rattle.iol_record.specs.declared.reader.Tag.TheVariants as tag
-use Rattle.iol_record.specs.Reading.{from_to, tag_octet, tag_of, has_set, new_key, tag_field, port_field, mode_field, validation_field}
+use Rattle.iol_record.specs.Reading.{from_to, tag_octet, tag_of, has_set, spare_of, spare_field, new_key, tag_field, port_field, mode_field}
+use Rattle.iol_record.specs.Reading.{validation_field}
 use Rattle.iol_record.specs.Reading.{vendor_field, device_field, revision_field, checksum_field, count_field, flag_field, index_field}
 use Rattle.iol_record.specs.Reading.{subindex_field, length_field}
 use Rattle.iol_record.proofs.Readers.{AreOctets, IsField}
@@ -140,6 +141,16 @@ flag_octet-of n flag e = by (eqb n NO_SET) (eqb n SET) refl refl e
 pub flag_reads : IsField flag_field (λ flag. flag_octet flag ∷ []) (λ _. Unit {0})
 flag_reads = octet_field has_set BadField flag_octet (λ _. Unit {0}) (λ flag _. has_set-octet flag) (λ n flag e.
     (flag_octet-of n flag e, tt))
+
+spare-is : (n : ℕ) (spare : Unit {0}) → spare_of n ≡ Some spare → n ≡ SPARE
+spare-is n spare e = by (eqb n SPARE) refl e
+  where
+    by : (same : Bool) → eqb n SPARE ≡ same → cond same (Some tt) None ≡ Some spare → n ≡ SPARE
+    by true is e = eqb-true n SPARE is
+    by false is e = absurd cc
+
+pub spare_reads : IsField spare_field (λ spare. SPARE ∷ []) (λ _. Unit {0})
+spare_reads = octet_field spare_of BadField (λ spare. SPARE) (λ _. Unit {0}) (λ spare _. refl) (λ n spare e. (spare-is n spare e, tt))
 
 pub mode_reads : IsField mode_field (λ mode. mode_octet mode ∷ []) (λ _. Unit {0})
 mode_reads = octet_field mode_of BadField mode_octet (λ _. Unit {0}) (λ mode _. mode_of-octet mode) (λ n mode e.

@@ -1,6 +1,6 @@
 -- Records read back: a record is read, whatever follows it, and what is read is a record.
 use Rattle.std.proofs.Common.{◌≡◌, ℕ, ◌<◌, ◌≤◌, ◌^◌, Bool, true, false, List, [], ◌∷◌, ◌++◌, length, Option, Some, None, Ok, Err, refl, ap}
-use Rattle.std.proofs.Common.{◌∙◌, subst, arith}
+use Rattle.std.proofs.Common.{◌∙◌, subst, arith, length-append, ◌+◌}
 use Rattle.std.specs.Prelude.{IfSome, ◌==◌, ◌&&◌}
 use Rattle.std.proofs.lemmas.Bool.{and_parts, eqb-true}
 use Rattle.std.specs.Int.{w64, to_be_bytes}
@@ -17,13 +17,17 @@ use Rattle.iol_record.specs.declared.fault.RecordFault.TheVariants.{Short}
 use Rattle.iol_record.specs.declared.reader.Tag.{Tag}
 use Rattle.iol_record.specs.declared.reader.Tag.TheVariants as tag
 use Rattle.iol_record.specs.declared.encode.TheConstants.{LARGEST_COMMAND_RECORD, LARGEST_PORT_RECORD}
-use Rattle.iol_record.specs.Record.{config_octets, set_octets, command_octets, stored_octets, port_octets, IsCommandRecord, IsPortRecord}
-use Rattle.iol_record.specs.Reading.{tag_octet, config_at, arguments_at, command_at, followed, field_at, flag_field, stored_at, may_stand}
+use Rattle.iol_record.specs.declared.version.Version.{Version}
+use Rattle.iol_record.specs.declared.version.Version.TheVariants.{One, Two}
+use Rattle.iol_record.specs.Record.{spare_octets, numbers_octets, config_octets, set_octets, command_octets, stored_octets, port_octets}
+use Rattle.iol_record.specs.Record.{IsCommandRecord, IsPortRecord}
+use Rattle.iol_record.specs.Reading.{tag_octet, spare_at, numbers_at, config_at, arguments_at, command_at, followed, field_at, flag_field}
+use Rattle.iol_record.specs.Reading.{stored_at, may_stand}
 use Rattle.iol_record.specs.Reading.{port_parts_at, port_record_at}
 use Rattle.iol_record.proofs.Readers.{extended, Splits, IsReader, field_reads, both_reads, joined_reads, followed_reads, tested_reads}
 use Rattle.iol_record.proofs.Readers.{nothing_reads, in_other_words, only_front}
 use Rattle.iol_record.proofs.Fields.{flag_octet, tag_reads, port_reads, mode_reads, validation_reads, vendor_reads, device_reads}
-use Rattle.iol_record.proofs.Fields.{revision_reads, flag_reads}
+use Rattle.iol_record.proofs.Fields.{revision_reads, flag_reads, spare_reads}
 use Rattle.iol_record.proofs.SetReaders.{set_reads, length-set_octets}
 
 -- ---- configurations
@@ -34,10 +38,10 @@ ConfigParts = PortMode × (Validation × (ℕ × ℕ))
 abbrev config_of : ConfigParts → PortConfig
 config_of parts = record { mode = parts.0; validation = parts.1.0; vendor = parts.1.1.0; device = parts.1.1.1 }
 
-config_reads : IsReader config_at config_octets IsConfig
-unfolding config_at
-config_reads =
-    joined_reads config_of _ _ config_octets _ IsConfig
+numbers_reads : IsReader numbers_at numbers_octets IsConfig
+unfolding numbers_at
+numbers_reads =
+    joined_reads config_of _ _ numbers_octets _ IsConfig
     (record {
       made = λ config is. ((config.mode, (config.validation, (config.vendor, config.device))), refl, (tt, (tt, (is.vendor, is.device))));
       spelled = λ parts. refl;
@@ -46,6 +50,23 @@ config_reads =
     (both_reads _ _ _ _ _ _ (field_reads _ _ _ mode_reads)
     (both_reads _ _ _ _ _ _ (field_reads _ _ _ validation_reads)
     (both_reads _ _ _ _ _ _ (field_reads _ _ _ vendor_reads) (field_reads _ _ _ device_reads))))
+
+-- what is kept for later use
+kept_reads : (version : Version) → IsReader (spare_at version) (λ spare. spare_octets version) (λ _. Unit {0})
+unfolding spare_at
+kept_reads One = in_other_words (λ spare _. refl) (λ spare _. tt) (nothing_reads tt)
+kept_reads Two = field_reads _ _ _ spare_reads
+
+config_reads : (version : Version) → IsReader (config_at version) (config_octets version) IsConfig
+unfolding config_at
+config_reads version =
+    joined_reads (λ (parts : PortConfig × Unit {0}). parts.0) _ _ (config_octets version) _ IsConfig
+    (record {
+      made = λ config is. ((config, tt), refl, (is, tt));
+      spelled = λ parts. refl;
+      in_range = λ parts is. is.0;
+    })
+    (both_reads _ _ _ _ _ _ numbers_reads (kept_reads version))
 
 -- ---- commands
 
@@ -56,21 +77,21 @@ tag_of_command (Clear port) = tag.Clear
 tag_of_command (Store port revision set) = tag.Store
 
 -- what stands behind the tag
-abbrev arguments_octets : CommandValue → List ℕ
-arguments_octets (Configure port config) = port ∷ config_octets config
-arguments_octets (Clear port) = port ∷ []
-arguments_octets (Store port revision set) = port ∷ (to_be_bytes w64 revision ++ set_octets set)
+abbrev arguments_octets : Version → CommandValue → List ℕ
+arguments_octets version (Configure port config) = port ∷ config_octets version config
+arguments_octets version (Clear port) = port ∷ []
+arguments_octets version (Store port revision set) = port ∷ (to_be_bytes w64 revision ++ set_octets set)
 
 -- a command in range that has this tag
 abbrev IsTagged : Tag → CommandValue → Type 0
 IsTagged t command = (tag_of_command command ≡ t) × IsCommand command
 
-configure_reads : IsReader (arguments_at tag.Configure) arguments_octets (IsTagged tag.Configure)
+configure_reads : (version : Version) → IsReader (arguments_at version tag.Configure) (arguments_octets version) (IsTagged tag.Configure)
 unfolding arguments_at
-configure_reads =
-    joined_reads (λ (parts : ℕ × PortConfig). Configure parts.0 parts.1) _ _ arguments_octets _ (IsTagged tag.Configure)
+configure_reads version =
+    joined_reads (λ (parts : ℕ × PortConfig). Configure parts.0 parts.1) _ _ (arguments_octets version) _ (IsTagged tag.Configure)
     (record { made = made; spelled = λ parts. refl; in_range = λ parts is. (refl, is) })
-    (both_reads _ _ _ _ _ _ (field_reads _ _ _ port_reads) config_reads)
+    (both_reads _ _ _ _ _ _ (field_reads _ _ _ port_reads) (config_reads version))
   where
     made : (command : CommandValue) → IsTagged tag.Configure command
         → (parts : ℕ × PortConfig) × (Configure parts.0 parts.1 ≡ command) × (IsPortNumber parts.0 × IsConfig parts.1)
@@ -78,10 +99,10 @@ configure_reads =
     made (Clear port) is = let other = is.0 in cc
     made (Store port revision set) is = let other = is.0 in cc
 
-clear_reads : IsReader (arguments_at tag.Clear) arguments_octets (IsTagged tag.Clear)
+clear_reads : (version : Version) → IsReader (arguments_at version tag.Clear) (arguments_octets version) (IsTagged tag.Clear)
 unfolding arguments_at
-clear_reads =
-    joined_reads Clear _ _ arguments_octets _ (IsTagged tag.Clear)
+clear_reads version =
+    joined_reads Clear _ _ (arguments_octets version) _ (IsTagged tag.Clear)
     (record { made = made; spelled = λ port. refl; in_range = λ port is. (refl, is) })
     (field_reads _ _ _ port_reads)
   where
@@ -96,10 +117,10 @@ StoreParts = ℕ × (ℕ × SetValue)
 abbrev store_of : StoreParts → CommandValue
 store_of parts = Store parts.0 parts.1.0 parts.1.1
 
-store_reads : IsReader (arguments_at tag.Store) arguments_octets (IsTagged tag.Store)
+store_reads : (version : Version) → IsReader (arguments_at version tag.Store) (arguments_octets version) (IsTagged tag.Store)
 unfolding arguments_at
-store_reads =
-    joined_reads store_of _ _ arguments_octets _ (IsTagged tag.Store)
+store_reads version =
+    joined_reads store_of _ _ (arguments_octets version) _ (IsTagged tag.Store)
     (record { made = made; spelled = λ parts. refl; in_range = λ parts is. (refl, (is.0, is.1.0, is.1.1)) })
     (both_reads _ _ _ _ _ _ (field_reads _ _ _ port_reads) (both_reads _ _ _ _ _ _ (field_reads _ _ _ revision_reads) set_reads))
   where
@@ -109,23 +130,24 @@ store_reads =
     made (Clear port) is = let other = is.0 in cc
     made (Store port revision set) is = ((port, (revision, set)), refl, (is.1.0, (is.1.1, is.1.2)))
 
-arguments_read : (t : Tag) → IsReader (arguments_at t) arguments_octets (IsTagged t)
-arguments_read tag.Configure = configure_reads
-arguments_read tag.Clear = clear_reads
-arguments_read tag.Store = store_reads
+arguments_read : (version : Version) (t : Tag) → IsReader (arguments_at version t) (arguments_octets version) (IsTagged t)
+arguments_read version tag.Configure = configure_reads version
+arguments_read version tag.Clear = clear_reads version
+arguments_read version tag.Store = store_reads version
 
-pub command_reads : IsReader command_at command_octets IsCommand
+pub command_reads : (version : Version) → IsReader (command_at version) (command_octets version) IsCommand
 unfolding command_at
-command_reads =
-    followed_reads _ arguments_at _ arguments_octets command_octets _ IsTagged IsCommand
+command_reads version =
+    followed_reads _ (arguments_at version) _ (arguments_octets version) (command_octets version) _ IsTagged IsCommand
     (record {
       first = λ command is. (tag_of_command command, tt, (refl, is));
-      spelled = λ t command is. tagged command ∙ ap (λ (other : Tag). tag_octet other ∷ arguments_octets command) is.0;
+      spelled = λ t command is. tagged command ∙ ap (λ (other : Tag). tag_octet other ∷ arguments_octets version command) is.0;
       in_range = λ t command _ is. is.1;
     })
-    (field_reads _ _ _ tag_reads) arguments_read
+    (field_reads _ _ _ tag_reads) (arguments_read version)
   where
-    tagged : (command : CommandValue) → command_octets command ≡ tag_octet (tag_of_command command) ∷ arguments_octets command
+    tagged : (command : CommandValue) → command_octets version command
+        ≡ tag_octet (tag_of_command command) ∷ arguments_octets version command
     tagged (Configure port config) = refl
     tagged (Clear port) = refl
     tagged (Store port revision set) = refl
@@ -138,9 +160,9 @@ is_stored None = false
 is_stored (Some stored) = true
 
 -- what stands behind the flag
-abbrev behind_flag : Option Stored → List ℕ
-behind_flag None = []
-behind_flag (Some stored) = config_octets stored.recorded ++ set_octets stored.set
+abbrev behind_flag : Version → Option Stored → List ℕ
+behind_flag version None = []
+behind_flag version (Some stored) = config_octets version stored.recorded ++ set_octets stored.set
 
 -- what is stored is in range, if something is
 abbrev AreStored : Option Stored → Type 0
@@ -152,21 +174,21 @@ IsFlagged flag stored = (is_stored stored ≡ flag) × AreStored stored
 abbrev stored_of : PortConfig × SetValue → Option Stored
 stored_of parts = Some (record { set = parts.1; recorded = parts.0 })
 
-set_stored_reads : IsReader (stored_at true) behind_flag (IsFlagged true)
+set_stored_reads : (version : Version) → IsReader (stored_at version true) (behind_flag version) (IsFlagged true)
 unfolding stored_at
-set_stored_reads =
-    joined_reads stored_of _ _ behind_flag _ (IsFlagged true)
+set_stored_reads version =
+    joined_reads stored_of _ _ (behind_flag version) _ (IsFlagged true)
     (record { made = made; spelled = λ parts. refl; in_range = λ parts is. (refl, is) })
-    (both_reads _ _ _ _ _ _ config_reads set_reads)
+    (both_reads _ _ _ _ _ _ (config_reads version) set_reads)
   where
     made : (stored : Option Stored) → IsFlagged true stored → (parts : PortConfig × SetValue) × (stored_of parts ≡ stored)
         × (IsConfig parts.0 × IsSet parts.1)
     made None is = let other = is.0 in cc
     made (Some stored) is = ((stored.recorded, stored.set), refl, is.1)
 
-nothing_stored_reads : IsReader (stored_at false) behind_flag (IsFlagged false)
+nothing_stored_reads : (version : Version) → IsReader (stored_at version false) (behind_flag version) (IsFlagged false)
 unfolding stored_at
-nothing_stored_reads = record {
+nothing_stored_reads version = record {
   again = again;
   takes = λ octets stored rest are e. taken octets stored rest (nothing.takes octets stored rest are e);
   stays = nothing.stays;
@@ -175,39 +197,42 @@ nothing_stored_reads = record {
     nothing : IsReader {A = Option Stored} (λ octets. Ok (None, octets)) (λ _. []) (λ stored. stored ≡ None)
     nothing = nothing_reads None
 
-    again : (stored : Option Stored) (rest : List ℕ) → IsFlagged false stored → stored_at false (behind_flag stored ++ rest)
+    again : (stored : Option Stored) (rest : List ℕ) → IsFlagged false stored → stored_at version false (behind_flag version stored ++ rest)
         ≡ Ok (stored, rest)
     again None rest is = refl
     again (Some stored) rest is = let other = is.0 in cc
 
     taken : (octets : List ℕ) (stored : Option Stored) (rest : List ℕ) → Splits octets [] rest × (stored ≡ None)
-        → Splits octets (behind_flag stored) rest × IsFlagged false stored
+        → Splits octets (behind_flag version stored) rest × IsFlagged false stored
     taken octets None rest is = (is.0, (refl, tt))
     taken octets (Some stored) rest is = let other = is.1 in cc
 
-stored_reads : (flag : Bool) → IsReader (stored_at flag) behind_flag (IsFlagged flag)
-stored_reads true = set_stored_reads
-stored_reads false = nothing_stored_reads
+stored_reads : (version : Version) (flag : Bool) → IsReader (stored_at version flag) (behind_flag version) (IsFlagged flag)
+stored_reads version true = set_stored_reads version
+stored_reads version false = nothing_stored_reads version
 
-flagged_reads : IsReader (followed (field_at flag_field) stored_at) stored_octets AreStored
-flagged_reads =
-    followed_reads _ stored_at _ behind_flag stored_octets _ IsFlagged AreStored
+flagged_reads : (version : Version) → IsReader (followed (field_at flag_field) (stored_at version)) (stored_octets version) AreStored
+flagged_reads version =
+    followed_reads _ (stored_at version) _ (behind_flag version) (stored_octets version) _ IsFlagged AreStored
     (record {
       first = λ stored is. (is_stored stored, tt, (refl, is));
-      spelled = λ flag stored is. flagged stored ∙ ap (λ (other : Bool). flag_octet other ∷ behind_flag stored) is.0;
+      spelled = λ flag stored is. flagged stored ∙ ap (λ (other : Bool). flag_octet other ∷ behind_flag version stored) is.0;
       in_range = λ flag stored _ is. is.1;
     })
-    (field_reads _ _ _ flag_reads) stored_reads
+    (field_reads _ _ _ flag_reads) (stored_reads version)
   where
-    flagged : (stored : Option Stored) → stored_octets stored ≡ flag_octet (is_stored stored) ∷ behind_flag stored
+    flagged : (stored : Option Stored) → stored_octets version stored ≡ flag_octet (is_stored stored) ∷ behind_flag version stored
     flagged None = refl
     flagged (Some stored) = refl
 
+abbrev port_with : PortConfig → ℕ → Option Stored → Port
+port_with config revision stored = record { config = config; revision = revision; stored = stored }
+
 abbrev PortParts : Type 0
-PortParts = PortConfig × (ℕ × Option Stored)
+PortParts = PortConfig × (ℕ × (Option Stored × Unit {0}))
 
 abbrev port_of : PortParts → Port
-port_of parts = record { config = parts.0; revision = parts.1.0; stored = parts.1.1 }
+port_of parts = port_with parts.0 parts.1.0 parts.1.1.0
 
 -- a port whose parts are in range, whether or not it may have what is stored
 pub record HasParts (port : Port) : Type 0 where
@@ -227,78 +252,111 @@ recorded-in_range config stored is may =
     let device : stored.set.device ≡ stored.recorded.device = eqb-true _ _ two.1 in
     record { vendor = subst (λ n. n < 2 ^ 16) vendor is.vendor; device = subst IsDeviceNumber device is.device }
 
-port_parts_read : IsReader port_parts_at port_octets HasParts
+port_parts_read : (version : Version) → IsReader (port_parts_at version) (port_octets version) HasParts
 unfolding port_parts_at
-port_parts_read =
-    joined_reads port_of _ _ port_octets _ HasParts
+port_parts_read version =
+    joined_reads port_of _ _ (port_octets version) _ HasParts
     (record {
-      made = λ port is. ((port.config, (port.revision, port.stored)), refl, (is.config, (is.revision, is.stored)));
+      made = λ port is. ((port.config, (port.revision, (port.stored, tt))), refl, (is.config, (is.revision, (is.stored, tt))));
       spelled = λ parts. refl;
-      in_range = λ parts is. record { config = is.0; revision = is.1.0; stored = is.1.1 };
+      in_range = λ parts is. record { config = is.0; revision = is.1.0; stored = is.1.1.0 };
     })
-    (both_reads _ _ _ _ _ _ config_reads (both_reads _ _ _ _ _ _ (field_reads _ _ _ revision_reads) flagged_reads))
+    (both_reads _ _ _ _ _ _ (config_reads version)
+    (both_reads _ _ _ _ _ _ (field_reads _ _ _ revision_reads)
+    (both_reads _ _ _ _ _ _ (flagged_reads version) (kept_reads version))))
 
 -- a port is one exactly where its parts are in range and it may have what is stored
-tested-is_port : (config : PortConfig) (revision : ℕ) (stored : Option Stored) → HasParts (port_of (config, (revision, stored)))
-    → may_stand (port_of (config, (revision, stored))) ≡ true → IsPort (port_of (config, (revision, stored)))
+tested-is_port : (config : PortConfig) (revision : ℕ) (stored : Option Stored) → HasParts (port_with config revision stored)
+    → may_stand (port_with config revision stored) ≡ true → IsPort (port_with config revision stored)
 tested-is_port config revision None parts may = record { config = parts.config; revision = parts.revision; set = tt; stored = tt }
 tested-is_port config revision (Some stored) parts may =
     record { config = parts.config; revision = parts.revision; set = parts.stored.1; stored = may }
 
-is_port-tested : (config : PortConfig) (revision : ℕ) (stored : Option Stored) → IsPort (port_of (config, (revision, stored)))
-    → HasParts (port_of (config, (revision, stored))) × (may_stand (port_of (config, (revision, stored))) ≡ true)
+is_port-tested : (config : PortConfig) (revision : ℕ) (stored : Option Stored) → IsPort (port_with config revision stored)
+    → HasParts (port_with config revision stored) × (may_stand (port_with config revision stored) ≡ true)
 is_port-tested config revision None port = (record { config = port.config; revision = port.revision; stored = tt }, refl)
 is_port-tested config revision (Some stored) port = (
   record { config = port.config; revision = port.revision; stored = (recorded-in_range config stored port.set port.stored, port.set) },
   port.stored,
 )
 
-pub port_record_reads : IsReader port_record_at port_octets IsPort
+pub port_record_reads : (version : Version) → IsReader (port_record_at version) (port_octets version) IsPort
 unfolding port_record_at
-port_record_reads =
+port_record_reads version =
     in_other_words (λ port is. is_port-tested port.config port.revision port.stored is) (λ port is.
     tested-is_port port.config port.revision port.stored is.0 is.1)
-    (tested_reads may_stand port_parts_at port_octets HasParts port_parts_read)
+    (tested_reads may_stand (port_parts_at version) (port_octets version) HasParts (port_parts_read version))
 
 -- ---- for the crates above
 
--- a command's record is read, whatever follows it
-pub command_at-record : (front rest : List ℕ) (command : CommandValue) → IsCommandRecord front command → command_at (front ++ rest)
-    ≡ Ok (command, rest)
-command_at-record front rest command is = only_front command_reads (front ++ rest) front command rest is.spelling is.in_range refl
+-- what is kept for later use has an octet at most
+pub length-spare_octets : (version : Version) → length (spare_octets version) ≤ 1
+length-spare_octets One = omega arith
+length-spare_octets Two = omega arith
 
--- a port's record is read, whatever follows it
-pub port_record_at-record : (front rest : List ℕ) (port : Port) → IsPortRecord front port → port_record_at (front ++ rest) ≡ Ok (port, rest)
-port_record_at-record front rest port is = only_front port_record_reads (front ++ rest) front port rest is.spelling is.in_range refl
+module _ (version : Version) where
+  -- a command's record is read, whatever follows it
+  pub command_at-record : (front rest : List ℕ) (command : CommandValue) → IsCommandRecord version front command
+      → command_at version (front ++ rest) ≡ Ok (command, rest)
+  command_at-record front rest command is =
+      only_front (command_reads version) (front ++ rest) front command rest is.spelling is.in_range refl
 
--- a command's record has at least one octet, and at most the largest's
-pub length-command_record : (front : List ℕ) (command : CommandValue) → IsCommandRecord front command → (0 < length front)
-    × (length front ≤ LARGEST_COMMAND_RECORD)
-length-command_record front (Configure port config) is = let long = ap length is.spelling in (omega (arith, long), omega (arith, long))
-length-command_record front (Clear port) is = let long = ap length is.spelling in (omega (arith, long), omega (arith, long))
-length-command_record front (Store port revision set) is =
-    let long = ap length is.spelling in
-    let all = length-set_octets set in
-    (omega (arith, long), omega (arith, long, all, is.in_range.2.entries.fits))
+  -- a port's record is read, whatever follows it
+  pub port_record_at-record : (front rest : List ℕ) (port : Port) → IsPortRecord version front port
+      → port_record_at version (front ++ rest) ≡ Ok (port, rest)
+  port_record_at-record front rest port is =
+      only_front (port_record_reads version) (front ++ rest) front port rest is.spelling is.in_range refl
 
--- a port's record has at least one octet, and at most the largest's
-pub length-port_octets : (port : Port) → IsPort port → (0 < length (port_octets port)) × (length (port_octets port) ≤ LARGEST_PORT_RECORD)
-length-port_octets port is = by_stored port.config port.revision port.stored is.set
-  where
-    by_stored : (config : PortConfig) (revision : ℕ) (stored : Option Stored) → IfSome stored (λ stored. IsSet stored.set)
-        → (0 < length (port_octets (port_of (config, (revision, stored)))))
-        × (length (port_octets (port_of (config, (revision, stored)))) ≤ LARGEST_PORT_RECORD)
-    by_stored config revision None set = (omega arith, omega arith)
-    by_stored config revision (Some stored) set =
-        let all = length-set_octets stored.set in
-        (omega (arith, all), omega (arith, all, set.entries.fits))
+  length-config_octets : (config : PortConfig) → length (config_octets version config) ≡ 8 + length (spare_octets version)
+  length-config_octets config = length-append (numbers_octets config) (spare_octets version)
 
--- what is not short as a port is read the same before more octets
-pub port_record_at-append : (octets more : List ℕ) → (port_record_at octets ≡ Err Short → ⊥) → port_record_at (octets ++ more)
-    ≡ extended more (port_record_at octets)
-port_record_at-append = port_record_reads.stays
+  -- a command's record has at least one octet, and at most the largest's
+  pub length-command_record : (front : List ℕ) (command : CommandValue) → IsCommandRecord version front command → (0 < length front)
+      × (length front ≤ LARGEST_COMMAND_RECORD)
+  length-command_record front (Configure port config) is =
+      let long = ap length is.spelling in
+      let all = length-config_octets config in
+      (omega (arith, long), omega (arith, long, all, length-spare_octets version))
+  length-command_record front (Clear port) is = let long = ap length is.spelling in (omega (arith, long), omega (arith, long))
+  length-command_record front (Store port revision set) is =
+      let long = ap length is.spelling in
+      let all = length-set_octets set in
+      (omega (arith, long), omega (arith, long, all, is.in_range.2.entries.fits))
 
--- no octets are short as a port
-pub port_record_at-nothing : port_record_at [] ≡ Err Short
-unfolding port_record_at port_parts_at config_at
-port_record_at-nothing = refl
+  -- a port's record has at least one octet, and at most the largest's
+  pub length-port_octets : (port : Port) → IsPort port → (0 < length (port_octets version port))
+      × (length (port_octets version port) ≤ LARGEST_PORT_RECORD)
+  length-port_octets port is = by_stored port.config port.revision port.stored is.set
+    where
+      spare : ℕ
+      spare = length (spare_octets version)
+
+      stored-short : (stored : Option Stored) → IfSome stored (λ stored. IsSet stored.set) → length (stored_octets version stored)
+          ≤ 4117 + spare
+      stored-short None set = omega arith
+      stored-short (Some stored) set =
+          let all = length-append (config_octets version stored.recorded) (set_octets stored.set) in
+          omega (arith, all, length-config_octets stored.recorded, length-set_octets stored.set, set.entries.fits)
+
+      by_stored : (config : PortConfig) (revision : ℕ) (stored : Option Stored) → IfSome stored (λ stored. IsSet stored.set)
+          → (0 < length (port_octets version (port_with config revision stored)))
+          × (length (port_octets version (port_with config revision stored)) ≤ LARGEST_PORT_RECORD)
+      by_stored config revision stored set =
+          let front = length-config_octets config in
+          let behind = length-append (stored_octets version stored) (spare_octets version) in
+          let middle = length-append (to_be_bytes w64 revision) (stored_octets version stored ++ spare_octets version) in
+          let whole = length-append (config_octets version config)
+          (to_be_bytes w64 revision ++ (stored_octets version stored ++ spare_octets version)) in (
+            omega (arith, front, whole),
+            omega (arith, front, behind, middle, whole, stored-short stored set, length-spare_octets version),
+          )
+
+  -- what is not short as a port is read the same before more octets
+  pub port_record_at-append : (octets more : List ℕ) → (port_record_at version octets ≡ Err Short → ⊥)
+      → port_record_at version (octets ++ more) ≡ extended more (port_record_at version octets)
+  port_record_at-append = (port_record_reads version).stays
+
+  -- no octets are short as a port
+  pub port_record_at-nothing : port_record_at version [] ≡ Err Short
+  unfolding port_record_at port_parts_at config_at numbers_at
+  port_record_at-nothing = refl

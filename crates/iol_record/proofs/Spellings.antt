@@ -33,3 +33,8 @@ pub three_behind : (old first second third : List ℕ) {one two three : List ℕ
 three_behind old first second third is_one is_two is_three =
     is_three ∙ ap (λ front. front ++ third) (is_two ∙ ap (λ front. front ++ second) is_one)
     ∙ append_assoc (old ++ first) second third ∙ append_assoc old first (second ++ third)
+
+-- two texts
+pub two_behind : (old first second : List ℕ) {one two : List ℕ} → one ≡ old ++ first → two ≡ one ++ second → two ≡ old ++ (first ++ second)
+two_behind old first second is_one is_two =
+    is_two ∙ ap (λ front. front ++ second) is_one ∙ append_assoc old first second

@@ -20,7 +20,9 @@ use Rattle.iol_record.specs.declared.fault.RecordFault.TheVariants.{Short, BadTa
 use Rattle.iol_record.specs.declared.reader.Tag.{Tag}
 use Rattle.iol_record.specs.declared.reader.Tag.TheVariants as tag
 use Rattle.iol_record.specs.declared.records.SetHead.{SetHead}
-use Rattle.iol_record.specs.declared.reader.TheConstants.{CONFIGURE, CLEAR, STORE, NO_SET, SET}
+use Rattle.iol_record.specs.declared.reader.TheConstants.{CONFIGURE, CLEAR, STORE, NO_SET, SET, SPARE}
+use Rattle.iol_record.specs.declared.version.Version.{Version}
+use Rattle.iol_record.specs.declared.version.Version.TheVariants.{One, Two}
 
 -- a reading gives what stands in front of some octets with the octets behind it, or the first fault (own)
 abbrev pub Reading : Type 0 → Type 0
@@ -92,6 +94,13 @@ has_set octet = if nat_eq octet NO_SET then Some false else if_so (nat_eq octet 
 abbrev pub flag_field : Field Bool
 flag_field = record { width = w8; value = has_set; fault = BadField }
 
+-- what is kept for later use stands for nothing yet (format, Records)
+abbrev pub spare_of : ℕ → Option (Unit {0})
+spare_of octet = if_so (nat_eq octet SPARE) tt
+
+abbrev pub spare_field : Field (Unit {0})
+spare_field = record { width = w8; value = spare_of; fault = BadField }
+
 -- the fields of an entry behind others: an Index that is not reserved, a Subindex with which it is none of their keys,
 -- and a length with which it and they make no set that is too large (format, Records)
 abbrev pub index_field : Field ℕ
@@ -145,11 +154,20 @@ joined whole parts octets = parts octets >>= λ a. Ok (whole a.0, a.1)
 abbrev pub tested : {A : Type 0} → (A → Bool) → Reading A → Reading A
 tested test value octets = value octets >>= λ a. ok_or (if_so (test a.0) a) BadField
 
--- the reading of a configuration: mode, validation, vendor, device (format, Records)
-unfoldable pub config_at : Reading PortConfig
-config_at =
+-- the reading of what version 2 keeps for later use: an octet 00 (format, Records)
+unfoldable pub spare_at : Version → Reading (Unit {0})
+spare_at One octets = Ok (tt, octets)
+spare_at Two octets = field_at spare_field octets
+
+-- the reading of the numbers of a configuration: mode, validation, vendor, device (format, Records)
+unfoldable pub numbers_at : Reading PortConfig
+numbers_at =
     joined (λ (mode, (validation, (vendor, device))). record { mode = mode; validation = validation; vendor = vendor; device = device })
     (both (field_at mode_field) (both (field_at validation_field) (both (field_at vendor_field) (field_at device_field))))
+
+-- the reading of a configuration: its numbers, and what is kept for later use (format, Records)
+unfoldable pub config_at : Version → Reading PortConfig
+config_at version = joined (λ (config, spare). config) (both numbers_at (spare_at version))
 
 -- the reading of an entry behind others: Index, Subindex, length, data (format, Records)
 unfoldable pub entry_at : List Entry → Reading Entry
@@ -180,34 +198,36 @@ unfoldable pub set_at : Reading SetValue
 set_at = followed set_head_at (λ head. joined (set_with head) (entries_at head.count []))
 
 -- the reading of what stands behind a tag: port and configuration; port; port, revision and set (format, Records)
-unfoldable pub arguments_at : Tag → Reading CommandValue
-arguments_at tag.Configure = joined (λ (port, config). Configure port config) (both (field_at port_field) config_at)
-arguments_at tag.Clear = joined Clear (field_at port_field)
-arguments_at tag.Store =
+unfoldable pub arguments_at : Version → Tag → Reading CommandValue
+arguments_at version tag.Configure = joined (λ (port, config). Configure port config) (both (field_at port_field) (config_at version))
+arguments_at version tag.Clear = joined Clear (field_at port_field)
+arguments_at version tag.Store =
     joined (λ (port, (revision, set)). Store port revision set) (both (field_at port_field) (both (field_at revision_field) set_at))
 
 -- the reading of a command: its tag, and what stands behind that (format, Records)
-unfoldable pub command_at : Reading CommandValue
-command_at = followed (field_at tag_field) arguments_at
+unfoldable pub command_at : Version → Reading CommandValue
+command_at version = followed (field_at tag_field) (arguments_at version)
 
 -- the reading of what a port has stored, by its flag: nothing, or configuration and set (format, Records)
-unfoldable pub stored_at : Bool → Reading (Option Stored)
-stored_at false octets = Ok (None, octets)
-stored_at true octets = joined (λ (recorded, set). Some (record { set = set; recorded = recorded })) (both config_at set_at) octets
+unfoldable pub stored_at : Version → Bool → Reading (Option Stored)
+stored_at version false octets = Ok (None, octets)
+stored_at version true octets =
+    joined (λ (recorded, set). Some (record { set = set; recorded = recorded })) (both (config_at version) set_at) octets
 
 -- a port may have what is stored for it (own)
 abbrev pub may_stand : Port → Bool
 may_stand port = option_map_or (may_have port.config) port.stored true
 
--- the reading of a port: configuration, revision, flag, and what is stored (format, Records)
-unfoldable pub port_parts_at : Reading Port
-port_parts_at =
-    joined (λ (config, (revision, stored)). record { config = config; revision = revision; stored = stored })
-    (both config_at (both (field_at revision_field) (followed (field_at flag_field) stored_at)))
+-- the reading of a port: configuration, revision, flag, what is stored, and what is kept for later use (format, Records)
+unfoldable pub port_parts_at : Version → Reading Port
+port_parts_at version =
+    joined (λ (config, (revision, (stored, spare))). record { config = config; revision = revision; stored = stored })
+    (both (config_at version) (both (field_at revision_field)
+    (both (followed (field_at flag_field) (stored_at version)) (spare_at version))))
 
 -- the reading of a port that may have what is stored for it (format, Records)
-unfoldable pub port_record_at : Reading Port
-port_record_at = tested may_stand port_parts_at
+unfoldable pub port_record_at : Version → Reading Port
+port_record_at version = tested may_stand (port_parts_at version)
 
 -- the reading of the numbers of a set and of its first entry, if it has one (format, Records)
 unfoldable pub set_begun_at : Reading (List Entry)
@@ -223,13 +243,13 @@ unfoldable pub store_begun_at : Reading (List Entry)
 store_begun_at = followed (field_at tag_field) begun_behind
 
 -- the reading of a port as far as the first entry of its set, where it has a set (format, Records)
-unfoldable pub stored_begun_at : Bool → Reading (List Entry)
-stored_begun_at true octets = followed config_at (λ recorded. set_begun_at) octets
-stored_begun_at false octets = Err BadField
+unfoldable pub stored_begun_at : Version → Bool → Reading (List Entry)
+stored_begun_at version true octets = followed (config_at version) (λ recorded. set_begun_at) octets
+stored_begun_at version false octets = Err BadField
 
-unfoldable pub port_begun_at : Reading (List Entry)
-port_begun_at = followed config_at (λ config.
-    followed (field_at revision_field) (λ revision. followed (field_at flag_field) stored_begun_at))
+unfoldable pub port_begun_at : Version → Reading (List Entry)
+port_begun_at version = followed (config_at version) (λ config.
+    followed (field_at revision_field) (λ revision. followed (field_at flag_field) (stored_begun_at version)))
 
 -- what a function answers is what is read: a value and the octets behind it, or the fault (own)
 abbrev pub Reads : {X A : Type 0} → (X → A × List ℕ) → Result X RecordFault → Result (A × List ℕ) RecordFault → Type 0

@@ -1,4 +1,4 @@
--- The one spelling of each command and of each port, numbers most significant octet first.
+-- The one spelling of each command and of each port in a version, numbers most significant octet first.
 use Rattle.std.specs.Prelude.{◌≡◌, ℕ, List, [], ◌∷◌, ◌++◌, length, Option, Some, None}
 use Rattle.std.specs.List.{flat_map}
 use Rattle.std.specs.Int.{w16, w32, w64, to_be_bytes}
@@ -8,12 +8,27 @@ use Rattle.iol_types.specs.DataSet.{SetValue}
 use Rattle.iol_types.specs.Parts.{entry_octets}
 use Rattle.iol_types.specs.Command.{CommandValue, Configure, Clear, Store, IsCommand}
 use Rattle.iol_types.specs.State.{Stored, Port, IsPort}
-use Rattle.iol_record.specs.declared.reader.TheConstants.{CONFIGURE, CLEAR, STORE, NO_SET, SET}
+use Rattle.iol_record.specs.declared.reader.TheConstants.{CONFIGURE, CLEAR, STORE, NO_SET, SET, SPARE}
+use Rattle.iol_record.specs.declared.version.Version.{Version}
+use Rattle.iol_record.specs.declared.version.Version.TheVariants.{One, Two}
 
--- the octets of a configuration: mode 1, validation 1, vendor 2, device 4 (format, Records)
-abbrev pub config_octets : PortConfig → List ℕ
-config_octets config =
+-- what version 2 keeps for later use: an octet 00 (format, Records)
+abbrev pub spare_octets : Version → List ℕ
+spare_octets One = []
+spare_octets Two = SPARE ∷ []
+
+-- the version that is written (format, Records)
+abbrev pub newest : Version
+newest = One
+
+-- the octets of the numbers of a configuration: mode 1, validation 1, vendor 2, device 4 (format, Records)
+abbrev pub numbers_octets : PortConfig → List ℕ
+numbers_octets config =
     mode_octet config.mode ∷ validation_octet config.validation ∷ (to_be_bytes w16 config.vendor ++ to_be_bytes w32 config.device)
+
+-- the octets of a configuration: its numbers, and what is kept for later use (format, Records)
+abbrev pub config_octets : Version → PortConfig → List ℕ
+config_octets version config = numbers_octets config ++ spare_octets version
 
 -- the octets of a set: vendor 2, device 4, checksum 4, count 2, and its entries in order (format, Records)
 abbrev pub set_octets : SetValue → List ℕ
@@ -23,27 +38,29 @@ set_octets set =
 
 -- the octets of a command; Configure: tag 1, port 1, configuration; Clear: tag 1, port 1; Store: tag 1, port 1,
 -- revision 8, set (format, Records)
-abbrev pub command_octets : CommandValue → List ℕ
-command_octets (Configure port config) = CONFIGURE ∷ port ∷ config_octets config
-command_octets (Clear port) = CLEAR ∷ port ∷ []
-command_octets (Store port revision set) = STORE ∷ port ∷ (to_be_bytes w64 revision ++ set_octets set)
+abbrev pub command_octets : Version → CommandValue → List ℕ
+command_octets version (Configure port config) = CONFIGURE ∷ port ∷ config_octets version config
+command_octets version (Clear port) = CLEAR ∷ port ∷ []
+command_octets version (Store port revision set) = STORE ∷ port ∷ (to_be_bytes w64 revision ++ set_octets set)
 
 -- the octets of what a port has stored: a flag 1, and where there is a set, the configuration that it was taken under
 -- and the set (format, Records)
-abbrev pub stored_octets : Option Stored → List ℕ
-stored_octets None = NO_SET ∷ []
-stored_octets (Some stored) = SET ∷ (config_octets stored.recorded ++ set_octets stored.set)
+abbrev pub stored_octets : Version → Option Stored → List ℕ
+stored_octets version None = NO_SET ∷ []
+stored_octets version (Some stored) = SET ∷ (config_octets version stored.recorded ++ set_octets stored.set)
 
--- the octets of a port: configuration, revision 8, what it has stored (format, Records)
-abbrev pub port_octets : Port → List ℕ
-port_octets port = config_octets port.config ++ to_be_bytes w64 port.revision ++ stored_octets port.stored
+-- the octets of a port: configuration, revision 8, what it has stored, and what is kept for later use (format, Records)
+abbrev pub port_octets : Version → Port → List ℕ
+port_octets version port =
+    config_octets version port.config
+    ++ (to_be_bytes w64 port.revision ++ (stored_octets version port.stored ++ spare_octets version))
 
 -- the octets are the one spelling of the command, whose numbers are in range (format, Records)
-pub record IsCommandRecord (octets : List ℕ) (command : CommandValue) : Type 0 where
-  pub spelling : octets ≡ command_octets command
+pub record IsCommandRecord (version : Version) (octets : List ℕ) (command : CommandValue) : Type 0 where
+  pub spelling : octets ≡ command_octets version command
   pub in_range : IsCommand command
 
 -- the octets are the one spelling of the port, whose numbers are in range (format, Records)
-pub record IsPortRecord (octets : List ℕ) (port : Port) : Type 0 where
-  pub spelling : octets ≡ port_octets port
+pub record IsPortRecord (version : Version) (octets : List ℕ) (port : Port) : Type 0 where
+  pub spelling : octets ≡ port_octets version port
   pub in_range : IsPort port

@@ -7,65 +7,75 @@ ghost use Rattle.iol_record.specs.Reading.{ReadsOrMemory, command_at, store_begu
 
 use crate::fault::RecordFault;
 use crate::reader::Reader;
+use crate::version::Version;
 use iol_types::{Command, PortState};
 use std::alloc::Global;
 
-/// The command whose record stands in front of the octets, and how many octets the record has.
+/// The command whose record in this version stands in front of the octets, and how many octets the record has.
 /// What follows the record is not read.
 ///
 /// A Configure record has 10 octets: `tag u8 = 01 | port u8 | mode u8 | validation u8 | vendor u16 |
-/// device u32`. A Clear record has 2: `tag u8 = 02 | port u8`. A Store record has 22 and its entries:
-/// `tag u8 = 03 | port u8 | revision u64 | vendor u16 | device u32 | checksum u32 | count u16`, then so
-/// many entries `index u16 | subindex u8 | length u8 | data`.
+/// device u32`, and in version 2 one more, `spare u8 = 00`. A Clear record has 2: `tag u8 = 02 |
+/// port u8`. A Store record has 22 and its entries: `tag u8 = 03 | port u8 | revision u64 | vendor
+/// u16 | device u32 | checksum u32 | count u16`, then so many entries `index u16 | subindex u8 | length u8 | data`.
 ///
 /// # Errors
 /// The first that comes, field by field: `Short` where the octets end within the field, `BadTag`
 /// where the tag is none of these, `BadField` where the port is 0 or over 32, the mode or the
-/// validation is over 4, the device is 2^24 or more, an Index is reserved, a key stands twice (at its
-/// Subindex), a length is over 232 or makes a set that is too large. `Memory` at an entry of a Store
+/// validation is over 4, the device is 2^24 or more, the octet behind a configuration is not 00, an Index is
+/// reserved, a key stands twice (at its Subindex), a length is over 232 or makes a set that is too large. `Memory` at an entry of a Store
 /// alone, and at the end of a Store.
-pub fn decode_command(alloc: Global, octets: &[u8]) -> Result<(Command, usize), RecordFault>
+pub fn decode_command(
+    alloc: Global,
+    version: Version,
+    octets: &[u8],
+) -> Result<(Command, usize), RecordFault>
     // What is answered stands in front.
     ensures found { IfOk result (λ (command, count).
-        (count ≤ length octets.now) × IsCommandRecord (take count octets.now) (value_of command)) }
+        (count ≤ length octets.now) × IsCommandRecord version (take count octets.now) (value_of command)) }
     // What stands in front is answered, whatever follows, where there is memory.
     ensures only { (front rest : List ℕ) (command : CommandValue)
-        → IsCommandRecord front command → octets.now ≡ front ++ rest
+        → IsCommandRecord version front command → octets.now ≡ front ++ rest
         → (result ≡ Err RecordFault.Memory) ⊎ IsOkAnd result (λ (found, count). (value_of found ≡ command) × (count ≡ length front)) }
     // A fault is the first one, or memory at a set that is whole and in range as far as its first entry.
     ensures exact { ReadsOrMemory (λ (command, count). (value_of command, drop count octets.now)) (store_begun_at octets.now) result
-        (command_at octets.now) }
+        (command_at version octets.now) }
 {
     let mut reader = Reader::new(octets);
-    let command = reader.command(alloc)?;
+    let command = reader.command(alloc, version)?;
     Ok((command, octets.len() - reader.len()))
 }
 
-/// The port whose record stands in front of the octets, and how many octets the record has. What
-/// follows the record is not read.
+/// The port whose record in this version stands in front of the octets, and how many octets the record
+/// has. What follows the record is not read.
 ///
 /// The record has 17 octets: `mode u8 | validation u8 | vendor u16 | device u32 | revision u64 | flag
 /// u8 = 00`. Where a set is stored it has 37 and the set's entries: the flag is 01, and behind it
-/// stand the configuration that the set was taken under, and the set as in a Store record.
+/// stand the configuration that the set was taken under, and the set as in a Store record. In version 2
+/// one more octet 00 stands behind each configuration, and one at the end.
 ///
 /// # Errors
 /// The first that comes, field by field: `Short` where the octets end within the field, `BadField`
 /// where the mode or the validation is over 4, the device is 2^24 or more, the flag is neither 00 nor
-/// 01, or a field of the set is as `decode_command` refuses it; at the end `BadField` where the port
+/// 01, an octet of version 2 is not 00, or a field of the set is as `decode_command` refuses it; at the end `BadField` where the port
 /// may not have the set (`PortState::new`). `Memory` at an entry of a set alone, and at its end.
-pub fn decode_port(alloc: Global, octets: &[u8]) -> Result<(PortState, usize), RecordFault>
+pub fn decode_port(
+    alloc: Global,
+    version: Version,
+    octets: &[u8],
+) -> Result<(PortState, usize), RecordFault>
     // What is answered stands in front.
     ensures found { IfOk result (λ (port, count).
-        (count ≤ length octets.now) × IsPortRecord (take count octets.now) port) }
+        (count ≤ length octets.now) × IsPortRecord version (take count octets.now) port) }
     // What stands in front is answered, whatever follows, where there is memory.
     ensures only { (front rest : List ℕ) (port : Port)
-        → IsPortRecord front port → octets.now ≡ front ++ rest
+        → IsPortRecord version front port → octets.now ≡ front ++ rest
         → (result ≡ Err RecordFault.Memory) ⊎ IsOkAnd result (λ (found, count). (found ≡ port) × (count ≡ length front)) }
     // A fault is the first one, or memory at a set that is whole and in range as far as its first entry.
-    ensures exact { ReadsOrMemory (λ (port, count). (port, drop count octets.now)) (port_begun_at octets.now) result
-        (port_record_at octets.now) }
+    ensures exact { ReadsOrMemory (λ (port, count). (port, drop count octets.now)) (port_begun_at version octets.now) result
+        (port_record_at version octets.now) }
 {
     let mut reader = Reader::new(octets);
-    let port = reader.port_state(alloc)?;
+    let port = reader.port_state(alloc, version)?;
     Ok((port, octets.len() - reader.len()))
 }

@@ -8,14 +8,15 @@ ghost use Rattle.iol_types.specs.Parts.{entry_octets};
 ghost use Rattle.iol_types.specs.Command.{Configure, Clear, Store, value_of};
 ghost use Rattle.iol_types.specs.Port.{stored_of};
 ghost use Rattle.iol_record.specs.declared.encode.TheConstants.{LARGEST_COMMAND_RECORD};
-ghost use Rattle.iol_record.specs.Record.{config_octets, command_octets, set_octets, stored_octets, IsCommandRecord};
-ghost use Rattle.iol_record.specs.Record.{IsPortRecord};
+ghost use Rattle.iol_record.specs.Record.{spare_octets, numbers_octets, config_octets, command_octets, set_octets, stored_octets};
+ghost use Rattle.iol_record.specs.Record.{IsCommandRecord, IsPortRecord};
 
-use crate::reader::{CLEAR, CONFIGURE, NO_SET, SET, STORE};
+use crate::reader::{CLEAR, CONFIGURE, NO_SET, SET, SPARE, STORE};
+use crate::version::Version;
 use iol_types::{Command, DataSet, PortConfig, PortId, PortState, StoredSet};
 use std::alloc::{AllocError, Global};
 
-// The octets of a Configure record.
+// The octets of a Configure record in version 1.
 const CONFIGURE_OCTETS: usize = 10;
 
 // The octets of a Clear record.
@@ -24,23 +25,55 @@ const CLEAR_OCTETS: usize = 2;
 // The octets of a Store record in front of its entries.
 const STORE_OCTETS: usize = 22;
 
-// The octets of the record of a port without a set.
+// The octets of the record of a port without a set in version 1.
 const PORT_OCTETS: usize = 17;
 
 /// The most octets that the record of a command has: a Store of a set that counts 4,096.
 pub const LARGEST_COMMAND_RECORD: usize = 4118;
 
-/// The most octets that the record of a port has: with a set that counts 4,096.
-pub const LARGEST_PORT_RECORD: usize = 4133;
+/// The most octets that the record of a port has: in version 2, with a set that counts 4,096.
+pub const LARGEST_PORT_RECORD: usize = 4136;
 
-fn push_config(octets: &mut Vec<u8>, config: &PortConfig) -> Result<(), AllocError>
-    ensures octets { OnOk result (octets.new.items ≡ octets.old.items ++ config_octets config.now) }
+fn spare_octets(version: Version) -> usize
+    ensures count { result ≡ length (spare_octets version) }
+    ensures most { result ≤ 1 }
+{
+    match version {
+        Version::One => 0,
+        Version::Two => 1,
+    }
+}
+
+fn push_spare(octets: &mut Vec<u8>, version: Version) -> Result<(), AllocError>
+    ensures { OnOk result (octets.new.items ≡ octets.old.items ++ spare_octets version) }
+{
+    match version {
+        Version::One => Ok(()),
+        Version::Two => Ok(octets.push(SPARE)?),
+    }
+}
+
+fn push_numbers(octets: &mut Vec<u8>, config: &PortConfig) -> Result<(), AllocError>
+    ensures octets { OnOk result (octets.new.items ≡ octets.old.items ++ numbers_octets config.now) }
     ensures in_range { OnOk result (IsConfig config.now) }
 {
     octets.push(config.mode.to_octet())?;
     octets.push(config.validation.to_octet())?;
     octets.extend_from_slice(&config.vendor.to_be_bytes())?;
     octets.extend_from_slice(&config.device.number().to_be_bytes())?;
+    Ok(())
+}
+
+fn push_config(
+    octets: &mut Vec<u8>,
+    version: Version,
+    config: &PortConfig,
+) -> Result<(), AllocError>
+    ensures octets { OnOk result (octets.new.items ≡ octets.old.items ++ config_octets version config.now) }
+    ensures in_range { OnOk result (IsConfig config.now) }
+{
+    push_numbers(octets, config)?;
+    push_spare(octets, version)?;
     Ok(())
 }
 
@@ -90,18 +123,23 @@ fn push_set(octets: &mut Vec<u8>, set: &DataSet) -> Result<(), AllocError>
     Ok(())
 }
 
-fn encode_configure(alloc: Global, port: PortId, config: &PortConfig) -> Result<Vec<u8>, AllocError>
-    ensures { IfOk result (λ octets. IsCommandRecord octets.items (Configure port config.now)) }
+fn encode_configure(
+    alloc: Global,
+    version: Version,
+    port: PortId,
+    config: &PortConfig,
+) -> Result<Vec<u8>, AllocError>
+    ensures { IfOk result (λ octets. IsCommandRecord version octets.items (Configure port config.now)) }
 {
-    let mut octets = Vec::with_capacity(alloc, CONFIGURE_OCTETS)?;
+    let mut octets = Vec::with_capacity(alloc, CONFIGURE_OCTETS + spare_octets(version))?;
     octets.push(CONFIGURE)?;
     octets.push(port.number())?;
-    push_config(&mut octets, config)?;
+    push_config(&mut octets, version, config)?;
     Ok(octets)
 }
 
 fn encode_clear(alloc: Global, port: PortId) -> Result<Vec<u8>, AllocError>
-    ensures { IfOk result (λ octets. IsCommandRecord octets.items (Clear port)) }
+    ensures { (version : Version) → IfOk result (λ octets. IsCommandRecord version octets.items (Clear port)) }
 {
     let mut octets = Vec::with_capacity(alloc, CLEAR_OCTETS)?;
     octets.push(CLEAR)?;
@@ -115,7 +153,7 @@ fn encode_store(
     revision: u64,
     set: &DataSet,
 ) -> Result<Vec<u8>, AllocError>
-    ensures { IfOk result (λ octets. IsCommandRecord octets.items (Store port revision set.now)) }
+    ensures { (version : Version) → IfOk result (λ octets. IsCommandRecord version octets.items (Store port revision set.now)) }
 {
     let mut octets = Vec::with_capacity(alloc, STORE_OCTETS)?;
     octets.push(STORE)?;
@@ -125,27 +163,31 @@ fn encode_store(
     Ok(octets)
 }
 
-/// How many octets the record of a command has. It takes no memory.
-pub fn command_record_octets(command: &Command) -> usize
-    ensures count { result ≡ length (command_octets (value_of command.now)) }
+/// How many octets the record of a command has in a version. It takes no memory.
+pub fn command_record_octets(version: Version, command: &Command) -> usize
+    ensures count { result ≡ length (command_octets version (value_of command.now)) }
     ensures most { result ≤ LARGEST_COMMAND_RECORD }
 {
     match command {
-        Command::Configure { .. } => CONFIGURE_OCTETS,
+        Command::Configure { .. } => CONFIGURE_OCTETS + spare_octets(version),
         Command::Clear { .. } => CLEAR_OCTETS,
         Command::Store { set, .. } => STORE_OCTETS + set.octets(),
     }
 }
 
-/// The record of a command, laid out as at [`decode_command`](crate::decode_command).
+/// The record of a command in a version, laid out as at [`decode_command`](crate::decode_command).
 ///
 /// # Errors
 /// `AllocError` where it is out of memory.
-pub fn encode_command(alloc: Global, command: &Command) -> Result<Vec<u8>, AllocError>
-    ensures { IfOk result (λ octets. IsCommandRecord octets.items (value_of command.now)) }
+pub fn encode_command(
+    alloc: Global,
+    version: Version,
+    command: &Command,
+) -> Result<Vec<u8>, AllocError>
+    ensures { IfOk result (λ octets. IsCommandRecord version octets.items (value_of command.now)) }
 {
     match command {
-        Command::Configure { port, config } => encode_configure(alloc, *port, config),
+        Command::Configure { port, config } => encode_configure(alloc, version, *port, config),
         Command::Clear { port } => encode_clear(alloc, *port),
         Command::Store {
             port,
@@ -155,29 +197,30 @@ pub fn encode_command(alloc: Global, command: &Command) -> Result<Vec<u8>, Alloc
     }
 }
 
-fn push_stored(octets: &mut Vec<u8>, stored: &StoredSet) -> Result<(), AllocError>
-    ensures octets { OnOk result (octets.new.items ≡ octets.old.items ++ stored_octets (Some (stored_of stored.now))) }
+fn push_stored(octets: &mut Vec<u8>, version: Version, stored: &StoredSet) -> Result<(), AllocError>
+    ensures octets { OnOk result (octets.new.items ≡ octets.old.items ++ stored_octets version (Some (stored_of stored.now))) }
     ensures in_range { OnOk result (IsConfig stored.now.recorded × IsSet stored.now.set.value) }
 {
     octets.push(SET)?;
-    push_config(octets, &stored.recorded)?;
+    push_config(octets, version, &stored.recorded)?;
     push_set(octets, &stored.set)?;
     Ok(())
 }
 
-/// The record of a port, laid out as at [`decode_port`](crate::decode_port).
+/// The record of a port in a version, laid out as at [`decode_port`](crate::decode_port).
 ///
 /// # Errors
 /// `AllocError` where it is out of memory.
-pub fn encode_port(alloc: Global, port: &PortState) -> Result<Vec<u8>, AllocError>
-    ensures { IfOk result (λ octets. IsPortRecord octets.items port.now) }
+pub fn encode_port(alloc: Global, version: Version, port: &PortState) -> Result<Vec<u8>, AllocError>
+    ensures { IfOk result (λ octets. IsPortRecord version octets.items port.now) }
 {
-    let mut octets = Vec::with_capacity(alloc, PORT_OCTETS)?;
-    push_config(&mut octets, &port.config())?;
+    let mut octets = Vec::with_capacity(alloc, PORT_OCTETS + 2 * spare_octets(version))?;
+    push_config(&mut octets, version, &port.config())?;
     octets.extend_from_slice(&port.revision().to_be_bytes())?;
     match port.stored() {
         None => octets.push(NO_SET)?,
-        Some(stored) => push_stored(&mut octets, stored)?,
+        Some(stored) => push_stored(&mut octets, version, stored)?,
     }
+    push_spare(&mut octets, version)?;
     Ok(octets)
 }

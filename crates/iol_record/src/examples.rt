@@ -13,6 +13,7 @@ ghost use Rattle.iol_record.specs.Reading.{field_at, tag_field, port_field, mode
 ghost use Rattle.iol_record.specs.Reading.{revision_field, checksum_field, count_field, flag_field, index_field, subindex_field};
 ghost use Rattle.iol_record.specs.Reading.{length_field};
 ghost use Rattle.iol_record.specs.declared.reader.Tag.TheVariants as tag;
+ghost use Rattle.iol_record.specs.declared.version.Version.TheVariants.{One, Two};
 
 use crate::fault::RecordFault;
 use iol_types::{PortMode, Validation};
@@ -49,98 +50,117 @@ pub const PORT_WITH_SET_RECORD: [u8; 48] = [
     0x00, 0x02, 0x4F, 0x00, 0x02, 0x00, 0x40, 0x00, 0x02, 0x0A, 0x64, 0x00, 0x41, 0x01, 0x01, 0x7F,
 ];
 
+/// [`CONFIGURE_RECORD`] in version 2.
+pub const CONFIGURE_RECORD_OF_TWO: [u8; 11] = [
+    0x01, 0x01, 0x01, 0x03, 0x01, 0xF4, 0x00, 0x00, 0xAB, 0xCD, 0x00,
+];
+
+/// [`PORT_RECORD`] in version 2.
+pub const PORT_RECORD_OF_TWO: [u8; 19] = [
+    0x01, 0x03, 0x01, 0xF4, 0x00, 0x00, 0xAB, 0xCD, 0x00, 0x00, 0x00, 0x00, 0x00, 0x00, 0x00, 0x00,
+    0x01, 0x00, 0x00,
+];
+
+/// [`PORT_WITH_SET_RECORD`] in version 2.
+pub const PORT_WITH_SET_RECORD_OF_TWO: [u8; 51] = [
+    0x01, 0x03, 0x01, 0xF4, 0x00, 0x00, 0xAB, 0xCD, 0x00, 0x00, 0x00, 0x00, 0x00, 0x00, 0x00, 0x00,
+    0x01, 0x01, 0x01, 0x03, 0x01, 0xF4, 0x00, 0x00, 0xAB, 0xCD, 0x00, 0x01, 0xF4, 0x00, 0x00, 0xAB,
+    0xCD, 0x00, 0x00, 0x02, 0x4F, 0x00, 0x02, 0x00, 0x40, 0x00, 0x02, 0x0A, 0x64, 0x00, 0x41, 0x01,
+    0x01, 0x7F, 0x00,
+];
+
 /// [`CONFIGURE_RECORD`] is the record of its command, and is read as it.
-#[tactic(auto, unfolding(crate::specs::Reading::command_at, crate::specs::Reading::arguments_at, crate::specs::Reading::config_at))]
+#[tactic(auto, unfolding(crate::specs::Reading::command_at, crate::specs::Reading::arguments_at, crate::specs::Reading::config_at, crate::specs::Reading::numbers_at, crate::specs::Reading::spare_at))]
 pub fn a_configure_record()
-    ensures written { IsCommandRecord CONFIGURE_RECORD (Configure 1 example_config) }
-    ensures read { command_at CONFIGURE_RECORD ≡ Ok (Configure 1 example_config, []) }
+    ensures written { IsCommandRecord One CONFIGURE_RECORD (Configure 1 example_config) }
+    ensures read { command_at One CONFIGURE_RECORD ≡ Ok (Configure 1 example_config, []) }
 {}
 
 /// [`BLANK_RECORD`] and [`PORT_RECORD`] are the records of their ports, and are read as them.
-#[tactic(auto, unfolding(crate::specs::Reading::port_record_at, crate::specs::Reading::port_parts_at, crate::specs::Reading::stored_at, crate::specs::Reading::config_at))]
+#[tactic(auto, unfolding(crate::specs::Reading::port_record_at, crate::specs::Reading::port_parts_at, crate::specs::Reading::stored_at, crate::specs::Reading::config_at, crate::specs::Reading::numbers_at, crate::specs::Reading::spare_at))]
 pub fn port_records()
-    ensures blank_written { IsPortRecord BLANK_RECORD blank }
-    ensures blank_read { port_record_at BLANK_RECORD ≡ Ok (blank, []) }
-    ensures written { IsPortRecord PORT_RECORD (record { config = example_config; revision = 1; stored = None }) }
-    ensures read { port_record_at PORT_RECORD
+    ensures blank_written { IsPortRecord One BLANK_RECORD blank }
+    ensures blank_read { port_record_at One BLANK_RECORD ≡ Ok (blank, []) }
+    ensures written { IsPortRecord One PORT_RECORD (record { config = example_config; revision = 1; stored = None }) }
+    ensures read { port_record_at One PORT_RECORD
         ≡ Ok (record { config = example_config; revision = 1; stored = None }, []) }
 {}
 
 /// [`CONFIGURE_RECORD`] with one field out of its range: the tag is 04, the port 0 or 33, the mode 5,
 /// the validation 5, the device 01 00 AB CD.
-#[tactic(auto, unfolding(crate::specs::Reading::command_at, crate::specs::Reading::arguments_at, crate::specs::Reading::config_at))]
+#[tactic(auto, unfolding(crate::specs::Reading::command_at, crate::specs::Reading::arguments_at, crate::specs::Reading::config_at, crate::specs::Reading::numbers_at, crate::specs::Reading::spare_at))]
 pub fn commands_out_of_range()
-    ensures tag { command_at (slice_set CONFIGURE_RECORD 0 0x04) ≡ Err RecordFault.BadTag }
-    ensures port_below { command_at (slice_set CONFIGURE_RECORD 1 0) ≡ Err RecordFault.BadField }
-    ensures port_above { command_at (slice_set CONFIGURE_RECORD 1 33) ≡ Err RecordFault.BadField }
-    ensures mode { command_at (slice_set CONFIGURE_RECORD 2 5) ≡ Err RecordFault.BadField }
-    ensures validation { command_at (slice_set CONFIGURE_RECORD 3 5) ≡ Err RecordFault.BadField }
-    ensures device { command_at (slice_set CONFIGURE_RECORD 6 0x01) ≡ Err RecordFault.BadField }
+    ensures tag { command_at One (slice_set CONFIGURE_RECORD 0 0x04) ≡ Err RecordFault.BadTag }
+    ensures port_below { command_at One (slice_set CONFIGURE_RECORD 1 0) ≡ Err RecordFault.BadField }
+    ensures port_above { command_at One (slice_set CONFIGURE_RECORD 1 33) ≡ Err RecordFault.BadField }
+    ensures mode { command_at One (slice_set CONFIGURE_RECORD 2 5) ≡ Err RecordFault.BadField }
+    ensures validation { command_at One (slice_set CONFIGURE_RECORD 3 5) ≡ Err RecordFault.BadField }
+    ensures device { command_at One (slice_set CONFIGURE_RECORD 6 0x01) ≡ Err RecordFault.BadField }
 {}
 
 /// The flag 02 of a port is out of its range.
-#[tactic(auto, unfolding(crate::specs::Reading::port_record_at, crate::specs::Reading::port_parts_at, crate::specs::Reading::stored_at, crate::specs::Reading::config_at))]
+#[tactic(auto, unfolding(crate::specs::Reading::port_record_at, crate::specs::Reading::port_parts_at, crate::specs::Reading::stored_at, crate::specs::Reading::config_at, crate::specs::Reading::numbers_at, crate::specs::Reading::spare_at))]
 pub fn a_flag_out_of_range()
-    ensures { port_record_at (slice_set PORT_RECORD 16 0x02) ≡ Err RecordFault.BadField }
+    ensures { port_record_at One (slice_set PORT_RECORD 16 0x02) ≡ Err RecordFault.BadField }
 {}
 
 /// The first 0 to 9 octets of [`CONFIGURE_RECORD`], and the first 0 to 16 of [`PORT_RECORD`], are
 /// short.
-#[tactic(auto, unfolding(crate::specs::Reading::command_at, crate::specs::Reading::arguments_at, crate::specs::Reading::port_record_at, crate::specs::Reading::port_parts_at, crate::specs::Reading::stored_at, crate::specs::Reading::config_at))]
+#[tactic(auto, unfolding(crate::specs::Reading::command_at, crate::specs::Reading::arguments_at, crate::specs::Reading::port_record_at, crate::specs::Reading::port_parts_at, crate::specs::Reading::stored_at, crate::specs::Reading::config_at, crate::specs::Reading::numbers_at, crate::specs::Reading::spare_at))]
 pub fn records_cut_off()
-    ensures command { map (λ count. command_at (take count CONFIGURE_RECORD)) (range_with_len 0 10)
+    ensures command { map (λ count. command_at One (take count CONFIGURE_RECORD)) (range_with_len 0 10)
         ≡ replicate 10 (Err RecordFault.Short) }
-    ensures port { map (λ count. port_record_at (take count PORT_RECORD)) (range_with_len 0 17)
+    ensures port { map (λ count. port_record_at One (take count PORT_RECORD)) (range_with_len 0 17)
         ≡ replicate 17 (Err RecordFault.Short) }
 {}
 
-/// A command's record has at most 4,118 octets, a port's at most 4,133.
+/// A command's record has at most 4,118 octets, a port's at most 4,136.
 pub fn largest_records()
     ensures command { LARGEST_COMMAND_RECORD ≡ 4118 }
-    ensures port { LARGEST_PORT_RECORD ≡ 4133 }
+    ensures port { LARGEST_PORT_RECORD ≡ 4136 }
 {}
 
 /// [`CLEAR_RECORD`] and [`STORE_RECORD`] are read as their commands, and are what these are written as.
 #[tactic(auto, unfolding(crate::specs::Reading::command_at, crate::specs::Reading::arguments_at, crate::specs::Reading::set_at, crate::specs::Reading::set_head_at, crate::specs::Reading::entry_at))]
 pub fn clear_and_store_records()
-    ensures clear_written { CLEAR_RECORD ≡ command_octets (Clear 1) }
-    ensures clear_read { command_at CLEAR_RECORD ≡ Ok (Clear 1, []) }
-    ensures store_written { STORE_RECORD ≡ command_octets (Store 1 1 example_set) }
-    ensures store_read { command_at STORE_RECORD ≡ Ok (Store 1 1 example_set, []) }
+    ensures clear_written { CLEAR_RECORD ≡ command_octets One (Clear 1) }
+    ensures clear_read { command_at One CLEAR_RECORD ≡ Ok (Clear 1, []) }
+    ensures store_written { STORE_RECORD ≡ command_octets One (Store 1 1 example_set) }
+    ensures store_read { command_at One STORE_RECORD ≡ Ok (Store 1 1 example_set, []) }
 {}
 
 /// [`PORT_WITH_SET_RECORD`] is read as its port, and is what that is written as.
-#[tactic(auto, unfolding(crate::specs::Reading::port_record_at, crate::specs::Reading::port_parts_at, crate::specs::Reading::stored_at, crate::specs::Reading::config_at, crate::specs::Reading::set_at, crate::specs::Reading::set_head_at, crate::specs::Reading::entry_at))]
+#[tactic(auto, unfolding(crate::specs::Reading::port_record_at, crate::specs::Reading::port_parts_at, crate::specs::Reading::stored_at, crate::specs::Reading::config_at, crate::specs::Reading::numbers_at, crate::specs::Reading::spare_at, crate::specs::Reading::set_at, crate::specs::Reading::set_head_at, crate::specs::Reading::entry_at))]
 pub fn a_port_with_a_set()
-    ensures written { PORT_WITH_SET_RECORD ≡ port_octets example_port }
-    ensures read { port_record_at PORT_WITH_SET_RECORD ≡ Ok (example_port, []) }
+    ensures written { PORT_WITH_SET_RECORD ≡ port_octets One example_port }
+    ensures read { port_record_at One PORT_WITH_SET_RECORD ≡ Ok (example_port, []) }
 {}
 
 /// [`STORE_RECORD`] with one field out of its range: the device is 01 00 AB CD, an Index 0003, a length
 /// 233; and a double key, which is found at its Subindex.
 #[tactic(auto, unfolding(crate::specs::Reading::command_at, crate::specs::Reading::arguments_at, crate::specs::Reading::set_at, crate::specs::Reading::set_head_at, crate::specs::Reading::entry_at))]
 pub fn stores_out_of_range()
-    ensures device { command_at (slice_set STORE_RECORD 12 0x01) ≡ Err RecordFault.BadField }
-    ensures reserved { command_at (take 24 (slice_set STORE_RECORD 23 0x03)) ≡ Err RecordFault.BadField }
-    ensures length { command_at (take 26 (slice_set STORE_RECORD 25 233)) ≡ Err RecordFault.BadField }
-    ensures double_key { command_at (take 31 (slice_set (slice_set STORE_RECORD 29 0x40) 30 0x00)) ≡ Err RecordFault.BadField }
-    ensures cut_off { command_at (take 32 STORE_RECORD) ≡ Err RecordFault.Short }
+    ensures device { command_at One (slice_set STORE_RECORD 12 0x01) ≡ Err RecordFault.BadField }
+    ensures reserved { command_at One (take 24 (slice_set STORE_RECORD 23 0x03)) ≡ Err RecordFault.BadField }
+    ensures length { command_at One (take 26 (slice_set STORE_RECORD 25 233)) ≡ Err RecordFault.BadField }
+    ensures double_key { command_at One (take 31 (slice_set (slice_set STORE_RECORD 29 0x40) 30 0x00)) ≡ Err RecordFault.BadField }
+    ensures cut_off { command_at One (take 32 STORE_RECORD) ≡ Err RecordFault.Short }
 {}
 
 /// [`PORT_WITH_SET_RECORD`] under a configuration that may not have the set: another vendor, device or
 /// mode, no check; a set taken under Restore or in another mode, a set of another vendor or device. Under
 /// Restore it may have it.
-#[tactic(auto, unfolding(crate::specs::Reading::port_record_at, crate::specs::Reading::port_parts_at, crate::specs::Reading::stored_at, crate::specs::Reading::config_at, crate::specs::Reading::set_at, crate::specs::Reading::set_head_at, crate::specs::Reading::entry_at))]
+#[tactic(auto, unfolding(crate::specs::Reading::port_record_at, crate::specs::Reading::port_parts_at, crate::specs::Reading::stored_at, crate::specs::Reading::config_at, crate::specs::Reading::numbers_at, crate::specs::Reading::spare_at, crate::specs::Reading::set_at, crate::specs::Reading::set_head_at, crate::specs::Reading::entry_at))]
 pub fn ports_without_right_to_their_set()
-    ensures vendor { port_record_at (slice_set PORT_WITH_SET_RECORD 3 0xF5) ≡ Err RecordFault.BadField }
-    ensures device_now { port_record_at (slice_set PORT_WITH_SET_RECORD 7 0xCE) ≡ Err RecordFault.BadField }
-    ensures mode { port_record_at (slice_set PORT_WITH_SET_RECORD 0 0x02) ≡ Err RecordFault.BadField }
-    ensures no_check { port_record_at (slice_set PORT_WITH_SET_RECORD 1 0x00) ≡ Err RecordFault.BadField }
-    ensures recorded { port_record_at (slice_set PORT_WITH_SET_RECORD 18 0x04) ≡ Err RecordFault.BadField }
-    ensures recorded_mode { port_record_at (slice_set PORT_WITH_SET_RECORD 17 0x02) ≡ Err RecordFault.BadField }
-    ensures set_vendor { port_record_at (slice_set PORT_WITH_SET_RECORD 26 0xF5) ≡ Err RecordFault.BadField }
-    ensures device { port_record_at (slice_set PORT_WITH_SET_RECORD 30 0xCE) ≡ Err RecordFault.BadField }
-    ensures restore { port_record_at (slice_set PORT_WITH_SET_RECORD 1 0x04)
+    ensures vendor { port_record_at One (slice_set PORT_WITH_SET_RECORD 3 0xF5) ≡ Err RecordFault.BadField }
+    ensures device_now { port_record_at One (slice_set PORT_WITH_SET_RECORD 7 0xCE) ≡ Err RecordFault.BadField }
+    ensures mode { port_record_at One (slice_set PORT_WITH_SET_RECORD 0 0x02) ≡ Err RecordFault.BadField }
+    ensures no_check { port_record_at One (slice_set PORT_WITH_SET_RECORD 1 0x00) ≡ Err RecordFault.BadField }
+    ensures recorded { port_record_at One (slice_set PORT_WITH_SET_RECORD 18 0x04) ≡ Err RecordFault.BadField }
+    ensures recorded_mode { port_record_at One (slice_set PORT_WITH_SET_RECORD 17 0x02) ≡ Err RecordFault.BadField }
+    ensures set_vendor { port_record_at One (slice_set PORT_WITH_SET_RECORD 26 0xF5) ≡ Err RecordFault.BadField }
+    ensures device { port_record_at One (slice_set PORT_WITH_SET_RECORD 30 0xCE) ≡ Err RecordFault.BadField }
+    ensures restore { port_record_at One (slice_set PORT_WITH_SET_RECORD 1 0x04)
         ≡ Ok (
           record { config = record example_config { validation = Validation.Restore }; revision = 1; stored = Some example_stored },
           [],
@@ -186,37 +206,64 @@ pub fn fields_of_entries()
 
 /// Fields are judged from left to right: a tag before the port behind it, and each field before what is
 /// missing behind it.
-#[tactic(auto, unfolding(crate::specs::Reading::command_at, crate::specs::Reading::arguments_at, crate::specs::Reading::port_record_at, crate::specs::Reading::port_parts_at, crate::specs::Reading::stored_at, crate::specs::Reading::config_at, crate::specs::Reading::set_at, crate::specs::Reading::set_head_at))]
+#[tactic(auto, unfolding(crate::specs::Reading::command_at, crate::specs::Reading::arguments_at, crate::specs::Reading::port_record_at, crate::specs::Reading::port_parts_at, crate::specs::Reading::stored_at, crate::specs::Reading::config_at, crate::specs::Reading::numbers_at, crate::specs::Reading::spare_at, crate::specs::Reading::set_at, crate::specs::Reading::set_head_at))]
 pub fn faults_from_the_left()
-    ensures tag { command_at (0x04 ∷ 0x00 ∷ []) ≡ Err RecordFault.BadTag }
-    ensures no_port { command_at (0x02 ∷ []) ≡ Err RecordFault.Short }
-    ensures port { map (λ tag. command_at (tag ∷ 0x21 ∷ [])) (0x01 ∷ 0x02 ∷ 0x03 ∷ []) ≡ replicate 3 (Err RecordFault.BadField) }
-    ensures mode { command_at (take 3 (slice_set CONFIGURE_RECORD 2 5)) ≡ Err RecordFault.BadField }
-    ensures validation { command_at (take 4 (slice_set CONFIGURE_RECORD 3 5)) ≡ Err RecordFault.BadField }
-    ensures device { command_at (take 16 (slice_set STORE_RECORD 12 0x01)) ≡ Err RecordFault.BadField }
-    ensures flag { port_record_at (take 17 (slice_set PORT_WITH_SET_RECORD 16 0x02)) ≡ Err RecordFault.BadField }
-    ensures recorded { port_record_at (take 18 (slice_set PORT_WITH_SET_RECORD 17 5)) ≡ Err RecordFault.BadField }
-    ensures set { port_record_at (take 31 (slice_set PORT_WITH_SET_RECORD 27 0x01)) ≡ Err RecordFault.BadField }
+    ensures tag { command_at One (0x04 ∷ 0x00 ∷ []) ≡ Err RecordFault.BadTag }
+    ensures no_port { command_at One (0x02 ∷ []) ≡ Err RecordFault.Short }
+    ensures port { map (λ tag. command_at One (tag ∷ 0x21 ∷ [])) (0x01 ∷ 0x02 ∷ 0x03 ∷ []) ≡ replicate 3 (Err RecordFault.BadField) }
+    ensures mode { command_at One (take 3 (slice_set CONFIGURE_RECORD 2 5)) ≡ Err RecordFault.BadField }
+    ensures validation { command_at One (take 4 (slice_set CONFIGURE_RECORD 3 5)) ≡ Err RecordFault.BadField }
+    ensures device { command_at One (take 16 (slice_set STORE_RECORD 12 0x01)) ≡ Err RecordFault.BadField }
+    ensures flag { port_record_at One (take 17 (slice_set PORT_WITH_SET_RECORD 16 0x02)) ≡ Err RecordFault.BadField }
+    ensures recorded { port_record_at One (take 18 (slice_set PORT_WITH_SET_RECORD 17 5)) ≡ Err RecordFault.BadField }
+    ensures set { port_record_at One (take 31 (slice_set PORT_WITH_SET_RECORD 27 0x01)) ≡ Err RecordFault.BadField }
 {}
 
 /// What follows a record is left unread.
-#[tactic(auto, unfolding(crate::specs::Reading::command_at, crate::specs::Reading::arguments_at, crate::specs::Reading::port_record_at, crate::specs::Reading::port_parts_at, crate::specs::Reading::stored_at, crate::specs::Reading::config_at))]
+#[tactic(auto, unfolding(crate::specs::Reading::command_at, crate::specs::Reading::arguments_at, crate::specs::Reading::port_record_at, crate::specs::Reading::port_parts_at, crate::specs::Reading::stored_at, crate::specs::Reading::config_at, crate::specs::Reading::numbers_at, crate::specs::Reading::spare_at))]
 pub fn octets_behind_a_record()
-    ensures clear { command_at (CLEAR_RECORD ++ 0xFF ∷ []) ≡ Ok (Clear 1, 0xFF ∷ []) }
-    ensures configure { command_at (CONFIGURE_RECORD ++ 0xFF ∷ []) ≡ Ok (Configure 1 example_config, 0xFF ∷ []) }
-    ensures port { port_record_at (PORT_RECORD ++ 0xFF ∷ [])
+    ensures clear { command_at One (CLEAR_RECORD ++ 0xFF ∷ []) ≡ Ok (Clear 1, 0xFF ∷ []) }
+    ensures configure { command_at One (CONFIGURE_RECORD ++ 0xFF ∷ []) ≡ Ok (Configure 1 example_config, 0xFF ∷ []) }
+    ensures port { port_record_at One (PORT_RECORD ++ 0xFF ∷ [])
         ≡ Ok (record { config = example_config; revision = 1; stored = None }, 0xFF ∷ []) }
 {}
 
 /// Memory may run out in a Store and in a port's record from the whole of the first entry on, which ends
 /// at octets 28 and 43, and not before; without a set it does not.
-#[tactic(auto, unfolding(crate::specs::Reading::store_begun_at, crate::specs::Reading::begun_behind, crate::specs::Reading::port_begun_at, crate::specs::Reading::stored_begun_at, crate::specs::Reading::set_begun_at, crate::specs::Reading::config_at, crate::specs::Reading::set_head_at, crate::specs::Reading::entry_at))]
+#[tactic(auto, unfolding(crate::specs::Reading::store_begun_at, crate::specs::Reading::begun_behind, crate::specs::Reading::port_begun_at, crate::specs::Reading::stored_begun_at, crate::specs::Reading::set_begun_at, crate::specs::Reading::config_at, crate::specs::Reading::numbers_at, crate::specs::Reading::spare_at, crate::specs::Reading::set_head_at, crate::specs::Reading::entry_at))]
 pub fn records_that_take_memory()
     ensures store { IsOk (store_begun_at (take 28 STORE_RECORD)) }
     ensures store_before { store_begun_at (take 27 STORE_RECORD) ≡ Err RecordFault.Short }
     ensures no_entry { IsOk (store_begun_at (take 22 (slice_set STORE_RECORD 21 0))) }
     ensures clear { store_begun_at CLEAR_RECORD ≡ Err RecordFault.BadTag }
-    ensures port { IsOk (port_begun_at (take 43 PORT_WITH_SET_RECORD)) }
-    ensures port_before { port_begun_at (take 42 PORT_WITH_SET_RECORD) ≡ Err RecordFault.Short }
-    ensures no_set { port_begun_at PORT_RECORD ≡ Err RecordFault.BadField }
+    ensures port { IsOk (port_begun_at One (take 43 PORT_WITH_SET_RECORD)) }
+    ensures port_before { port_begun_at One (take 42 PORT_WITH_SET_RECORD) ≡ Err RecordFault.Short }
+    ensures no_set { port_begun_at One PORT_RECORD ≡ Err RecordFault.BadField }
+{}
+
+/// In version 2 a configuration has one octet more, and so has a port; Clear and Store have none.
+#[tactic(auto, unfolding(crate::specs::Reading::command_at, crate::specs::Reading::arguments_at, crate::specs::Reading::port_record_at, crate::specs::Reading::port_parts_at, crate::specs::Reading::stored_at, crate::specs::Reading::config_at, crate::specs::Reading::numbers_at, crate::specs::Reading::spare_at, crate::specs::Reading::set_at, crate::specs::Reading::set_head_at, crate::specs::Reading::entry_at))]
+pub fn records_of_two()
+    ensures configure { CONFIGURE_RECORD_OF_TWO ≡ command_octets Two (Configure 1 example_config) }
+    ensures configure_read { command_at Two CONFIGURE_RECORD_OF_TWO ≡ Ok (Configure 1 example_config, []) }
+    ensures clear { CLEAR_RECORD ≡ command_octets Two (Clear 1) }
+    ensures store { STORE_RECORD ≡ command_octets Two (Store 1 1 example_set) }
+    ensures port { PORT_RECORD_OF_TWO ≡ port_octets Two (record { config = example_config; revision = 1; stored = None }) }
+    ensures port_read { port_record_at Two PORT_RECORD_OF_TWO
+        ≡ Ok (record { config = example_config; revision = 1; stored = None }, []) }
+    ensures with_set { PORT_WITH_SET_RECORD_OF_TWO ≡ port_octets Two example_port }
+    ensures with_set_read { port_record_at Two PORT_WITH_SET_RECORD_OF_TWO ≡ Ok (example_port, []) }
+{}
+
+/// The octets that version 2 keeps for later use are 00, and have to be there; a record of one version is
+/// none of the other.
+#[tactic(auto, unfolding(crate::specs::Reading::command_at, crate::specs::Reading::arguments_at, crate::specs::Reading::port_record_at, crate::specs::Reading::port_parts_at, crate::specs::Reading::stored_at, crate::specs::Reading::config_at, crate::specs::Reading::numbers_at, crate::specs::Reading::spare_at, crate::specs::Reading::set_at, crate::specs::Reading::set_head_at, crate::specs::Reading::entry_at))]
+pub fn octets_kept_for_later()
+    ensures command { command_at Two (slice_set CONFIGURE_RECORD_OF_TWO 10 0x01) ≡ Err RecordFault.BadField }
+    ensures command_of_one { command_at Two CONFIGURE_RECORD ≡ Err RecordFault.Short }
+    ensures config { port_record_at Two (slice_set PORT_WITH_SET_RECORD_OF_TWO 8 0x01) ≡ Err RecordFault.BadField }
+    ensures recorded { port_record_at Two (slice_set PORT_WITH_SET_RECORD_OF_TWO 26 0x01) ≡ Err RecordFault.BadField }
+    ensures last { port_record_at Two (slice_set PORT_WITH_SET_RECORD_OF_TWO 50 0x01) ≡ Err RecordFault.BadField }
+    ensures last_missing { port_record_at Two (take 50 PORT_WITH_SET_RECORD_OF_TWO) ≡ Err RecordFault.Short }
+    ensures port_of_two { port_record_at One PORT_RECORD_OF_TWO ≡ Err RecordFault.Short }
 {}

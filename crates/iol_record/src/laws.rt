@@ -4,11 +4,14 @@ ghost use Rattle.std.specs.Prelude.{◌≡◌, ◌++◌, ℕ, List, []};
 ghost use Rattle.iol_types.specs.Command.{CommandValue};
 ghost use Rattle.iol_types.specs.State.{Port};
 ghost use Rattle.iol_record.specs.Record.{IsCommandRecord, IsPortRecord};
+ghost use Rattle.iol_record.specs.declared.version.Version.{Version};
 
-/// No record of a command is the beginning of that of another, and none of a port that of another.
+/// In a version no record of a command is the beginning of that of another, and none of a port that of another.
 pub fn no_record_begins_another()
-    ensures command { (front rest : List ℕ) (one two : CommandValue) → IsCommandRecord front one → IsCommandRecord (front ++ rest) two
+    ensures command { (version : Version) (front rest : List ℕ) (one two : CommandValue)
+        → IsCommandRecord version front one → IsCommandRecord version (front ++ rest) two
         → (one ≡ two) × (rest ≡ []) }
-    ensures port { (front rest : List ℕ) (one two : Port) → IsPortRecord front one → IsPortRecord (front ++ rest) two
+    ensures port { (version : Version) (front rest : List ℕ) (one two : Port)
+        → IsPortRecord version front one → IsPortRecord version (front ++ rest) two
         → (one ≡ two) × (rest ≡ []) }
 {}

@@ -5,7 +5,9 @@
 //! how many octets it has, and leave what follows unread. What a record is stands in
 //! `specs/Record.antt`; what a decoder answers to any octets, in `specs/Reading.antt`.
 //!
-//! Modules in reading order: `fault`, `reader` (fields), `records` (sets, commands and ports), `decode`,
+//! A record is spelled by the [`Version`] of the layout that it stands in.
+//!
+//! Modules in reading order: `version`, `fault`, `reader` (fields), `records` (sets, commands and ports), `decode`,
 //! `encode`, `laws`, `examples` (records worked out).
 //!
 //! Proofs of other crates cite the laws of `proofs/RecordLaws.antt`.
@@ -18,6 +20,7 @@ mod fault;
 mod laws;
 mod reader;
 mod records;
+mod version;
 
 pub use decode::{decode_command, decode_port};
 pub use encode::{
@@ -25,3 +28,4 @@ pub use encode::{
 };
 pub use fault::RecordFault;
 pub use laws::no_record_begins_another;
+pub use version::Version;

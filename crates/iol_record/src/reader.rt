@@ -3,9 +3,10 @@ ghost use Rattle.std.specs.Prelude.{◌≡◌, ◌≤◌, ◌^◌, ◌<◌, List
 ghost use Rattle.std.specs.Int.{w8};
 ghost use Rattle.iol_record.specs.Reading.{Reads, next_number, octets_at, field_at, tag_field, port_field, mode_field, validation_field};
 ghost use Rattle.iol_record.specs.Reading.{vendor_field, device_field, revision_field, checksum_field, count_field, flag_field};
-ghost use Rattle.iol_record.specs.Reading.{index_field, subindex_field, length_field, config_at};
+ghost use Rattle.iol_record.specs.Reading.{index_field, subindex_field, length_field, numbers_at, spare_at, config_at};
 
 use crate::fault::RecordFault;
+use crate::version::Version;
 use iol_types::{
     DeviceId, ENTRY_HEAD_OCTETS, Key, MOST_ENTRY_OCTETS, MOST_SET_OCTETS, PortConfig, PortId,
     PortMode, SetBuilder, Validation,
@@ -26,6 +27,9 @@ pub(crate) const NO_SET: u8 = 0;
 
 // The flag of a port that has a parameter set, which follows.
 pub(crate) const SET: u8 = 1;
+
+// What version 2 keeps for later use.
+pub(crate) const SPARE: u8 = 0;
 
 // The kind of a command, as its tag says.
 #[derive(Clone, Copy)]
@@ -213,10 +217,10 @@ impl<'a> Reader<'a> {
         Ok(octets)
     }
 
-    // A configuration: mode, validation, vendor, device.
-    #[tactic(auto, unfolding(crate::specs::Reading::config_at))]
-    pub(crate) fn config(&mut self) -> Result<PortConfig, RecordFault>
-        ensures read { Reads (λ config. (config, self.new)) result (config_at self.old) }
+    // The numbers of a configuration: mode, validation, vendor, device.
+    #[tactic(auto, unfolding(crate::specs::Reading::numbers_at))]
+    fn numbers(&mut self) -> Result<PortConfig, RecordFault>
+        ensures read { Reads (λ config. (config, self.new)) result (numbers_at self.old) }
         ensures no_memory { IfErr result (λ fault. fault ≡ RecordFault.Memory → ⊥) }
     {
         Ok(PortConfig {
@@ -225,5 +229,31 @@ impl<'a> Reader<'a> {
             vendor: self.vendor()?,
             device: self.device()?,
         })
+    }
+
+    // What version 2 keeps for later use.
+    #[tactic(auto, unfolding(crate::specs::Reading::spare_at))]
+    pub(crate) fn spare(&mut self, version: Version) -> Result<(), RecordFault>
+        ensures read { Reads (λ spare. (spare, self.new)) result (spare_at version self.old) }
+        ensures no_memory { IfErr result (λ fault. fault ≡ RecordFault.Memory → ⊥) }
+    {
+        match version {
+            Version::One => Ok(()),
+            Version::Two => match self.octet()? {
+                SPARE => Ok(()),
+                _ => Err(RecordFault::BadField),
+            },
+        }
+    }
+
+    // A configuration: its numbers, and what is kept for later use.
+    #[tactic(auto, unfolding(crate::specs::Reading::config_at))]
+    pub(crate) fn config(&mut self, version: Version) -> Result<PortConfig, RecordFault>
+        ensures read { Reads (λ config. (config, self.new)) result (config_at version self.old) }
+        ensures no_memory { IfErr result (λ fault. fault ≡ RecordFault.Memory → ⊥) }
+    {
+        let config = self.numbers()?;
+        self.spare(version)?;
+        Ok(config)
     }
 }

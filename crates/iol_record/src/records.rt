@@ -8,9 +8,11 @@ ghost use Rattle.iol_record.specs.Reading.{Reads, ReadsOrMemory, IsReadFault, fi
 ghost use Rattle.iol_record.specs.Reading.{set_head_at, set_at, set_begun_at, arguments_at, begun_behind, command_at, store_begun_at};
 ghost use Rattle.iol_record.specs.Reading.{stored_at, stored_begun_at, port_record_at, port_begun_at};
 ghost use Rattle.iol_record.specs.declared.reader.Tag.TheVariants as tag;
+ghost use Rattle.iol_record.specs.declared.version.Version.TheVariants.{One};
 
 use crate::fault::RecordFault;
 use crate::reader::{Reader, Tag};
+use crate::version::Version;
 use iol_types::{Command, DataSet, DeviceId, PortState, SetBuilder, StoredSet};
 use std::alloc::Global;
 use std::sync::Arc;
@@ -87,8 +89,9 @@ impl<'a> Reader<'a> {
     // What stands behind the tag of a Store.
     #[tactic(auto, unfolding(crate::specs::Reading::arguments_at, crate::specs::Reading::begun_behind))]
     fn store(&mut self, alloc: Global) -> Result<Command, RecordFault>
+        // A Store is spelled the same in every version.
         ensures { ReadsOrMemory (λ command. (value_of command, self.new)) (begun_behind tag.Store self.old) result
-            (arguments_at tag.Store self.old) }
+            (arguments_at One tag.Store self.old) }
     {
         Ok(Command::Store {
             port: self.port()?,
@@ -99,13 +102,18 @@ impl<'a> Reader<'a> {
 
     // The record of a command.
     #[tactic(auto, unfolding(crate::specs::Reading::command_at, crate::specs::Reading::store_begun_at, crate::specs::Reading::arguments_at, crate::specs::Reading::begun_behind, crate::specs::Reading::config_at))]
-    pub(crate) fn command(&mut self, alloc: Global) -> Result<Command, RecordFault>
-        ensures { ReadsOrMemory (λ command. (value_of command, self.new)) (store_begun_at self.old) result (command_at self.old) }
+    pub(crate) fn command(
+        &mut self,
+        alloc: Global,
+        version: Version,
+    ) -> Result<Command, RecordFault>
+        ensures { ReadsOrMemory (λ command. (value_of command, self.new)) (store_begun_at self.old) result
+            (command_at version self.old) }
     {
         match self.tag()? {
             Tag::Configure => Ok(Command::Configure {
                 port: self.port()?,
-                config: self.config()?,
+                config: self.config(version)?,
             }),
             Tag::Clear => Ok(Command::Clear { port: self.port()? }),
             Tag::Store => self.store(alloc),
@@ -114,28 +122,34 @@ impl<'a> Reader<'a> {
 
     // What a port has stored, by its flag.
     #[tactic(auto, unfolding(crate::specs::Reading::stored_at, crate::specs::Reading::stored_begun_at, crate::specs::Reading::config_at))]
-    fn stored(&mut self, alloc: Global) -> Result<Option<StoredSet>, RecordFault>
+    fn stored(&mut self, alloc: Global, version: Version) -> Result<Option<StoredSet>, RecordFault>
         ensures { ReadsOrMemory (λ stored. (option_map stored_of stored, self.new))
-            (followed (field_at flag_field) stored_begun_at self.old) result
-            (followed (field_at flag_field) stored_at self.old) }
+            (followed (field_at flag_field) (stored_begun_at version) self.old) result
+            (followed (field_at flag_field) (stored_at version) self.old) }
     {
         if !self.has_set()? {
             return Ok(None);
         }
         Ok(Some(StoredSet {
-            recorded: self.config()?,
+            recorded: self.config(version)?,
             set: self.set(alloc)?,
         }))
     }
 
     // The record of a port.
     #[tactic(auto, unfolding(crate::specs::Reading::port_record_at, crate::specs::Reading::port_parts_at, crate::specs::Reading::port_begun_at, crate::specs::Reading::config_at))]
-    pub(crate) fn port_state(&mut self, alloc: Global) -> Result<PortState, RecordFault>
-        ensures { ReadsOrMemory (λ port. (port, self.new)) (port_begun_at self.old) result (port_record_at self.old) }
+    pub(crate) fn port_state(
+        &mut self,
+        alloc: Global,
+        version: Version,
+    ) -> Result<PortState, RecordFault>
+        ensures { ReadsOrMemory (λ port. (port, self.new)) (port_begun_at version self.old) result
+            (port_record_at version self.old) }
     {
-        let config = self.config()?;
+        let config = self.config(version)?;
         let revision = self.revision()?;
-        let stored = self.stored(alloc)?;
+        let stored = self.stored(alloc, version)?;
+        self.spare(version)?;
         PortState::new(config, revision, stored).ok_or(RecordFault::BadField)
     }
 }

@@ -1,5 +1,5 @@
 -- A disk that calls left the same, and a fault behind them.
-use Rattle.std.proofs.Common.{◌≡◌, Result, Err, ◌∙◌, ◌-◌}
+use Rattle.std.proofs.Common.{◌≡◌, Result, Err, ◌∙◌}
 use Rattle.iol_disk.specs.Disk.{Disk}
 use Rattle.iol_recovery.specs.Faults.{Counted, IsFault}
 use Rattle.iol_layout.specs.Meaning.{Cause}

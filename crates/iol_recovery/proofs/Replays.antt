@@ -6,6 +6,7 @@ use Rattle.iol_types.specs.Command.{CommandValue}
 use Rattle.iol_types.specs.State.{State, check, apply}
 use Rattle.iol_record.specs.Reading.{command_at}
 use Rattle.iol_record.specs.declared.fault.RecordFault.{RecordFault}
+use Rattle.iol_record.specs.declared.version.Version.{Version}
 use Rattle.iol_layout.specs.Body.{prepended, commands_of}
 use Rattle.iol_layout.specs.Meaning.{Meaning}
 use Rattle.iol_recovery.specs.Replay.{reached}
@@ -23,32 +24,35 @@ reached-passed number s command (Some commands) is =
     rw (is, same) refl
 
 -- no command can be read
-pub replay-unread : (number left : ℕ) (s : State) (octets : List ℕ) (fault : RecordFault)
-    → command_at octets ≡ Err fault → reached number s (commands_of (left + 1) octets) ≡ None
-replay-unread number left s octets fault is = rw (add-one, is) refl
+pub replay-unread : (version : Version) (number left : ℕ) (s : State) (octets : List ℕ) (fault : RecordFault)
+    → command_at version octets ≡ Err fault → reached number s (commands_of version (left + 1) octets) ≡ None
+replay-unread version number left s octets fault is = rw (add-one, is) refl
 
 -- the first command does not pass
-pub replay-refused : (number left : ℕ) (s : State) (octets rest : List ℕ) (command : CommandValue)
-    → command_at octets ≡ Ok (command, rest) → is_none (check s command) ≡ false → reached number s (commands_of (left + 1) octets) ≡ None
-replay-refused number left s octets rest command is refused =
-    rw (add-one, is) (reached-refused number s command (commands_of left rest) refused)
+pub replay-refused : (version : Version) (number left : ℕ) (s : State) (octets rest : List ℕ) (command : CommandValue)
+    → command_at version octets ≡ Ok (command, rest) → is_none (check s command) ≡ false
+        → reached number s (commands_of version (left + 1) octets) ≡ None
+replay-refused version number left s octets rest command is refused =
+    rw (add-one, is) (reached-refused number s command (commands_of version left rest) refused)
 
 -- the first command passes
-pub replay-passed : (number counter left : ℕ) (s : State) (octets rest : List ℕ) (command : CommandValue) (whole : Option Meaning)
-    → command_at octets ≡ Ok (command, rest) → check s command ≡ None
-    → reached (number + counter) s (commands_of (left + 1) octets) ≡ whole
-    → reached (number + (counter + 1)) (apply s command) (commands_of left rest) ≡ whole
-replay-passed number counter left s octets rest command whole is passed so_far =
+pub replay-passed : (version : Version) (number counter left : ℕ) (s : State) (octets rest : List ℕ) (command : CommandValue)
+    (whole : Option Meaning)
+    → command_at version octets ≡ Ok (command, rest) → check s command ≡ None
+    → reached (number + counter) s (commands_of version (left + 1) octets) ≡ whole
+    → reached (number + (counter + 1)) (apply s command) (commands_of version left rest) ≡ whole
+replay-passed version number counter left s octets rest command whole is passed so_far =
     let same : number + (counter + 1) ≡ number + counter + 1 = omega arith in
-    let unfolded : commands_of (left + 1) octets ≡ prepended command (commands_of left rest) = rw (add-one, is) refl in
-    ap (λ n. reached n (apply s command) (commands_of left rest)) same
-    ∙ sym (reached-passed (number + counter) s command (commands_of left rest) passed)
+    let unfolded : commands_of version (left + 1) octets ≡ prepended command (commands_of version left rest) = rw (add-one, is) refl in
+    ap (λ n. reached n (apply s command) (commands_of version left rest)) same
+    ∙ sym (reached-passed (number + counter) s command (commands_of version left rest) passed)
     ∙ ap (reached (number + counter) s) (sym unfolded) ∙ so_far
 
 -- no command is left
-pub replay-ended : (number left : ℕ) (s : State) (octets : List ℕ) (empty : Bool) → left ≡ 0 → empty ≡ nat_eq (length octets) 0
-    → reached number s (commands_of left octets) ≡ (if empty then Some (record { number = number; state = s }) else None)
-replay-ended number left s [] empty none is = rw (none, is, add-zero) refl
-replay-ended number left s (octet ∷ octets) empty none is =
+pub replay-ended : (version : Version) (number left : ℕ) (s : State) (octets : List ℕ) (empty : Bool) → left ≡ 0 → empty
+    ≡ nat_eq (length octets) 0
+    → reached number s (commands_of version left octets) ≡ (if empty then Some (record { number = number; state = s }) else None)
+replay-ended version number left s [] empty none is = rw (none, is, add-zero) refl
+replay-ended version number left s (octet ∷ octets) empty none is =
     let some : empty ≡ false = grind (arith, nat_tests) in
     rw (none, some) refl

@@ -8,6 +8,7 @@ use Rattle.iol_disk.specs.Disk.{Disk, Same, Shows}
 use Rattle.iol_slots.specs.Gate.{is_open, body_sector}
 use Rattle.iol_layout.specs.Layout.{Layout, slot_at, body_at}
 use Rattle.iol_layout.specs.Octets.{octets_at}
+use Rattle.iol_record.specs.declared.version.Version.{Version}
 use Rattle.iol_layout.specs.Body.{head_of, slots_of, batch_of}
 use Rattle.iol_record.specs.Reading.{◌>>=◌}
 use Rattle.iol_layout.specs.Meaning.{Cause, damaged, or_damaged, if_sound, Meaning, Log, body_in, span_in, batch_in, log_from}
@@ -92,14 +93,15 @@ gate_read old now place gate answer expected same here told is h =
 -- an open slot whose batch leads on, to the slot behind it
 pub log-span : (layout : Layout) (a : Area) (epoch : ℕ) (image : Image) (k n left number : ℕ) (state : State) (next : Meaning)
     → is_open (image (slot_at layout a k)) ≡ true → 1 ≤ n → span_in layout a image k ≡ n
-    → reached number state (batch_of epoch (number + 1) (body_in layout a image k n)) ≡ Some next
+    → reached number state (batch_of layout.version epoch (number + 1) (body_in layout a image k n)) ≡ Some next
     → log_from layout a epoch image k 0 (left + n) number state ≡ log_from layout a epoch image (k + n) 0 left next.number next.state
 log-span layout a epoch image k n left number state next opened some span is =
     let m = left + n - 1 in
     let all : left + n ≡ m + 1 = omega (arith, some) in
     let place : k + 1 + (n - 1) ≡ k + n = omega (arith, some) in
     let rest : m - (n - 1) ≡ left = omega (arith, some) in
-    let batch : batch_in layout a epoch image k (m + 1) (number + 1) ≡ batch_of epoch (number + 1) (body_in layout a image k n) =
+    let batch : batch_in layout a epoch image k (m + 1) (number + 1)
+        ≡ batch_of layout.version epoch (number + 1) (body_in layout a image k n) =
     batch_in-there layout a epoch image k n (m + 1) (number + 1) _ span (omega (arith, some)) refl in
     ap (λ (i : ℕ). log_from layout a epoch image k 0 i number state) all
     ∙ log-open layout a epoch image k m number state next opened (ap (reached number state) batch ∙ is)
@@ -111,12 +113,13 @@ log-span layout a epoch image k n left number state next opened some span is =
 -- an open slot whose batch leads nowhere
 pub log-stuck : (layout : Layout) (a : Area) (epoch : ℕ) (image : Image) (k n left number : ℕ) (state : State)
     → is_open (image (slot_at layout a k)) ≡ true → 1 ≤ n → span_in layout a image k ≡ n
-    → reached number state (batch_of epoch (number + 1) (body_in layout a image k n)) ≡ None
+    → reached number state (batch_of layout.version epoch (number + 1) (body_in layout a image k n)) ≡ None
     → log_from layout a epoch image k 0 (left + n) number state ≡ Err (damaged (body_at layout a k 0))
 log-stuck layout a epoch image k n left number state opened some span is =
     let m = left + n - 1 in
     let all : left + n ≡ m + 1 = omega (arith, some) in
-    let batch : batch_in layout a epoch image k (m + 1) (number + 1) ≡ batch_of epoch (number + 1) (body_in layout a image k n) =
+    let batch : batch_in layout a epoch image k (m + 1) (number + 1)
+        ≡ batch_of layout.version epoch (number + 1) (body_in layout a image k n) =
     batch_in-there layout a epoch image k n (m + 1) (number + 1) _ span (omega (arith, some)) refl in
     ap (λ (i : ℕ). log_from layout a epoch image k 0 i number state) all
     ∙ log-damaged layout a epoch image k m number state opened (ap (reached number state) batch ∙ is)
@@ -132,13 +135,14 @@ log-past layout a epoch image k n left number state opened span past =
 -- the batch of its body
 pub batch_read : (old now : Disk) (layout : Layout) (a : Area) (k sector n : ℕ) (body : List ℕ) → Same old now
     → sector ≡ body_at layout a k 0
-    → Shows now (λ image. (epoch first : ℕ)
-    → batch_of epoch first body ≡ batch_of epoch first (octets_at (λ j. image (body_sector sector j)) 0 (BODY_SECTORS * n)))
-    → Shows old (λ image. (epoch first : ℕ) → batch_of epoch first (body_in layout a image k n) ≡ batch_of epoch first body)
-batch_read old now layout a k sector n body same here read h epoch first =
-    ap (λ (image : Image). batch_of epoch first (body_in layout a image k n)) (sym (same-reads old now same h))
-    ∙ ap (batch_of epoch first) (sym (body_in-placed layout a (reads now.content) k n sector here))
-    ∙ sym (read (same-honest old now same h) epoch first)
+    → Shows now (λ image. (version : Version) (epoch first : ℕ)
+    → batch_of version epoch first body ≡ batch_of version epoch first (octets_at (λ j. image (body_sector sector j)) 0 (BODY_SECTORS * n)))
+    → Shows old (λ image. (version : Version) (epoch first : ℕ) → batch_of version epoch first (body_in layout a image k n)
+        ≡ batch_of version epoch first body)
+batch_read old now layout a k sector n body same here read h version epoch first =
+    ap (λ (image : Image). batch_of version epoch first (body_in layout a image k n)) (sym (same-reads old now same h))
+    ∙ ap (batch_of version epoch first) (sym (body_in-placed layout a (reads now.content) k n sector here))
+    ∙ sym (read (same-honest old now same h) version epoch first)
 
 -- how many slots it takes
 pub span_read : (old now : Disk) (layout : Layout) (a : Area) (k sector n : ℕ) (head : List ℕ) → Same old now

@@ -5,6 +5,7 @@ use Rattle.iol_types.specs.State.{Port, State}
 use Rattle.iol_record.specs.Reading.{◌>>=◌}
 use Rattle.iol_disk.specs.Content.{Image, reads}
 use Rattle.iol_disk.specs.Disk.{Disk, Same, Shows}
+use Rattle.iol_record.specs.declared.version.Version.{Version}
 use Rattle.iol_layout.specs.Layout.{Layout, port_at}
 use Rattle.iol_layout.specs.Meaning.{Cause, port_in, ports_from}
 use Rattle.iol_recovery.specs.Reading.{Says, SaysWhy}
@@ -30,7 +31,7 @@ with_front-one front port (Err cause) = refl
 
 -- a port that its record says
 pub ports-more : (layout : Layout) (a : Area) (image : Image) (p left : ℕ) (front : State) (port : Port)
-    → port_in image (port_at layout a p) layout.port_sectors ≡ Ok port
+    → port_in layout.version image (port_at layout a p) layout.port_sectors ≡ Ok port
     → with_front front (ports_from layout a image p (left + 1)) ≡ with_front (front ++ port ∷ []) (ports_from layout a image (p + 1) left)
 unfolding ports_from
 ports-more layout a image p left front port is = rw (add-one, is) (with_front-one front port (ports_from layout a image (p + 1) left))
@@ -48,12 +49,12 @@ with_front-why front (Err why) cause.Memory is = tt
 
 -- a port's record that says none
 pub ports-stopped : (layout : Layout) (a : Area) (image : Image) (p left : ℕ) (front : State) (told : RecoverCause)
-    → SaysWhy (port_in image (port_at layout a p) layout.port_sectors) told
+    → SaysWhy (port_in layout.version image (port_at layout a p) layout.port_sectors) told
     → SaysWhy (with_front front (ports_from layout a image p (left + 1))) told
 unfolding ports_from
 ports-stopped layout a image p left front told is =
     with_front-why front (ports_from layout a image p (left + 1)) told
-    (rw add-one (cause_before (port_in image (port_at layout a p) layout.port_sectors) (λ port.
+    (rw add-one (cause_before (port_in layout.version image (port_at layout a p) layout.port_sectors) (λ port.
     ports_from layout a image (p + 1) left >>= λ ports. Ok (port ∷ ports)) told is))
 
 -- no port is left
@@ -63,18 +64,20 @@ unfolding ports_from
 ports-ended layout a image p front = simp append-nil
 
 -- what a port's record says that stands here
-pub port_placed : (image : Image) (place sector count sectors : ℕ) (answer : Result Port RecoverCause) → sector ≡ place → count ≡ sectors
-    → Says (λ port. port) (port_in image sector count) answer → Says (λ port. port) (port_in image place sectors) answer
-port_placed image place sector count sectors answer here whole says =
-    subst (λ (n : ℕ). Says (λ port. port) (port_in image place n) answer) whole
-    (subst (λ (s : ℕ). Says (λ port. port) (port_in image s count) answer) here says)
+pub port_placed : (image : Image) (version told : Version) (place sector count sectors : ℕ) (answer : Result Port RecoverCause)
+    → told ≡ version → sector ≡ place → count ≡ sectors
+    → Says (λ port. port) (port_in told image sector count) answer → Says (λ port. port) (port_in version image place sectors) answer
+port_placed image version told place sector count sectors answer spelled here whole says =
+    subst (λ (n : ℕ). Says (λ port. port) (port_in version image place n) answer) whole
+    (subst (λ (s : ℕ). Says (λ port. port) (port_in version image s count) answer) here
+    (subst (λ (v : Version). Says (λ port. port) (port_in v image sector count) answer) spelled says))
 
 -- and on a disk that calls left the same
-pub port_shown : (old now : Disk) (place sector count sectors : ℕ) (answer : Result Port RecoverCause) → Same old now → sector ≡ place
-    → count ≡ sectors
-    → Shows now (λ image. Says (λ port. port) (port_in image sector count) answer)
-    → Shows old (λ image. Says (λ port. port) (port_in image place sectors) answer)
-port_shown old now place sector count sectors answer same here whole says h =
-    port_placed (reads old.content) place sector count sectors answer here whole
-    (subst (λ (image : Image). Says (λ port. port) (port_in image sector count) answer) (same-reads old now same h)
+pub port_shown : (old now : Disk) (version told : Version) (place sector count sectors : ℕ) (answer : Result Port RecoverCause)
+    → Same old now → told ≡ version → sector ≡ place → count ≡ sectors
+    → Shows now (λ image. Says (λ port. port) (port_in told image sector count) answer)
+    → Shows old (λ image. Says (λ port. port) (port_in version image place sectors) answer)
+port_shown old now version told place sector count sectors answer same spelled here whole says h =
+    port_placed (reads old.content) version told place sector count sectors answer spelled here whole
+    (subst (λ (image : Image). Says (λ port. port) (port_in told image sector count) answer) (same-reads old now same h)
     (says (same-honest old now same h)))

@@ -5,6 +5,7 @@ ghost use Rattle.std.specs.Prelude.{Some, None, if◌then◌else◌};
 ghost use Rattle.iol_types.specs.Command.{value_of};
 ghost use Rattle.iol_record.specs.Reading.{command_at};
 ghost use Rattle.iol_record.specs.declared.fault.RecordFault.{RecordFault};
+ghost use Rattle.iol_record.specs.declared.version.Version.{Version};
 ghost use Rattle.std.specs.Option.{option_map};
 ghost use Rattle.iol_disk.specs.Disk.{Same, Shows};
 ghost use Rattle.iol_layout.specs.Body.{head_of, slots_of, batch_of, commands_of, HoldsRecords};
@@ -19,7 +20,7 @@ ghost use Rattle.iol_recovery.specs.Replay.{reached};
 use crate::cause::RecoverCause;
 use iol_disk::{SECTOR_OCTETS, SectorDisk};
 use iol_layout::{Area, BODY_HEAD_OCTETS, Head, Header, LAST_NUMBER, Layout, slots_of};
-use iol_record::{RecordFault, decode_command};
+use iol_record::{RecordFault, Version, decode_command};
 use iol_slots::{BODY_SECTORS, Slot};
 use iol_types::{Command, MasterState};
 use std::alloc::{AllocError, Global};
@@ -50,6 +51,7 @@ pub(crate) fn replay_slots<D: SectorDisk>(
     ensures ports { OnOk result (length state.new ≡ length state.old) }
     ensures same { Same (D.disk disk.old) (D.disk disk.new) }
 {
+    let version = layout.version();
     let mut body = Vec::with_capacity(alloc, BODY_SECTORS * SECTOR_OCTETS)?;
     let mut number = header.base;
     let mut used = 0;
@@ -63,7 +65,7 @@ pub(crate) fn replay_slots<D: SectorDisk>(
             return Err(RecoverCause::Damaged { sector: slot.body });
         }
         read_body(disk, layout.slot(area, used, span), &mut body)?;
-        number = match replay_body(alloc, &body, header.epoch, number, state)? {
+        number = match replay_body(alloc, version, &body, header.epoch, number, state)? {
             Some(number) => number,
             None => return Err(RecoverCause::Damaged { sector: slot.body }),
         };
@@ -103,9 +105,9 @@ fn read_body<D: SectorDisk>(
     requires size { length body.old.items ≡ SECTOR_OCTETS }
     requires span { slot.span ≡ slots_of (head_of body.old.items).octets }
     // Its batch is that of the whole body.
-    ensures reads { OnOk result (Shows (D.disk disk.old) (λ image. (epoch first : ℕ)
-        → batch_of epoch first body.new.items
-        ≡ batch_of epoch first (octets_at (λ j. image (body_sector slot.body j)) 0 (BODY_SECTORS * slot.span)))) }
+    ensures reads { OnOk result (Shows (D.disk disk.old) (λ image. (version : Version) (epoch first : ℕ)
+        → batch_of version epoch first body.new.items
+        ≡ batch_of version epoch first (octets_at (λ j. image (body_sector slot.body j)) 0 (BODY_SECTORS * slot.span)))) }
     ensures holds { OnOk result (IsTrue (D.disk disk.old).honest → HoldsRecords body.new.items) }
     ensures some { OnOk result (SECTOR_OCTETS ≤ length body.new.items) }
     ensures fault { IfErr result IsFault }
@@ -143,6 +145,7 @@ fn push_sector<D: SectorDisk>(
 // Applies the commands of a body, if it has a batch that follows this number, and tells the number of its last.
 fn replay_body(
     alloc: Global,
+    version: Version,
     body: &[u8],
     epoch: u64,
     number: u64,
@@ -150,7 +153,7 @@ fn replay_body(
 ) -> Result<Option<u64>, AllocError>
     requires some { BODY_HEAD_OCTETS ≤ length body.now }
     requires bound { number ≤ LAST_NUMBER }
-    ensures reached { HoldsRecords body.now → IfOk result (λ last. reached number state.old (batch_of epoch (number + 1) body.now)
+    ensures reached { HoldsRecords body.now → IfOk result (λ last. reached number state.old (batch_of version epoch (number + 1) body.now)
         ≡ option_map (λ last. record { number = last; state = state.new }) last) }
     ensures later { IfOk result (λ last. IfSome last (λ last. (number < last) × (last ≤ LAST_NUMBER))) }
     ensures ports { OnOk result (length state.new ≡ length state.old) }
@@ -160,7 +163,15 @@ fn replay_body(
         return Ok(None);
     }
     let end = BODY_HEAD_OCTETS + head.octets as usize;
-    if end <= body.len() && replay(alloc, head.count, &body[BODY_HEAD_OCTETS..end], state)? {
+    if end <= body.len()
+        && replay(
+            alloc,
+            version,
+            head.count,
+            &body[BODY_HEAD_OCTETS..end],
+            state,
+        )?
+    {
         Ok(Some(number + u64::from(head.count)))
     } else {
         Ok(None)
@@ -168,12 +179,16 @@ fn replay_body(
 }
 
 // The command whose record stands in front, if one does, and how many octets its record has.
-fn next_command(alloc: Global, octets: &[u8]) -> Result<Option<(Command, usize)>, AllocError>
+fn next_command(
+    alloc: Global,
+    version: Version,
+    octets: &[u8],
+) -> Result<Option<(Command, usize)>, AllocError>
     ensures found { IfOk result (λ next. IfSome next (λ (command, count).
-        (count ≤ length octets.now) × (command_at octets.now ≡ Ok (value_of command, drop count octets.now)))) }
-    ensures none { IfOk result (λ next. IfNone next ((fault : RecordFault) × (command_at octets.now ≡ Err fault))) }
+        (count ≤ length octets.now) × (command_at version octets.now ≡ Ok (value_of command, drop count octets.now)))) }
+    ensures none { IfOk result (λ next. IfNone next ((fault : RecordFault) × (command_at version octets.now ≡ Err fault))) }
 {
-    match decode_command(alloc, octets) {
+    match decode_command(alloc, version, octets) {
         Ok(found) => Ok(Some(found)),
         Err(RecordFault::Memory) => Err(AllocError),
         Err(_) => Ok(None),
@@ -183,17 +198,18 @@ fn next_command(alloc: Global, octets: &[u8]) -> Result<Option<(Command, usize)>
 // Applies so many commands, if their records fill the octets exactly, and each passes.
 fn replay(
     alloc: Global,
+    version: Version,
     count: u16,
     records: &[u8],
     state: &mut MasterState,
 ) -> Result<bool, AllocError>
-    ensures reached { IfOk result (λ all. (number : ℕ) → reached number state.old (commands_of count records.now)
+    ensures reached { IfOk result (λ all. (number : ℕ) → reached number state.old (commands_of version count records.now)
         ≡ (if all then Some (record { number = number + count; state = state.new }) else None)) }
     ensures ports { OnOk result (length state.new ≡ length state.old) }
 {
     let mut rest = records;
     for _ in 0..count {
-        let Some((command, read)) = next_command(alloc, rest)? else {
+        let Some((command, read)) = next_command(alloc, version, rest)? else {
             return Ok(false);
         };
         if state.check(&command).is_err() {

@@ -10,11 +10,11 @@ ghost use Rattle.iol_recovery.specs.Reading.{Finds};
 use crate::cause::RecoverCause;
 use iol_disk::{SECTOR_OCTETS, SectorDisk};
 use iol_layout::{Area, Layout, PORT_SECTORS, read_sector};
-use iol_record::{RecordFault, decode_port};
+use iol_record::{RecordFault, Version, decode_port};
 use iol_types::{MasterState, PortId, PortState};
 use std::alloc::Global;
 
-/// The port whose record begins in a sector: of its sectors as many are read as the record reaches, and `octets` then has
+/// The port whose record in this version begins in a sector: of its sectors as many are read as the record reaches, and `octets` then has
 /// those that were read.
 ///
 /// # Errors
@@ -23,20 +23,21 @@ use std::alloc::Global;
 pub fn read_port<D: SectorDisk>(
     alloc: Global,
     disk: &mut D,
+    version: Version,
     sector: usize,
     sectors: usize,
     octets: &mut Vec<u8>,
 ) -> Result<PortState, RecoverCause>
     requires fits { sector + sectors ≤ (D.disk disk.old).sectors }
     requires bound { sector + sectors < 1000000 }
-    ensures finds { Finds (λ port. port) (D.disk disk.old) (λ image. port_in image sector sectors) result }
+    ensures finds { Finds (λ port. port) (D.disk disk.old) (λ image. port_in version image sector sectors) result }
     ensures counted { Counted (D.disk disk.old) (D.disk disk.new) result }
     ensures same { Same (D.disk disk.old) (D.disk disk.new) }
 {
     octets.clear();
     for j in 0..sectors {
         octets.extend_from_slice(&read_sector(disk, sector + j)?)?;
-        match decode_port(alloc, octets) {
+        match decode_port(alloc, version, octets) {
             Ok((port, _)) => return Ok(port),
             Err(RecordFault::Short) => {}
             Err(RecordFault::Memory) => return Err(RecoverCause::Memory),
@@ -60,11 +61,13 @@ pub(crate) fn read_ports<D: SectorDisk>(
     ensures ports { IfOk result (λ state. length state ≡ layout.ports) }
     ensures same { Same (D.disk disk.old) (D.disk disk.new) }
 {
+    let version = layout.version();
     let mut state = MasterState::new(alloc, layout.ports())?;
     let mut octets = Vec::with_capacity(alloc, PORT_SECTORS * SECTOR_OCTETS)?;
     for place in 0..layout.ports() {
         let sector = layout.port(area, usize::from(place));
-        let port = read_port(alloc, disk, sector, layout.port_sectors(), &mut octets)?;
+        let sectors = layout.port_sectors();
+        let port = read_port(alloc, disk, version, sector, sectors, &mut octets)?;
         state.set_port(PortId::new(place + 1).unwrap(), port);
     }
     Ok(state)

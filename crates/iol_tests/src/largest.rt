@@ -3,7 +3,7 @@
 use crate::example_store::store_of;
 use iol_journal::{Batch, BeginCause};
 use iol_record::examples::STORE_RECORD;
-use iol_record::{LARGEST_COMMAND_RECORD, decode_command, encode_command};
+use iol_record::{LARGEST_COMMAND_RECORD, Version, decode_command, encode_command};
 use iol_types::{Command, PortId};
 use std::alloc::Global;
 use std::process::Abort;
@@ -25,9 +25,9 @@ fn a_store_of_1024_parameters_is_read_and_written(rt: HostRuntime) {
             .extend_from_slice(&[0x00, 0x00])
             .expect(&rt, "memory");
     }
-    let (command, octets) = decode_command(rt.alloc(), &record).expect(&rt, "memory");
+    let (command, octets) = decode_command(rt.alloc(), Version::newest(), &record).expect(&rt, "memory");
     assert!(rt; octets == LARGEST_COMMAND_RECORD);
-    let written = encode_command(rt.alloc(), &command).expect(&rt, "memory");
+    let written = encode_command(rt.alloc(), Version::newest(), &command).expect(&rt, "memory");
     assert!(rt; written.as_slice() == record.as_slice());
 }
 

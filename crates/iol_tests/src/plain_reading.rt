@@ -5,7 +5,7 @@ ghost use Rattle.std.specs.Prelude.{◌<◌, ◌≤◌, ◌^◌};
 
 use iol_disk::SECTOR_OCTETS;
 use iol_journal::RecoverCause;
-use iol_record::{decode_command, decode_port};
+use iol_record::{Version, decode_command, decode_port};
 use iol_types::{MasterState, PortId};
 use std::alloc::Global;
 
@@ -140,7 +140,7 @@ impl<'a> Plain<'a> {
             let octets = gathered(alloc, self.image, first, 9, false)?;
             let (Some(port), Ok((read, _))) = (
                 PortId::new(place.saturating_add(1)),
-                decode_port(alloc, &octets),
+                decode_port(alloc, Version::newest(), &octets),
             ) else {
                 return Err(damaged(first));
             };
@@ -205,7 +205,7 @@ fn batch(
     let end = (number_at(body, 18, 4) as usize).checked_add(22)?;
     let mut rest = body.get(22..end)?;
     for _ in 0..count {
-        let (command, read) = decode_command(alloc, rest).ok()?;
+        let (command, read) = decode_command(alloc, Version::newest(), rest).ok()?;
         state.check(&command).ok()?;
         state.apply(command);
         rest = rest.get(read..)?;

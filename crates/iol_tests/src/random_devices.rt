@@ -10,7 +10,7 @@ use iol_dsindex::{DATA_STORAGE, INDEX_LIST, PARAMETER_CHECKSUM};
 use iol_isdu::{Answer, DATA_OCTETS, Request, read_answer, read_request};
 use iol_journal::{Geometry, Journal, format};
 use iol_port::{PortFault, PortStatus};
-use iol_record::encode_port;
+use iol_record::{Version, encode_port};
 use iol_run::{Ended, Event, Stamped, Task, Trace, run_schedule};
 use iol_types::{Change, DataSet, Key, MasterState, PORTS, PortConfig, PortId, Validation};
 use std::alloc::Global;
@@ -272,7 +272,7 @@ fn assert_deep<R: Abort>(rt: &R, events: &[Stamped]) {
 
 fn record<R: Abort>(rt: &R, alloc: Global, state: &MasterState, number: u8) -> Vec<u8> {
     let port = state.port(port(rt, number)).expect(rt, "a port");
-    encode_port(alloc, port).expect(rt, "memory")
+    encode_port(alloc, Version::newest(), port).expect(rt, "memory")
 }
 
 // So many commands are found on a disk, and this state.

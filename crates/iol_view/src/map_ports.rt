@@ -46,7 +46,7 @@ fn add_port<D: SectorDisk>(
 {
     let first = layout.port(area, usize::from(place));
     let sectors = layout.port_sectors();
-    let port = found(read_port(alloc, disk, first, sectors, octets))?;
+    let port = found(read_port(alloc, disk, layout.version(), first, sectors, octets))?;
     let record = Record {
         number: usize::from(place) + 1,
         sectors: Span::counted(first, sectors),

@@ -3,7 +3,7 @@
 use crate::measures::commands::{largest_set, set_of_short_parameters};
 use crate::measures::plain::{Pair, nanoseconds_since};
 use anyhow::Context;
-use iol_record::encode_command;
+use iol_record::{Version, encode_command};
 use iol_types::{Command, DataSet, PortId};
 use std::alloc::Global;
 use std::sync::Arc;
@@ -31,11 +31,11 @@ fn store(alloc: Global, set: DataSet) -> anyhow::Result<Command> {
 }
 
 fn time(rt: &HostRuntime, name: &str, command: &Command, rounds: usize) -> anyhow::Result<()> {
-    let record = encode_command(rt.alloc(), command)?;
+    let record = encode_command(rt.alloc(), Version::newest(), command)?;
     for _ in 0..rounds {
         let start = Instant::now(rt)?;
         for _ in 0..TIMES {
-            drop(encode_command(rt.alloc(), command)?);
+            drop(encode_command(rt.alloc(), Version::newest(), command)?);
         }
         let journal = nanoseconds_since(rt, start)?;
         let start = Instant::now(rt)?;

@@ -24,7 +24,7 @@ loop-place-preserved c =
     let found : option_copied c.port.result ≡ Some c.unwrap-port.result.now = ap option_copied c.unwrap-port.ensures in
     let number = rw c.unwrap.ensures at c.new.ensures.number in
     let there = numbered state c.unwrap.result place c.unwrap-port.result.now number (sym c.port.ensures ∙ found) in
-    let octets = c.deref.ensures.value ∙ c.in_ok-octets.ensures.octets in
+    let octets = c.deref.ensures.value ∙ rw c.version-version.ensures at c.in_ok-octets.ensures.octets in
     record {
       are = port-more state place c.unwrap-port.result.now there c.in_ok-octets.ensures.in_range c.loop-place.invariant.are;
       so_far = record-pushed c.args.layout c.args.area state place c.port-first.result c.unwrap-port.result.now c.deref.result.now _ _ _
@@ -41,7 +41,7 @@ unwrap-port-requires c =
 
 pub push_record-requires-clause-small : goal.push_record-requires-clause-small
 push_record-requires-clause-small c =
-    record-short _ c.deref.result.now (c.deref.ensures.value ∙ c.in_ok-octets.ensures.octets) c.in_ok-octets.ensures.in_range
+    record-short _ _ c.deref.result.now (c.deref.ensures.value ∙ c.in_ok-octets.ensures.octets) c.in_ok-octets.ensures.in_range
 
 pub returns-clause-records : goal.returns-clause-records
 returns-clause-records c =

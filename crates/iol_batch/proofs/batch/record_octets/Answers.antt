@@ -12,7 +12,9 @@ loop-command-preserved c =
     let counted = ap (λ (commands : List CommandValue). length (records_of commands)) more
     ∙ length-records-more (values (take c.loop-command.command-index c.args.commands.now)) _ in
     record {
-      counted = omega (arith, counted, c.loop-command.invariant.counted, c.command_record_octets-octets.ensures.count);
+      counted =
+          let next = rw c.newest.ensures at c.command_record_octets-octets.ensures.count in
+          omega (arith, counted, c.loop-command.invariant.counted, next);
       bound = omega (arith, c.loop-command.invariant.bound, c.command_record_octets-octets.ensures.most);
     }
 

@@ -13,7 +13,7 @@ pub loop-command-preserved : goal.loop-command-preserved
 loop-command-preserved c =
     let octets = c.loop-command.octets.items in
     let front = c.in_ok-record.record.items in
-    let is = c.in_ok-record.ensures in
+    let is = rw c.newest.ensures at c.in_ok-record.ensures in
     let items : c.extend_from_slice.new.self.items ≡ octets ++ front = c.in_ok-extend_from_slice.ensures.items
     ∙ ap (λ (more : List ℕ). octets ++ more) c.as_slice.ensures.value in
     rw (

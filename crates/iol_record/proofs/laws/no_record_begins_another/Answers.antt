@@ -3,9 +3,9 @@ use Rattle.iol_record.proofs.RecordReaders.{command_reads, port_record_reads}
 use Rattle.iol_record.proofs.laws.no_record_begins_another.Goals as goal
 
 pub returns-clause-command : goal.returns-clause-command
-returns-clause-command c = λ front rest one two first second.
-    begins_none command_reads front rest one two first.spelling first.in_range second.spelling second.in_range
+returns-clause-command c = λ version front rest one two first second.
+    begins_none (command_reads version) front rest one two first.spelling first.in_range second.spelling second.in_range
 
 pub returns-clause-port : goal.returns-clause-port
-returns-clause-port c = λ front rest one two first second.
-    begins_none port_record_reads front rest one two first.spelling first.in_range second.spelling second.in_range
+returns-clause-port c = λ version front rest one two first second.
+    begins_none (port_record_reads version) front rest one two first.spelling first.in_range second.spelling second.in_range

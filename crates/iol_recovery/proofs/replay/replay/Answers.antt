@@ -13,21 +13,21 @@ pub returns-in_default-clause-reached : goal.returns-in_default-clause-reached
 returns-in_default-clause-reached c = λ number.
     let left = c.args.count - (c.loop.counter + 1) in
     let unread = rw c.in_default.is at c.in_ok-command.ensures.none in
-    sym (c.loop.invariant.reached number (left + 1) (omega arith)) ∙ replay-unread _ left _ _ unread.0 unread.1
+    sym (c.loop.invariant.reached number (left + 1) (omega arith)) ∙ replay-unread _ _ left _ _ unread.0 unread.1
 
 pub returns-then-is_err-clause-reached : goal.returns-then-is_err-clause-reached
 returns-then-is_err-clause-reached c = λ number.
     let left = c.args.count - (c.loop.counter + 1) in
     let found = rw c.in-Some.is at c.in_ok-command.ensures.found in
     let refused : is_none (check c.loop.state (value_of c.in-Some.command)) ≡ false = grind (arith, common_steps) in
-    sym (c.loop.invariant.reached number (left + 1) (omega arith)) ∙ replay-refused _ left _ _ _ _ found.1 refused
+    sym (c.loop.invariant.reached number (left + 1) (omega arith)) ∙ replay-refused _ _ left _ _ _ _ found.1 refused
 
 pub loop-init : goal.loop-init
 loop-init c = record {
   ports = refl;
   reached = λ number left is.
       let all : left ≡ c.args.count = omega (arith, is) in
-      rw add-zero (ap (λ (n : ℕ). reached number c.args.state.now (commands_of n c.args.records.now)) all);
+      rw add-zero (ap (λ (n : ℕ). reached number c.args.state.now (commands_of c.args.version n c.args.records.now)) all);
 }
 
 pub loop-preserved : goal.loop-preserved
@@ -38,11 +38,11 @@ loop-preserved c = record {
       let found = rw c.in-Some.is at c.in_ok-command.ensures.found in
       let passed : check c.loop.state (value_of c.in-Some.command) ≡ None = search rules in
       rw (take_rest, c.apply.ensures)
-      (replay-passed number c.loop.counter left _ _ _ _ _ found.1 passed (c.loop.invariant.reached number (left + 1) (omega arith)));
+      (replay-passed _ number c.loop.counter left _ _ _ _ _ found.1 passed (c.loop.invariant.reached number (left + 1) (omega arith)));
 }
 
 pub returns-clause-reached : goal.returns-clause-reached
 returns-clause-reached c = λ number.
     let done : c.loop.counter ≡ c.args.count = omega arith in
     sym (c.loop.invariant.reached number 0 (omega arith))
-    ∙ rw (← done) (replay-ended (number + c.loop.counter) 0 _ _ c.is_empty.result refl c.is_empty.ensures)
+    ∙ rw (← done) (replay-ended c.args.version (number + c.loop.counter) 0 _ _ c.is_empty.result refl c.is_empty.ensures)

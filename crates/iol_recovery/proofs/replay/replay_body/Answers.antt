@@ -9,7 +9,8 @@ use Rattle.iol_recovery.proofs.replay.replay_body.Goals as goal
 pub returns-then-not-fits-clause-reached : goal.returns-then-not-fits-clause-reached
 returns-then-not-fits-clause-reached c = λ holds.
     ap (reached c.args.number c.args.state.now)
-    (batch_of-misfit c.args.epoch (c.args.number + 1) c.args.body.now c.read-head.result c.read-head.ensures (sym c.fits.ensures
+    (batch_of-misfit c.args.version c.args.epoch (c.args.number + 1) c.args.body.now c.read-head.result c.read-head.ensures
+        (sym c.fits.ensures
     ∙ c.if-not-fits.true))
 
 pub returns-then-branch-clause-reached : goal.returns-then-branch-clause-reached
@@ -18,7 +19,8 @@ returns-then-branch-clause-reached c = λ holds.
     let applied = rw c.if-branch.true at c.in_ok-replay.ensures.reached c.args.number in
     rw c.from.ensures
     (ap (reached c.args.number c.args.state.now)
-    (batch_of-fits c.args.epoch (c.args.number + 1) c.args.body.now c.read-head.result c.read-head.ensures (sym c.fits.ensures
+    (batch_of-fits c.args.version c.args.epoch (c.args.number + 1) c.args.body.now c.read-head.result c.read-head.ensures
+        (sym c.fits.ensures
     ∙ c.if-not-fits.false))
     ∙ rw records at applied)
 
@@ -30,7 +32,8 @@ returns-else-end-body-clause-reached c = λ holds.
       | else-end-body-via-then-end-body+in_ok-replay+else-branch w ↦
           let refused = rw w.if-branch.false at w.in_ok-replay.ensures.reached c.args.number in
           ap (reached c.args.number c.args.state.now)
-          (batch_of-fits c.args.epoch (c.args.number + 1) c.args.body.now c.read-head.result c.read-head.ensures (sym c.fits.ensures ∙ fit))
+          (batch_of-fits c.args.version c.args.epoch (c.args.number + 1) c.args.body.now c.read-head.result c.read-head.ensures
+              (sym c.fits.ensures ∙ fit))
           ∙ rw records at refused
       | else-end-body-via-else-end-body w ↦
           let within = rw (← c.read-head.ensures) at holds in

@@ -46,7 +46,7 @@ loop-used-preserved g c =
     same_1 c.slot-slot.ensures.body c.in_ok-span.ensures.reads c.in_ok-span.ensures.span in
     let some : 1 ≤ c.in_ok-span.span = omega (arith, c.in_ok-span.ensures.span) in
     let after = rw c.in-Some.is at c.in_ok-number.ensures.later in
-    let replayed = rw (c.in-Some.is, c.deref.ensures.value) at c.in_ok-number.ensures.reached in
+    let replayed = rw (c.in-Some.is, c.deref.ensures.value, c.version-version.ensures) at c.in_ok-number.ensures.reached in
     record {
       same = same-then _ _ _ same c.read_body.ensures.same;
       quiet = c.in_ok-read_body.ensures.counted ∙ c.in_ok-span.ensures.counted ∙ c.in_ok-is_open.ensures.fault ∙ kept.quiet;
@@ -63,9 +63,11 @@ loop-used-preserved g c =
           sym (log-span c.args.layout c.args.area c.args.header.epoch (reads old.content) c.loop-used.used c.in_ok-span.span left
           c.loop-used.number c.loop-used.state _
           (opened h) some (span h)
-          (ap (λ (i : ℕ). reached c.loop-used.number c.loop-used.state (batch_of c.args.header.epoch (c.loop-used.number + 1)
+          (ap (λ (i : ℕ). reached c.loop-used.number c.loop-used.state
+              (batch_of c.args.layout.version c.args.header.epoch (c.loop-used.number + 1)
           (body_in c.args.layout c.args.area (reads old.content) c.loop-used.used i))) (sym spans)
-          ∙ ap (reached c.loop-used.number c.loop-used.state) (batch h c.args.header.epoch (c.loop-used.number + 1)) ∙ leads))
+          ∙ ap (reached c.loop-used.number c.loop-used.state) (batch h c.args.layout.version c.args.header.epoch (c.loop-used.number + 1))
+              ∙ leads))
           ∙ kept.read h (left + c.in_ok-span.span) (omega (arith, is));
     }
 
@@ -120,16 +122,18 @@ returns-in-None-clause-finds g c = λ h.
     c.read_head.new.body.items
     same_1 c.slot-slot.ensures.body c.in_ok-span.ensures.reads c.in_ok-span.ensures.span in
     let holds = c.in_ok-read_body.ensures.holds (same-honest _ _ same h) in
-    let leads = (rw (c.in-None.is, c.deref.ensures.value) at c.in_ok-number.ensures.reached) holds in
+    let leads = (rw (c.in-None.is, c.deref.ensures.value, c.version-version.ensures) at c.in_ok-number.ensures.reached) holds in
     let spans : c.slot.result.span ≡ n = c.slot.ensures.span in
     rw c.slot-slot.ensures.body
     (sym (kept.read h (left + n) (omega (arith, c.if-slots-used.false, c.slots-in-loop-used.ensures, kept.within)))
     ∙ log-stuck c.args.layout c.args.area c.args.header.epoch (reads old.content) c.loop-used.used n left c.loop-used.number
     c.loop-used.state
     (opened h) some (span h)
-    (ap (λ (i : ℕ). reached c.loop-used.number c.loop-used.state (batch_of c.args.header.epoch (c.loop-used.number + 1)
+    (ap (λ (i : ℕ). reached c.loop-used.number c.loop-used.state
+        (batch_of c.args.layout.version c.args.header.epoch (c.loop-used.number + 1)
     (body_in c.args.layout c.args.area (reads old.content) c.loop-used.used i))) (sym spans)
-    ∙ ap (reached c.loop-used.number c.loop-used.state) (batch h c.args.header.epoch (c.loop-used.number + 1)) ∙ leads))
+    ∙ ap (reached c.loop-used.number c.loop-used.state) (batch h c.args.layout.version c.args.header.epoch (c.loop-used.number + 1))
+        ∙ leads))
 
 pub returns-clause-finds : goal.returns-clause-finds
 returns-clause-finds g c = λ h.

@@ -13,7 +13,7 @@ loop-j-init g c = record {
   same = search rules;
   quiet = refl;
   read = λ h. c.clear.ensures.items ∙ none-read (reads (g.D.SectorDisk.disk c.args.disk.now).content) c.args.sector;
-  short = ap port_record_at c.clear.ensures.items ∙ port_record_at-nothing;
+  short = ap (port_record_at c.args.version) c.clear.ensures.items ∙ port_record_at-nothing c.args.version;
 }
 
 pub returns-in-Ok-clause-finds : goal.returns-in-Ok-clause-finds
@@ -24,9 +24,9 @@ returns-in-Ok-clause-finds g c = λ h.
     c.extend_from_slice.new.self.items kept.same kept.read
     (λ now. c.in_ok-extend_from_slice.ensures.items
     ∙ ap (λ (more : List ℕ). c.loop-j.octets.items ++ more) (c.in_ok-read_sector.ensures.read now)) in
-    port-read (reads old.content) c.args.sector c.args.sectors (c.loop-j.j + 1) c.extend_from_slice.new.self.items (read h)
+    port-read c.args.version (reads old.content) c.args.sector c.args.sectors (c.loop-j.j + 1) c.extend_from_slice.new.self.items (read h)
     (omega (arith, c.loop-j-test.true)) c.in-Ok.port _
-    (ap port_record_at (sym c.deref.ensures.value) ∙ c.in-Ok.ensures.exact)
+    (ap (port_record_at c.args.version) (sym c.deref.ensures.value) ∙ c.in-Ok.ensures.exact)
 
 pub loop-j-preserved : goal.loop-j-preserved
 loop-j-preserved g c =
@@ -39,7 +39,7 @@ loop-j-preserved g c =
           c.extend_from_slice.new.self.items kept.same kept.read
           (λ now. c.in_ok-extend_from_slice.ensures.items
           ∙ ap (λ (more : List ℕ). c.loop-j.octets.items ++ more) (c.in_ok-read_sector.ensures.read now));
-      short = ap port_record_at (sym c.deref.ensures.value) ∙ rw c.in-Err-Short.field-0-is at c.in-Err-Short.ensures.exact;
+      short = ap (port_record_at c.args.version) (sym c.deref.ensures.value) ∙ rw c.in-Err-Short.field-0-is at c.in-Err-Short.ensures.exact;
     }
 
 pub returns-in-Err-BadTag-clause-finds : goal.returns-in-Err-BadTag-clause-finds
@@ -50,9 +50,11 @@ returns-in-Err-BadTag-clause-finds g c = λ h.
     c.extend_from_slice.new.self.items kept.same kept.read
     (λ now. c.in_ok-extend_from_slice.ensures.items
     ∙ ap (λ (more : List ℕ). c.loop-j.octets.items ++ more) (c.in_ok-read_sector.ensures.read now)) in
-    port-damaged (reads old.content) c.args.sector c.args.sectors (c.loop-j.j + 1) c.extend_from_slice.new.self.items (read h)
+    port-damaged c.args.version (reads old.content) c.args.sector c.args.sectors (c.loop-j.j + 1) c.extend_from_slice.new.self.items
+        (read h)
     (omega (arith, c.loop-j-test.true)) BadTag
-    (λ is. cc) (ap port_record_at (sym c.deref.ensures.value) ∙ rw c.in-Err-BadTag.field-0-is at c.in-Err-BadTag.ensures.exact)
+    (λ is. cc) (ap (port_record_at c.args.version) (sym c.deref.ensures.value)
+        ∙ rw c.in-Err-BadTag.field-0-is at c.in-Err-BadTag.ensures.exact)
 
 pub returns-in-Err-BadField-clause-finds : goal.returns-in-Err-BadField-clause-finds
 returns-in-Err-BadField-clause-finds g c = λ h.
@@ -62,6 +64,8 @@ returns-in-Err-BadField-clause-finds g c = λ h.
     c.extend_from_slice.new.self.items kept.same kept.read
     (λ now. c.in_ok-extend_from_slice.ensures.items
     ∙ ap (λ (more : List ℕ). c.loop-j.octets.items ++ more) (c.in_ok-read_sector.ensures.read now)) in
-    port-damaged (reads old.content) c.args.sector c.args.sectors (c.loop-j.j + 1) c.extend_from_slice.new.self.items (read h)
+    port-damaged c.args.version (reads old.content) c.args.sector c.args.sectors (c.loop-j.j + 1) c.extend_from_slice.new.self.items
+        (read h)
     (omega (arith, c.loop-j-test.true)) BadField
-    (λ is. cc) (ap port_record_at (sym c.deref.ensures.value) ∙ rw c.in-Err-BadField.field-0-is at c.in-Err-BadField.ensures.exact)
+    (λ is. cc) (ap (port_record_at c.args.version) (sym c.deref.ensures.value)
+        ∙ rw c.in-Err-BadField.field-0-is at c.in-Err-BadField.ensures.exact)

@@ -10,5 +10,5 @@ invariant-loop-j g l = record {
   same : Same (g.D.SectorDisk.disk l.fn.disk) (g.D.SectorDisk.disk l.disk);
   quiet : (g.D.SectorDisk.disk l.disk).failures ≡ (g.D.SectorDisk.disk l.fn.disk).failures;
   read : Shows (g.D.SectorDisk.disk l.fn.disk) (λ image. l.octets.items ≡ octets_at image l.fn.sector l.j);
-  short : port_record_at l.octets.items ≡ Err Short;
+  short : port_record_at l.fn.version l.octets.items ≡ Err Short;
 }
