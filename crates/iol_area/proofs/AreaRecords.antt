@@ -58,7 +58,7 @@ port-read : (version : Version) (image : Image) (first sectors : ℕ) (port : Po
     → HasWrites (record_writes first (port_octets version port)) image → port_in version image first sectors ≡ Ok port
 port-read version image first sectors port is room has =
     read_at (octets_at-in_slot image (padded octets) first reached sectors there (length-padded octets)
-        (reaches version port sectors is room))
+    (reaches version port sectors is room))
   where
     octets : List ℕ
     octets = port_octets version port
@@ -103,9 +103,12 @@ module _ (layout : Layout) (a : Area) (room : LARGEST_PORT_RECORD ≤ SECTOR_OCT
   records-read p [] image are has = refl
   records-read p (port ∷ ports) image are has =
       let parts = has-append (record_writes (port_at layout a p) (port_octets layout.version port))
-          (port_writes layout a (p + 1) ports) image has in
-      rw (port-read layout.version image (port_at layout a p) layout.port_sectors port are.0 room parts.0, records-read
-          (p + 1) ports image are.1 parts.1)
+      (port_writes layout a (p + 1) ports) image has in
+      rw (
+        port-read layout.version image (port_at layout a p) layout.port_sectors port are.0 room parts.0,
+        records-read
+            (p + 1) ports image are.1 parts.1,
+      )
       refl
 
   pub length-records : (p : ℕ) (ports : State) → ArePorts ports → length (port_writes layout a p ports) ≤ layout.port_sectors * length ports
@@ -114,5 +117,5 @@ module _ (layout : Layout) (a : Area) (room : LARGEST_PORT_RECORD ≤ SECTOR_OCT
       let here = length-map-range_with_len (λ j. write (port_at layout a p + j) (sector_of (padded (port_octets layout.version port)) j)) 0
       (sectors_reached (length (port_octets layout.version port))) in
       let both = length-append (record_writes (port_at layout a p) (port_octets layout.version port))
-          (port_writes layout a (p + 1) ports) in
+      (port_writes layout a (p + 1) ports) in
       omega (arith, here, both, reaches layout.version port layout.port_sectors are.0 room, length-records (p + 1) ports are.1)

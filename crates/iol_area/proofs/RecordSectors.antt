@@ -78,10 +78,10 @@ record-pushed layout a state place first port octets old new all there at spelle
     ≡ record_writes (port_at layout a place) (port_octets layout.version port) =
     ap (λ (n : ℕ). map (λ j. write (first + j) (sector_of octets j)) (range_with_len 0 n)) reached
     ∙ ap (λ (n : ℕ). map (λ j. write (n + j) (sector_of octets j))
-        (range_with_len 0 (sectors_reached (length (port_octets layout.version port))))) at
+    (range_with_len 0 (sectors_reached (length (port_octets layout.version port))))) at
     ∙ ap (λ (os : List ℕ).
     map (λ j. write (port_at layout a place + j) (sector_of os j))
-        (range_with_len 0 (sectors_reached (length (port_octets layout.version port)))))
+    (range_with_len 0 (sectors_reached (length (port_octets layout.version port)))))
     spelled in
     ap (λ (calls : List Call). calls ++ rest) (pushed ∙ ap (λ (calls : List Call). old ++ calls) written)
     ∙ append_assoc old (record_writes (port_at layout a place) (port_octets layout.version port)) rest

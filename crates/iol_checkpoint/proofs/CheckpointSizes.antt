@@ -1,7 +1,6 @@
 -- How many disk calls a checkpoint makes.
 use Rattle.std.proofs.Common.{◌≤◌, ◌≡◌, ℕ, ◌+◌, ◌*◌, ◌-◌, List, [], ◌∷◌, ◌++◌, length, map, drop, arith, length-append}
 use Rattle.std.specs.List.{range_with_len}
-use Rattle.std.proofs.Math.Nat.{mul-le-mul_right}
 use Rattle.std.proofs.lemmas.List.{length-drop}
 use Rattle.std.proofs.lemmas.List.FromFn.{length-map-range_with_len}
 use Rattle.iol_types.specs.Command.{CommandValue}
@@ -30,6 +29,7 @@ use Rattle.iol_checkpoint.specs.declared.stage.Stage.TheVariants.{ClearHeader, S
 use Rattle.iol_checkpoint.specs.declared.stage.Stage.TheVariants.{WriteHeader, WriteRecord, SyncRecords, Carry, OpenGate, SyncOpen}
 use Rattle.iol_batch.proofs.BatchCalls.{length-batch_calls}
 use Rattle.iol_layout.proofs.Bodies.{length-body}
+use Rattle.iol_layout.specs.Layout.{record_sectors}
 use Rattle.iol_layout.proofs.Spans.{slots_of-some}
 
 length-clearing : (t : Standing) (idle : Idle) → length (clearing_calls t idle) ≤ 2
@@ -70,7 +70,7 @@ phase_most t batch SyncGate = omega arith
 -- there are as many as slots and sectors of records, nine more at most, and those of the batches that are owed
 pub at_most : (t : Standing) (owed : List (List CommandValue)) (idle : Idle) → AreRecords t.layout t.area t.state
     → length (checkpoint_calls t owed idle)
-    ≤ t.layout.slots + t.layout.port_sectors * t.layout.ports + 9 + length (carry_calls t owed)
+    ≤ t.layout.slots + record_sectors t.layout + 9 + length (carry_calls t owed)
 at_most t owed idle records =
     let slots = length-map-range_with_len (slot_write t.layout t.area) 0 t.layout.slots in
     let behind = length-append (slot_writes t.layout t.area) (snapshot_calls t owed) in
@@ -149,11 +149,11 @@ module _ (t : Standing) (owed : List (List CommandValue)) (records : ℕ) where
   stage_most SyncOpen few is = omega arith
 
 -- one that was begun makes 19 calls for each slot that is carried, beside those of a new one
-pub begun_most : (d : Disk) (s : Standing) (b : Begun) → IsBegun d s b → s.used ≤ s.layout.slots → s.layout.port_sectors ≤ 9
-    → length (calls_of s (view_of b)) ≤ 20 * s.layout.slots + 9 * s.layout.ports + 9
-begun_most d s b is within nine =
+pub begun_most : (d : Disk) (s : Standing) (b : Begun) → IsBegun d s b → s.used ≤ s.layout.slots
+    → length (calls_of s (view_of b)) ≤ 20 * s.layout.slots + record_sectors s.layout + 9
+begun_most d s b is within =
     let t = target s (log_of b) in
     let owed = commands_owed b.owed.items in
     let few = stage_most t owed (s.layout.port_sectors * s.layout.ports) b.stage (λ snapshot. (is.drafted.fresh snapshot).records.at_most)
     is.drafted.in_stage in
-    omega (arith, few, carry_most t owed, is.drafted.slots, within, mul-le-mul_right s.layout.ports nine)
+    omega (arith, few, carry_most t owed, is.drafted.slots, within)

@@ -8,6 +8,7 @@ ghost use Rattle.iol_checkpoint.specs.Checkpoints.{target, new_begun, log_behind
 ghost use Rattle.iol_checkpoint.specs.Drafts.{stage_behind};
 ghost use Rattle.iol_checkpoint.specs.Pauses.{calls_of};
 ghost use Rattle.iol_batch.specs.Parts.{stands};
+ghost use Rattle.iol_layout.specs.Layout.{record_sectors};
 ghost use Rattle.iol_layout.specs.Standings.{IsResting};
 ghost use Rattle.iol_layout.specs.Body.{values};
 ghost use Rattle.iol_layout.specs.Meaning.{Standing};
@@ -53,15 +54,14 @@ impl Begun {
         requires ports { length parts.now.state ≡ parts.now.place.layout.ports }
         ensures view { IfOk result (λ b. view_of b ≡ new_begun (stands parts.now) parts.now.place.idle) }
         ensures begun { IfOk result (λ b. (d : Disk) → IsResting d (stands parts.now) → IsBegun d (stands parts.now) b) }
-        // It makes a disk call for each slot, nine for each port, and nine more, at most.
+        // It makes a disk call for each slot, one for each sector of a port's record, and nine more, at most.
         ensures at_most { IfOk result (λ b. length (calls_of (stands parts.now) (view_of b))
-            ≤ parts.now.place.layout.slots + 9 * parts.now.place.layout.ports + 9) }
+            ≤ parts.now.place.layout.slots + record_sectors parts.now.place.layout + 9) }
     {
         let header = Header {
             epoch: parts.place.epoch + 1,
             base: parts.number,
         };
-        let _sectors = parts.place.port_sectors();
         let area = parts.place.area.other();
         let plan = AreaPlan::of(parts.alloc, parts.place.layout, area, header, &parts.state)?;
         Ok(Begun {

@@ -15,10 +15,10 @@ records_grow (c ∷ cs) (suc n) zero h = absurd (omega arith)
 records_grow (c ∷ cs) (suc n) (suc m) h =
     let rest : length (records_of (take n cs)) ≤ length (records_of (take m cs)) = records_grow cs n m (omega arith) in
     let few : length (command_octets newest c ++ records_of (take n cs))
-        ≡ length (command_octets newest c) + length (records_of (take n cs)) =
+    ≡ length (command_octets newest c) + length (records_of (take n cs)) =
     length-append (command_octets newest c) (records_of (take n cs)) in
     let many : length (command_octets newest c ++ records_of (take m cs))
-        ≡ length (command_octets newest c) + length (records_of (take m cs)) =
+    ≡ length (command_octets newest c) + length (records_of (take m cs)) =
     length-append (command_octets newest c) (records_of (take m cs)) in
     omega (arith, rest, few, many)
 

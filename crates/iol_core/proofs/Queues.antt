@@ -45,7 +45,7 @@ records_more commands command =
     ap length (flat_map-append (command_octets newest) commands (command ∷ []))
     ∙ (length-append (flat_map (command_octets newest) commands) (flat_map (command_octets newest) (command ∷ []))
     ∙ ap (λ (octets : List ℕ). length (flat_map (command_octets newest) commands) + length octets)
-        (append-nil (command_octets newest command)))
+    (append-nil (command_octets newest command)))
 
 -- what the records of the first commands of a queue have, and of one more
 pub records_next : (queue : List Command) (i : ℕ) (command : Command) → i < length queue → get_or queue i command ≡ command

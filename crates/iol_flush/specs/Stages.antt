@@ -13,7 +13,7 @@ use Rattle.iol_journal.specs.Body.{slots_of, slots_for, values}
 use Rattle.iol_journal.specs.CheckpointViews.{begun_in, stages_left}
 use Rattle.iol_journal.specs.Pauses.{calls_of}
 use Rattle.iol_journal.specs.Drafts.{can_pause}
-use Rattle.iol_journal.specs.Layout.{Layout}
+use Rattle.iol_journal.specs.Layout.{Layout, record_sectors}
 use Rattle.iol_journal.specs.Meaning.{Standing}
 use Rattle.iol_journal.specs.Journals.{JournalView, calls_left}
 use Rattle.iol_journal.specs.Limits.{MOST_RECORD_OCTETS}
@@ -125,10 +125,10 @@ IsInStep start (Publishing journal written) published =
     × (written.first ≡ start.number + length published + 1)
 IsInStep start (Failed disk fault) published = Unit {0}
 
--- the most disk calls of a checkpoint: one for each slot, nine for each port, nine more, and 19 for each slot that is carried
--- (own)
+-- the most disk calls of a checkpoint: one for each slot, one for each sector of a port's record, nine more, and 19
+-- for each slot that is carried (own)
 abbrev pub most_checkpoint_calls : Layout → ℕ
-most_checkpoint_calls layout = 20 * layout.slots + 9 * layout.ports + 9
+most_checkpoint_calls layout = 20 * layout.slots + record_sectors layout + 9
 
 -- the most disk calls of a batch: 16 for each command, which takes a slot at most, and three more (own)
 abbrev pub most_batch_calls : List CommandValue → ℕ

@@ -40,7 +40,7 @@ encodes-more octets front commands command encodes is = record { reads = λ n re
 
     go : (n : ℕ) (rest : List ℕ) (others : List CommandValue) → commands_of newest n rest ≡ Some others
         → commands_of newest (length (commands ++ command ∷ []) + n) ((octets ++ front) ++ rest)
-            ≡ Some ((commands ++ command ∷ []) ++ others)
+        ≡ Some ((commands ++ command ∷ []) ++ others)
     go n rest others read =
         let count : length (commands ++ command ∷ []) + n ≡ length commands + suc n =
         omega (arith, length-append commands (command ∷ [])) in
@@ -119,7 +119,7 @@ pub batch_of-body : (epoch first : ℕ) (commands : List CommandValue) (rest : L
     → first + length commands ≤ LAST_NUMBER + 1
     → commands_of newest (length commands) (records_of commands) ≡ Some commands
     → batch_of newest epoch first (head_octets epoch first (length commands) (length (records_of commands))
-        ++ (records_of commands ++ rest))
+    ++ (records_of commands ++ rest))
     ≡ Some commands
 unfolding batch_of head_of
 batch_of-body epoch first commands rest small some most short last is =

@@ -9,3 +9,4 @@ pub mod Headers
 pub mod OtherArea
 pub mod Paddings
 pub mod ReachedBodies
+pub mod Layouts

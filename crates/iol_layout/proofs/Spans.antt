@@ -69,7 +69,7 @@ span_in-same layout a old new k same = ap (λ (octets : List ℕ). slots_of (hea
 pub batch_in-within : (layout : Layout) (a : Area) (epoch : ℕ) (image : Image) (k most first : ℕ) (commands : List CommandValue)
     → batch_in layout a epoch image k most first ≡ Some commands
     → (span_in layout a image k ≤ most) × (batch_of layout.version epoch first (body_in layout a image k (span_in layout a image k))
-        ≡ Some commands)
+    ≡ Some commands)
 batch_in-within layout a epoch image k most first commands is = tested (nat_le (span_in layout a image k) most) refl is
   where
     tested : (test : Bool) → nat_le (span_in layout a image k) most ≡ test
@@ -77,7 +77,7 @@ batch_in-within layout a epoch image k most first commands is = tested (nat_le (
         (batch_of layout.version epoch first (body_in layout a image k (span_in layout a image k))) None
         ≡ Some commands
         → (span_in layout a image k ≤ most) × (batch_of layout.version epoch first (body_in layout a image k (span_in layout a image k))
-            ≡ Some commands)
+        ≡ Some commands)
     tested true at is = (grind (arith, nat_tests), is)
     tested false at is = absurd cc
 

@@ -1,10 +1,11 @@
 -- Where things stand on a disk (docs/FORMATS.md, "Disk layout").
-use Rattle.std.specs.Prelude.{ℕ, ◌+◌, ◌*◌, ◌/◌}
+use Rattle.std.specs.Prelude.{ℕ, ◌+◌, ◌-◌, ◌*◌, ◌/◌, ◌<◌}
 use Rattle.iol_record.specs.declared.version.Version.{Version}
+use Rattle.iol_record.specs.declared.version.Version.TheVariants.{One, Two}
 use Rattle.iol_record.specs.Record.{newest}
 use Rattle.iol_layout.specs.Geometry.{Geometry}
 use Rattle.iol_slots.specs.declared.slot.TheConstants.{BODY_SECTORS}
-use Rattle.iol_layout.specs.declared.geometry.TheConstants.{PORT_SECTORS}
+use Rattle.iol_layout.specs.declared.geometry.TheConstants.{PORT_SECTORS, PORT_SECTORS_OF_TWO}
 use Rattle.iol_layout.specs.declared.area.Area.{Area}
 use Rattle.iol_layout.specs.declared.area.Area.TheVariants.{A, B}
 
@@ -13,9 +14,8 @@ abbrev pub other : Area → Area
 other A = B
 other B = A
 
--- how an area is laid out: the version that its records are spelled in, its ports with the sectors of a port's record, its slots, and
--- the sectors behind them that
--- it leaves unused (format, Disk layout)
+-- how an area is laid out: the version that its records are spelled in, its ports with the sectors of a port's record,
+-- its slots, and the sectors behind them that it leaves unused (format, Disk layout)
 pub record Layout : Type 0 where
   pub version : Version
   pub ports : ℕ
@@ -23,9 +23,49 @@ pub record Layout : Type 0 where
   pub slots : ℕ
   pub spare_sectors : ℕ
 
--- the layout of a geometry (format, Disk layout)
+-- the slots that an area gives up for larger records of so many ports: in version 2 as many as have the further sectors
+-- of all records (format, Disk layout)
+abbrev pub given_up : Version → ℕ → ℕ
+given_up One ports = 0
+given_up Two ports = ((PORT_SECTORS_OF_TWO - PORT_SECTORS) * ports + BODY_SECTORS) / (1 + BODY_SECTORS)
+
+-- an area of a geometry keeps a slot in a version (format, Disk layout)
+abbrev pub KeepsSlot : Version → Geometry → Type 0
+KeepsSlot version g = given_up version g.ports < g.slots
+
+-- the sectors of a port's record in a version (format, Disk layout)
+abbrev pub port_sectors_of : Version → ℕ
+port_sectors_of One = PORT_SECTORS
+port_sectors_of Two = PORT_SECTORS_OF_TWO
+
+-- the sectors of an area of so many ports that are in no slot: what the larger records leave of those given up (format,
+-- Disk layout)
+abbrev pub spare_of : Version → ℕ → ℕ
+spare_of One ports = 0
+spare_of Two ports = (1 + BODY_SECTORS) * given_up Two ports - (PORT_SECTORS_OF_TWO - PORT_SECTORS) * ports
+
+-- the layout in a version of so many ports and slots that are kept (format, Disk layout)
+abbrev pub placed : Version → ℕ → ℕ → Layout
+placed version ports slots = record {
+  version = version;
+  ports = ports;
+  port_sectors = port_sectors_of version;
+  slots = slots;
+  spare_sectors = spare_of version ports;
+}
+
+-- the layout of a geometry in a version: the place and the size of an area are the same in both (format, Disk layout)
+abbrev pub laid_out : Version → Geometry → Layout
+laid_out One g = placed One g.ports g.slots
+laid_out Two g = placed Two g.ports (g.slots - given_up Two g.ports)
+
+-- the layout of a geometry as it is written (format, Disk layout)
 abbrev pub layout_of : Geometry → Layout
-layout_of g = record { version = newest; ports = g.ports; port_sectors = PORT_SECTORS; slots = g.slots; spare_sectors = 0 }
+layout_of g = laid_out newest g
+
+-- the sectors of the records of all ports (format, Disk layout)
+abbrev pub record_sectors : Layout → ℕ
+record_sectors layout = layout.port_sectors * layout.ports
 
 -- the sectors of an area: a gate, a header, the ports' records, slots of a gate and a body, and what is unused
 -- (format, Disk layout)

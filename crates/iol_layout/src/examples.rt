@@ -4,14 +4,14 @@
 ghost use Rattle.std.specs.Prelude.{◌≡◌, ◌++◌, ◌==◌, if◌then◌else◌, [], ◌∷◌, drop, replicate, map, take, true, false};
 ghost use Rattle.iol_types.specs.Command.{Configure};
 ghost use Rattle.iol_types.specs.Examples.{example_config};
-ghost use Rattle.iol_record.specs.declared.version.Version.TheVariants.{One};
+ghost use Rattle.iol_record.specs.declared.version.Version.TheVariants.{One, Two};
 ghost use Rattle.iol_layout.specs.Body.{batch_of, body_octets, commands_of, fits, head_of, slots_of};
 ghost use Rattle.iol_layout.specs.Examples.{two_by_four, first_body};
 ghost use Rattle.iol_layout.specs.Geometry.{IsGeometry, geometry_of, geometry_octets};
 ghost use Rattle.iol_layout.specs.Header.{header_of, header_octets, is_sound};
 ghost use Rattle.iol_slots.specs.Gate.{open_gate, closed_gate};
 ghost use Rattle.iol_layout.specs.Meaning.{unformatted, damaged, layout_in, greatest};
-ghost use Rattle.iol_layout.specs.Layout.{layout_of, total, gate_at, header_at, port_at, slot_at, body_at};
+ghost use Rattle.iol_layout.specs.Layout.{KeepsSlot, given_up, laid_out, layout_of, total, gate_at, header_at, port_at, slot_at, body_at};
 ghost use Rattle.iol_layout.specs.declared.body.TheConstants.{MOST_COMMANDS, MOST_RECORD_OCTETS, BODY_HEAD_OCTETS};
 ghost use Rattle.iol_layout.specs.declared.header.TheConstants.{LAST_NUMBER};
 
@@ -41,6 +41,22 @@ pub fn places()
     // A body over the slots 1 to 3: it leaves out the gates of 2 and 3, the sectors 56 and 73.
     ensures longer { map (body_at (layout_of two_by_four) Area.A 1) (0 ∷ 15 ∷ 16 ∷ 31 ∷ 32 ∷ []) ≡ 40 ∷ 55 ∷ 57 ∷ 72 ∷ 74 ∷ [] }
     ensures largest { total (layout_of (record { ports = 32; slots = 256 })) ≡ 9286 }
+{}
+
+/// The same in version 2, whose port records have 17 sectors: the areas stand where they did, and an area gives up a slot for 2
+/// ports, and 16 for 32.
+pub fn places_of_two()
+    ensures given_up { map (given_up Two) (1 ∷ 2 ∷ 3 ∷ 32 ∷ []) ≡ 1 ∷ 1 ∷ 2 ∷ 16 ∷ [] }
+    ensures sectors { total (laid_out Two two_by_four) ≡ 178 }
+    ensures gates { map (gate_at (laid_out Two two_by_four)) (Area.A ∷ Area.B ∷ []) ≡ 2 ∷ 90 ∷ [] }
+    ensures ports { map (port_at (laid_out Two two_by_four) Area.A) (0 ∷ 1 ∷ []) ≡ 4 ∷ 21 ∷ [] }
+    ensures slots { map (slot_at (laid_out Two two_by_four) Area.A) (0 ∷ 1 ∷ 2 ∷ []) ≡ 38 ∷ 55 ∷ 72 ∷ [] }
+    ensures bodies { map (body_at (laid_out Two two_by_four) Area.A 1) (0 ∷ 15 ∷ 16 ∷ []) ≡ 56 ∷ 71 ∷ 73 ∷ [] }
+    ensures kept { (laid_out Two (record { ports = 32; slots = 256 })).slots ≡ 240 }
+    ensures largest { total (laid_out Two (record { ports = 32; slots = 256 })) ≡ 9286 }
+    ensures one_slot { KeepsSlot Two (record { ports = 32; slots = 17 }) }
+    ensures no_slot { ¬ KeepsSlot Two (record { ports = 32; slots = 16 }) }
+    ensures two_by_one { ¬ KeepsSlot Two (record { ports = 2; slots = 1 }) }
 {}
 
 /// Sector 0 of 2 ports and 4 slots: IOLS, version 1, 2 ports, 4 slots, 16 sectors of a body.

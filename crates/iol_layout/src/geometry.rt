@@ -13,6 +13,8 @@ pub(crate) const MOST_PORTS: u16 = 32;
 pub const MOST_SLOTS: u16 = 256;
 /// The sectors of a port's record.
 pub const PORT_SECTORS: usize = 9;
+/// The sectors of a port's record in version 2.
+pub const PORT_SECTORS_OF_TWO: usize = 17;
 
 /// The sector that says the geometry.
 pub const GEOMETRY: usize = 0;

@@ -27,7 +27,7 @@ pub use body::{
     BODY_HEAD_OCTETS, BODY_OCTETS, EPOCH_OCTETS, EncodedBatch, Head, MOST_COMMANDS,
     MOST_RECORD_OCTETS, slots_of,
 };
-pub use geometry::{DISK_GATE, GEOMETRY, Geometry, MOST_SLOTS, PORT_SECTORS};
+pub use geometry::{DISK_GATE, GEOMETRY, Geometry, MOST_SLOTS, PORT_SECTORS, PORT_SECTORS_OF_TWO};
 pub use header::{Header, LAST_NUMBER};
 pub use idle::Idle;
 pub use in_use::InUse;

@@ -31,7 +31,7 @@ impl Place {
     /// How many sectors a port's record has.
     pub fn port_sectors(&self) -> usize
         ensures value { result ≡ self.now.layout.port_sectors }
-        ensures bound { result ≤ 9 }
+        ensures bound { result ≤ 17 }
     {
         self.layout.port_sectors()
     }

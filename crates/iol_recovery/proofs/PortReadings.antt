@@ -19,7 +19,7 @@ port_of-extended more (Err fault) = refl
 in_all : (version : Version) (image : Image) (first sectors read : ℕ) (octets : List ℕ) → octets ≡ octets_at image first read
     → read ≤ sectors
     → (port_record_at version octets ≡ Err Short → ⊥) → port_of (port_record_at version (octets_at image first sectors))
-        ≡ port_of (port_record_at version octets)
+    ≡ port_of (port_record_at version octets)
 in_all version image first sectors read octets is some not_short =
     let more = octets_at image (first + read) (sectors - read) in
     let all : octets_at image first sectors ≡ octets ++ more =

@@ -31,7 +31,7 @@ replay-unread version number left s octets fault is = rw (add-one, is) refl
 -- the first command does not pass
 pub replay-refused : (version : Version) (number left : ℕ) (s : State) (octets rest : List ℕ) (command : CommandValue)
     → command_at version octets ≡ Ok (command, rest) → is_none (check s command) ≡ false
-        → reached number s (commands_of version (left + 1) octets) ≡ None
+    → reached number s (commands_of version (left + 1) octets) ≡ None
 replay-refused version number left s octets rest command is refused =
     rw (add-one, is) (reached-refused number s command (commands_of version left rest) refused)
 

@@ -101,7 +101,7 @@ log-span layout a epoch image k n left number state next opened some span is =
     let place : k + 1 + (n - 1) ≡ k + n = omega (arith, some) in
     let rest : m - (n - 1) ≡ left = omega (arith, some) in
     let batch : batch_in layout a epoch image k (m + 1) (number + 1)
-        ≡ batch_of layout.version epoch (number + 1) (body_in layout a image k n) =
+    ≡ batch_of layout.version epoch (number + 1) (body_in layout a image k n) =
     batch_in-there layout a epoch image k n (m + 1) (number + 1) _ span (omega (arith, some)) refl in
     ap (λ (i : ℕ). log_from layout a epoch image k 0 i number state) all
     ∙ log-open layout a epoch image k m number state next opened (ap (reached number state) batch ∙ is)
@@ -119,7 +119,7 @@ log-stuck layout a epoch image k n left number state opened some span is =
     let m = left + n - 1 in
     let all : left + n ≡ m + 1 = omega (arith, some) in
     let batch : batch_in layout a epoch image k (m + 1) (number + 1)
-        ≡ batch_of layout.version epoch (number + 1) (body_in layout a image k n) =
+    ≡ batch_of layout.version epoch (number + 1) (body_in layout a image k n) =
     batch_in-there layout a epoch image k n (m + 1) (number + 1) _ span (omega (arith, some)) refl in
     ap (λ (i : ℕ). log_from layout a epoch image k 0 i number state) all
     ∙ log-damaged layout a epoch image k m number state opened (ap (reached number state) batch ∙ is)
@@ -138,7 +138,7 @@ pub batch_read : (old now : Disk) (layout : Layout) (a : Area) (k sector n : ℕ
     → Shows now (λ image. (version : Version) (epoch first : ℕ)
     → batch_of version epoch first body ≡ batch_of version epoch first (octets_at (λ j. image (body_sector sector j)) 0 (BODY_SECTORS * n)))
     → Shows old (λ image. (version : Version) (epoch first : ℕ) → batch_of version epoch first (body_in layout a image k n)
-        ≡ batch_of version epoch first body)
+    ≡ batch_of version epoch first body)
 batch_read old now layout a k sector n body same here read h version epoch first =
     ap (λ (image : Image). batch_of version epoch first (body_in layout a image k n)) (sym (same-reads old now same h))
     ∙ ap (batch_of version epoch first) (sym (body_in-placed layout a (reads now.content) k n sector here))

@@ -11,8 +11,8 @@ use Rattle.iol_run.specs.declared.step.Step.{Step}
 
 within : (layout : Layout) → 1 ≤ layout.ports → 1 ≤ layout.slots → layout.port_sectors ≡ 9 → queue_turns layout ≤ 128 * total layout
 within layout ports some nine =
-    subst (λ (n : ℕ). queue_turns layout ≤ 128 * (2 + 2 * (2 + n * layout.ports + 17 * layout.slots + layout.spare_sectors))) (sym nine)
-    (omega (arith, ports, some))
+    let records : 9 ≤ layout.port_sectors * layout.ports = subst (λ (n : ℕ). 9 ≤ n * layout.ports) (sym nine) (omega (arith, ports)) in
+    omega (arith, records, some)
 
 pub turns_within : (sectors : ℕ) (image : Image) (s : Standing) → standing_in sectors image ≡ Ok s
     → queue_turns s.layout ≤ 128 * total s.layout

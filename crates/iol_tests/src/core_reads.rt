@@ -4,8 +4,8 @@ ghost use Rattle.std.specs.Prelude.{◌≡◌};
 
 use iol_core::{Core, QUEUE_COMMANDS};
 use iol_front::{Front, Name};
-use iol_record::{Version, decode_port};
 use iol_record::examples::PORT_WITH_SET_RECORD;
+use iol_record::{Version, decode_port};
 use iol_types::{Change, MasterState, PortId};
 use std::alloc::Global;
 use std::marker::Brand;
@@ -15,7 +15,9 @@ use std::process::Abort;
 #[test]
 fn a_port_with_a_set_is_viewed_through_a_pass_of_the_core(rt: HostRuntime) {
     let mut state = MasterState::new(rt.alloc(), 1).expect(&rt, "memory");
-    let (port, _) = decode_port(rt.alloc(), Version::One, &PORT_WITH_SET_RECORD).expect(&rt, "memory");
+    let (port, _) = decode_port(rt.alloc(), Version::One, &PORT_WITH_SET_RECORD).expect(
+        &rt, "memory",
+    );
     state.set_port(PortId::new(1).unwrap(), port);
     let front = Front::new(rt.alloc(), 0, &state).expect(&rt, "memory");
     view::<Brand, _>(&rt, rt.alloc(), front, state);

@@ -25,7 +25,9 @@ fn a_store_of_1024_parameters_is_read_and_written(rt: HostRuntime) {
             .extend_from_slice(&[0x00, 0x00])
             .expect(&rt, "memory");
     }
-    let (command, octets) = decode_command(rt.alloc(), Version::newest(), &record).expect(&rt, "memory");
+    let (command, octets) = decode_command(rt.alloc(), Version::newest(), &record).expect(
+        &rt, "memory",
+    );
     assert!(rt; octets == LARGEST_COMMAND_RECORD);
     let written = encode_command(rt.alloc(), Version::newest(), &command).expect(&rt, "memory");
     assert!(rt; written.as_slice() == record.as_slice());

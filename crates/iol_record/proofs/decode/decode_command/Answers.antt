@@ -13,7 +13,7 @@ returns-in_err-command-clause-only c = λ front rest command is_record parts.
     let octets = c.args.octets.now in
     let p = err_from_is_err_and c.from_residual.result c.from_residual.ensures.1 in
     rw (p.1, p.2) (elim (memory_or_read (store_begun_at c.new-reader.result) _
-        (command_at c.args.version c.new-reader.result) c.in_err-command.ensures) [
+    (command_at c.args.version c.new-reader.result) c.in_err-command.ensures) [
       | inl memory ↦ inl (ap (λ fault. Err fault) memory)
       | inr fails ↦
           absurd (no_fault_at (command_at c.args.version) octets command rest _

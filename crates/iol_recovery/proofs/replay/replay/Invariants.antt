@@ -8,5 +8,5 @@ invariant-loop l = record {
   ports : length l.state ≡ length l.fn.state;
   reached : (number left : ℕ) → left + l.counter ≡ l.count
       → reached (number + l.counter) l.state (commands_of l.fn.version left l.rest)
-          ≡ reached number l.fn.state (commands_of l.fn.version l.count l.records);
+      ≡ reached number l.fn.state (commands_of l.fn.version l.count l.records);
 }

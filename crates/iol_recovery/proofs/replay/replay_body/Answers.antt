@@ -10,7 +10,7 @@ pub returns-then-not-fits-clause-reached : goal.returns-then-not-fits-clause-rea
 returns-then-not-fits-clause-reached c = λ holds.
     ap (reached c.args.number c.args.state.now)
     (batch_of-misfit c.args.version c.args.epoch (c.args.number + 1) c.args.body.now c.read-head.result c.read-head.ensures
-        (sym c.fits.ensures
+    (sym c.fits.ensures
     ∙ c.if-not-fits.true))
 
 pub returns-then-branch-clause-reached : goal.returns-then-branch-clause-reached
@@ -20,7 +20,7 @@ returns-then-branch-clause-reached c = λ holds.
     rw c.from.ensures
     (ap (reached c.args.number c.args.state.now)
     (batch_of-fits c.args.version c.args.epoch (c.args.number + 1) c.args.body.now c.read-head.result c.read-head.ensures
-        (sym c.fits.ensures
+    (sym c.fits.ensures
     ∙ c.if-not-fits.false))
     ∙ rw records at applied)
 
@@ -33,7 +33,7 @@ returns-else-end-body-clause-reached c = λ holds.
           let refused = rw w.if-branch.false at w.in_ok-replay.ensures.reached c.args.number in
           ap (reached c.args.number c.args.state.now)
           (batch_of-fits c.args.version c.args.epoch (c.args.number + 1) c.args.body.now c.read-head.result c.read-head.ensures
-              (sym c.fits.ensures ∙ fit))
+          (sym c.fits.ensures ∙ fit))
           ∙ rw records at refused
       | else-end-body-via-else-end-body w ↦
           let within = rw (← c.read-head.ensures) at holds in

@@ -64,10 +64,10 @@ loop-used-preserved g c =
           c.loop-used.number c.loop-used.state _
           (opened h) some (span h)
           (ap (λ (i : ℕ). reached c.loop-used.number c.loop-used.state
-              (batch_of c.args.layout.version c.args.header.epoch (c.loop-used.number + 1)
+          (batch_of c.args.layout.version c.args.header.epoch (c.loop-used.number + 1)
           (body_in c.args.layout c.args.area (reads old.content) c.loop-used.used i))) (sym spans)
           ∙ ap (reached c.loop-used.number c.loop-used.state) (batch h c.args.layout.version c.args.header.epoch (c.loop-used.number + 1))
-              ∙ leads))
+          ∙ leads))
           ∙ kept.read h (left + c.in_ok-span.span) (omega (arith, is));
     }
 
@@ -130,10 +130,10 @@ returns-in-None-clause-finds g c = λ h.
     c.loop-used.state
     (opened h) some (span h)
     (ap (λ (i : ℕ). reached c.loop-used.number c.loop-used.state
-        (batch_of c.args.layout.version c.args.header.epoch (c.loop-used.number + 1)
+    (batch_of c.args.layout.version c.args.header.epoch (c.loop-used.number + 1)
     (body_in c.args.layout c.args.area (reads old.content) c.loop-used.used i))) (sym spans)
     ∙ ap (reached c.loop-used.number c.loop-used.state) (batch h c.args.layout.version c.args.header.epoch (c.loop-used.number + 1))
-        ∙ leads))
+    ∙ leads))
 
 pub returns-clause-finds : goal.returns-clause-finds
 returns-clause-finds g c = λ h.

@@ -51,10 +51,10 @@ returns-in-Err-BadTag-clause-finds g c = λ h.
     (λ now. c.in_ok-extend_from_slice.ensures.items
     ∙ ap (λ (more : List ℕ). c.loop-j.octets.items ++ more) (c.in_ok-read_sector.ensures.read now)) in
     port-damaged c.args.version (reads old.content) c.args.sector c.args.sectors (c.loop-j.j + 1) c.extend_from_slice.new.self.items
-        (read h)
+    (read h)
     (omega (arith, c.loop-j-test.true)) BadTag
     (λ is. cc) (ap (port_record_at c.args.version) (sym c.deref.ensures.value)
-        ∙ rw c.in-Err-BadTag.field-0-is at c.in-Err-BadTag.ensures.exact)
+    ∙ rw c.in-Err-BadTag.field-0-is at c.in-Err-BadTag.ensures.exact)
 
 pub returns-in-Err-BadField-clause-finds : goal.returns-in-Err-BadField-clause-finds
 returns-in-Err-BadField-clause-finds g c = λ h.
@@ -65,7 +65,7 @@ returns-in-Err-BadField-clause-finds g c = λ h.
     (λ now. c.in_ok-extend_from_slice.ensures.items
     ∙ ap (λ (more : List ℕ). c.loop-j.octets.items ++ more) (c.in_ok-read_sector.ensures.read now)) in
     port-damaged c.args.version (reads old.content) c.args.sector c.args.sectors (c.loop-j.j + 1) c.extend_from_slice.new.self.items
-        (read h)
+    (read h)
     (omega (arith, c.loop-j-test.true)) BadField
     (λ is. cc) (ap (port_record_at c.args.version) (sym c.deref.ensures.value)
-        ∙ rw c.in-Err-BadField.field-0-is at c.in-Err-BadField.ensures.exact)
+    ∙ rw c.in-Err-BadField.field-0-is at c.in-Err-BadField.ensures.exact)

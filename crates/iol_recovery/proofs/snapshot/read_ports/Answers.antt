@@ -39,7 +39,7 @@ loop-place-preserved g c =
       ports = ap (λ (state : State). length state) stored ∙ length-set c.loop-place.state c.loop-place.place c.in_ok-port.port ∙ kept.ports;
       read = λ h left is.
           let here = port_shown old (g.D.SectorDisk.disk c.loop-place.disk) c.args.layout.version c.version-version.result
-              (port_at c.args.layout c.args.area c.loop-place.place)
+          (port_at c.args.layout c.args.area c.loop-place.place)
           c.port-sector.result
           c.port_sectors-sectors.result c.args.layout.port_sectors (Ok c.in_ok-port.port) kept.same c.version-version.ensures
           (c.port-sector.ensures.at ∙ ap (port_at c.args.layout c.args.area) c.from.ensures) c.port_sectors-sectors.ensures.value
@@ -59,7 +59,7 @@ returns-in_err-port-clause-finds g c = λ h.
     let left = c.args.layout.ports - (c.loop-place.place + 1) in
     let p = err_from_is_err_and c.from_residual-in_err-port.result c.from_residual-in_err-port.ensures.1 in
     let here = port_shown old (g.D.SectorDisk.disk c.loop-place.disk) c.args.layout.version c.version-version.result
-        (port_at c.args.layout c.args.area c.loop-place.place)
+    (port_at c.args.layout c.args.area c.loop-place.place)
     c.port-sector.result
     c.port_sectors-sectors.result c.args.layout.port_sectors (Err c.in_err-port.field-0.0) kept.same c.version-version.ensures
     (c.port-sector.ensures.at ∙ ap (port_at c.args.layout c.args.area) c.from.ensures) c.port_sectors-sectors.ensures.value

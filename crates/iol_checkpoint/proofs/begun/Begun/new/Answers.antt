@@ -1,5 +1,4 @@
 use Rattle.std.proofs.Common.{◌≤◌, List, [], length, ap, subst, arith}
-use Rattle.std.proofs.Math.Nat.{mul-le-mul_right}
 use Rattle.iol_area.specs.AreaPlans.{AreRecords}
 use Rattle.iol_batch.specs.Parts.{stands}
 use Rattle.iol_disk.specs.Calls.{Call}
@@ -16,11 +15,9 @@ returns-clause-at_most c =
     let idle = parts.place.idle in
     let all = ap (λ (calls : List Call). length calls) (all_calls (checkpointed s) [] idle) in
     let records = subst (λ (a : Area). AreRecords s.layout a s.state) c.other-area.ensures c.in_ok-plan.ensures.records in
-    let nine : s.layout.port_sectors ≤ 9 = omega (arith, c.port_sectors-sectors.ensures.value, c.port_sectors-sectors.ensures.bound) in
     rw (c.first.ensures, c.begun.ensures, c.new.ensures.items)
     (omega (
       arith,
       all,
       at_most (checkpointed s) [] idle records,
-      mul-le-mul_right s.layout.ports nine,
     ))
