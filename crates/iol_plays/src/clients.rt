@@ -96,6 +96,11 @@ fn play<
         Err(StartFault::Ports(_)) => bail!("not one link for each port"),
         Err(_) => bail!("no master"),
     };
+    if let [words @ .., last] = words
+        && last.as_str() == "end"
+    {
+        return end_beside(rt, alloc, master, words, out);
+    }
     let asked = ask::<D, F, R, W>(rt, alloc, &mut master, words, out);
     let disk = end(rt, master, out)?;
     if asked.is_err() {
@@ -148,6 +153,34 @@ fn ask<
     join_all(rt, clients);
     writeln!(out, "met at {}", meet_all(rt, &receipts))?;
     Ok(())
+}
+
+// Starts a client for each word, ends the master while they ask, and prints what they were answered by then.
+fn end_beside<
+    D: SectorDisk + Drop + Send + 'static,
+    F: Name + 'static,
+    R: Threads + Wait + Input + Copy + Send + 'static,
+    W: Write,
+>(
+    rt: &R,
+    alloc: Global,
+    mut master: Master<D, F>,
+    words: &[String],
+    out: &mut W,
+) -> anyhow::Result<D> {
+    let (told, heard) = crossbeam_channel::unbounded(alloc)?;
+    let (granted, receipts) = crossbeam_channel::unbounded(alloc)?;
+    let ends = Ends {
+        told,
+        granted,
+        receipts,
+    };
+    let clients = start_all(rt, alloc, &mut master, words, &ends)?;
+    let _receipts = ends.receipts();
+    let disk = end(rt, master, out)?;
+    hear(rt, &heard, out)?;
+    join_all(rt, clients);
+    Ok(disk)
 }
 
 // What clients share: where their answers go, and where their receipts go and others' come from.

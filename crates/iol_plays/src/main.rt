@@ -6,7 +6,8 @@
 //! - `iol_plays clients IMAGE LINKS PAGES CLIENT..` runs a master on an image, and prints what each call of each client is answered.
 //!   It has so many links, which give no page before so many were asked for. A client is a word of calls, two letters each: what
 //!   is asked (`c` for Clear, `f` and `s` for Configure, `r` for a read, `m` to meet another's receipt) and of which port; `s` is
-//!   for device 43981. In the place of a client, `-` waits for a line of standard input.
+//!   for device 43981. In the place of a client, `-` waits for a line of standard input. Behind the last one, `end` ends the
+//!   master while they ask.
 //! - `iol_plays clients SCRIPT.toml 2 PAGES CLIENT..` runs it on a new disk in memory with the devices of a script, and prints what a
 //!   recovery then finds behind a power stop.
 //! - `iol_plays two_clients` plays an example to read (`two_clients`).
