@@ -11,7 +11,8 @@
 #include <time.h>
 #include <unistd.h>
 
-enum { SECTOR = 512, FIRST_AREA = 2, PORT_SECTORS = 9, SLOT_SECTORS = 17 };
+// An area has the size of version 1, and in version 2 larger records of ports and fewer slots.
+enum { SECTOR = 512, FIRST_AREA = 2, OLDER_PORT_SECTORS = 9, PORT_SECTORS = 17, SLOT_SECTORS = 17 };
 
 static int file;
 static long ports, slots, syncs;
@@ -42,7 +43,9 @@ static void sync_file(void) {
     syncs++;
 }
 
-static long area_sectors(void) { return 2 + PORT_SECTORS * ports + SLOT_SECTORS * slots; }
+static long area_sectors(void) { return 2 + OLDER_PORT_SECTORS * ports + SLOT_SECTORS * slots; }
+
+static long kept_slots(void) { return slots - ((PORT_SECTORS - OLDER_PORT_SECTORS) * ports + SLOT_SECTORS - 1) / SLOT_SECTORS; }
 
 static long slot_gate(long area, long slot) { return area + 2 + PORT_SECTORS * ports + SLOT_SECTORS * slot; }
 
@@ -56,7 +59,7 @@ static void batch(long area, long slot) {
 static void checkpoint(long area) {
     write_sector(area);
     sync_file();
-    for (long slot = 0; slot < slots; slot++) write_sector(slot_gate(area, slot));
+    for (long slot = 0; slot < kept_slots(); slot++) write_sector(slot_gate(area, slot));
     sync_file();
     write_sector(area + 1);
     for (long port = 0; port < ports; port++) write_sector(area + 2 + PORT_SECTORS * port);
@@ -74,9 +77,9 @@ int main(int count, char **words) {
     if (file < 0) fail("open");
     double begun = seconds_now();
     for (long receipt = 0; receipt < receipts; receipt++) {
-        long area = FIRST_AREA + receipt / slots % 2 * area_sectors();
-        if (receipt > 0 && receipt % slots == 0) checkpoint(area);
-        batch(area, receipt % slots);
+        long area = FIRST_AREA + receipt / kept_slots() % 2 * area_sectors();
+        if (receipt > 0 && receipt % kept_slots() == 0) checkpoint(area);
+        batch(area, receipt % kept_slots());
     }
     printf("%.9f %.9f %ld\n", seconds_now() - begun, sync_seconds, syncs);
     return 0;

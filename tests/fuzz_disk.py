@@ -2,6 +2,8 @@
 
 import re
 
+from fuzz_words import given_up
+
 WRITE = re.compile(r"write sector \d+, ((?:gate|header|body|record) of (?:(slot|port) (\d+) in )?area ([AB])(?:, (open|closed))?)")
 
 
@@ -15,7 +17,7 @@ class ToldDisk:
         # Whether the gate of the batch that is not acknowledged is None, "written" or "synced".
         self.gate = None
         self.behind = ["header of area {}", *(f"record of port {port} in area {{}}" for port in range(1, script["ports"] + 1))]
-        self.behind += [f"gate of slot {slot} in area {{}}, closed" for slot in range(1, script["slots"] + 1)]
+        self.behind += [f"gate of slot {slot} in area {{}}, closed" for slot in range(1, script["slots"] - given_up(script["ports"]) + 1)]
 
     def hear(self, call):
         """Hears a write or a sync. A sync counts once the next line is there, as that may tell that it has failed."""

@@ -2,11 +2,14 @@
 
 import re
 
+from fuzz_words import given_up
+
 # What may stand at a key of a device or a step: the least and the greatest number, or the type of what is no number.
 FOREVER = 2**63 - 1
 DEVICE_KEYS = {"vendor": (0, 65535), "device": (0, 2**24 - 1), "revision": (0, 255), "answers": (0, FOREVER), "event": (0, FOREVER)}
 DEVICE_TYPES = {"isdu": bool, "flag": bool, "locked": bool, "keys": list, "values": list}
 CONFIG_KEYS = {"port": (1, 32), "mode": (0, 4), "validation": (0, 4), "vendor": (0, 65535), "device": (0, 2**24 - 1)}
+LABEL = r"[ !#-~]{0,32}"
 STEP_KEYS = {
     "configure": CONFIG_KEYS,
     "clear": {"port": (1, 32)},
@@ -48,7 +51,8 @@ def is_step(step, ports, is_last):
     if not is_kind or (kind == "stop" and not (is_last and step.get("keep") in ("old", "new", "zero", "pattern"))):
         return False
     numbers = {**STEP_KEYS[kind], **({"port": (1, ports)} if kind == "port" else {})}
-    return is_table(step, numbers, ("times",), {"do": str, **({"keep": str} if kind == "stop" else {})})
+    texts = {"do": str, **{"stop": {"keep": str}, "configure": {"label": str}}.get(kind, {})}
+    return is_table(step, numbers, ("times",), texts) and bool(re.fullmatch(LABEL, step.get("label", "")))
 
 
 def is_script(script, text):
@@ -69,7 +73,8 @@ def expected_error(script, text):
     """The error and the status of a script that is not run; nothing of one that is."""
     if not is_script(script, text):
         return "error: the script is not valid\n", 2
-    if not (1 <= script["ports"] <= 32 and 1 <= script["slots"] <= 256):
+    ports, slots = script["ports"], script["slots"]
+    if not (1 <= ports <= 32 and 1 <= slots <= 256 and given_up(ports) < slots):
         return "error: the geometry is not valid\n", 2
     # The recovery before the run makes one sync. It reads sectors 0 and 1, the gates and the headers of both areas, a record for
     # each port, and the gate of the first slot.

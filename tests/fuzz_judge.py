@@ -192,7 +192,7 @@ class Judge:
         claim("sets", found.octets() <= words.MOST_OCTETS, f"port {port} stores a set that counts {found.octets()}")
         claim("sets", state.revision == talk.live.revision, f"port {port} stores a set, and was configured since its upload began")
         wanted = words.Config(words.MANUAL, words.BACKUP, found.vendor, found.device)
-        claim("sets", state.config == wanted, f"port {port} stores a set that its configuration does not allow")
+        claim("sets", state.config[:4] == wanted[:4], f"port {port} stores a set that its configuration does not allow")
         return words.Command(port, parameters=found)
 
     def hear_page(self, port, octets, before, behind):
@@ -257,7 +257,7 @@ class Judge:
         answers, left = answers_to(talk, [words.request(words.STATE), words.request(words.CHECKSUM)])
         is_examined = talk.status == "starting" and talk.page and are(answers, "read", "read") and not left
         claim("connections", is_examined, f"port {port} is {status} with a device that was not examined")
-        fits = words.page_numbers(talk.page) == config[2:] and not words.mismatch(config, talk.page) and words.may_keep(config)
+        fits = words.page_numbers(talk.page) == config[2:4] and not words.mismatch(config, talk.page) and words.may_keep(config)
         claim("connections", fits, f"port {port} is {status} with a device that it is not configured for")
         if status == "uploading":
             claim("connections", config.validation == words.BACKUP, f"port {port} is uploading, and is not to back up")

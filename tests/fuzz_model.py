@@ -55,7 +55,9 @@ class Disk:
     """The calls of a disk, each a line, and the one that fails."""
 
     def __init__(self, script, lines):
-        self.ports, self.slots, self.lines = script["ports"], script["slots"], lines
+        self.ports, self.lines = script["ports"], lines
+        self.slots = script["slots"] - words.given_up(self.ports)
+        self.area_sectors = 2 + 9 * self.ports + 17 * script["slots"]
         self.kind, _, number = script.get("fail", "none 0").partition(" ")
         # The recovery before the run makes the first sync, and all reads.
         self.left = int(number) - (self.kind == "sync")
@@ -71,25 +73,25 @@ class Disk:
 
     def write(self, area, offset, place):
         """Writes a sector of an area."""
-        sector = 2 + offset + (2 + 9 * self.ports + 17 * self.slots) * (area == "B")
+        sector = 2 + offset + self.area_sectors * (area == "B")
         self.call("write", f"disk write sector {sector}, {place}")
 
     def write_gate(self, area, how):
         self.write(area, 0, f"gate of area {area}, {how}")
 
     def write_slot_gate(self, area, slot, how):
-        self.write(area, 2 + 9 * self.ports + 17 * (slot - 1), f"gate of slot {slot} in area {area}, {how}")
+        self.write(area, 2 + 17 * (self.ports + slot - 1), f"gate of slot {slot} in area {area}, {how}")
 
     def write_body(self, area, slot, place):
         """Writes one sector of a body, which goes on in the slots behind and leaves out their gates."""
         slot, place = slot + place // SLOT_SECTORS, place % SLOT_SECTORS
-        self.write(area, 3 + 9 * self.ports + 17 * (slot - 1) + place, f"body of slot {slot} in area {area}")
+        self.write(area, 3 + 17 * (self.ports + slot - 1) + place, f"body of slot {slot} in area {area}")
 
     def write_header(self, area):
         self.write(area, 1, f"header of area {area}")
 
     def write_record(self, area, port, place):
-        self.write(area, 2 + 9 * (port - 1) + place, f"record of port {port} in area {area}")
+        self.write(area, 2 + 17 * (port - 1) + place, f"record of port {port} in area {area}")
 
 
 def places(octets, size):

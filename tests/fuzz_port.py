@@ -228,7 +228,7 @@ class Machine:
             self.settle("failed Stopped")
         elif (state.config.mode, state.config.validation) != (words.MANUAL, words.BACKUP):
             self.settle("failed NotAllowed")
-        elif state.config[2:] != words.page_numbers(self.told_page):
+        elif state.config[2:4] != words.page_numbers(self.told_page):
             self.settle("failed WrongDevice")
         else:
             self.status, self.has_permit, self.permitted = "uploading", True, state.revision
@@ -282,7 +282,7 @@ class Machine:
             self.settle("failed NotAllowed")
         elif not held or not state.parameters:
             self.settle("failed Empty")
-        elif not state.config[2:] == held[:2] == words.page_numbers(self.told_page):
+        elif not state.config[2:4] == held[:2] == words.page_numbers(self.told_page):
             self.settle("failed WrongDevice")
         elif held.checksum == self.checksum:
             self.settle("failed Same")

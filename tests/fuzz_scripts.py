@@ -3,7 +3,10 @@
 A script is a table as TOML has it: `ports`, `slots`, `fail`, and the arrays `device` and `step` (docs/FORMATS.md, "Scripts").
 """
 
+import json
 import random
+
+from fuzz_words import given_up
 
 KEEPS = ("old", "new", "zero", "pattern")
 VENDORS, DEVICES = (500, 501, 1, 65535), (43981, 43982, 0, 16777215)
@@ -19,7 +22,7 @@ def toml_value(value):
         return str(value).lower()
     if isinstance(value, list):
         return "[" + ", ".join(map(toml_value, value)) + "]"
-    return str(value) if isinstance(value, int) else f'"{value}"'
+    return str(value) if isinstance(value, int) else json.dumps(value)
 
 
 def toml_text(script):
@@ -89,7 +92,8 @@ class Maker:
     # What a script is about.
 
     def set_geometry(self, ports, slots):
-        self.script.update(ports=ports, slots=slots)
+        """Sets a geometry whose areas keep so many slots, or as many as there may be."""
+        self.script.update(ports=ports, slots=min(256, slots + given_up(ports)))
         self.ports = list(range(1, ports + 1))
 
     def make_plant(self):
@@ -328,6 +332,8 @@ class Maker:
             if self.is_so(25):
                 vendor, device = self.random.choice(VENDORS), self.random.choice(DEVICES)
         named = {"port": port, "mode": mode, "validation": validation, "vendor": vendor, "device": device}
+        if self.is_so(20):
+            named["label"] = "".join(self.random.choice(" ABz09~&<>\\'#") for _ in range(self.draw(1, 0, 4, self.number(1, 31), 1, 32)))
         self.steps.append({"do": "configure", **named})
 
     def clear(self, port):
@@ -358,6 +364,8 @@ class Maker:
             table.pop(self.random.choice(list(table)), None)
         elif kind == 5:
             self.script["fail"] = self.draw(1, "write 0", 1, "sync 01", 1, "read  1", 1, "write 1000001", 1, "sync", 1, "sync 1000000")
+        elif kind == 6 and self.is_so(50):
+            table["label"] = self.draw(1, "A" * 33, 1, '"', 1, "\t", 1, "\u007f", 1, "é", 1, "A" * 32, 1, 7)
         elif kind == 6:
             self.steps.insert(0, {"do": "stop", "keep": "old"})
         elif kind == 7 and self.devices:

@@ -90,7 +90,7 @@ def shows_a_set_that_was_not_uploaded_whole(lines, read):
             if line.endswith("storing"):
                 break
             if behind.endswith("lost") and values and not state.parameters:
-                found = words.ParameterSet(*state.config[2:], 0, tuple(values))
+                found = words.ParameterSet(*state.config[2:4], 0, tuple(values))
                 shown = state._replace(parameters=found, recorded=state.config)
                 others = read.states[number]
                 return behind_stop(lines, words.recovered_lines(number, (*others[: port - 1], shown, *others[port:])))

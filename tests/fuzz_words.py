@@ -24,6 +24,7 @@ class Config(typing.NamedTuple):
     validation: int
     vendor: int
     device: int
+    label: str = ""
 
 
 class ParameterSet(typing.NamedTuple):
@@ -59,14 +60,14 @@ class Command:
     def record_octets(self):
         """How many octets its record has."""
         if self.config:
-            return 10
+            return 11 + len(self.config.label)
         return 22 + self.parameters.octets() if self.parameters else 2
 
 
 def client_command(step):
     """The command that a client's step asks for; none where the step is no client's."""
     if step["do"] == "configure":
-        return Command(step["port"], Config(step["mode"], step["validation"], step["vendor"], step["device"]))
+        return Command(step["port"], Config(step["mode"], step["validation"], step["vendor"], step["device"], step.get("label", "")))
     return Command(step["port"]) if step["do"] == "clear" else None
 
 
@@ -76,7 +77,7 @@ def may_keep(config):
 
 def keeps_set(old, new):
     """Whether a set stays where this configuration comes behind that one."""
-    return may_keep(old) and may_keep(new) and old[2:] == new[2:]
+    return may_keep(old) and may_keep(new) and old[2:4] == new[2:4]
 
 
 def port_after(port, command):
@@ -97,17 +98,24 @@ def state_after(state, command):
 
 def port_record_octets(port):
     """How many octets the record of a port has."""
-    return 37 + port.parameters.octets() if port.parameters else 17
+    labels = len(port.config.label) + (len(port.recorded.label) if port.recorded else 0)
+    return labels + (40 + port.parameters.octets() if port.parameters else 19)
+
+
+def given_up(ports):
+    """The slots that an area gives up for the records of so many ports (Disk layout)."""
+    return (8 * ports + 16) // 17
 
 
 def port_lines(number, port):
     """The lines of a port in a recovered state."""
     config, held = port.config, port.parameters
     line = f"port {number} revision {port.revision} mode {config.mode} validation {config.validation}"
-    line += f" vendor {config.vendor:04X} device {config.device:06X} set"
+    label = f' label "{config.label}"' if config.label else ""
+    line += f" vendor {config.vendor:04X} device {config.device:06X}{label} set"
     if not held:
         return [f"{line} none"]
-    under = "{} {} {:04X} {:06X}".format(*port.recorded)
+    under = "{} {} {:04X} {:06X}".format(*port.recorded[:4])
     line += f" {len(held.entries)} entries {held.octets()} octets checksum {held.checksum:08X} under {under}"
     entries = [f"entry {index:04X}.{subindex:02X} {octets.hex().upper()}".rstrip() for (index, subindex), octets in held.entries]
     return [line, *entries]

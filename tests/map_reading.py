@@ -5,9 +5,11 @@ from __future__ import annotations
 import dataclasses
 import struct
 
-from map_images import BODY_SECTORS, MARK, OPEN, PORT_SECTORS, SECTOR, area_sectors
+from map_images import BODY_SECTORS, FIRST, MARK, OPEN, PORT_SECTORS, SECTOR, SPARE, WRITTEN, area_sectors, kept_slots
 
 LAST_NUMBER = 2**62
+EPOCHS_AHEAD = {FIRST: 1, WRITTEN: 2}
+VERSIONS = {FIRST: "version 1", WRITTEN: "version 2"}
 
 
 @dataclasses.dataclass
@@ -81,14 +83,14 @@ class Reading:
 
     def areas(self):
         firsts = {"A": 2, "B": 2 + area_sectors(self.ports, self.slots)}
-        headers = {area: struct.unpack(">QQ", self.at(first + 1)[:16]) for area, first in firsts.items()}
+        headers = {area: struct.unpack(">QQB", self.at(first + 1)[:17]) for area, first in firsts.items()}
         opened = [area for area in "AB" if self.is_open(firsts[area])]
         best = max(opened, key=lambda area: headers[area][0], default=None)
         if len(opened) == 2 and headers["A"][0] == headers["B"][0]:
             best = None
         if best:
-            epoch, base = headers[best]
-            if not (1 <= epoch <= base + 1 and base <= LAST_NUMBER):
+            epoch, base, version = headers[best]
+            if version not in VERSIONS or not (1 <= epoch <= base + EPOCHS_AHEAD[version] and base <= LAST_NUMBER):
                 best = None
         for area in "AB":
             self.area(area, firsts[area], headers[area], area in opened, best)
@@ -99,25 +101,32 @@ class Reading:
             why = "not in use: older" if best else "not in use: no area is"
             why = "in use: open, greatest epoch" if area == best else why
         gate = "open" if is_open else "closed"
-        text = f"gate {gate}, epoch {header[0]}, base {header[1]}, {why}"
+        text = f"gate {gate}, epoch {header[0]}, base {header[1]}, {VERSIONS.get(header[2], 'no version')}, {why}"
         self.add(f"area {area}, ", 0, first, 2, is_open, 1, 0, text)
+        # An area whose header names no version is mapped in the one that is written, as is one of a disk that has room for it.
+        version = FIRST if header[2] == FIRST or not kept_slots(self.ports, self.slots, WRITTEN) else WRITTEN
         for place in range(self.ports):
-            self.port(place + 1, first + 2 + PORT_SECTORS * place)
-        slots = first + 2 + PORT_SECTORS * self.ports
+            self.port(place + 1, first + 2 + PORT_SECTORS[version] * place, version)
+        slots = first + 2 + PORT_SECTORS[version] * self.ports
+        kept = kept_slots(self.ports, self.slots, version)
         reach = "next" if area == best else "idle"
         place = 0
-        while place < self.slots:
+        while place < kept:
             gate = slots + (1 + BODY_SECTORS) * place
-            taken, reach = self.slot(place + 1, gate, header[0], reach, self.slots - place)
+            taken, reach = self.slot(place + 1, gate, header[0], reach, kept - place)
             place += taken
+        behind = slots + (1 + BODY_SECTORS) * kept
+        spare = first + area_sectors(self.ports, self.slots) - behind
+        if spare:
+            self.add("  ", 0, behind, spare, None, 0, spare, "not used")
 
-    def port(self, number, first):
-        read, said = 0, None
-        while said is None and read < PORT_SECTORS:
+    def port(self, number, first, version):
+        read, said, most = 0, None, PORT_SECTORS[version]
+        while said is None and read < most:
             read += 1
-            said = read_port(self.at(first, read))
-        text = f"{read} of {PORT_SECTORS} sectors, {said}" if said else "no record of a port"
-        self.add("port", number, first, PORT_SECTORS, None, read, PORT_SECTORS - read, text)
+            said = read_port(self.at(first, read), version)
+        text = f"{read} of {most} sectors, {said}" if said else "no record of a port"
+        self.add("port", number, first, most, None, read, most - read, text)
 
     def slot(self, number, gate, epoch, reach, left):
         """Adds the line of a slot, or of those of a batch, and tells how many these are, and how far a recovery comes."""
@@ -151,8 +160,8 @@ class Short(Exception):
 
 
 class Fields:
-    def __init__(self, octets):
-        self.octets = octets
+    def __init__(self, octets, version):
+        self.octets, self.version = octets, version
 
     def take(self, count):
         if len(self.octets) < count:
@@ -167,7 +176,19 @@ class Fields:
         return number
 
     def config(self):
-        return self.number(1, 4), self.number(1, 4), self.number(2), self.number(4, 0xFFFFFF)
+        return self.number(1, 4), self.number(1, 4), self.number(2), self.number(4, 0xFFFFFF), self.label()
+
+    def label(self):
+        if self.version == FIRST:
+            return ""
+        octets = self.take(self.number(1, 32))
+        if not all(0x20 <= octet <= 0x7E and octet != 0x22 for octet in octets):
+            raise ValueError
+        return octets.decode()
+
+    def spare(self):
+        for octet in SPARE[self.version]:
+            self.number(1, octet)
 
     def set(self):
         vendor, device, checksum, count = self.number(2), self.number(4, 0xFFFFFF), self.number(4), self.number(2)
@@ -189,24 +210,27 @@ class Fields:
 
 
 def keeps(old, new):
-    return all(its[0] == 1 and its[1] in (3, 4) for its in (old, new)) and old[2:] == new[2:]
+    return all(its[0] == 1 and its[1] in (3, 4) for its in (old, new)) and old[2:4] == new[2:4]
 
 
-def read_port(octets):
+def read_port(octets, version):
     """What a record says, '' where it is none, and None where it is not whole."""
-    fields = Fields(octets)
+    fields = Fields(octets, version)
     try:
         its = fields.config()
         revision, flag = fields.number(8), fields.number(1, 1)
         said = "no set"
         if flag:
             recorded, its_set = fields.config(), fields.set()
-            if recorded[:2] != (1, 3) or recorded[2:] != its_set[:2] or not keeps(recorded, its):
+        fields.spare()
+        if flag:
+            if recorded[:2] != (1, 3) or recorded[2:4] != its_set[:2] or not keeps(recorded, its):
                 return ""
             said = f"set of {its_set[3]} entries, {its_set[4]} octets, checksum {its_set[2]:08X}"
     except Short:
         return None
     except ValueError:
         return ""
-    mode, validation, vendor, device = its
-    return f"revision {revision}, mode {mode}, validation {validation}, vendor {vendor:04X}, device {device:06X}, {said}"
+    mode, validation, vendor, device, label = its
+    called = f'label "{label}", ' if label else ""
+    return f"revision {revision}, mode {mode}, validation {validation}, vendor {vendor:04X}, device {device:06X}, {called}{said}"

@@ -29,7 +29,7 @@ BOUNDS = {
     "mode": (3, 4, 5), "validation": (3, 4, 5), "vendor": (500,),
     "device": (43981, 0x00FFFFFF, 0x01000000), "device of a set": (43981, 0x00FFFFFF, 0x01000000),
     "count": (2, 64, 65), "octets": (10, 8170, 8171, 16362, 16363, 2**32 - 22), "tag": (2, 3, 4), "port": (2, 32, 33),
-    "count of entries": (2, 1024, 1025), "Index": (2, 3, 4, 64), "length": (231, 232, 233),
+    "version": (0, 1, 2, 3), "spare": (1,), "length of a label": (1, 32, 33), "count of entries": (2, 1024, 1025), "Index": (2, 3, 4, 64), "length": (231, 232, 233),
 }  # fmt: skip
 # The kinds of sectors, and how often one is taken beside the others.
 KINDS = {"geometry": 1, "gate of the disk": 1, "gate of an area": 3, "header": 4, "record": 4, "gate of a slot": 4, "body": 6}
@@ -92,7 +92,7 @@ def program_images(iolmaster, room):
     replaced = ["sensor_replaced", "locked_device", "live"]
     for names in (["first"], ["live"], ["first", "live"], 4 * ["first"], ["wrong_device"], replaced):
         yield f"of {' and '.join(names)}", program_image(iolmaster, room, names)
-    for ports, slots in ((2, 1), (2, 2), (3, 9)):
+    for ports, slots in ((2, 2), (2, 3), (3, 9)):
         yield f"of {ports} ports and {slots} slots", program_image(iolmaster, room, 2 * ["live"], ports, slots)
     yield "of five commands", program_image(iolmaster, room, ["checkpoints"], 1, 16)
 
@@ -117,7 +117,7 @@ def with_many_entries():
 
 def with_configurations():
     """Sets that stay and sets that are deleted, and as many commands as a batch may have."""
-    image = made.Image(2, 4)
+    image = made.Image(2, 5)
     image.batch("A", 0, 1, 1, [made.configure(1, made.IN_USE), made.store(1, 1, made.SMALL_SET)])
     image.batch("A", 1, 1, 3, [made.configure(1, made.config(1, 4, 500, 43981)), made.configure(2, made.IN_USE)] * 32)
     image.batch("A", 2, 1, 67, [made.configure(1, made.config(1, 2, 500, 43981)), made.store(2, 32, made.SMALL_SET)])
@@ -187,7 +187,7 @@ class Mutant(made.Image):
             "gate of the disk": lambda: 1,
             "gate of an area": lambda: its.first(area),
             "header": lambda: its.first(area) + 1,
-            "record": lambda: its.first(area) + 2 + 9 * self.chance.randrange(its.ports) + self.chance.choice((0, 0, 1)),
+            "record": lambda: its.port(area, self.chance.randrange(its.ports)) + self.chance.choice((0, 0, 1)),
             "gate of a slot": lambda: its.slot(area, min(its.slots - 1, self.a_slot())),
             "body": lambda: its.slot(area, min(its.slots - 1, self.a_slot())) + 1 + self.chance.choice((0, 0, 0, 1, 2)),
         }[kind]()
@@ -241,7 +241,8 @@ class Mutant(made.Image):
         near = [int.from_bytes(self.sectors(self.first(area) + 1)[at : at + 8], "big") for area in "AB" for at in (0, 8)]
         near = [0, 1, 2, *near, *(number + 1 for number in near)]
         area, epoch, base = self.chance.choice("AB"), self.chance.choice(near), self.chance.choice(near)
-        octets = b"".join((number % 2**64).to_bytes(8, "big") for number in (epoch, base))
+        version = self.chance.choice((made.FIRST, made.WRITTEN, made.WRITTEN, made.WRITTEN, 1, self.chance.randrange(256)))
+        octets = b"".join((number % 2**64).to_bytes(8, "big") for number in (epoch, base)) + bytes([version])
         self.put(self.first(area) + 1, octets)
         if self.chance.random() < 0.6:
             self.put(self.first(area), made.OPEN)
@@ -261,6 +262,11 @@ class Mutant(made.Image):
         vendor, device = self.chance.choice(((500, 43981), (500, 43982), (self.chance.randrange(2**16), self.chance.randrange(2**24))))
         return made.config(mode, validation, vendor, device)
 
+    def a_label(self):
+        """Mostly one that is a label: of 0 to 33 octets, now and then with one that may not stand in it."""
+        octets = bytes(self.chance.choice(b" ABz~&<\\!#") for _ in range(self.chance.choice((0, 0, 0, 1, 6, 31, 32, 33))))
+        return octets if self.chance.random() < 0.9 else octets + bytes([self.chance.choice((0x1F, 0x22, 0x7F, 0xFF))])
+
     def a_set(self, vendor, device):
         """A set of a few entries, or one of the largest or of an octet more; a key may be reserved or stand twice."""
         lengths = [self.chance.choice((0, 1, 2, 4, 231, 232)) for _ in range(self.chance.choice((0, 1, 2, 2, 3, 5)))]
@@ -278,8 +284,8 @@ class Mutant(made.Image):
         if kind == "clear":
             return bytes([2, place + 1 + self.chance.choice((0, 0, 0, len(reader.ports)))])
         if kind == "store" and (port.configuration[:2] == (1, 3) or self.chance.random() < 0.1):
-            return made.store(place + 1, port.revision, self.a_set(*port.configuration[2:]))
-        return made.configure(place + 1, self.a_configuration())
+            return made.store(place + 1, port.revision, self.a_set(*port.configuration[2:4]))
+        return made.configure(place + 1, self.a_configuration(), reader.version, self.a_label())
 
     def batch_behind(self):
         """A batch behind the last one."""
@@ -314,8 +320,8 @@ class Mutant(made.Image):
         recorded = self.chance.choice((None, made.IN_USE, its[:1] + b"\3" + its[2:]))
         numbers = (recorded or its)[2:]
         parameters = self.a_set(int.from_bytes(numbers[:2], "big"), int.from_bytes(numbers[2:], "big"))
-        octets = made.port(its, self.chance.choice((0, 1, 7, 2**64 - 1)), recorded, parameters)
-        self.put(self.first(area) + 2 + made.PORT_SECTORS * place, octets)
+        octets = made.port(its, self.chance.choice((0, 1, 7, 2**64 - 1)), recorded, parameters, self.version(area), self.a_label())
+        self.put(self.port(area, place), octets)
         return f"the record of port {place + 1} of area {area} becomes {octets[:48].hex().upper()} .. of {len(octets)} octets"
 
     def swapped(self):
@@ -331,7 +337,7 @@ class Mutant(made.Image):
         name, kind = self.any_base(self.found), self.a_kind()
         base = self.found[name]
         image = made.Image.__new__(made.Image)
-        image.ports, image.slots = base.ports, base.slots
+        image.octets, image.ports, image.slots = base.octets, base.ports, base.slots
         sector, source = self.a_sector(kind), self.a_sector(kind, image)
         octets = base.octets[source * SECTOR : (source + 1) * SECTOR]
         same = octets == self.sectors(sector)
@@ -342,7 +348,7 @@ class Mutant(made.Image):
         """The areas swapped, or one of them or a part of it copied over the other."""
         one, two = self.chance.sample("AB", 2)
         whole = made.area_sectors(self.ports, self.slots)
-        count = self.chance.choice((whole, whole, 1, 2, 2 + made.PORT_SECTORS * self.ports, whole - SLOT_SECTORS))
+        count = self.chance.choice((whole, whole, 1, 2, self.port(one, self.ports) - self.first(one), whole - SLOT_SECTORS))
         octets, others = self.sectors(self.first(one), count), self.sectors(self.first(two), count)
         self.put(self.first(two), octets)
         if self.chance.random() < 0.3:

@@ -11,7 +11,10 @@ import sys
 from collections import namedtuple
 
 SECTOR = 512
-PORT_SECTORS = 9
+# By the octet of a header that names a version: the sectors of a port's record, and how far an epoch may be over its base.
+FIRST_VERSION, WRITTEN_VERSION = 0, 2
+PORT_SECTORS = {FIRST_VERSION: 9, WRITTEN_VERSION: 17}
+EPOCHS_AHEAD = {FIRST_VERSION: 1, WRITTEN_VERSION: 2}
 BODY_SECTORS = 16
 SLOT_OCTETS = BODY_SECTORS * SECTOR
 HEAD_OCTETS = 22
@@ -25,7 +28,7 @@ LAST_REVISION = 2**64 - 1
 LAST_NUMBER = 2**62
 
 # (Records)
-Configuration = namedtuple("Configuration", "mode validation vendor device")
+Configuration = namedtuple("Configuration", "mode validation vendor device label")
 ParameterSet = namedtuple("ParameterSet", "vendor device checksum entries")
 Port = namedtuple("Port", "configuration revision recorded parameters", defaults=(None, None))
 # What is printed on standard output and on standard error, and the status (Texts).
@@ -33,11 +36,11 @@ Answer = namedtuple("Answer", "out err status")
 
 
 class Cause(Exception):
-    """Why nothing is recovered, and the sector that is damaged, or None where the disk is not formatted (Recovery)."""
+    """Why nothing is recovered, and what is said of it: the sector that is damaged, where one is (Recovery)."""
 
-    def __init__(self, why, sector=None):
+    def __init__(self, why, sector=None, told="the disk is not formatted"):
         super().__init__(why)
-        self.sector = sector
+        self.told = told if sector is None else f"damaged at sector {sector}"
 
 
 class Wrong(Exception):
@@ -96,8 +99,9 @@ class Reader:
             raise Cause("no open gate of the disk")
         self.geometry()
         first = self.area()
-        self.ports = [self.port(first + 2 + PORT_SECTORS * place) for place in range(self.port_count)]
-        self.slots(first + 2 + PORT_SECTORS * self.port_count)
+        self.port_sectors = PORT_SECTORS[self.version]
+        self.ports = [self.port(first + 2 + self.port_sectors * place) for place in range(self.port_count)]
+        self.slots(first + 2 + self.port_sectors * self.port_count)
         return self.number, self.ports
 
     def geometry(self):
@@ -109,11 +113,14 @@ class Reader:
             self.port_count = fields.number("ports", 1, range(1, 33))
             self.slot_count = fields.number("slots", 2, range(1, 257))
             fields.number("body sectors", 2, [BODY_SECTORS])
-            self.area_sectors = 2 + PORT_SECTORS * self.port_count + (1 + BODY_SECTORS) * self.slot_count
+            self.area_sectors = 2 + PORT_SECTORS[FIRST_VERSION] * self.port_count + (1 + BODY_SECTORS) * self.slot_count
             if self.count < 2 + 2 * self.area_sectors:
                 raise Wrong("the disk is smaller than its geometry asks for")
         except Wrong as wrong:
             raise Cause(f"geometry: {wrong}", 0) from wrong
+        self.given_up = (8 * self.port_count + 16) // 17
+        if self.slot_count <= self.given_up:
+            raise Cause("an area has no slot in the version that is written", told="the disk is too small")
 
     def area(self):
         """The first sector of the area in use, the open one with the greatest epoch (Disk layout; Headers; Recovery)."""
@@ -125,31 +132,35 @@ class Reader:
         if len(opened) == 2 and headers[firsts[0]][0] == headers[firsts[1]][0]:
             raise Cause("both areas are open under one epoch", firsts[1] + 1)
         first = self.in_use(headers)
-        self.epoch, self.number = headers[first]
-        if not self.is_in_bounds(self.epoch, self.number):
+        self.epoch, self.number, self.version = headers[first]
+        if not self.is_in_bounds(self.epoch, self.number, self.version):
             raise Cause("the header is out of its bounds", first + 1)
+        if self.version == WRITTEN_VERSION:
+            self.slot_count -= self.given_up
         return first
 
     def header(self, sector):
-        """The epoch and the base of an area (Headers)."""
+        """The epoch and the base of an area, and the octet that names its version (Headers)."""
         fields = Fields(self, [sector])
-        return fields.number("epoch of an area", 8), fields.number("base", 8)
+        return fields.number("epoch of an area", 8), fields.number("base", 8), fields.number("version", 1)
 
     def in_use(self, headers):
         """(Headers)"""
         return max(headers, key=lambda first: headers[first][0])
 
-    def is_in_bounds(self, epoch, base):
+    def is_in_bounds(self, epoch, base, version):
         """(Headers)"""
-        return 1 <= epoch <= base + 1 and base <= LAST_NUMBER
+        return version in PORT_SECTORS and 1 <= epoch <= base + EPOCHS_AHEAD[version] and base <= LAST_NUMBER
 
     def port(self, first):
         """The port whose record begins at this sector (Records)."""
-        fields = Fields(self, range(first, first + PORT_SECTORS))
+        fields = Fields(self, range(first, first + self.port_sectors))
         try:
             port = Port(self.configuration(fields), fields.number("revision of a port", 8))
             if fields.number("flag", 1, (0, 1)):
                 port = port._replace(recorded=self.configuration(fields), parameters=self.parameters(fields))
+            self.spare(fields)
+            if port.recorded:
                 self.check_set_of(port)
         except Wrong as wrong:
             raise Cause(f"port: {wrong}", first) from wrong
@@ -158,7 +169,22 @@ class Reader:
     def configuration(self, fields):
         """(Records, `config`)"""
         mode, validation = fields.number("mode", 1, range(5)), fields.number("validation", 1, range(5))
-        return Configuration(mode, validation, fields.number("vendor", 2), fields.number("device", 4, range(0x01000000)))
+        vendor, device = fields.number("vendor", 2), fields.number("device", 4, range(0x01000000))
+        return Configuration(mode, validation, vendor, device, self.label(fields))
+
+    def label(self, fields):
+        """(Records, `label`)"""
+        if self.version == FIRST_VERSION:
+            return b""
+        label = fields.take("label", fields.number("length of a label", 1, range(33)))
+        if any(not 0x20 <= octet <= 0x7E or octet == 0x22 for octet in label):
+            raise Wrong("a label has an octet that may not stand in it")
+        return label
+
+    def spare(self, fields):
+        """(Records, `spare`)"""
+        if self.version == WRITTEN_VERSION:
+            fields.number("spare", 1, [0])
 
     def parameters(self, fields):
         """(Records, `set` and `entry`)"""
@@ -180,7 +206,7 @@ class Reader:
 
     def check_set_of(self, port):
         """Whether a port may have its set, at the end of its record (Records, `BadField`)."""
-        if port.parameters[:2] != port.recorded[2:]:
+        if port.parameters[:2] != port.recorded[2:4]:
             raise Wrong("the numbers of the set are not those of its configuration")
         if port.recorded[:2] != (IOL_MANUAL, BACKUP_AND_RESTORE):
             raise Wrong("the set was taken under another configuration")
@@ -190,7 +216,7 @@ class Reader:
     def stays(self, old, new):
         """Whether a set stays where a port is configured (What is done with a device's parameters)."""
         kept = [its.mode == IOL_MANUAL and its.validation in (BACKUP_AND_RESTORE, RESTORE) for its in (old, new)]
-        return all(kept) and old[2:] == new[2:]
+        return all(kept) and old[2:4] == new[2:4]
 
     def slots(self, first):
         """The batches at head places up to the first closed gate, from the gate of slot 1 on (Slots; Recovery)."""
@@ -262,7 +288,7 @@ class Reader:
             raise Wrong("a set is not allowed")
         if port.revision != revision:
             raise Wrong("the revision is stale")
-        if port.configuration[2:] != parameters[:2]:
+        if port.configuration[2:4] != parameters[:2]:
             raise Wrong("the set is of another device")
         return port._replace(recorded=port.configuration, parameters=parameters)
 
@@ -272,8 +298,7 @@ class Reader:
             number, ports = self.read()
         except Cause as cause:
             self.why = str(cause)
-            told = "the disk is not formatted" if cause.sector is None else f"damaged at sector {cause.sector}"
-            return Answer(b"", f"error: {told}\n".encode(), 1)
+            return Answer(b"", f"error: {cause.told}\n".encode(), 1)
         lines = [f"recovered {number}"]
         for place, port in enumerate(ports, 1):
             lines += lines_of(place, port)
@@ -282,11 +307,12 @@ class Reader:
 
 def lines_of(place, port):
     """The lines of a port (Texts)."""
-    mode, validation, vendor, device = port.configuration
-    line = f"port {place} revision {port.revision} mode {mode} validation {validation} vendor {vendor:04X} device {device:06X} set "
+    mode, validation, vendor, device, label = port.configuration
+    line = f"port {place} revision {port.revision} mode {mode} validation {validation} vendor {vendor:04X} device {device:06X} "
+    line += f'label "{label.decode()}" set ' if label else "set "
     if port.parameters is None:
         return [f"{line}none"]
-    mode, validation, vendor, device = port.recorded
+    mode, validation, vendor, device, _ = port.recorded
     entries = port.parameters.entries
     counted = sum(4 + len(octets) for _, octets in entries)
     line += f"{len(entries)} entries {counted} octets checksum {port.parameters.checksum:08X} "

@@ -59,6 +59,11 @@ disk_calls() {
     "${TESTS:?}/disk_calls" "$@"
 }
 
+# Writes a.img, an image that tests/map_images.py makes by these words.
+made_image() {
+    PYTHONPATH="${TESTS:?}" python3 -B -c "from map_images import *; open('a.img', 'wb').write(($1).octets)"
+}
+
 # Plays what no command of iolmaster does: a schedule, a master in memory, the clients of a master (crates/iol_plays).
 plays() {
     timeout 40 "${PLAYS:?}" "$@"

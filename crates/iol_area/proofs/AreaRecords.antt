@@ -7,7 +7,7 @@ use Rattle.iol_types.specs.State.{Port, State, IsPort}
 use Rattle.iol_record.specs.Reading.{port_record_at}
 use Rattle.iol_record.specs.Record.{port_octets}
 use Rattle.iol_record.specs.declared.encode.TheConstants.{LARGEST_PORT_RECORD}
-use Rattle.iol_record.proofs.RecordLaws.{length-port_octets, port_record_at-record}
+use Rattle.iol_record.proofs.RecordLaws.{IsPortIn, length-port_octets, port_record_at-record}
 use Rattle.iol_record.specs.declared.version.Version.{Version}
 use Rattle.iol_disk.specs.Content.{Image}
 use Rattle.iol_disk.specs.Calls.{write}
@@ -20,14 +20,15 @@ use Rattle.iol_layout.specs.declared.area.Area.{Area}
 use Rattle.iol_layout.proofs.Bodies.{octets_at-in_slot}
 use Rattle.iol_area.proofs.Rows.{row-append, row-map, has-append, has-map}
 
--- each port is one
-abbrev pub ArePorts : State → Type 0
-ArePorts [] = Unit {0}
-ArePorts (port ∷ ports) = IsPort port × ArePorts ports
+-- each port is one, and a version spells it
+abbrev pub ArePorts : Version → State → Type 0
+ArePorts version [] = Unit {0}
+ArePorts version (port ∷ ports) = IsPortIn version port × ArePorts version ports
 
-pub ports-append : (first second : State) → ArePorts first → ArePorts second → ArePorts (first ++ second)
-ports-append [] second a b = b
-ports-append (port ∷ first) second a b = (a.0, ports-append first second a.1 b)
+pub ports-append : (version : Version) (first second : State) → ArePorts version first → ArePorts version second
+    → ArePorts version (first ++ second)
+ports-append version [] second a b = b
+ports-append version (port ∷ first) second a b = (a.0, ports-append version first second a.1 b)
 
 -- ---- one record
 
@@ -39,26 +40,26 @@ length-padded octets =
     omega (arith, length-append octets (replicate {A = ℕ} zeros 0), length-replicate {A = ℕ} zeros 0)
 
 -- whatever stands behind them, they are read as the port whose record they are
-read-padded : (version : Version) (port : Port) (rest : List ℕ) → IsPort port
+read-padded : (version : Version) (port : Port) (rest : List ℕ) → IsPortIn version port
     → port_of (port_record_at version (padded (port_octets version port) ++ rest)) ≡ Some port
 unfolding padded
 read-padded version port rest is =
     let octets = port_octets version port in
     let zeros = replicate {A = ℕ} (SECTOR_OCTETS * sectors_reached (length octets) - length octets) 0 in
     ap (λ (all : List ℕ). port_of (port_record_at version all)) (append_assoc octets zeros rest)
-    ∙ ap port_of (port_record_at-record version octets (zeros ++ rest) port (record { spelling = refl; in_range = is }))
+    ∙ ap port_of (port_record_at-record version octets (zeros ++ rest) port (record { spelling = refl; in_range = is.0; spelled = is.1 }))
 
 -- a record reaches nine sectors at most
 reaches : (version : Version) (port : Port) (sectors : ℕ) → IsPort port → LARGEST_PORT_RECORD ≤ SECTOR_OCTETS * sectors
     → sectors_reached (length (port_octets version port)) ≤ sectors
 reaches version port sectors is room = let long = length-port_octets version port is in omega (arith, long.1, room)
 
-port-read : (version : Version) (image : Image) (first sectors : ℕ) (port : Port) → IsPort port
+port-read : (version : Version) (image : Image) (first sectors : ℕ) (port : Port) → IsPortIn version port
     → LARGEST_PORT_RECORD ≤ SECTOR_OCTETS * sectors
     → HasWrites (record_writes first (port_octets version port)) image → port_in version image first sectors ≡ Ok port
 port-read version image first sectors port is room has =
     read_at (octets_at-in_slot image (padded octets) first reached sectors there (length-padded octets)
-    (reaches version port sectors is room))
+    (reaches version port sectors is.0 room))
   where
     octets : List ℕ
     octets = port_octets version port
@@ -85,7 +86,7 @@ record-row version first sectors port is room =
 -- ---- the records of all ports
 
 module _ (layout : Layout) (a : Area) (room : LARGEST_PORT_RECORD ≤ SECTOR_OCTETS * layout.port_sectors) where
-  pub records-row : (p : ℕ) (ports : State) → ArePorts ports
+  pub records-row : (p : ℕ) (ports : State) → ArePorts layout.version ports
       → IsRow (port_at layout a p) (port_at layout a (p + length ports)) (port_writes layout a p ports)
   records-row p [] are = omega arith
   records-row p (port ∷ ports) are =
@@ -93,11 +94,12 @@ module _ (layout : Layout) (a : Area) (room : LARGEST_PORT_RECORD ≤ SECTOR_OCT
       let last : p + 1 + length ports ≡ p + length (port ∷ ports) = omega arith in
       row-append (port_at layout a p) (port_at layout a (p + 1)) (port_at layout a (p + length (port ∷ ports))) _ _
       (subst (λ (high : ℕ). IsRow (port_at layout a p) high (record_writes (port_at layout a p) (port_octets layout.version port))) next
-      (record-row layout.version (port_at layout a p) layout.port_sectors port are.0 room))
+      (record-row layout.version (port_at layout a p) layout.port_sectors port are.0.0 room))
       (subst (λ (n : ℕ). IsRow (port_at layout a (p + 1)) (port_at layout a n) (port_writes layout a (p + 1) ports)) last
       (records-row (p + 1) ports are.1))
 
-  pub records-read : (p : ℕ) (ports : State) (image : Image) → ArePorts ports → HasWrites (port_writes layout a p ports) image
+  pub records-read : (p : ℕ) (ports : State) (image : Image) → ArePorts layout.version ports
+      → HasWrites (port_writes layout a p ports) image
       → ports_from layout a image p (length ports) ≡ Ok ports
   unfolding ports_from
   records-read p [] image are has = refl
@@ -111,11 +113,12 @@ module _ (layout : Layout) (a : Area) (room : LARGEST_PORT_RECORD ≤ SECTOR_OCT
       )
       refl
 
-  pub length-records : (p : ℕ) (ports : State) → ArePorts ports → length (port_writes layout a p ports) ≤ layout.port_sectors * length ports
+  pub length-records : (p : ℕ) (ports : State) → ArePorts layout.version ports
+      → length (port_writes layout a p ports) ≤ layout.port_sectors * length ports
   length-records p [] are = omega arith
   length-records p (port ∷ ports) are =
       let here = length-map-range_with_len (λ j. write (port_at layout a p + j) (sector_of (padded (port_octets layout.version port)) j)) 0
       (sectors_reached (length (port_octets layout.version port))) in
       let both = length-append (record_writes (port_at layout a p) (port_octets layout.version port))
       (port_writes layout a (p + 1) ports) in
-      omega (arith, here, both, reaches layout.version port layout.port_sectors are.0 room, length-records (p + 1) ports are.1)
+      omega (arith, here, both, reaches layout.version port layout.port_sectors are.0.0 room, length-records (p + 1) ports are.1)

@@ -8,9 +8,9 @@ use Rattle.std.proofs.lemmas.List.FromFn.{map-range_with_len_more}
 use Rattle.std.proofs.lemmas.Option.{slice_get_within, get_or_from_slice_get, slice_get-get_or}
 use Rattle.std.specs.Option.{option_copied, IsSome}
 use Rattle.iol_types.specs.State.{Port, State, IsPort, port_numbered, blank}
-use Rattle.iol_record.specs.Record.{port_octets}
+use Rattle.iol_record.specs.Record.{port_octets, SpellsPort, SpellsState}
 use Rattle.iol_record.specs.declared.encode.TheConstants.{LARGEST_PORT_RECORD}
-use Rattle.iol_record.proofs.RecordLaws.{length-port_octets}
+use Rattle.iol_record.proofs.RecordLaws.{IsPortIn, length-port_octets}
 use Rattle.iol_record.specs.declared.version.Version.{Version}
 use Rattle.iol_disk.specs.Calls.{Call, write}
 use Rattle.iol_disk.specs.declared.disk.TheConstants.{SECTOR_OCTETS}
@@ -90,12 +90,22 @@ record-pushed layout a state place first port octets old new all there at spelle
     ∙ so_far
 
 -- and one port more that is one
-pub port-more : (state : State) (place : ℕ) (port : Port) → slice_get state place ≡ Some port → IsPort port → ArePorts (take place state)
-    → ArePorts (take (place + 1) state)
-port-more state place port there is are =
+pub port-more : (version : Version) (state : State) (place : ℕ) (port : Port) → slice_get state place ≡ Some port
+    → IsPortIn version port → ArePorts version (take place state)
+    → ArePorts version (take (place + 1) state)
+port-more version state place port there is are =
     let more = take_more state place port (slice_get_within state place port there)
     ∙ ap (λ (p : Port). take place state ++ p ∷ []) (get_or_from_slice_get state place port port there) in
-    subst ArePorts (sym more) (ports-append (take place state) (port ∷ []) are (is, tt))
+    subst (ArePorts version) (sym more) (ports-append version (take place state) (port ∷ []) are (is, tt))
+
+-- a version that spells a state spells each port of it
+pub spelled-at : (version : Version) (state : State) (place : ℕ) (port : Port) → SpellsState version state
+    → slice_get state place ≡ Some port → SpellsPort version port
+spelled-at version [] place port spells there = absurd cc
+spelled-at version (other ∷ state) zero port spells there =
+    let same : other ≡ port = cc in
+    subst (SpellsPort version) same spells.0
+spelled-at version (other ∷ state) (suc place) port spells there = spelled-at version state place port spells.1 there
 
 -- a padded record reaches nine sectors at most
 pub record-short : (version : Version) (port : Port) (octets : List ℕ) → octets ≡ padded (port_octets version port) → IsPort port
@@ -104,7 +114,7 @@ record-short version port octets spelled is =
     omega (arith, ap (λ (os : List ℕ). length os) spelled, length-padded (port_octets version port), (length-port_octets version port is).1)
 
 pub are-records : (layout : Layout) (a : Area) (state : State) → LARGEST_PORT_RECORD ≤ SECTOR_OCTETS * layout.port_sectors → length state
-    ≡ layout.ports → ArePorts state
+    ≡ layout.ports → ArePorts layout.version state
     → AreRecords layout a state
 are-records layout a state room count are = record {
   row =

@@ -21,7 +21,7 @@ slot_writes layout a = map (slot_write layout a) (range_with_len 0 layout.slots)
 
 -- the write of an area's header (format, Orders of disk calls)
 abbrev pub header_write : Layout → Area → ℕ → ℕ → Call
-header_write layout a epoch base = write (header_at layout a) (header_octets epoch base)
+header_write layout a epoch base = write (header_at layout a) (header_octets layout.version epoch base)
 
 -- the writes of a record to the sectors that it reaches, from the first one on (format, Orders of disk calls)
 abbrev pub record_writes : ℕ → List ℕ → List Call

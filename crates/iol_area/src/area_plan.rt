@@ -1,6 +1,7 @@
 //! What an area holds once it is written: closed slots, a header, and the records of a state.
 
 ghost use Rattle.std.specs.Prelude.{◌≡◌, ◌≤◌, ◌<◌, [], ◌∷◌, length, map, IfOk, OnOk};
+ghost use Rattle.iol_record.specs.Record.{SpellsState};
 ghost use Rattle.iol_area.specs.AreaPlans.{AreRecords, IsAreaPlan, write_of};
 ghost use Rattle.iol_area.specs.AreaWrites.{slot_write, slot_writes, header_write, IsRow};
 ghost use Rattle.iol_layout.specs.Layout.{total};
@@ -33,7 +34,9 @@ impl AreaPlan {
         header: Header,
         state: &MasterState,
     ) -> Result<AreaPlan, AllocError>
-        requires { length state.now ≡ layout.ports }
+        requires count { length state.now ≡ layout.ports }
+        // Version 1 has no labels.
+        requires spelled { SpellsState layout.version state.now }
         ensures plan { IfOk result (IsAreaPlan layout area header state.now) }
         ensures records { OnOk result (AreRecords layout area state.now) }
     {
@@ -67,7 +70,8 @@ impl AreaPlan {
         ensures { Makes (header_write self.now.layout self.now.area self.now.header.epoch self.now.header.base ∷ []) (D.disk disk.old)
             (D.disk disk.new) result }
     {
-        disk.write(self.layout.header(self.area), &self.header.octets())
+        let octets = Header::octets(self.layout.version(), self.header.epoch, self.header.base);
+        disk.write(self.layout.header(self.area), &octets)
     }
 
     /// Closes the gates of all slots, one after the other.

@@ -3,7 +3,7 @@
 ghost use Rattle.std.specs.Prelude.{◌≡◌, ◌≤◌, ◌<◌, ◌+◌, ◌*◌, ◌/◌, ◌++◌, [], ◌∷◌, length, map, IfOk, OnOk};
 ghost use Rattle.std.specs.List.{range_with_len};
 ghost use Rattle.iol_types.specs.State.{IsPort};
-ghost use Rattle.iol_record.specs.Record.{port_octets};
+ghost use Rattle.iol_record.specs.Record.{port_octets, SpellsPort, SpellsState};
 ghost use Rattle.iol_disk.specs.Calls.{write, Makes};
 ghost use Rattle.iol_area.specs.AreaPlans.{AreRecords, write_of};
 ghost use Rattle.iol_area.specs.AreaWrites.{port_writes};
@@ -37,6 +37,7 @@ impl RecordSector {
 
 // The record of a port in whole sectors.
 fn padded_record(alloc: Global, version: Version, port: &PortState) -> Result<Vec<u8>, AllocError>
+    requires { SpellsPort version port.now }
     ensures octets { IfOk result (λ octets. octets.items ≡ padded (port_octets version port.now)) }
     ensures in_range { OnOk result (IsPort port.now) }
 {
@@ -76,7 +77,8 @@ pub(crate) fn record_sectors(
     area: Area,
     state: &MasterState,
 ) -> Result<Vec<RecordSector>, AllocError>
-    requires { length state.now ≡ layout.ports }
+    requires count { length state.now ≡ layout.ports }
+    requires spelled { SpellsState layout.version state.now }
     ensures records { IfOk result (λ records. map write_of records.items ≡ port_writes layout area 0 state.now) }
     ensures sound { OnOk result (AreRecords layout area state.now) }
 {

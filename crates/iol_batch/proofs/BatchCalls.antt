@@ -20,7 +20,8 @@ use Rattle.iol_types.proofs.StateLemmas.{length-after}
 use Rattle.iol_disk.specs.Disk.{Disk}
 use Rattle.iol_batch.specs.Planned.{CanFollow}
 use Rattle.iol_layout.specs.Standings.{IsResting, with_batch}
-use Rattle.iol_layout.specs.Layout.{total}
+use Rattle.iol_layout.specs.Header.{epochs_ahead}
+use Rattle.iol_layout.specs.Layout.{IsLayout, total}
 use Rattle.iol_layout.proofs.Bodies.{length-body}
 
 pub phase_of : (p q : Phase) → Some p ≡ Some q → p ≡ q
@@ -102,8 +103,10 @@ sectors_for-same s t commands =
 
 -- behind a batch a journal can be gone on with
 pub rests_with : (d : Disk) (s : Standing) (commands : List CommandValue) → CanFollow s commands → total s.layout ≤ d.sectors
-    → s.epoch ≤ s.number + 1 → length s.state ≡ s.layout.ports → IsResting d (with_batch s commands)
-rests_with d s commands follows fits begun count = record {
+    → IsLayout s.layout → s.epoch ≤ s.number + epochs_ahead s.layout.version → length s.state ≡ s.layout.ports
+    → IsResting d (with_batch s commands)
+rests_with d s commands follows fits laid_out begun count = record {
+  laid_out = laid_out;
   fits = fits;
   within = follows.room;
   bound = follows.bound;

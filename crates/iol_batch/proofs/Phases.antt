@@ -34,6 +34,8 @@ use Rattle.iol_layout.proofs.Chains.{by_test}
 use Rattle.iol_layout.proofs.Bodies.{octets_at-in_slot, length-body, head_of-body_octets, batch_of-body_octets}
 use Rattle.iol_layout.proofs.Frames.{SameButSlots, kept_closed, kept_open, kept_means}
 use Rattle.iol_layout.proofs.ReachedBodies.{head_of-first}
+use Rattle.iol_layout.specs.Header.{epochs_ahead}
+use Rattle.iol_layout.proofs.Headers.{few-ahead}
 use Rattle.iol_layout.proofs.Spans.{slots_of-some, body_at-within, body_at-rises, body_at-no_gate}
 use Rattle.iol_disk.proofs.Synced.{left_behind}
 
@@ -46,6 +48,7 @@ between_means_either size s idle commands image between = by_test (is_open (imag
 
 -- a batch for the first free slots
 pub record IsFit (s : Standing) (commands : List CommandValue) (body : List ℕ) (sectors : ℕ) : Type 0 where
+  pub written : s.layout.version ≡ newest
   pub room : s.used + slots_for commands ≤ s.layout.slots
   pub whole : length body ≡ SECTOR_OCTETS * sectors
   pub least : 1 ≤ sectors
@@ -136,7 +139,8 @@ module _ (s : Standing) (idle : Idle) (commands : List CommandValue) (body : Lis
         (λ k behind. omega (arith, behind)) same in
         let at = there c was image is written settled same in (
           λ closed. kept_closed size s (slots_for commands) idle was image fit.room some_slot apart kept closed,
-          λ opened. kept_open size s idle was image commands fit.room apart kept opened (span_read image at) (body_read image at)
+          λ opened. kept_open size s idle was image commands fit.written fit.room apart kept opened (span_read image at)
+              (body_read image at)
               fit.passes,
         )
 
@@ -234,17 +238,23 @@ module _ (s : Standing) (idle : Idle) (commands : List CommandValue) (body : Lis
         inr (kept_means size (with_batch s commands) idle image (at_end size SyncGate c refl holds image (left_behind _ image place is)))
 
 -- a batch that can follow fits
-pub fit_for : (s : Standing) (commands : List CommandValue) → CanFollow s commands → s.epoch ≤ s.number + 1
+pub fit_for : (s : Standing) (commands : List CommandValue) → CanFollow s commands → s.epoch ≤ s.number + epochs_ahead s.layout.version
     → IsFit s commands (body_for s commands) (sectors_for s commands)
 fit_for s commands follows begun =
     let size = length-body s.epoch (s.number + 1) commands in
     let is = follows.batch in record {
+      written = follows.written;
       room = follows.room;
       whole = omega (arith, size);
       least = sectors_for-some s commands;
       short = omega (arith, size);
       tells = head_of-body_octets s.epoch (s.number + 1) commands (omega (arith, is.short));
-      read_back = λ rest. batch_of-body_octets s.epoch (s.number + 1) commands rest (omega (arith, begun, follows.bound)) is.some is.most
+      read_back = λ rest. batch_of-body_octets s.epoch (s.number + 1) commands rest (omega (
+        arith,
+        begun,
+        follows.bound,
+        few-ahead s.layout.version,
+      )) is.some is.most
           (omega (arith, is.short)) (omega (arith, follows.bound)) is.read;
       passes = follows.passes;
     }

@@ -3,17 +3,13 @@ use Rattle.std.proofs.Common.{◌≡◌, ◌≤◌, ◌+◌, nat_lt, true, false
 use Rattle.std.proofs.lemmas.Bool.Decides.{nat_tests}
 use Rattle.iol_types.specs.Command.{CommandValue}
 use Rattle.iol_types.specs.State.{legal}
-use Rattle.iol_batch.specs.Begin.{follows, is_too_large, batch_refusal}
-use Rattle.iol_layout.specs.Body.{slots_for}
+use Rattle.iol_batch.specs.Begin.{follows, fits_no_area, wants_checkpoint, batch_refusal}
 use Rattle.iol_layout.specs.Meaning.{Standing}
 use Rattle.iol_layout.specs.declared.header.TheConstants.{LAST_NUMBER}
 use Rattle.iol_batch.specs.declared.refusal.BeginCause.TheVariants.{Misfit}
 
-module _ (s : Standing) (first : ℕ) (commands : List CommandValue) (fits : is_too_large s.layout.slots commands ≡ false)
-    (room : s.used + slots_for commands ≤ s.layout.slots) where
-  free : nat_lt s.layout.slots (s.used + slots_for commands) ≡ false
-  free = grind (arith, nat_tests)
-
+module _ (s : Standing) (first : ℕ) (commands : List CommandValue) (fits : fits_no_area s commands ≡ false)
+    (free : wants_checkpoint s commands ≡ false) where
   -- it goes on where the journal stands
   pub taken : 1 ≤ length commands → first ≡ s.number + 1 → s.number + length commands ≤ LAST_NUMBER → legal s.state commands ≡ true
       → batch_refusal s first commands ≡ None

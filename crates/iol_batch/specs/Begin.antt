@@ -4,6 +4,8 @@ use Rattle.std.specs.Prelude.{List, length, Option, Some, None}
 use Rattle.iol_types.specs.Command.{CommandValue}
 use Rattle.iol_types.specs.State.{legal}
 use Rattle.iol_layout.specs.Body.{slots_for}
+use Rattle.iol_layout.specs.Layout.{renewed}
+use Rattle.iol_layout.specs.Standings.{free_slots}
 use Rattle.iol_layout.specs.Meaning.{Standing}
 use Rattle.iol_layout.specs.declared.body.TheConstants.{MOST_COMMANDS, BODY_OCTETS, BODY_HEAD_OCTETS}
 use Rattle.iol_layout.specs.declared.header.TheConstants.{LAST_NUMBER}
@@ -22,18 +24,26 @@ is_too_large slots commands = nat_lt MOST_COMMANDS (length commands) || nat_lt s
 
 -- the octets of records that fit the free slots, or where none is free one slot (format, Slots)
 abbrev pub room_in : Standing → ℕ
-room_in s = BODY_OCTETS * max 1 (s.layout.slots - s.used) - BODY_HEAD_OCTETS
+room_in s = BODY_OCTETS * max 1 (free_slots s) - BODY_HEAD_OCTETS
+
+-- commands fit no area of a journal, in the layout that is written (format, Slots)
+abbrev pub fits_no_area : Standing → List CommandValue → Bool
+fits_no_area s commands = is_too_large (renewed s.layout).slots commands
+
+-- too few slots of a journal are free for commands (format, Slots)
+abbrev pub wants_checkpoint : Standing → List CommandValue → Bool
+wants_checkpoint s commands = nat_lt (free_slots s) (slots_for commands)
 
 -- why a batch is refused, but for memory; none where it is taken (own)
 abbrev pub batch_refusal : Standing → ℕ → List CommandValue → Option BeginCause
 batch_refusal s first commands =
-    if is_too_large s.layout.slots commands then Some TooLarge
-    else if nat_lt s.layout.slots (s.used + slots_for commands) then Some NeedsCheckpoint
+    if fits_no_area s commands then Some TooLarge
+    else if wants_checkpoint s commands then Some NeedsCheckpoint
     else if follows s first commands then None
     else Some Misfit
 
 -- why a batch is refused, memory in its place: after the size of the batch and the free slots, before what the
 -- commands say (own)
 abbrev pub IsBatchRefusal : Standing → ℕ → List CommandValue → BeginCause → Type 0
-IsBatchRefusal s first commands Memory = (is_too_large s.layout.slots commands ≡ false) × (s.used + slots_for commands ≤ s.layout.slots)
+IsBatchRefusal s first commands Memory = (fits_no_area s commands ≡ false) × (wants_checkpoint s commands ≡ false)
 IsBatchRefusal s first commands cause = batch_refusal s first commands ≡ Some cause

@@ -3,7 +3,9 @@ use Rattle.std.specs.Prelude.{◌≡◌, ◌≤◌, ◌+◌, true, List, ◌++�
 use Rattle.iol_types.specs.Command.{CommandValue}
 use Rattle.iol_types.specs.State.{after, legal}
 use Rattle.iol_disk.specs.Disk.{Disk}
-use Rattle.iol_layout.specs.Layout.{total}
+use Rattle.iol_record.specs.Record.{newest}
+use Rattle.iol_layout.specs.Header.{epochs_ahead}
+use Rattle.iol_layout.specs.Layout.{IsLayout, total}
 use Rattle.iol_layout.specs.Meaning.{Standing}
 use Rattle.iol_layout.specs.declared.body.EncodedBatch.{EncodedBatch}
 use Rattle.iol_batch.specs.declared.history.History.{History}
@@ -22,8 +24,10 @@ pub record LeadsTo (s : Standing) (history : History) : Type 0 where
 abbrev pub written_behind : History → List CommandValue → History
 written_behind history commands = record history { commands = history.commands ++ commands }
 
--- a batch that can be written behind a journal that stands so: the free slots hold it, and each command passes (own)
+-- a batch that can be written behind a journal that stands so: its layout is the one that is written, the free slots hold it,
+-- and each command passes (own)
 pub record CanFollow (s : Standing) (commands : List CommandValue) : Type 0 where
+  pub written : s.layout.version ≡ newest
   pub room : s.used + slots_for commands ≤ s.layout.slots
   pub batch : IsBatch commands
   pub passes : legal s.state commands ≡ true
@@ -31,10 +35,11 @@ pub record CanFollow (s : Standing) (commands : List CommandValue) : Type 0 wher
 
 -- What holds of a batch on its way, on any disk (own)
 pub record IsPlanned (d : Disk) (s : Standing) (commands : List CommandValue) (phase : Phase) : Type 0 where
+  pub laid_out : IsLayout s.layout
   pub fits : total s.layout ≤ d.sectors
   pub follows : CanFollow s commands
   pub in_phase : IsPhase (sectors_for s commands) phase
-  pub begun : s.epoch ≤ s.number + 1
+  pub begun : s.epoch ≤ s.number + epochs_ahead s.layout.version
   pub count : length s.state ≡ s.layout.ports
 
 -- a batch as it is written behind a journal that stands so (own)

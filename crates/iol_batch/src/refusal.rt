@@ -9,7 +9,7 @@ pub enum BeginCause {
     /// It has more than 64 commands, or takes more slots than an area has.
     #[error("the batch is too large")]
     TooLarge,
-    /// It takes more slots than are free.
+    /// It takes more slots than are free; of an older layout none is.
     #[error("too few slots are free")]
     NeedsCheckpoint,
     /// Out of memory.

@@ -19,8 +19,8 @@ pub fn lines()
 
 /// The lines of whole scripts. A stop is no step.
 pub fn scripts()
-    ensures least { fine_line (record example_script { ports = pos 1; slots = pos 1; devices = []; steps = [] })
-        ≡ codes "fine: 1 port, 1 slot, 0 devices, 0 steps\n" }
+    ensures least { fine_line (record example_script { ports = pos 1; slots = pos 2; devices = []; steps = [] })
+        ≡ codes "fine: 1 port, 2 slots, 0 devices, 0 steps\n" }
     ensures example { fine_line example_script ≡ codes "fine: 2 ports, 4 slots, 1 device, 2 steps\n" }
     ensures full { fine_line full_script ≡ codes "fine: 3 ports, 5 slots, 1 device, 5 steps\n" }
 {}

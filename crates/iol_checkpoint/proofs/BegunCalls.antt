@@ -12,7 +12,7 @@ use Rattle.iol_checkpoint.specs.BegunParts.{log_of, commands_owed, AreEncoded, I
 use Rattle.iol_checkpoint.specs.Checkpoints.{target, first_of, header_of_target, snapshot_writes, next_stage, IsStage}
 use Rattle.iol_checkpoint.specs.Drafts.{stage_behind, IsSnapshot, AreOwed}
 use Rattle.iol_batch.specs.Planned.{CanFollow, IsEncoded}
-use Rattle.iol_layout.specs.Layout.{other, slot_at, body_at}
+use Rattle.iol_layout.specs.Layout.{other, renewed, slot_at, body_at}
 use Rattle.iol_layout.specs.Meaning.{Standing}
 use Rattle.iol_checkpoint.specs.declared.begun.Begun.{Begun}
 use Rattle.iol_checkpoint.specs.declared.begun.OwedBatch.{OwedBatch}
@@ -99,7 +99,7 @@ module _ (d : Disk) (s : Standing) (b : Begun) (is : IsBegun d s b) where
 
   -- until the records are durable the plan has as many sectors
   pub same_records : IsSnapshot b.stage → length b.plan.records.items ≡ length (snapshot_writes t)
-  same_records snapshot = length-plan s.layout (other s.area) (header_of_target t) b.carried.start b.plan (is.plan snapshot)
+  same_records snapshot = length-plan (renewed s.layout) (other s.area) (header_of_target t) b.carried.start b.plan (is.plan snapshot)
 
   -- the first batch, where one is carried
   pub record IsFirst (p : Phase) (o : OwedBatch) : Type 0 where
@@ -114,7 +114,7 @@ module _ (d : Disk) (s : Standing) (b : Begun) (is : IsBegun d s b) where
       let encoded = (subst (AreEncoded t) are is.encoded).0 in
       let follows = (subst (λ (items : List OwedBatch). AreOwed t (commands_owed items)) are is.drafted.owed_are).0 in
       let first = ap (λ (items : List OwedBatch). first_of (commands_owed items)) are in
-      let in_stage = subst (IsStage s.layout.slots (length (snapshot_writes t)) (sectors_for t (first_of owed)) (length owed)) at
+      let in_stage = subst (IsStage (renewed s.layout).slots (length (snapshot_writes t)) (sectors_for t (first_of owed)) (length owed)) at
       is.drafted.in_stage in record {
         encoded = encoded;
         follows = follows;
@@ -126,7 +126,7 @@ module _ (d : Disk) (s : Standing) (b : Begun) (is : IsBegun d s b) where
   -- some batch is owed where one is carried
   pub some_first : (p : Phase) → b.stage ≡ Carry p → HasFirst t b.owed.items
   some_first p at =
-      let in_stage = subst (IsStage s.layout.slots (length (snapshot_writes t)) (sectors_for t (first_of owed)) (length owed)) at
+      let in_stage = subst (IsStage (renewed s.layout).slots (length (snapshot_writes t)) (sectors_for t (first_of owed)) (length owed)) at
       is.drafted.in_stage in
       has_first t b.owed.items in_stage.0 is.encoded
 
@@ -139,7 +139,7 @@ module _ (d : Disk) (s : Standing) (b : Begun) (is : IsBegun d s b) where
       ∙ ap (sectors_for t) (sym (ap (λ (items : List OwedBatch). first_of (commands_owed items)) there.are))
 
   -- a first batch has few sectors
-  pub few_sectors : (sectors : ℕ) → s.layout.slots ≤ 256
+  pub few_sectors : (sectors : ℕ) → (renewed s.layout).slots ≤ 256
       → ((o : OwedBatch) (behind : List OwedBatch) → b.owed.items ≡ o ∷ behind → sectors ≡ o.body.sectors)
       → (b.owed.items ≡ [] → sectors ≡ 0) → sectors < 1000000
   few_sectors sectors few told none = of b.owed.items refl
@@ -155,32 +155,33 @@ module _ (d : Disk) (s : Standing) (b : Begun) (is : IsBegun d s b) where
   -- what `Stage::next` asks, and what it answers
   pub asks_stage : (records sectors count : ℕ) → records ≡ length b.plan.records.items → count ≡ length b.owed.items
       → ((o : OwedBatch) (behind : List OwedBatch) → b.owed.items ≡ o ∷ behind → sectors ≡ o.body.sectors)
-      → IsStage s.layout.slots records sectors count b.stage
+      → IsStage (renewed s.layout).slots records sectors count b.stage
   asks_stage records sectors count are counted told =
-      subst (λ (n : ℕ). IsStage s.layout.slots records sectors n b.stage) (length-owed ∙ sym counted)
-      (is_stage-by s.layout.slots records _ sectors _ (length owed) b.stage (λ snapshot. are ∙ same_records snapshot)
+      subst (λ (n : ℕ). IsStage (renewed s.layout).slots records sectors n b.stage) (length-owed ∙ sym counted)
+      (is_stage-by (renewed s.layout).slots records _ sectors _ (length owed) b.stage (λ snapshot. are ∙ same_records snapshot)
       (first-sectors sectors told) is.drafted.in_stage)
 
   pub answers_stage : (records sectors count : ℕ) → records ≡ length b.plan.records.items → count ≡ length b.owed.items
       → ((o : OwedBatch) (behind : List OwedBatch) → b.owed.items ≡ o ∷ behind → sectors ≡ o.body.sectors)
-      → next_stage s.layout.slots records sectors count b.stage ≡ stage_behind t owed b.stage
+      → next_stage (renewed s.layout).slots records sectors count b.stage ≡ stage_behind t owed b.stage
   answers_stage records sectors count are counted told =
-      ap (λ (n : ℕ). next_stage s.layout.slots records sectors n b.stage) (counted ∙ sym length-owed)
-      ∙ stage-by s.layout.slots records _ sectors _ (length owed) b.stage (λ snapshot. are ∙ same_records snapshot)
+      ap (λ (n : ℕ). next_stage (renewed s.layout).slots records sectors n b.stage) (counted ∙ sym length-owed)
+      ∙ stage-by (renewed s.layout).slots records _ sectors _ (length owed) b.stage (λ snapshot. are ∙ same_records snapshot)
       (first-sectors sectors told)
 
 -- ---- the plan, until the records are durable
 
 module _ {d : Disk} {s : Standing} {b : Begun} (is : IsBegun d s b) {stage : Stage} (at : b.stage ≡ stage) where
   pub plan_of : IsSnapshot stage
-      → IsAreaPlan s.layout (other s.area) (header_of_target (target s (log_of b))) b.carried.start b.plan
+      → IsAreaPlan (renewed s.layout) (other s.area) (header_of_target (target s (log_of b))) b.carried.start b.plan
   plan_of snapshot = is.plan (subst IsSnapshot (sym at) snapshot)
 
   -- its records lie on the disk
   pub row_of : IsSnapshot stage → IsRow 0 d.sectors (map write_of b.plan.records.items)
   row_of snapshot =
       let here = subst IsSnapshot (sym at) snapshot in
-      plan-row d.sectors s.layout (other s.area) (header_of_target (target s (log_of b))) b.carried.start b.plan is.drafted.resting.fits
+      plan-row d.sectors (renewed s.layout) (other s.area) (header_of_target (target s
+      (log_of b))) b.carried.start b.plan is.drafted.resting.fits
       (is.drafted.fresh here).records (is.plan here)
 
 -- the sector that is written next is one of the plan's
@@ -189,6 +190,6 @@ pub record_below : {d : Disk} {s : Standing} {b : Begun} (is : IsBegun d s b) (i
 record_below {d} {s} {b} is i at =
     let t = target s (log_of b) in
     let owed = commands_owed b.owed.items in
-    let in_stage = subst (IsStage s.layout.slots (length (snapshot_writes t)) (sectors_for t (first_of owed)) (length owed)) at
+    let in_stage = subst (IsStage (renewed s.layout).slots (length (snapshot_writes t)) (sectors_for t (first_of owed)) (length owed)) at
     is.drafted.in_stage in
     omega (arith, in_stage, same_records d s b is (subst IsSnapshot (sym at) tt))

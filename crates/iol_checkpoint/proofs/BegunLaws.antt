@@ -15,10 +15,10 @@ use Rattle.iol_layout.specs.Body.{body_octets}
 use Rattle.iol_checkpoint.specs.Pauses.{IsPaused, IsBeside}
 use Rattle.iol_checkpoint.specs.Checkpoints.{target, first_of, behind_first, with_batches, header_of_target}
 use Rattle.iol_checkpoint.specs.Checkpoints.{is_carried, log_behind, owed_behind}
-use Rattle.iol_checkpoint.specs.Drafts.{can_pause, idle_at, owing, with_owed, stage_behind, begun_behind, IsSnapshot, IsDrafted}
+use Rattle.iol_checkpoint.specs.Drafts.{can_pause, may_pause, idle_at, owing, with_owed, stage_behind, begun_behind, IsSnapshot, IsDrafted}
 use Rattle.iol_layout.specs.Standings.{with_batch}
 use Rattle.iol_batch.specs.Planned.{CanFollow, IsEncoded}
-use Rattle.iol_layout.specs.Layout.{other}
+use Rattle.iol_layout.specs.Layout.{Layout, other, renewed}
 use Rattle.iol_layout.specs.Meaning.{Log, Standing}
 use Rattle.iol_layout.specs.declared.area.Area.{Area}
 use Rattle.iol_area.specs.declared.area_plan.AreaPlan.{AreaPlan}
@@ -35,7 +35,7 @@ use Rattle.iol_layout.proofs.Bodies.{body_octets-under}
 use Rattle.iol_layout.proofs.Chains.{by_test}
 use Rattle.iol_checkpoint.proofs.CheckpointSteps.{means_same, no_batch, with_none, ends_as}
 use Rattle.iol_checkpoint.proofs.DraftLaws.{by_stage, some_owed, moved_one, log_unmoved, snapshot_next, drafted_next}
-use Rattle.iol_checkpoint.proofs.DraftLaws.{drafted_on, holds_parts, batches-epoch, snapshot_owing, drafted_owing}
+use Rattle.iol_checkpoint.proofs.DraftLaws.{drafted_on, pauses, pauses_at, holds_parts, batches-epoch, snapshot_owing, drafted_owing}
 
 -- ---- behind a disk call
 
@@ -55,7 +55,7 @@ encoded-behind t (first ∷ behind) some encoded = encoded.1
 
 -- the plan of an area whose log is this one
 abbrev PlanOf : Standing → Log → AreaPlan → Type 0
-PlanOf s log plan = IsAreaPlan s.layout (other s.area) (header_of_target (target s log)) log.state plan
+PlanOf s log plan = IsAreaPlan (renewed s.layout) (other s.area) (header_of_target (target s log)) log.state plan
 
 pub begun_next : (d d' : Disk) (s : Standing) (b new : Begun) (q : Stage) → d'.sectors ≡ d.sectors → IsBegun d s b
     → stage_behind (target s (log_of b)) (commands_owed b.owed.items) b.stage ≡ Some q → new.plan ≡ b.plan
@@ -72,7 +72,7 @@ begun_next d d' s b new q same is next plan log owed stage =
           (subst (λ (r : Stage). IsDrafted d' s (target s (log_behind (log_of b) (commands_owed b.owed.items) b.stage))
           (owed_behind (commands_owed b.owed.items) b.stage) r) (sym stage) drafted));
       plan = λ snapshot.
-          let was = snapshot_next s.layout.slots _ _ _ b.stage q next (subst IsSnapshot stage snapshot) in
+          let was = snapshot_next (renewed s.layout).slots _ _ _ b.stage q next (subst IsSnapshot stage snapshot) in
           subst (PlanOf s (log_of new)) (sym plan)
           (subst (λ (l : Log). PlanOf s l b.plan) (sym (log
           ∙ log_unmoved (log_of b) (commands_owed b.owed.items) b.stage was)) (is.plan was));
@@ -81,7 +81,7 @@ begun_next d d' s b new q same is next plan log owed stage =
           (subst (AreEncoded (target s (log_behind (log_of b) (commands_owed b.owed.items) b.stage))) (sym owed)
           (by_stage (λ l items. AreEncoded (target s l) items) (log_of b) (commands_owed b.owed.items) b.owed.items b.stage is.encoded
           (λ at. encoded-behind (target s (log_of b)) b.owed.items
-          (some_owed s.layout.slots _ _ _ b.stage at is.drafted.in_stage) is.encoded)));
+          (some_owed (renewed s.layout).slots _ _ _ b.stage at is.drafted.in_stage) is.encoded)));
     }
 
 -- what contracts see of it then
@@ -101,10 +101,12 @@ view-moved b new q log owed stage =
 
 -- behind the last one the journal stands in the other area
 pub stands_there : (d : Disk) (s : Standing) (b : Begun) → IsBegun d s b
-    → stage_behind (target s (log_of b)) (commands_owed b.owed.items) b.stage ≡ None → (a : Area) → a ≡ other s.area
-    → record { layout = s.layout; area = a; epoch = s.epoch + 1; used = b.used; number = s.number; state = s.state } ≡ target s (log_of b)
-stands_there d s b is none a there =
-    ends_as s (log_of b) a there (means_same s (log_of b) (commands_owed b.owed.items) b.stage d d is.drafted none)
+    → stage_behind (target s (log_of b)) (commands_owed b.owed.items) b.stage ≡ None → (l : Layout) (a : Area) → l ≡ renewed s.layout
+    → a ≡ other s.area
+    → record { layout = l; area = a; epoch = s.epoch + 1; used = b.used; number = s.number; state = s.state }
+    ≡ target s (log_of b)
+stands_there d s b is none l a laid_out there =
+    ends_as s (log_of b) l a laid_out there (means_same s (log_of b) (commands_owed b.owed.items) b.stage d d is.drafted none)
 
 -- with no batch owed
 pub ends_there : (d : Disk) (s : Standing) (b : Begun) → IsBegun d s b
@@ -122,7 +124,7 @@ ends-moved d s b is =
     let t = target s (log_of b) in
     let owed = commands_owed b.owed.items in
     by_stage (λ l o. with_batches (target s l) o ≡ with_batches t owed) (log_of b) owed owed b.stage refl (λ at.
-    (moved_one t owed (some_owed s.layout.slots _ _ _ b.stage at is.drafted.in_stage) is.drafted.owed_are).ends)
+    (moved_one t owed (some_owed (renewed s.layout).slots _ _ _ b.stage at is.drafted.in_stage) is.drafted.owed_are).ends)
 
 pub begun-behind : (s : Standing) (b new : Begun) (q : Stage)
     → stage_behind (target s (log_of b)) (commands_owed b.owed.items) b.stage ≡ Some q
@@ -147,7 +149,7 @@ pub beside_of : (d : Disk) (s : Standing) (idle : Idle) (begun : Option Begun) �
     → IsPaused d s (option_map view_of begun) → IsBeside d s (option_map view_of begun)
 beside_of d s idle None is paused = tt
 beside_of d s idle (Some b) is paused = λ h.
-    (holds_parts d.sectors s (target s (log_of b)) (commands_owed b.owed.items) b.stage d.content is.1 (paused h)).1
+    (holds_parts d.sectors s (target s (log_of b)) (commands_owed b.owed.items) b.stage d.content (pauses s b.stage is.1) (paused h)).1
 
 -- ---- one that may have taken memory
 
@@ -171,7 +173,7 @@ pub still_set_aside : (d : Disk) (s : Standing) (idle : Idle) (old new : Option 
     → IsSetAside d s idle new
 still_set_aside d s idle None None same is = tt
 still_set_aside d s idle (Some old) (Some new) same is =
-    (still_begun d s old new same is.0, ap can_pause same.stage ∙ is.1, is.2 ∙ ap idle_at (sym same.stage))
+    (still_begun d s old new same is.0, ap (may_pause s) same.stage ∙ is.1, is.2 ∙ ap idle_at (sym same.stage))
 still_set_aside d s idle None (Some new) same is = absurd same
 still_set_aside d s idle (Some old) None same is = absurd same
 
@@ -195,7 +197,7 @@ encoded-more t (first ∷ behind) o encoded is =
     (encoded.0, encoded-more (with_batch t first.batch.commands) behind o encoded.1 is)
 
 module _ (d d' : Disk) (s : Standing) (commands : List CommandValue) (old new : Begun) (body : EncodedBatch) (epoch : ℕ)
-    (same : d'.sectors ≡ d.sectors) (is : IsBegun d s old) (may : can_pause old.stage ≡ true) (follows : CanFollow s commands)
+    (same : d'.sectors ≡ d.sectors) (is : IsBegun d s old) (may : may_pause s old.stage ≡ true) (follows : CanFollow s commands)
     (encoded : IsEncoded s commands body) (next_epoch : epoch ≡ s.epoch + 1) (owes : IsOwing old body epoch commands new) where
   abbrev t : Standing
   t = target s (log_of old)
@@ -230,7 +232,7 @@ module _ (d d' : Disk) (s : Standing) (commands : List CommandValue) (old new : 
         (sym owes.log)
         (subst (λ (o : List (List CommandValue)). IsDrafted d' (with_batch s commands) t o new.stage) (sym more)
         (subst (IsDrafted d' (with_batch s commands) t (owed ++ commands ∷ [])) (sym owes.stage)
-        (drafted_owing d d' s (log_of old) owed old.stage commands same is.drafted follows may)));
+        (drafted_owing d d' s (log_of old) owed old.stage commands same is.drafted follows (pauses s old.stage may))));
     plan = λ snapshot.
         subst (PlanOf s (log_of new)) (sym owes.plan)
         (subst (λ (l : Log). PlanOf s l old.plan) (sym owes.log) (is.plan (snapshot_owing old.stage
@@ -263,9 +265,9 @@ pub set_aside_owing : (d d' : Disk) (s : Standing) (idle : Idle) (commands : Lis
     → IsSetAside d' (with_batch s commands) idle new
 set_aside_owing d d' s idle commands None None body epoch same is follows encoded next owes = tt
 set_aside_owing d d' s idle commands (Some old) (Some new) body epoch same is follows encoded next owes =
-    let may = may_owing old.stage is.1 in (
+    let may = may_owing old.stage (pauses s old.stage is.1) in (
       begun_owing d d' s commands old new body epoch same is.0 is.1 follows encoded next owes,
-      ap can_pause owes.stage ∙ may.0,
+      ap (may_pause s) owes.stage ∙ pauses_at s old.stage (owing old.stage) is.1 may.0,
       is.2 ∙ sym may.1 ∙ ap idle_at (sym owes.stage),
     )
 set_aside_owing d d' s idle commands None (Some new) body epoch same is follows encoded next owes = absurd owes

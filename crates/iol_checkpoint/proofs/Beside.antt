@@ -14,7 +14,7 @@ use Rattle.iol_checkpoint.specs.Checkpoints.{target, first_of, snapshot_writes}
 use Rattle.iol_checkpoint.specs.Drafts.{AreShut, IsPrepared, OpensTo, CarryHolds, AreaHolds, IsDrafted}
 use Rattle.iol_layout.specs.Header.{header_of}
 use Rattle.iol_layout.specs.Standings.{with_batch}
-use Rattle.iol_layout.specs.Layout.{Layout, other, area_sectors, gate_at, header_at, port_at, slot_at, body_at}
+use Rattle.iol_layout.specs.Layout.{Layout, other, renewed, area_sectors, gate_at, header_at, port_at, slot_at, body_at}
 use Rattle.iol_layout.specs.Meaning.{Log, Standing}
 use Rattle.iol_layout.specs.Octets.{sector_of}
 use Rattle.iol_batch.specs.Phases.{HasWritten}
@@ -27,6 +27,7 @@ use Rattle.iol_checkpoint.specs.declared.stage.Stage.{Stage}
 use Rattle.iol_checkpoint.specs.declared.stage.Stage.TheVariants.{ClearHeader, SyncHeader, CloseGate, SyncClosed, CloseSlot, SyncSlots}
 use Rattle.iol_checkpoint.specs.declared.stage.Stage.TheVariants.{WriteHeader, WriteRecord, SyncRecords, Carry, OpenGate, SyncOpen}
 use Rattle.iol_checkpoint.proofs.Carrying.{was, was_kept, was_same}
+use Rattle.iol_layout.proofs.Layouts.{gate-same}
 use Rattle.iol_layout.proofs.OtherArea.{other_frame}
 use Rattle.iol_batch.proofs.Phases.{IsFit, fit_for, some_slot}
 use Rattle.iol_area.proofs.Rows.{row-within, has-same}
@@ -76,12 +77,17 @@ row-take (suc n) low high [] row = row
 row-take (suc n) low high (write sector octets ∷ calls) row = (row.0, row-take n (sector + 1) high calls row.1)
 row-take (suc n) low high (sync ∷ calls) row = absurd row
 
-module _ (size : ℕ) (s : Standing) (log : Log) (c c' : Content) (same : LeavesOthers s c c') where
+module _ (size : ℕ) (s : Standing) (log : Log) (c c' : Content) (same : LeavesOthers s c c')
+    (alike : area_sectors (renewed s.layout) ≡ area_sectors s.layout) where
   abbrev t : Standing
   t = target s log
 
+  gates : (a : Area) → gate_at t.layout a ≡ gate_at s.layout a
+  gates = gate-same t.layout s.layout alike
+
   in_other : (i : ℕ) → gate_at t.layout t.area ≤ i → i < gate_at t.layout t.area + area_sectors t.layout → reads c' i ≡ reads c i
-  in_other i above below = same i (apart_from s.layout s.area i above below)
+  in_other i above below =
+      same i (apart_from s.layout s.area i (omega (arith, above, gates (other s.area))) (omega (arith, below, gates (other s.area), alike)))
 
   -- what an open gate gives
   opens_beside : (l : Log) → OpensTo size (target s l) c → OpensTo size (target s l) c'
@@ -90,18 +96,18 @@ module _ (size : ℕ) (s : Standing) (log : Log) (c c' : Content) (same : Leaves
       let kept = was_kept size (target s l) c c' image opens read gate in
       let there = was_same size (target s l) c c' image opens read gate in
       let at_own = twice s.layout s.area in
-      let header : image (header_at s.layout (other (other s.area))) ≡ before (header_at s.layout (other (other s.area))) =
-      there (header_at s.layout (other (other s.area))) (λ away.
-      same (header_at s.layout (other (other s.area))) (inl (omega (arith, at_own)))) in
+      let header : image (header_at t.layout (other (other s.area))) ≡ before (header_at t.layout (other (other s.area))) =
+      there (header_at t.layout (other (other s.area))) (λ away.
+      same (header_at t.layout (other (other s.area))) (inl (omega (arith, at_own, gates (other (other s.area)))))) in
       other_frame (target s l) before image
       (λ i far. there i (λ away. same i (outside i far)))
       size Older Older kept (rw header kept.other_area)
     where
-      outside : (i : ℕ) → (i < gate_at s.layout (other (other s.area)))
-          ⊎ (gate_at s.layout (other (other s.area)) + area_sectors s.layout ≤ i)
+      outside : (i : ℕ) → (i < gate_at t.layout (other (other s.area)))
+          ⊎ (gate_at t.layout (other (other s.area)) + area_sectors t.layout ≤ i)
           → (i < slot_at s.layout s.area 0) ⊎ (slot_at s.layout s.area s.layout.slots ≤ i)
-      outside i (inl before) = inl (omega (arith, before, twice s.layout s.area))
-      outside i (inr behind) = inr (omega (arith, behind, twice s.layout s.area))
+      outside i (inl before) = inl (omega (arith, before, twice s.layout s.area, gates (other (other s.area))))
+      outside i (inr behind) = inr (omega (arith, behind, twice s.layout s.area, gates (other (other s.area)), alike))
 
   shut_beside : (k : ℕ) → k ≤ t.layout.slots → AreShut t k (reads c) → AreShut t k (reads c')
   shut_beside k within shut j below =

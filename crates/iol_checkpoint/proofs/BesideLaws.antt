@@ -21,7 +21,8 @@ use Rattle.iol_batch.specs.declared.phase.Phase.{Phase}
 use Rattle.iol_layout.specs.declared.idle.Idle.{Idle}
 use Rattle.iol_checkpoint.proofs.BegunLaws.{view-owing}
 use Rattle.iol_checkpoint.proofs.Beside.{call_leaves, area_beside}
-use Rattle.iol_checkpoint.proofs.DraftLaws.{holds_owing}
+use Rattle.iol_checkpoint.proofs.DraftLaws.{pauses, holds_owing}
+use Rattle.iol_layout.proofs.Layouts.{size-renewed}
 use Rattle.iol_batch.proofs.Phases.{IsFit}
 
 -- a call of the batch leaves what is read of the area that the checkpoint writes
@@ -36,7 +37,8 @@ beside_after d d' s batch body sectors p idle (Some b) fit in_phase made is besi
     let left = call_leaves s batch body sectors p d.content fit in_phase in
     subst (λ (n : ℕ). AreaHolds n t owed b.stage d'.content) (sym made.after.sectors)
     (subst (λ (c : Content). AreaHolds d.sectors t owed b.stage c) (sym (made.after.content h))
-    (area_beside d.sectors s (log_of b) d.content (content_after (call_of s body p) d.content) left d owed b.stage is.0.drafted (beside h)))
+    (area_beside d.sectors s (log_of b) d.content (content_after (call_of s body p) d.content) left
+    (size-renewed s.layout is.0.drafted.laid_out) d owed b.stage is.0.drafted (beside h)))
 
 -- behind the batch it is owed to the checkpoint
 pub paused_behind : (d d' : Disk) (s : Standing) (batch : List CommandValue) (idle : Idle) (old new : Option Begun) (body : EncodedBatch)
@@ -50,7 +52,7 @@ paused_behind d d' s batch idle (Some old) (Some new) body epoch same is follows
     subst (IsDrawnUp d' (with_batch s batch))
     (sym (view-owing d d' s batch old new body epoch same is.0 is.1 follows encoded next owes))
     (λ h. holds_owing d'.sectors (with_batch s batch) t owed batch t.layout.slots (length (snapshot_writes t))
-    (sectors_for t (first_of owed)) old.stage d'.content is.1 is.0.drafted.in_stage
+    (sectors_for t (first_of owed)) old.stage d'.content (pauses s old.stage is.1) is.0.drafted.in_stage
     (subst (λ (i : Idle). EachImage d'.content (IsKeptAs d'.sectors (with_batch s batch) i)) is.2 (rests h)) (beside h))
 paused_behind d d' s batch idle None (Some new) body epoch same is follows encoded next owes beside rests = absurd owes
 paused_behind d d' s batch idle (Some old) None body epoch same is follows encoded next owes beside rests = absurd owes

@@ -75,7 +75,7 @@ module _ (size : ℕ) (t : Standing) (batch : List CommandValue) (fit : IsFit t 
   pub carry_gate : (c : Content) → OpensTo size t c → HasWritten t body sectors c
       → OpensTo size (with_batch t batch) (wrote (slot_at t.layout t.area t.used) open_gate c)
   carry_gate c opens written image read gate =
-      kept_open size t Older (was size t c c' image opens read gate) image batch fit.room
+      kept_open size t Older (was size t c c' image opens read gate) image batch fit.written fit.room
       (but_slots t Older batch body sectors fit (slot_at t.layout t.area t.used) (was size t c c' image opens read gate) image
       (omega arith) (omega (arith, some_slot t Older batch body sectors fit)) (λ k behind. omega (arith, behind)) same)
       (was_kept size t c c' image opens read gate)

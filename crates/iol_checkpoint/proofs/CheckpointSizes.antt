@@ -16,7 +16,7 @@ use Rattle.iol_checkpoint.specs.Checkpoints.{snapshot_writes, clearing_calls, cl
 use Rattle.iol_checkpoint.specs.Checkpoints.{carry_calls, carry_calls_from, last_calls, snapshot_calls, checkpoint_calls, stage_calls}
 use Rattle.iol_checkpoint.specs.Checkpoints.{IsStage}
 use Rattle.iol_checkpoint.specs.Pauses.{calls_of}
-use Rattle.iol_checkpoint.specs.Drafts.{IsSnapshot}
+use Rattle.iol_checkpoint.specs.Drafts.{IsSnapshot, AreOwed}
 use Rattle.iol_layout.specs.Standings.{with_batch}
 use Rattle.iol_layout.specs.Meaning.{Standing}
 use Rattle.iol_checkpoint.specs.declared.begun.Begun.{Begun}
@@ -29,7 +29,7 @@ use Rattle.iol_checkpoint.specs.declared.stage.Stage.TheVariants.{ClearHeader, S
 use Rattle.iol_checkpoint.specs.declared.stage.Stage.TheVariants.{WriteHeader, WriteRecord, SyncRecords, Carry, OpenGate, SyncOpen}
 use Rattle.iol_batch.proofs.BatchCalls.{length-batch_calls}
 use Rattle.iol_layout.proofs.Bodies.{length-body}
-use Rattle.iol_layout.specs.Layout.{record_sectors}
+use Rattle.iol_layout.specs.Layout.{renewed, record_sectors}
 use Rattle.iol_layout.proofs.Spans.{slots_of-some}
 
 length-clearing : (t : Standing) (idle : Idle) → length (clearing_calls t idle) ≤ 2
@@ -148,12 +148,18 @@ module _ (t : Standing) (owed : List (List CommandValue)) (records : ℕ) where
   stage_most OpenGate few is = omega arith
   stage_most SyncOpen few is = omega arith
 
+-- the batches that are owed fit the area
+owed_within : (t : Standing) (owed : List (List CommandValue)) → t.used ≤ t.layout.slots → AreOwed t owed
+    → (with_batches t owed).used ≤ t.layout.slots
+owed_within t [] within are = within
+owed_within t (batch ∷ batches) within are = owed_within (with_batch t batch) batches are.0.room are.1
+
 -- one that was begun makes 19 calls for each slot that is carried, beside those of a new one
-pub begun_most : (d : Disk) (s : Standing) (b : Begun) → IsBegun d s b → s.used ≤ s.layout.slots
-    → length (calls_of s (view_of b)) ≤ 20 * s.layout.slots + record_sectors s.layout + 9
-begun_most d s b is within =
+pub begun_most : (d : Disk) (s : Standing) (b : Begun) → IsBegun d s b
+    → length (calls_of s (view_of b)) ≤ 20 * (renewed s.layout).slots + record_sectors (renewed s.layout) + 9
+begun_most d s b is =
     let t = target s (log_of b) in
     let owed = commands_owed b.owed.items in
-    let few = stage_most t owed (s.layout.port_sectors * s.layout.ports) b.stage (λ snapshot. (is.drafted.fresh snapshot).records.at_most)
+    let few = stage_most t owed (t.layout.port_sectors * t.layout.ports) b.stage (λ snapshot. (is.drafted.fresh snapshot).records.at_most)
     is.drafted.in_stage in
-    omega (arith, few, carry_most t owed, is.drafted.slots, within)
+    omega (arith, few, carry_most t owed, owed_within t owed is.drafted.resting.within is.drafted.owed_are)

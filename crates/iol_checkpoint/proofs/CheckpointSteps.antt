@@ -1,6 +1,6 @@
 -- What a step of a checkpoint makes of the disk, as its one call says.
 use Rattle.std.proofs.Common.{◌≡◌, ◌<◌, ℕ, ◌+◌, List, [], ◌∷◌, length, slice_get, get_or, Option, Some, None, unwrap_or}
-use Rattle.std.proofs.Common.{IsTrue, Result, Ok, Err, refl, sym, ◌∙◌, ap, subst, arith}
+use Rattle.std.proofs.Common.{true, IsTrue, Result, Ok, Err, refl, sym, ◌∙◌, ap, subst, arith}
 use Rattle.iol_types.specs.Command.{CommandValue}
 use Rattle.iol_disk.specs.Calls.{Call, sync, content_after, Made, FailedIn, Makes, MakesFirst}
 use Rattle.iol_disk.specs.Disk.{Disk}
@@ -16,7 +16,8 @@ use Rattle.iol_checkpoint.specs.Checkpoints.{first_stage, IsStage, log_behind, o
 use Rattle.iol_checkpoint.specs.Drafts.{MeansSame, StageHolds, stage_behind, IsDrafted}
 use Rattle.iol_layout.specs.Standings.{IsResting}
 use Rattle.iol_layout.specs.Kept.{KeptMeans, IsKeptAs}
-use Rattle.iol_layout.specs.Layout.{other}
+use Rattle.iol_layout.specs.Layout.{Layout, other, renewed, is_renewed}
+use Rattle.iol_layout.proofs.Layouts.{size-renewed, renewed-is, renewed-some, renewed-ports, one-ahead}
 use Rattle.iol_layout.specs.Meaning.{Log, Standing}
 use Rattle.iol_batch.specs.Phases.{IsAtRest}
 use Rattle.iol_layout.specs.declared.area.Area.{Area}
@@ -49,20 +50,22 @@ in_first : (slots records sectors : ℕ) (idle : Idle) → IsStage slots records
 in_first slots records sectors Older = tt
 in_first slots records sectors Closed = tt
 
-pub drafted-first : (d : Disk) (s : Standing) (idle : Idle) → IsResting d s → 0 < s.used
-    → AreRecords s.layout (other s.area) s.state → IsDrafted d s (checkpointed s) [] (first_stage idle)
+pub drafted-first : (d : Disk) (s : Standing) (idle : Idle) → IsResting d s → (is_renewed s.layout ≡ true → 0 < s.used)
+    → AreRecords (renewed s.layout) (other s.area) s.state → IsDrafted d s (checkpointed s) [] (first_stage idle)
 drafted-first d s idle resting used records = record {
-  some = omega (arith, used, resting.within);
+  laid_out = resting.laid_out;
+  some = renewed-some s.layout resting.laid_out;
   resting = record {
-    fits = resting.fits;
+    laid_out = renewed-is s.layout resting.laid_out;
+    fits = omega (arith, size-renewed s.layout resting.laid_out, resting.fits);
     within = omega arith;
     bound = resting.bound;
-    begun = omega (arith, resting.in_use used);
+    begun = one-ahead s.layout s.epoch s.number resting.begun (λ newest. resting.in_use (used newest));
     in_use = λ some. absurd (omega (arith, some));
-    count = resting.count;
+    count = resting.count ∙ sym (renewed-ports s.layout);
   };
   fresh = λ is. record { none = refl; records = records };
-  in_stage = in_first s.layout.slots (length (snapshot_writes (checkpointed s))) (sectors_for (checkpointed s) []) idle;
+  in_stage = in_first (renewed s.layout).slots (length (snapshot_writes (checkpointed s))) (sectors_for (checkpointed s) []) idle;
   owed_are = tt;
   same = (refl, refl);
   slots = omega arith;
@@ -92,7 +95,8 @@ module _ (s : Standing) (log : Log) (owed : List (List CommandValue)) (stage : S
 
   behind : IsTrue old.honest → Before → HoldsBehind old.sectors s t' owed' next (content_after call old.content)
   behind h holds =
-      goes_on old.sectors s log owed drafted.some (omega (arith, drafted.resting.begun)) drafted.resting.bound drafted.owed_are drafted.same
+      goes_on old.sectors s log owed
+      (size-renewed s.layout drafted.laid_out) drafted.resting.begun drafted.resting.bound drafted.owed_are drafted.same
       stage old.content drafted.fresh drafted.in_stage (holds h)
 
   -- at any moment of the call
@@ -188,10 +192,11 @@ with_none t [] none = refl
 with_none t (batch ∷ batches) none = absurd (omega (arith, none))
 
 -- the journal behind the last call, as it is made
-pub ends_as : (s : Standing) (log : Log) (a : Area) → a ≡ other s.area → MeansSame (target s log) s
-    → record { layout = s.layout; area = a; epoch = s.epoch + 1; used = log.used; number = s.number; state = s.state } ≡ target s log
-ends_as s log a there (number, state) = λ i. record {
-  layout = s.layout;
+pub ends_as : (s : Standing) (log : Log) (l : Layout) (a : Area) → l ≡ renewed s.layout → a ≡ other s.area → MeansSame (target s log) s
+    → record { layout = l; area = a; epoch = s.epoch + 1; used = log.used; number = s.number; state = s.state }
+    ≡ target s log
+ends_as s log l a laid_out there (number, state) = λ i. record {
+  layout = laid_out i;
   area = there i;
   epoch = s.epoch + 1;
   used = log.used;

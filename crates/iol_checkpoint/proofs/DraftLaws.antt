@@ -1,5 +1,5 @@
 -- What holds of a checkpoint behind its disk calls, where it is paused, and behind the batches that are written beside it.
-use Rattle.std.proofs.Common.{◌≡◌, ◌≤◌, ℕ, ◌+◌, ◌-◌, nat_lt, true, false, List, [], ◌∷◌, ◌++◌, length, Option, Some}
+use Rattle.std.proofs.Common.{◌≡◌, ◌≤◌, ℕ, ◌+◌, ◌-◌, nat_lt, Bool, true, false, ◌&&◌, List, [], ◌∷◌, ◌++◌, length, Option, Some}
 use Rattle.std.proofs.Common.{IfSome, refl, sym, ◌∙◌, ap, subst, arith, length-append}
 use Rattle.iol_types.specs.Command.{CommandValue}
 use Rattle.iol_types.specs.State.{State, after, legal}
@@ -9,11 +9,12 @@ use Rattle.iol_layout.specs.Kept.{IsKeptAs}
 use Rattle.iol_batch.specs.Batches.{sectors_for}
 use Rattle.iol_checkpoint.specs.Checkpoints.{target, first_of, behind_first, log_with, with_batches, snapshot_writes, next_stage}
 use Rattle.iol_checkpoint.specs.Checkpoints.{IsStage, is_carried, log_behind, owed_behind}
-use Rattle.iol_checkpoint.specs.Drafts.{idle_at, AreaHolds, MeansSame, StageHolds, can_pause, owing, stage_behind, IsSnapshot, IsFresh}
+use Rattle.iol_checkpoint.specs.Drafts.{idle_at, AreaHolds, MeansSame, StageHolds, can_pause, may_pause, owing, stage_behind}
+use Rattle.iol_checkpoint.specs.Drafts.{IsSnapshot, IsFresh}
 use Rattle.iol_checkpoint.specs.Drafts.{AreOwed, IsDrafted}
 use Rattle.iol_layout.specs.Standings.{with_batch, IsResting}
 use Rattle.iol_batch.specs.Planned.{CanFollow}
-use Rattle.iol_layout.specs.Layout.{Layout, total}
+use Rattle.iol_layout.specs.Layout.{Layout, is_renewed, total}
 use Rattle.iol_layout.specs.Meaning.{Log, Standing}
 use Rattle.iol_batch.specs.declared.phase.Phase.TheVariants.{Body, SyncBody, Gate, SyncGate}
 use Rattle.iol_checkpoint.specs.declared.stage.Stage.{Stage}
@@ -21,11 +22,13 @@ use Rattle.iol_checkpoint.specs.declared.stage.Stage.TheVariants.{ClearHeader, S
 use Rattle.iol_checkpoint.specs.declared.stage.Stage.TheVariants.{WriteHeader, WriteRecord, SyncRecords, Carry, OpenGate, SyncOpen}
 use Rattle.iol_batch.proofs.BatchCalls.{sectors_for-some, rests_with}
 use Rattle.iol_layout.proofs.Chains.{by_test}
+use Rattle.iol_layout.proofs.Layouts.{renewed-newest}
 use Rattle.iol_checkpoint.proofs.StageCalls.{in_next}
 
 -- a journal that can be gone on with on a disk, can be on another one of as many sectors
 pub resting_on : (d d' : Disk) (s : Standing) → d'.sectors ≡ d.sectors → IsResting d s → IsResting d' s
 resting_on d d' s same resting = record {
+  laid_out = resting.laid_out;
   fits = subst (λ (n : ℕ). total s.layout ≤ n) (sym same) resting.fits;
   within = resting.within;
   bound = resting.bound;
@@ -37,6 +40,7 @@ resting_on d d' s same resting = record {
 pub drafted_on : (d d' : Disk) (s t : Standing) (owed : List (List CommandValue)) (stage : Stage) → d'.sectors ≡ d.sectors
     → IsDrafted d s t owed stage → IsDrafted d' s t owed stage
 drafted_on d d' s t owed stage same drafted = record {
+  laid_out = drafted.laid_out;
   some = drafted.some;
   resting = resting_on d d' t same drafted.resting;
   fresh = drafted.fresh;
@@ -180,9 +184,11 @@ module _ (d d' : Disk) (s : Standing) (log : Log) (owed : List (List CommandValu
 
   pub drafted_next : IsDrafted d' s t' (owed_behind owed stage) q
   drafted_next = record {
+    laid_out = drafted.laid_out;
     some = drafted.some;
     resting = by_stage (λ l o. IsResting d' (target s l)) log owed owed stage (resting_on d d' t same drafted.resting) (λ at.
-        rests_with d' t (first_of owed) (moved at).first (resting_on d d' t same drafted.resting).fits drafted.resting.begun
+        rests_with d' t (first_of owed) (moved at).first (resting_on d d' t same drafted.resting).fits drafted.resting.laid_out
+        drafted.resting.begun
         drafted.resting.count);
     fresh = fresh;
     in_stage = in_stage_next;
@@ -194,6 +200,22 @@ module _ (d d' : Disk) (s : Standing) (log : Log) (owed : List (List CommandValu
   }
 
 -- ---- paused
+
+-- where a checkpoint may be paused its gate is not yet written
+pub pauses : (s : Standing) (stage : Stage) → may_pause s stage ≡ true → can_pause stage ≡ true
+pauses s stage is = by_both (is_renewed s.layout) (can_pause stage) is
+  where
+    by_both : (newest can : Bool) → (newest && can) ≡ true → can ≡ true
+    by_both true can is = is
+    by_both false can is = absurd cc
+
+-- and at another stage at which it is not written it may be paused too
+pub pauses_at : (s : Standing) (stage next : Stage) → may_pause s stage ≡ true → can_pause next ≡ true → may_pause s next ≡ true
+pauses_at s stage next is can = by_both (is_renewed s.layout) (can_pause stage) is
+  where
+    by_both : (newest was : Bool) → (newest && was) ≡ true → (newest && can_pause next) ≡ true
+    by_both true was is = can
+    by_both false was is = absurd cc
 
 -- what holds where a checkpoint may be paused
 pub holds_parts : (size : ℕ) (s t : Standing) (owed : List (List CommandValue)) (stage : Stage) (c : Content) → can_pause stage ≡ true
@@ -296,7 +318,8 @@ module _ (d d' : Disk) (s : Standing) (log : Log) (owed : List (List CommandValu
   -- the batch can be written behind those that are owed
   pub follows_owed : CanFollow (with_batches u owed) batch
   follows_owed =
-      let layout = batches-layout u owed in record {
+      let layout = batches-layout u owed ∙ renewed-newest s.layout follows.written in record {
+        written = ap (λ (l : Layout). l.version) layout ∙ follows.written;
         room = omega (arith, follows.room, drafted.slots, ap (λ (l : Layout). l.slots) layout);
         batch = follows.batch;
         passes = subst (λ (state : State). legal state batch ≡ true) (sym drafted.same.1) follows.passes;
@@ -306,6 +329,7 @@ module _ (d d' : Disk) (s : Standing) (log : Log) (owed : List (List CommandValu
   pub drafted_owing : IsDrafted d' (with_batch s batch) (target (with_batch s batch) log) (owed ++ batch ∷ []) (owing stage)
   drafted_owing =
       let more = batches-more u owed batch in record {
+        laid_out = drafted.laid_out;
         some = drafted.some;
         resting = resting_on d d' u same drafted.resting;
         fresh = λ is. drafted.fresh (snapshot_owing stage is);

@@ -13,10 +13,10 @@ use Rattle.iol_slots.specs.Gate.{is_open, open_gate, closed_gate}
 use Rattle.iol_slots.proofs.SlotLaws.{is_open-open_gate, is_open-closed_gate}
 use Rattle.iol_area.specs.AreaPlans.{AreRecords}
 use Rattle.iol_area.specs.AreaWrites.{HasWrites}
-use Rattle.iol_layout.specs.Header.{header_of, header_octets, is_sound}
+use Rattle.iol_layout.specs.Header.{header_of, header_octets, epochs_ahead, is_sound}
 use Rattle.iol_layout.specs.Kept.{IsIdle, IsKeptAs}
-use Rattle.iol_layout.specs.Layout.{Layout, other, area_sectors, gate_at, header_at, port_at, slot_at, body_at}
-use Rattle.iol_layout.specs.Meaning.{Log, Standing, layout_in, header_in}
+use Rattle.iol_layout.specs.Layout.{Layout, other, renewed, area_sectors, gate_at, header_at, port_at, slot_at, body_at}
+use Rattle.iol_layout.specs.Meaning.{Log, Standing, geometry_in, header_in}
 use Rattle.iol_layout.specs.Octets.{sector_of}
 use Rattle.iol_batch.specs.Batches.{body_for, sectors_for}
 use Rattle.iol_checkpoint.specs.Checkpoints.{target, first_of, behind_first, with_batches, header_of_target, snapshot_writes, call_at}
@@ -40,10 +40,13 @@ use Rattle.iol_checkpoint.specs.declared.stage.Stage.TheVariants.{WriteHeader, W
 use Rattle.iol_checkpoint.proofs.Carrying.{carry_sector, carry_gate}
 use Rattle.iol_batch.proofs.Phases.{IsFit, fit_for}
 use Rattle.iol_layout.proofs.Spans.{slots_of-some, body_at-within}
-use Rattle.iol_layout.proofs.Chains.{IsRead, stands_read, by_test}
-use Rattle.iol_layout.proofs.OtherArea.{two_before, in_use_header, other_frame, IsWhole, whole_stands}
+use Rattle.iol_layout.proofs.AreasInUse.{in_use_header}
+use Rattle.iol_layout.proofs.Chains.{by_test}
+use Rattle.iol_layout.proofs.Layouts.{gate-same, header_in-same, renewed-so}
+use Rattle.iol_layout.proofs.OtherArea.{two_before, other_frame, IsWhole, whole_stands}
+use Rattle.iol_layout.proofs.Readings.{IsFormattedFor, IsRead, header_for, stands_read}
 use Rattle.iol_area.proofs.Rows.{has-same, row-nth}
-use Rattle.iol_layout.proofs.Headers.{header_of-octets}
+use Rattle.iol_layout.proofs.Headers.{header_of-octets, sound-bounds, bounds-sound, few-ahead}
 
 -- what holds behind the call of a stage: what its next stage asks, or at the end that the checkpoint is whole
 abbrev pub HoldsBehind : ℕ → Standing → Standing → List (List CommandValue) → Option Stage → Content → Type 0
@@ -119,36 +122,45 @@ module _ (size : ℕ) (s : Standing) where
   sync_again idle c kept = each_sync idle idle c kept (kept (reads c) (reads-is_image c)).other_area
 
 -- the area that is written, as it will stand with this log
-module _ (size : ℕ) (s : Standing) (log : Log) where
+module _ (size : ℕ) (s : Standing) (log : Log) (alike : area_sectors (renewed s.layout) ≡ area_sectors s.layout) where
   abbrev t : Standing
   t = target s log
 
+  -- it lies where the journal's other area does
+  gates : (a : Area) → gate_at t.layout a ≡ gate_at s.layout a
+  gates = gate-same t.layout s.layout alike
+
+  there : gate_at t.layout t.area ≡ gate_at s.layout (other s.area)
+  there = gates (other s.area)
+
   -- one slot more is closed
   shut_more : (k : ℕ) (c : Content) → AreShut t k (reads c)
-      → AreShut t (k + 1) (reads (wrote (slot_at s.layout (other s.area) k) closed_gate c))
+      → AreShut t (k + 1) (reads (wrote (slot_at t.layout t.area k) closed_gate c))
   shut_more k c shut j below = elim (cases_lt j k) [
     | inl before ↦ ap is_open
-        (reads-wrote_other (slot_at s.layout (other s.area) k) closed_gate c (slot_at s.layout (other s.area) j) (omega (arith, before)))
+        (reads-wrote_other (slot_at t.layout t.area k) closed_gate c (slot_at t.layout t.area j) (omega (arith, before)))
         ∙ shut j before
     | inr last ↦
-        let here : slot_at s.layout (other s.area) j ≡ slot_at s.layout (other s.area) k = omega (arith, last, below) in
-        ap (λ (i : ℕ). is_open (reads (wrote (slot_at s.layout (other s.area) k) closed_gate c) i)) here
-        ∙ ap is_open (reads-wrote_here (slot_at s.layout (other s.area) k) closed_gate c) ∙ is_open-closed_gate
+        let here : slot_at t.layout t.area j ≡ slot_at t.layout t.area k = omega (arith, last, below) in
+        ap (λ (i : ℕ). is_open (reads (wrote (slot_at t.layout t.area k) closed_gate c) i)) here
+        ∙ ap is_open (reads-wrote_here (slot_at t.layout t.area k) closed_gate c) ∙ is_open-closed_gate
   ]
 
   -- a write before the slots leaves them closed
-  shut_still : (k sector : ℕ) (octets : List ℕ) (c : Content) → sector < slot_at s.layout (other s.area) 0 → AreShut t k (reads c)
+  shut_still : (k sector : ℕ) (octets : List ℕ) (c : Content) → sector < slot_at t.layout t.area 0 → AreShut t k (reads c)
       → AreShut t k (reads (wrote sector octets c))
   shut_still k sector octets c before shut j below =
-      ap is_open (reads-wrote_other sector octets c (slot_at s.layout (other s.area) j) (omega (arith, before))) ∙ shut j below
+      ap is_open (reads-wrote_other sector octets c (slot_at t.layout t.area j) (omega (arith, before))) ∙ shut j below
 
-  prepared_none : (c : Content) → t.epoch ≤ t.number + 1 → t.number ≤ LAST_NUMBER → AreShut t t.layout.slots (reads c)
-      → IsPrepared t 0 (reads (wrote (header_at t.layout t.area) (header_octets t.epoch t.number) c))
+  prepared_none : (c : Content) → t.epoch ≤ t.number + epochs_ahead t.layout.version → t.number ≤ LAST_NUMBER
+      → AreShut t t.layout.slots (reads c)
+      → IsPrepared t 0 (reads (wrote (header_at t.layout t.area) (header_octets t.layout.version t.epoch t.number) c))
   prepared_none c near bound shut = record {
-    shut = shut_still t.layout.slots (header_at t.layout t.area) (header_octets t.epoch t.number) c (omega arith) shut;
+    shut = shut_still t.layout.slots (header_at t.layout t.area) (header_octets t.layout.version t.epoch t.number) c (omega arith) shut;
     head =
-        ap header_of (reads-wrote_here (header_at t.layout t.area) (header_octets t.epoch t.number) c)
-        ∙ header_of-octets t.epoch t.number (omega (arith, near, bound)) (omega (arith, bound));
+        ap header_of (reads-wrote_here (header_at t.layout t.area) (header_octets t.layout.version t.epoch t.number) c)
+        ∙ header_of-octets t.layout.version t.epoch t.number (omega (arith, near, bound, few-ahead t.layout.version)) (omega
+        (arith, bound));
     written = tt;
   }
 
@@ -164,11 +176,12 @@ module _ (size : ℕ) (s : Standing) (log : Log) where
       let call : call_at t owed (WriteRecord i) ≡ write nth.sector nth.octets =
       ap (λ (found : Option Call). unwrap_or found sync) nth.at_place in
       let next : suc i ≡ i + 1 = omega arith in
-      let inside : IsInOther s nth.sector = record { from = omega (arith, nth.from); below = omega (arith, nth.below) } in
+      let inside : IsInOther s nth.sector =
+      record { from = omega (arith, nth.from, there); below = omega (arith, nth.below, there, alike) } in
       subst (λ (made : Call).
       EachImage (content_after made c) (IsKeptAs size s Closed) × IsPrepared t (i + 1) (reads (content_after made c)))
       (sym call) (
-        each_write size s Closed nth.sector nth.octets c inside (omega (arith, nth.from)) kept,
+        each_write size s Closed nth.sector nth.octets c inside (omega (arith, nth.from, there)) kept,
         record {
           shut = shut_still t.layout.slots nth.sector nth.octets c nth.below ready.shut;
           head = ap header_of (reads-wrote_other nth.sector nth.octets c (header_at t.layout t.area) (omega (arith, nth.from)))
@@ -181,21 +194,22 @@ module _ (size : ℕ) (s : Standing) (log : Log) where
       )
 
   -- once all of it is written, its open gate puts it in use
-  opens : (c : Content) → t.epoch ≤ t.number + 1 → t.number ≤ LAST_NUMBER → IsFresh t → IsKeptAs size s Closed (reads c)
+  opens : (c : Content) → t.epoch ≤ t.number + epochs_ahead t.layout.version → t.number ≤ LAST_NUMBER → IsFresh t
+      → IsKeptAs size s Closed (reads c)
       → IsPrepared t (length (snapshot_writes t)) (reads c) → OpensTo size t c
   opens c near bound fresh kept ready image same gate = put (stands_read size (reads c) s kept.stands)
     where
-      own_gate : gate_at s.layout (other (other s.area)) ≢ gate_at s.layout (other s.area)
+      own_gate : gate_at s.layout (other (other s.area)) ≢ gate_at t.layout (other s.area)
       own_gate = apart s.area
         where
-          apart : (a : Area) → gate_at s.layout (other (other a)) ≢ gate_at s.layout (other a)
+          apart : (a : Area) → gate_at s.layout (other (other a)) ≢ gate_at t.layout (other a)
           apart A = omega arith
           apart B = omega arith
 
-      own_header : header_at s.layout (other (other s.area)) ≢ gate_at s.layout (other s.area)
+      own_header : header_at s.layout (other (other s.area)) ≢ gate_at t.layout (other s.area)
       own_header = apart s.area
         where
-          apart : (a : Area) → header_at s.layout (other (other a)) ≢ gate_at s.layout (other a)
+          apart : (a : Area) → header_at s.layout (other (other a)) ≢ gate_at t.layout (other a)
           apart A = omega arith
           apart B = omega arith
 
@@ -207,7 +221,7 @@ module _ (size : ℕ) (s : Standing) (log : Log) where
           twice B = refl
 
       old_header : (base : ℕ) (ports : State) → IsRead size (reads c) s base ports → header_in s.layout image (other (other s.area))
-          ≡ Some (record { epoch = s.epoch; base = base })
+          ≡ Some (header_for s base)
       old_header base ports is =
           let at_gate : image (gate_at s.layout (other (other s.area))) ≡ reads c (gate_at s.layout (other (other s.area))) =
           same _ own_gate in
@@ -218,7 +232,7 @@ module _ (size : ℕ) (s : Standing) (log : Log) where
           there ∙ ap (header_in s.layout (reads c)) back ∙ (in_use_header s.layout (reads c) s.area _ is.in_use).0
 
       sound : is_sound (header_of_target t) ≡ true
-      sound = grind (arith, nat_tests, near, bound)
+      sound = bounds-sound t.layout.version t.epoch t.number (record { first = omega arith; ahead = near; last = bound })
 
       whole : IsWhole t.layout t.area (header_of_target t) t.state image
       whole = record {
@@ -235,14 +249,22 @@ module _ (size : ℕ) (s : Standing) (log : Log) where
       put : (base : ℕ) × (ports : State) × IsRead size (reads c) s base ports → IsKeptAs size t Older image
       put (base, ports, is) =
           let two = two_before s.layout (other s.area) in
-          let front : layout_in size image ≡ layout_in size (reads c) =
-          rw (same DISK_GATE (omega (arith, two)), same GEOMETRY (omega (arith, two))) refl in
-          let header = old_header base ports is in
+          let front : geometry_in size image ≡ geometry_in size (reads c) =
+          rw (same DISK_GATE (omega (arith, two, there)), same GEOMETRY (omega (arith, two, there))) refl in
+          let formatted : IsFormattedFor size image t.layout =
+          record {
+            geometry = is.layout.geometry;
+            found = front
+                ∙ is.layout.found;
+            so = renewed-so s.layout is.layout.geometry is.layout.so;
+          } in
+          let header : header_in t.layout image (other (other s.area)) ≡ Some (header_for s base) =
+          header_in-same t.layout s.layout alike image (other (other s.area)) ∙ old_header base ports is in
           subst (λ (n : ℕ). IsKeptAs size (target s (record { used = n; number = log.number; state = log.state })) Older image)
           (sym fresh.none)
-          (whole_stands size t.layout t.area (header_of_target t) t.state Older image (front ∙ is.layout) gate sound
+          (whole_stands size t.layout t.area (header_of_target t) t.state Older image formatted gate refl sound
           (rw header (omega arith))
-          (rw (header_found s.layout image (other (other s.area)) _ header) (omega arith))
+          (rw (header_found t.layout image (other (other s.area)) _ header) (omega arith))
           whole)
 
   -- while the gate is on its way
@@ -250,9 +272,9 @@ module _ (size : ℕ) (s : Standing) (log : Log) where
       → IsImage (wrote (gate_at t.layout t.area) open_gate c) image → IsTurning size s t image
   turning c kept settled opens_to image is =
       let w = image-wrote (gate_at t.layout t.area) open_gate c image is in
-      let inside : IsInOther s (gate_at t.layout t.area) = record { from = omega arith; below = omega arith } in (
+      let inside : IsInOther s (gate_at t.layout t.area) = record { from = omega (arith, there); below = omega (arith, there) } in (
         λ closed. other_frame s w.0 image (but_area size s (gate_at t.layout t.area) w.0 image inside w.2) size Closed Closed
-            (kept w.0 w.1) closed,
+            (kept w.0 w.1) (ap (λ (n : ℕ). is_open (image n)) (sym there) ∙ closed),
         λ opened. opens_to image (λ i away. w.2 i away ∙ ap (λ (left : Image). left i) (image-settled c w.0 settled w.1)) opened,
       )
 
@@ -277,8 +299,10 @@ none_owed s t (batch ∷ batches) none same = absurd (omega (arith, none))
 
 -- ---- the call of each stage
 
-module _ (size : ℕ) (s : Standing) (log : Log) (owed : List (List CommandValue)) (some : 1 ≤ s.layout.slots)
-    (near : s.epoch ≤ log.number) (bound : log.number ≤ LAST_NUMBER) (owed_are : AreOwed (target s log) owed)
+module _ (size : ℕ) (s : Standing) (log : Log) (owed : List (List CommandValue))
+    (alike : area_sectors (renewed s.layout) ≡ area_sectors s.layout)
+    (near : s.epoch + 1 ≤ log.number + epochs_ahead (renewed s.layout).version) (bound : log.number ≤ LAST_NUMBER) (owed_are : AreOwed
+    (target s log) owed)
     (same : MeansSame (with_batches (target s log) owed) s) where
   abbrev t' : Standing
   t' = target s log
@@ -290,68 +314,79 @@ module _ (size : ℕ) (s : Standing) (log : Log) (owed : List (List CommandValue
   sectors = sectors_for t' (first_of owed)
 
   fit : 1 ≤ length owed → IsFit t' (first_of owed) (body_for t' (first_of owed)) sectors
-  fit more = fit_for t' (first_of owed) (first_owed t' owed more owed_are) (omega (arith, near))
+  fit more = fit_for t' (first_of owed) (first_owed t' owed more owed_are) near
 
-  pub goes_on : (stage : Stage) (c : Content) → (IsSnapshot stage → IsFresh t') → IsStage s.layout.slots records sectors (length owed) stage
+  at : gate_at t'.layout t'.area ≡ gate_at s.layout (other s.area)
+  at = there size s log alike
+
+  pub goes_on : (stage : Stage) (c : Content) → (IsSnapshot stage → IsFresh t')
+      → IsStage t'.layout.slots records sectors (length owed) stage
       → StageHolds size s t' owed stage c
       → HoldsBehind size s (target s (log_behind log owed stage)) (owed_behind owed stage)
-      (next_stage s.layout.slots records sectors (length owed) stage) (content_after (call_at t' owed stage) c)
+      (next_stage t'.layout.slots records sectors (length owed) stage) (content_after (call_at t' owed stage) c)
   goes_on ClearHeader c fresh in_stage holds = (
-    each_write size s Closed (header_at t'.layout t'.area) (header_octets 0 0) c (record { from = omega arith; below = omega arith })
-        (omega arith) holds.0,
-    ap (λ (octets : List ℕ). (header_of octets).epoch) (reads-wrote_here (header_at t'.layout t'.area) (header_octets 0 0) c)
-        ∙ ap (λ (header : Header). header.epoch) (header_of-octets 0 0 (omega arith) (omega arith)),
+    each_write size s Closed (header_at t'.layout t'.area) (header_octets t'.layout.version 0 0) c
+        (record { from = omega (arith, at); below = omega (arith, at) }) (omega (arith, at)) holds.0,
+    ap (λ (octets : List ℕ). (header_of octets).epoch) (reads-wrote_here (header_at t'.layout t'.area)
+        (header_octets t'.layout.version 0 0) c)
+        ∙ ap (λ (header : Header). header.epoch) (header_of-octets t'.layout.version 0 0 (omega arith) (omega arith)),
   )
   goes_on SyncHeader c fresh in_stage holds =
       let kept = holds.0 (reads c) (reads-is_image c) in
-      (each_sync size s Closed Older c holds.0 (omega (arith, holds.1, begun kept)), tt)
+      let older : (header_of (reads c (header_at s.layout (other s.area)))).epoch ≡ 0 =
+      ap (λ (gate : ℕ). (header_of (reads c (gate + 1))).epoch) (sym at) ∙ holds.1 in
+      (each_sync size s Closed Older c holds.0 (omega (arith, older, begun kept)), tt)
     where
       begun : IsKeptAs size s Closed (reads c) → 1 ≤ s.epoch
       begun kept = put (stands_read size (reads c) s kept.stands)
         where
           put : (base : ℕ) × (ports : State) × IsRead size (reads c) s base ports → 1 ≤ s.epoch
-          put (base, ports, is) = let sound = (in_use_header s.layout (reads c) s.area _ is.in_use).1 in grind (arith, nat_tests, sound)
+          put (base, ports, is) = (sound-bounds s.layout.version s.epoch base
+              (in_use_header s.layout (reads c) s.area _ is.in_use).1).first
   goes_on CloseGate c fresh in_stage holds = (
-    each_write size s Older (gate_at t'.layout t'.area) closed_gate c (record { from = omega arith; below = omega arith }) (omega arith)
-        holds.0,
+    each_write size s Older (gate_at t'.layout t'.area) closed_gate c
+        (record { from = omega (arith, at); below = omega (arith, at) }) (omega (arith, at)) holds.0,
     ap is_open (reads-wrote_here (gate_at t'.layout t'.area) closed_gate c) ∙ is_open-closed_gate,
   )
-  goes_on SyncClosed c fresh in_stage holds =
-      (each_sync size s Older Closed c holds.0 holds.1, λ j below. absurd (omega (arith, below)))
+  goes_on SyncClosed c fresh in_stage holds = (
+    each_sync size s Older Closed c holds.0 (ap (λ (gate : ℕ). is_open (reads c gate)) (sym at) ∙ holds.1),
+    λ j below. absurd (omega (arith, below)),
+  )
   goes_on (CloseSlot k) c fresh in_stage holds =
       let kept = each_write size s Closed (slot_at t'.layout t'.area k) closed_gate c
-      (record { from = omega arith; below = omega (arith, in_stage) }) (omega arith) holds.0 in
-      let shut = shut_more size s log k c holds.1 in
-      holds_one_of size s t' owed (k + 1) s.layout.slots (CloseSlot (k + 1)) SyncSlots _ (λ more. (kept, shut))
+      (record { from = omega (arith, at); below = omega (arith, in_stage, at, alike) }) (omega (arith, at)) holds.0 in
+      let shut = shut_more size s log alike k c holds.1 in
+      holds_one_of size s t' owed (k + 1) t'.layout.slots (CloseSlot (k + 1)) SyncSlots _ (λ more. (kept, shut))
       (λ last.
-      let all : k + 1 ≡ s.layout.slots = omega (arith, last, in_stage) in
+      let all : k + 1 ≡ t'.layout.slots = omega (arith, last, in_stage) in
       (kept, subst (λ (n : ℕ). AreShut t' n (reads (wrote (slot_at t'.layout t'.area k) closed_gate c))) all shut))
   goes_on SyncSlots c fresh in_stage holds = (sync_again size s Closed c holds.0, holds.1)
   goes_on WriteHeader c fresh in_stage holds =
-      let kept = each_write size s Closed (header_at t'.layout t'.area) (header_octets t'.epoch t'.number) c
-      (record { from = omega arith; below = omega arith }) (omega arith) holds.0 in
-      let ready = prepared_none size s log c (omega (arith, near)) bound holds.1 in
+      let kept = each_write size s Closed (header_at t'.layout t'.area) (header_octets t'.layout.version t'.epoch t'.number) c
+      (record { from = omega (arith, at); below = omega (arith, at) }) (omega (arith, at)) holds.0 in
+      let ready = prepared_none size s log alike c near bound holds.1 in
       holds_one_of size s t' owed 0 records (WriteRecord 0) SyncRecords _ (λ more. (kept, ready))
       (λ last.
       let none : 0 ≡ records = omega (arith, last) in (
         kept,
-        subst (λ (n : ℕ). IsPrepared t' n (reads (wrote (header_at t'.layout t'.area) (header_octets t'.epoch t'.number) c))) none
+        subst (λ (n : ℕ). IsPrepared t' n (reads (wrote (header_at t'.layout t'.area)
+            (header_octets t'.layout.version t'.epoch t'.number) c))) none
             ready,
       ))
   goes_on (WriteRecord i) c fresh in_stage holds =
-      let both = record_written size s log owed i c (fresh tt).records in_stage holds.0 holds.1 in
+      let both = record_written size s log alike owed i c (fresh tt).records in_stage holds.0 holds.1 in
       holds_one_of size s t' owed (i + 1) records (WriteRecord (i + 1)) SyncRecords _ (λ more. both)
       (λ last.
       let all : i + 1 ≡ records = omega (arith, last, in_stage) in
       (both.0, subst (λ (n : ℕ). IsPrepared t' n (reads (content_after (call_at t' owed (WriteRecord i)) c))) all both.1))
   goes_on SyncRecords c fresh in_stage holds =
       carry_next size s t' owed (length owed) (synced c) (sync_again size s Closed c holds.0)
-      (opens size s log c (omega (arith, near)) bound (fresh tt) (holds.0 (reads c) (reads-is_image c)) holds.1) (λ i. refl)
+      (opens size s log alike c near bound (fresh tt) (holds.0 (reads c) (reads-is_image c)) holds.1) (λ i. refl)
   goes_on (Carry (Body j)) c fresh in_stage holds =
       let is = fit in_stage.0 in
       let within = body_at-within t'.layout t'.area t'.used (slots_for (first_of owed)) j (omega (arith, in_stage.1, is.short)) in
       let kept = each_write size s Closed (body_at t'.layout t'.area t'.used j) (sector_of (body_for t' (first_of owed)) j) c
-      (record { from = omega arith; below = omega (arith, within, is.room) }) (omega arith) holds.0 in
+      (record { from = omega (arith, at); below = omega (arith, within, is.room, at, alike) }) (omega (arith, at)) holds.0 in
       let more = carry_sector size t' (first_of owed) is j c in_stage.1 holds.1 in
       by_test (nat_lt (j + 1) sectors) _
       (λ less. rw less (kept, more))
@@ -370,14 +405,14 @@ module _ (size : ℕ) (s : Standing) (log : Log) (owed : List (List CommandValue
       let is = fit in_stage.0 in
       let some_slot = slots_of-some (length (records_of (first_of owed))) in (
         each_write size s Closed (slot_at t'.layout t'.area t'.used) open_gate c
-            (record { from = omega arith; below = omega (arith, is.room, some_slot) }) (omega arith) holds.0,
+            (record { from = omega (arith, at); below = omega (arith, is.room, some_slot, at, alike) }) (omega (arith, at)) holds.0,
         carry_gate size t' (first_of owed) is c holds.1.0 holds.1.1,
       )
   goes_on (Carry SyncGate) c fresh in_stage holds =
       carry_next size s (with_batch t' (first_of owed)) (behind_first owed) (length owed - 1) (synced c)
       (sync_again size s Closed c holds.0) holds.1 (λ i. refl)
   goes_on OpenGate c fresh in_stage holds = (
-    turning size s log c holds.0 holds.2 holds.1,
+    turning size s log alike c holds.0 holds.2 holds.1,
     holds.1 (reads (wrote (gate_at t'.layout t'.area) open_gate c)) (λ i away.
         reads-wrote_other (gate_at t'.layout t'.area) open_gate c i away)
         (ap is_open (reads-wrote_here (gate_at t'.layout t'.area) open_gate c) ∙ is_open-open_gate),

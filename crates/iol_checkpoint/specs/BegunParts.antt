@@ -7,10 +7,10 @@ use Rattle.iol_disk.specs.Disk.{Disk}
 use Rattle.iol_area.specs.AreaPlans.{IsAreaPlan}
 use Rattle.iol_checkpoint.specs.BegunViews.{BegunView}
 use Rattle.iol_checkpoint.specs.Checkpoints.{target, header_of_target}
-use Rattle.iol_checkpoint.specs.Drafts.{can_pause, idle_at, owing, IsSnapshot, IsDrafted}
+use Rattle.iol_checkpoint.specs.Drafts.{may_pause, idle_at, owing, IsSnapshot, IsDrafted}
 use Rattle.iol_layout.specs.Standings.{with_batch}
 use Rattle.iol_batch.specs.Planned.{IsEncoded}
-use Rattle.iol_layout.specs.Layout.{other}
+use Rattle.iol_layout.specs.Layout.{other, renewed}
 use Rattle.iol_layout.specs.Meaning.{Log, Standing}
 use Rattle.iol_checkpoint.specs.declared.begun.Begun.{Begun}
 use Rattle.iol_checkpoint.specs.declared.begun.OwedBatch.{OwedBatch}
@@ -38,12 +38,13 @@ AreEncoded t (first ∷ behind) = IsEncoded t first.batch.commands first.body ×
 -- What a checkpoint of a journal that stands so has, on any disk (own)
 pub record IsBegun (d : Disk) (s : Standing) (b : Begun) : Type 0 where
   pub drafted : IsDrafted d s (target s (log_of b)) (commands_owed b.owed.items) b.stage
-  pub plan : IsSnapshot b.stage → IsAreaPlan s.layout (other s.area) (header_of_target (target s (log_of b))) b.carried.start b.plan
+  pub plan : IsSnapshot b.stage
+      → IsAreaPlan (renewed s.layout) (other s.area) (header_of_target (target s (log_of b))) b.carried.start b.plan
   pub encoded : AreEncoded (target s (log_of b)) b.owed.items
 
 -- a checkpoint that is paused, and how the area that it writes is harmless meanwhile (own)
 abbrev pub IsSetAside : Disk → Standing → Idle → Option Begun → Type 0
-IsSetAside d s idle begun = IfSome begun (λ b. IsBegun d s b × (can_pause b.stage ≡ true) × (idle ≡ idle_at b.stage))
+IsSetAside d s idle begun = IfSome begun (λ b. IsBegun d s b × (may_pause s b.stage ≡ true) × (idle ≡ idle_at b.stage))
 
 -- one batch more can be owed to a checkpoint without memory (own)
 abbrev pub HasRoom : Option Begun → Type 0

@@ -11,7 +11,7 @@ use Rattle.iol_batch.specs.Batches.{body_for, sectors_for, batch_calls, calls_fr
 use Rattle.iol_checkpoint.specs.BegunViews.{BegunView}
 use Rattle.iol_layout.specs.Body.{slots_for}
 use Rattle.iol_layout.specs.Standings.{with_batch}
-use Rattle.iol_layout.specs.Layout.{other, gate_at}
+use Rattle.iol_layout.specs.Layout.{other, renewed, gate_at}
 use Rattle.iol_layout.specs.Meaning.{Log, Standing}
 use Rattle.iol_layout.specs.declared.header.Header.{Header}
 use Rattle.iol_batch.specs.declared.phase.Phase.{Phase}
@@ -22,10 +22,17 @@ use Rattle.iol_checkpoint.specs.declared.stage.Stage.{Stage}
 use Rattle.iol_checkpoint.specs.declared.stage.Stage.TheVariants.{ClearHeader, SyncHeader, CloseGate, SyncClosed, CloseSlot, SyncSlots}
 use Rattle.iol_checkpoint.specs.declared.stage.Stage.TheVariants.{WriteHeader, WriteRecord, SyncRecords, Carry, OpenGate, SyncOpen}
 
--- how a journal stands in the other area, under the next epoch, with this log there: what a checkpoint writes (own)
+-- how a journal stands in the other area, in the layout that is written, under the next epoch, with this log there: what a
+-- checkpoint writes (own)
 abbrev pub target : Standing → Log → Standing
-target s log =
-    record { layout = s.layout; area = other s.area; epoch = s.epoch + 1; used = log.used; number = log.number; state = log.state }
+target s log = record {
+  layout = renewed s.layout;
+  area = other s.area;
+  epoch = s.epoch + 1;
+  used = log.used;
+  number = log.number;
+  state = log.state;
+}
 
 -- the log of an area whose records are those of a journal, with no batch behind them (own)
 abbrev pub fresh_log : Standing → Log
@@ -59,9 +66,10 @@ abbrev pub with_batches : Standing → List (List CommandValue) → Standing
 with_batches t [] = t
 with_batches t (batch ∷ batches) = with_batches (with_batch t batch) batches
 
--- the header of an area that is written: its epoch, and the number of commands so far (format, Orders of disk calls)
+-- the header of an area that is written: its epoch, the number of commands so far, and its version (format, Orders of disk
+-- calls)
 abbrev pub header_of_target : Standing → Header
-header_of_target t = record { epoch = t.epoch; base = t.number }
+header_of_target t = record { epoch = t.epoch; base = t.number; version = Some t.layout.version }
 
 -- the writes of the state's records (format, Orders of disk calls)
 abbrev pub snapshot_writes : Standing → List Call

@@ -1,5 +1,5 @@
 -- What holds of the area that a checkpoint writes, and of an honest disk before each disk call.
-use Rattle.std.specs.Prelude.{◌≡◌, ◌≢◌, ◌≤◌, ◌<◌, ℕ, Bool, true, false, List, [], ◌∷◌, ◌++◌, length, take, Option}
+use Rattle.std.specs.Prelude.{◌≡◌, ◌≢◌, ◌≤◌, ◌<◌, ℕ, Bool, true, false, ◌&&◌, List, [], ◌∷◌, ◌++◌, length, take, Option}
 use Rattle.std.specs.Option.{option_map}
 use Rattle.iol_types.specs.Command.{CommandValue}
 use Rattle.iol_disk.specs.Content.{Image, Content, EachImage, IsSettled, reads}
@@ -15,7 +15,7 @@ use Rattle.iol_layout.specs.Header.{header_of}
 use Rattle.iol_layout.specs.Standings.{with_batch, IsResting}
 use Rattle.iol_batch.specs.Planned.{CanFollow}
 use Rattle.iol_layout.specs.Kept.{IsKeptAs}
-use Rattle.iol_layout.specs.Layout.{gate_at, header_at, slot_at}
+use Rattle.iol_layout.specs.Layout.{IsLayout, is_renewed, gate_at, header_at, slot_at}
 use Rattle.iol_layout.specs.Meaning.{Standing}
 use Rattle.iol_batch.specs.Phases.{HasWritten}
 use Rattle.iol_batch.specs.declared.phase.Phase.{Phase}
@@ -105,6 +105,11 @@ abbrev pub can_pause : Stage → Bool
 can_pause SyncOpen = false
 can_pause stage = true
 
+-- a checkpoint of a journal that stands so may be paused: its layout is the one that is written, and the gate of the other area
+-- is not yet written (own)
+abbrev pub may_pause : Standing → Stage → Bool
+may_pause s stage = is_renewed s.layout && can_pause stage
+
 -- the stage where a batch more is owed (own)
 abbrev pub owing : Stage → Stage
 owing OpenGate = Carry (Body 0)
@@ -133,6 +138,7 @@ AreOwed t (batch ∷ batches) = CanFollow t batch × AreOwed (with_batch t batch
 
 -- What holds of a checkpoint of the first standing, which writes the second, on any disk (own)
 pub record IsDrafted (d : Disk) (s t : Standing) (owed : List (List CommandValue)) (stage : Stage) : Type 0 where
+  pub laid_out : IsLayout s.layout
   pub some : 1 ≤ t.layout.slots
   pub resting : IsResting d t
   pub fresh : IsSnapshot stage → IsFresh t

@@ -1,6 +1,6 @@
 //! A checkpoint that was begun: what it writes into the other area, and how far it is.
 
-ghost use Rattle.std.specs.Prelude.{◌≡◌, ◌≤◌, ◌<◌, ◌+◌, ◌*◌, List, [], ◌∷◌, length, IfOk, OnOk};
+ghost use Rattle.std.specs.Prelude.{◌≡◌, ◌≤◌, ◌<◌, ◌+◌, ◌*◌, true, List, [], ◌∷◌, length, IfOk, OnOk};
 ghost use Rattle.std.specs.VecDeque.{deque_capacity};
 ghost use Rattle.iol_disk.specs.Disk.{Disk};
 ghost use Rattle.iol_checkpoint.specs.BegunParts.{log_of, commands_owed, view_of, IsBegun, IsOwing, AreOwing, HasRoom, AreSame};
@@ -8,7 +8,8 @@ ghost use Rattle.iol_checkpoint.specs.Checkpoints.{target, new_begun, log_behind
 ghost use Rattle.iol_checkpoint.specs.Drafts.{stage_behind};
 ghost use Rattle.iol_checkpoint.specs.Pauses.{calls_of};
 ghost use Rattle.iol_batch.specs.Parts.{stands};
-ghost use Rattle.iol_layout.specs.Layout.{record_sectors};
+ghost use Rattle.iol_layout.specs.Geometry.{IsGeometry};
+ghost use Rattle.iol_layout.specs.Layout.{geometry_for, is_renewed, renewed, record_sectors};
 ghost use Rattle.iol_layout.specs.Standings.{IsResting};
 ghost use Rattle.iol_layout.specs.Body.{values};
 ghost use Rattle.iol_layout.specs.Meaning.{Standing};
@@ -49,21 +50,24 @@ impl Begun {
     /// # Errors
     /// Out of memory.
     pub fn new(parts: &Parts) -> Result<Begun, AllocError>
-        requires used { 0 < parts.now.place.used }
-        requires epoch { parts.now.place.epoch ≤ LAST_NUMBER }
+        requires geometry { IsGeometry (geometry_for parts.now.place.layout) }
+        requires used { is_renewed parts.now.place.layout ≡ true → 0 < parts.now.place.used }
+        requires epoch { parts.now.place.epoch ≤ LAST_NUMBER + 2 }
         requires ports { length parts.now.state ≡ parts.now.place.layout.ports }
         ensures view { IfOk result (λ b. view_of b ≡ new_begun (stands parts.now) parts.now.place.idle) }
         ensures begun { IfOk result (λ b. (d : Disk) → IsResting d (stands parts.now) → IsBegun d (stands parts.now) b) }
         // It makes a disk call for each slot, one for each sector of a port's record, and nine more, at most.
         ensures at_most { IfOk result (λ b. length (calls_of (stands parts.now) (view_of b))
-            ≤ parts.now.place.layout.slots + record_sectors parts.now.place.layout + 9) }
+            ≤ (renewed parts.now.place.layout).slots + record_sectors (renewed parts.now.place.layout) + 9) }
     {
+        let layout = parts.place.layout.renewed();
         let header = Header {
             epoch: parts.place.epoch + 1,
             base: parts.number,
+            version: Some(layout.version()),
         };
         let area = parts.place.area.other();
-        let plan = AreaPlan::of(parts.alloc, parts.place.layout, area, header, &parts.state)?;
+        let plan = AreaPlan::of(parts.alloc, layout, area, header, &parts.state)?;
         Ok(Begun {
             plan,
             stage: Stage::first(parts.place.idle),
@@ -88,8 +92,8 @@ impl Begun {
     /// The stage behind its disk call, in an area of so many slots.
     pub fn next_stage(&self, slots: usize) -> Option<Stage>
         requires few { slots ≤ 256 }
-        requires begun { (d : Disk) × (s : Standing) × IsBegun d s self.now × (slots ≡ s.layout.slots) }
-        ensures { (d : Disk) (s : Standing) → IsBegun d s self.now → slots ≡ s.layout.slots
+        requires begun { (d : Disk) × (s : Standing) × IsBegun d s self.now × (slots ≡ (renewed s.layout).slots) }
+        ensures { (d : Disk) (s : Standing) → IsBegun d s self.now → slots ≡ (renewed s.layout).slots
             → result ≡ stage_behind (target s (log_of self.now)) (commands_owed self.now.owed.items) self.now.stage }
     {
         let sectors = self.first_sectors();
@@ -101,7 +105,7 @@ impl Begun {
     /// carried.
     pub fn moved_to(self, next: Stage, slots: usize) -> Begun
         requires few { slots ≤ 256 }
-        requires begun { (d : Disk) × (s : Standing) × IsBegun d s self × (slots ≡ s.layout.slots) }
+        requires begun { (d : Disk) × (s : Standing) × IsBegun d s self × (slots ≡ (renewed s.layout).slots) }
         ensures plan { result.plan ≡ self.plan }
         ensures log { log_of result ≡ log_behind (log_of self) (commands_owed self.owed.items) self.stage }
         ensures owed { result.owed.items ≡ owed_behind self.owed.items self.stage }

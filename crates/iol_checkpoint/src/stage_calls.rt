@@ -18,6 +18,7 @@ use iol_layout::{Header, Place, gate};
 ///
 /// # Errors
 /// `Write` or `Sync`, where the disk fails.
+#[tactic(auto, using(iol_layout::proofs::Layouts::geometry_is))]
 pub fn make_stage<D: SectorDisk>(
     disk: &mut D,
     place: &Place,
@@ -29,11 +30,12 @@ pub fn make_stage<D: SectorDisk>(
         begun.now.stage ∷ []) (D.disk disk.old) (D.disk disk.new) result }
 {
     let area = place.area.other();
-    let area_gate = gate(place.layout.gate(area));
+    let layout = place.layout.renewed();
+    let area_gate = gate(layout.gate(area));
     match begun.stage {
         Stage::ClearHeader => {
-            let header = Header { epoch: 0, base: 0 };
-            disk.write(place.layout.header(area), &header.octets())
+            let header = Header::octets(layout.version(), 0, 0);
+            disk.write(layout.header(area), &header)
         }
         Stage::CloseGate => area_gate.close_gate(disk),
         Stage::CloseSlot(slot) => begun.plan.close_slot(disk, slot),
@@ -50,6 +52,7 @@ pub fn make_stage<D: SectorDisk>(
 }
 
 // Makes a disk call of the first batch that is owed, in the other area.
+#[tactic(auto, using(iol_layout::proofs::Layouts::geometry_is))]
 fn carry<D: SectorDisk>(
     disk: &mut D,
     place: &Place,
@@ -66,6 +69,7 @@ fn carry<D: SectorDisk>(
         unreachable!()
     };
     let place = Place {
+        layout: place.layout.renewed(),
         area: place.area.other(),
         used: begun.used,
         ..*place

@@ -56,5 +56,6 @@ unformatted (format.Disk fault) = Disk
 abbrev pub unrecovered : RecoverCause → Fault
 unrecovered (cause.Disk fault) = Disk
 unrecovered cause.NotFormatted = NotFormatted
+unrecovered cause.TooSmall = TooSmall
 unrecovered (cause.Damaged sector) = Damaged sector
 unrecovered cause.Memory = Memory

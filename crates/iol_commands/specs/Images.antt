@@ -3,10 +3,10 @@ use Rattle.std.specs.Prelude.{◌≡◌, ◌⊎◌, ℕ, List, ◌++◌, codes, 
 use Rattle.std.specs.Fmt.{decimal}
 use Rattle.iol_journal.specs.Geometry.{Geometry as Shape, IsGeometry}
 use Rattle.iol_journal.specs.Layout.{layout_of, total}
-use Rattle.iol_journal.specs.Meaning.{Cause, unformatted, damaged}
+use Rattle.iol_journal.specs.Meaning.{Cause, unformatted, too_small, damaged}
 use Rattle.iol_commands.specs.Fault.{status_of}
 use Rattle.iol_commands.specs.declared.fault.Fault.{Fault}
-use Rattle.iol_commands.specs.declared.fault.Fault.TheVariants.{Geometry, File, InUse, NotFormatted, Damaged, Disk, Memory}
+use Rattle.iol_commands.specs.declared.fault.Fault.TheVariants.{Geometry, File, InUse, NotFormatted, TooSmall, Damaged, Disk, Memory}
 use Rattle.iol_disk.specs.declared.image_fault.ImageFault.{ImageFault}
 use Rattle.iol_disk.specs.declared.image_fault.ImageFault.TheVariants as image
 
@@ -31,6 +31,7 @@ IsFileCause image_fault fault = ⊥
 -- read (format, Texts)
 abbrev pub TellsWhy : {Y : Type 0} → Result Y Cause → Fault → Type 0
 TellsWhy read NotFormatted = read ≡ Err unformatted
+TellsWhy read TooSmall = read ≡ Err too_small
 TellsWhy read (Damaged sector) = read ≡ Err (damaged sector)
 TellsWhy read Disk = Unit {0}
 TellsWhy read Memory = Unit {0}

@@ -25,6 +25,11 @@ entry_line entry =
 abbrev pub entry_lines : Stored → List ℕ
 entry_lines stored = flat_map entry_line stored.set.entries
 
+-- a label behind its name and between quotation marks, and nothing where it is empty (format, Texts)
+abbrev pub label_text : List ℕ → List ℕ
+label_text [] = []
+label_text (octet ∷ octets) = codes " label \"" ++ (octet ∷ octets ++ codes "\"")
+
 -- a configuration, each number behind its name (format, Texts)
 abbrev pub config_text : PortConfig → List ℕ
 config_text config =
@@ -49,7 +54,7 @@ set_text (Some stored) =
 abbrev pub port_line : ℕ → Port → List ℕ
 port_line number port =
     codes "port " ++ (decimal number ++ (codes " revision " ++ (decimal port.revision ++ (codes " " ++ (config_text port.config
-    ++ (codes " set " ++ (set_text port.stored ++ codes "\n")))))))
+    ++ (label_text port.config.label ++ (codes " set " ++ (set_text port.stored ++ codes "\n"))))))))
 
 -- the lines of the port with this number: its own, and behind it one for each parameter of its set (format, Texts)
 abbrev pub port_text : ℕ → Port → List ℕ

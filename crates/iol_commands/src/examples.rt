@@ -86,6 +86,8 @@ pub fn port_lines()
         ++ codes "2 entries 11 octets checksum 0000024F under 1 3 01F4 00ABCD\n" }
     ensures no_set { port_line 2 (port_of example_config 7)
         ≡ codes "port 2 revision 7 mode 1 validation 3 vendor 01F4 device 00ABCD set none\n" }
+    ensures label { port_line 1 (port_of (record example_config { label = codes "Pump 3" }) 2)
+        ≡ codes "port 1 revision 2 mode 1 validation 3 vendor 01F4 device 00ABCD label \"Pump 3\" set none\n" }
 {}
 
 /// A state of two ports: the parameters of a port stand behind its own line.

@@ -17,7 +17,7 @@ pub enum Fault<'a> {
     NotFormatted,
     /// The disk has a journal already.
     AlreadyFormatted,
-    /// The disk has too few sectors for the geometry.
+    /// The disk has too few sectors for the geometry, or one of an older layout keeps no slot in the layout that is written.
     TooSmall,
     /// This sector holds what no journal writes.
     Damaged { sector: usize },
@@ -139,6 +139,7 @@ impl From<RecoverCause> for Fault<'_> {
         match cause {
             RecoverCause::Disk(_) => Fault::Disk,
             RecoverCause::NotFormatted => Fault::NotFormatted,
+            RecoverCause::TooSmall => Fault::TooSmall,
             RecoverCause::Damaged { sector } => Fault::Damaged { sector },
             RecoverCause::Memory => Fault::Memory,
         }

@@ -123,7 +123,7 @@ pub fn text_of_disk<D: SectorDisk + Drop>(alloc: Global, disk: D) -> Result<Stri
     Ok(recovered?.to_string(alloc)?)
 }
 
-// Recovers the state on a disk, or says why not: `NotFormatted`, `Damaged`, `Disk` or `Memory`, as first met.
+// Recovers the state on a disk, or says why not: `NotFormatted`, `TooSmall`, `Damaged`, `Disk` or `Memory`, as first met.
 pub fn show_disk<D: SectorDisk>(alloc: Global, disk: D) -> Shown<D>
     ensures found { IfOk result.recovered (λ found. Shows (D.disk disk)
         (λ image. meaning (D.disk disk).sectors image ≡ Ok (record { number = found.number; state = found.state }))) }

@@ -7,7 +7,7 @@ ghost use Rattle.iol_types.specs.State.{port_numbered};
 ghost use Rattle.iol_commands.specs.Recovered.{entry_lines, port_line, port_text, port_lines, recovered_text};
 
 use crate::entry_text::write_entries;
-use iol_types::{MasterState, PortConfig, PortId, PortState, StoredSet};
+use iol_types::{Label, MasterState, PortConfig, PortId, PortState, StoredSet};
 use std::fmt;
 
 // How many commands were recovered, and the state after them.
@@ -90,8 +90,10 @@ fn write_port_line<W: fmt::Write>(
 ) -> fmt::Result
     ensures { WritesOnOk W.write_str_gives f.old result (port_line number port.now) f.new }
 {
+    let config = port.config();
     write!(f, "port {number} revision {} ", port.revision())?;
-    writeln!(f, "{} set {}", Named(port.config()), SetText(port.stored()))
+    write!(f, "{}{}", Named(config), Called(&config.label))?;
+    writeln!(f, " set {}", SetText(port.stored()))
 }
 
 // The lines of the parameters of the set that is stored for a port, if one is.
@@ -122,6 +124,24 @@ impl fmt::Display for Named {
         let device = config.device.number();
         write!(f, "mode {mode} validation {validation} ")?;
         write!(f, "vendor {vendor:04X} device {device:06X}")
+    }
+}
+
+// The label of a port, and nothing where it is empty.
+#[derive(Drop)]
+struct Called<'a>(&'a Label);
+
+impl fmt::Display for Called<'_> {
+    ghost use Rattle.std.specs.Prelude.{Some};
+    ghost use Rattle.iol_commands.specs.Recovered.{label_text};
+
+    ghost output = { λ called. Some (label_text called.0.now) };
+
+    fn fmt<W: fmt::Write>(&self, f: &mut fmt::Formatter<W>) -> fmt::Result {
+        if self.0.is_empty() {
+            return Ok(());
+        }
+        write!(f, " label \"{}\"", self.0)
     }
 }
 

@@ -11,6 +11,7 @@ use Rattle.iol_journal.specs.CheckpointViews.{begun_in}
 use Rattle.iol_journal.specs.Pauses.{calls_of, end_in}
 use Rattle.iol_journal.specs.Journals.{JournalView}
 use Rattle.iol_journal.specs.Meaning.{Standing}
+use Rattle.iol_journal.specs.Standings.{free_slots}
 use Rattle.iol_example.specs.Store.{freeing_calls, with_slot, MakesCalls}
 use Rattle.iol_example.specs.declared.store.WriteFault.{WriteFault}
 use Rattle.iol_example.specs.declared.store.WriteFault.TheVariants.{Refused, Failed}
@@ -90,11 +91,11 @@ pub same_calls : (s t : Standing) (b c : BegunView) → s ≡ t → b ≡ c → 
 same_calls s t b c same same_begun = rw (same, same_begun) refl
 
 -- where no slot is free, those of a checkpoint free one
-pub none_free : {D : Type 0} (j : JournalView D) → nat_lt j.standing.used j.standing.layout.slots ≡ false
+pub none_free : {D : Type 0} (j : JournalView D) → nat_lt 0 (free_slots j.standing) ≡ false
     → calls_of j.standing (begun_in j) ≡ freeing_calls j
 none_free j full = sym (ap (λ (free : Bool). if free then [] else calls_of j.standing (begun_in j)) full)
 
 -- where no slot is free, it stands with one behind a checkpoint
-pub full_slot : {D : Type 0} (j : JournalView D) → nat_lt j.standing.used j.standing.layout.slots ≡ false
+pub full_slot : {D : Type 0} (j : JournalView D) → nat_lt 0 (free_slots j.standing) ≡ false
     → end_in j.standing (begun_in j) ≡ with_slot j
 full_slot j full = sym (ap (λ (free : Bool). if free then j.standing else end_in j.standing (begun_in j)) full)

@@ -15,8 +15,9 @@ use Rattle.iol_journal.specs.Layout.{layout_of, total}
 use Rattle.iol_journal.specs.Meaning.{Standing, is_formatted}
 use Rattle.iol_journal.specs.Runs.{Run, IsRun}
 use Rattle.iol_journal.specs.Running.{IsRunAtRest}
+use Rattle.iol_journal.specs.Standings.{free_slots}
 use Rattle.iol_journal.specs.Phases.{IsAtRest}
-use Rattle.iol_journal.specs.RecoverCause.TheVariants.{NotFormatted, Damaged}
+use Rattle.iol_journal.specs.RecoverCause.TheVariants.{NotFormatted, Damaged, TooSmall as NoSlot}
 use Rattle.iol_journal.specs.FormatFault.TheVariants.{TooSmall, AlreadyFormatted}
 use Rattle.iol_journal.specs.BeginCause.{BeginCause}
 use Rattle.iol_journal.specs.BeginCause.TheVariants.{Memory}
@@ -37,11 +38,12 @@ pub record RestsAt {D : Type 0} (disk : D → Disk) (number : ℕ) (state : Stat
   pub means : EachMeans (disk j.disk) number state
 
 -- why a disk has no new store: too small is one with fewer sectors than the geometry asks for, and already formatted one
--- that shows so; what was formatted on an honest disk is never found damaged (own)
+-- that shows so; what was formatted on an honest disk is never found damaged or without a slot (own)
 abbrev pub IsCreateFault : Disk → Geometry → CreateFault → Type 0
 IsCreateFault d g (Format TooSmall) = d.sectors < total (layout_of g)
 IsCreateFault d g (Format AlreadyFormatted) = Shows d (λ image. is_formatted d.sectors image ≡ true)
 IsCreateFault d g (Recover NotFormatted) = IsTrue d.honest → ⊥
+IsCreateFault d g (Recover NoSlot) = IsTrue d.honest → ⊥
 IsCreateFault d g (Recover (Damaged sector)) = IsTrue d.honest → ⊥
 IsCreateFault d g fault = Unit {0}
 
@@ -61,12 +63,12 @@ abbrev pub IsRefusal : Standing → CommandValue → BeginCause → Type 0
 IsRefusal s command Memory = Unit {0}
 IsRefusal s command cause = batch_refusal s (s.number + 1) (command ∷ []) ≡ Some cause
 
--- the disk calls that free a slot where none is free, and where the journal stands with one (own)
+-- the disk calls that free a slot where none is free, as in an older layout, and where the journal stands with one (own)
 abbrev pub freeing_calls : {D : Type 0} → JournalView D → List Call
-freeing_calls j = if nat_lt j.standing.used j.standing.layout.slots then [] else calls_of j.standing (begun_in j)
+freeing_calls j = if nat_lt 0 (free_slots j.standing) then [] else calls_of j.standing (begun_in j)
 
 abbrev pub with_slot : {D : Type 0} → JournalView D → Standing
-with_slot j = if nat_lt j.standing.used j.standing.layout.slots then j.standing else end_in j.standing (begun_in j)
+with_slot j = if nat_lt 0 (free_slots j.standing) then j.standing else end_in j.standing (begun_in j)
 
 -- the disk calls of a write: those that free a slot, and behind them those of the command's batch (own)
 abbrev pub write_calls : {D : Type 0} → JournalView D → CommandValue → List Call

@@ -3,6 +3,7 @@ use Rattle.std.specs.Prelude.{ℕ, ◌&&◌, not, nat_le, Bool, if◌then◌else
 use Rattle.std.specs.Fmt.{decimal}
 use Rattle.std.specs.List.{flat_map}
 use Rattle.iol_journal.specs.Geometry.{Geometry}
+use Rattle.iol_journal.specs.Layout.{layout_of}
 use Rattle.iol_explain.specs.Places.{is_gate, place_at, place_text}
 use Rattle.iol_explain.specs.declared.place.Place.{Place}
 use Rattle.iol_explain.specs.declared.told_disk.ToldCall.{ToldCall}
@@ -24,8 +25,8 @@ standing place is_gate_open = if not (is_gate place) then [] else if is_gate_ope
 abbrev pub call_line : Geometry → ToldCall → List ℕ
 call_line geometry Sync = codes "disk sync\n"
 call_line geometry (Write sector is_gate_open) =
-    codes "disk write sector " ++ (decimal sector ++ (codes ", " ++ (place_text (place_at geometry sector)
-    ++ (standing (place_at geometry sector) is_gate_open ++ codes "\n"))))
+    codes "disk write sector " ++ (decimal sector ++ (codes ", " ++ (place_text (place_at (layout_of geometry) sector)
+    ++ (standing (place_at (layout_of geometry) sector) is_gate_open ++ codes "\n"))))
 
 -- the lines of disk calls (format, Explained runs)
 abbrev pub call_lines : Geometry → List ToldCall → List ℕ

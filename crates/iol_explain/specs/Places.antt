@@ -1,34 +1,33 @@
 -- What stands in a sector of a journal's disk.
 use Rattle.std.specs.Prelude.{ℕ, ◌+◌, ◌-◌, ◌*◌, ◌/◌, ◌%◌, ◌==◌, nat_lt, Bool, true, false, if◌then◌else◌, List, ◌++◌, codes}
 use Rattle.std.specs.Fmt.{decimal}
-use Rattle.iol_journal.specs.Geometry.{Geometry as Shape}
-use Rattle.iol_journal.specs.Layout.{area_sectors, layout_of}
+use Rattle.iol_journal.specs.Layout.{Layout, gate_at, record_sectors, total}
 use Rattle.iol_journal.specs.Area.{Area}
 use Rattle.iol_journal.specs.Area.TheVariants.{A, B}
 use Rattle.iol_explain.specs.declared.place.Place.{Place}
-use Rattle.iol_explain.specs.declared.place.Place.TheVariants.{Geometry, DiskGate, AreaGate, Header, Record, SlotGate, Body, Behind}
+use Rattle.iol_explain.specs.declared.place.Place.TheVariants.{Geometry, DiskGate, AreaGate, Header, Record, SlotGate, Body, Unused, Behind}
 
 -- what stands so far behind the records of an area: slots of a gate and 16 sectors of a body (format, Disk layout)
 abbrev pub place_in_slot : Area → ℕ → Place
 place_in_slot area offset =
     if offset % 17 == 0 then SlotGate area (offset / 17 + 1) else Body area (offset / 17 + 1)
 
--- what stands so far into an area: its gate, its header, 9 sectors for each port's record, and slots (format, Disk layout)
-abbrev pub place_in_area : Shape → Area → ℕ → Place
-place_in_area geometry area offset =
+-- what stands so far into an area: its gate, its header, the ports' records, slots, and what is unused (format, Disk layout)
+abbrev pub place_in_area : Layout → Area → ℕ → Place
+place_in_area layout area offset =
     if offset == 0 then AreaGate area
     else if offset == 1 then Header area
-    else if nat_lt offset (2 + 9 * geometry.ports) then Record area ((offset - 2) / 9 + 1)
-    else place_in_slot area (offset - 2 - 9 * geometry.ports)
+    else if nat_lt offset (2 + record_sectors layout) then Record area ((offset - 2) / layout.port_sectors + 1)
+    else if nat_lt offset (2 + record_sectors layout + 17 * layout.slots) then place_in_slot area (offset - 2 - record_sectors layout)
+    else Unused area
 
 -- what stands in a sector: the geometry, the gate of the disk, area A, area B (format, Disk layout)
-abbrev pub place_at : Shape → ℕ → Place
-place_at geometry sector =
+abbrev pub place_at : Layout → ℕ → Place
+place_at layout sector =
     if sector == 0 then Geometry
     else if sector == 1 then DiskGate
-    else if nat_lt sector (2 + area_sectors (layout_of geometry)) then place_in_area geometry A (sector - 2)
-    else if nat_lt sector (2 + 2 * area_sectors (layout_of geometry))
-    then place_in_area geometry B (sector - 2 - area_sectors (layout_of geometry))
+    else if nat_lt sector (gate_at layout B) then place_in_area layout A (sector - gate_at layout A)
+    else if nat_lt sector (total layout) then place_in_area layout B (sector - gate_at layout B)
     else Behind
 
 -- a gate stands there (format, Disk layout)
@@ -52,4 +51,5 @@ place_text (Header area) = codes "header of area " ++ area_name area
 place_text (Record area port) = codes "record of port " ++ (decimal port ++ (codes " in area " ++ area_name area))
 place_text (SlotGate area slot) = codes "gate of slot " ++ (decimal slot ++ (codes " in area " ++ area_name area))
 place_text (Body area slot) = codes "body of slot " ++ (decimal slot ++ (codes " in area " ++ area_name area))
+place_text (Unused area) = codes "behind the slots of area " ++ area_name area
 place_text Behind = codes "behind the journal"

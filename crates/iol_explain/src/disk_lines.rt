@@ -70,7 +70,7 @@ impl fmt::Display for CallLine {
                 sector,
                 is_gate_open,
             } => {
-                let place = place_of(self.geometry, sector);
+                let place = place_of(self.geometry.layout(), sector);
                 let standing = standing(place, is_gate_open);
                 writeln!(f, "disk write sector {sector}, {place}{standing}")
             }

@@ -6,6 +6,8 @@ ghost use Rattle.iol_types.specs.declared.command.CommandFault.TheVariants as fa
 ghost use Rattle.iol_ident.specs.Page.{page_of};
 ghost use Rattle.iol_ident.specs.declared.validation.IdentFault.TheVariants as ident;
 ghost use Rattle.iol_isdu.specs.Reading.{answer_of, request_of};
+ghost use Rattle.iol_journal.specs.Examples.{two_by_four, older_standing_of};
+ghost use Rattle.iol_journal.specs.Layout.{layout_of};
 ghost use Rattle.iol_trace.specs.Events as event;
 ghost use Rattle.iol_trace.specs.Statuses as trace;
 ghost use Rattle.iol_explain.specs.Answers.{answer_words};
@@ -283,10 +285,10 @@ pub fn rows()
         ∷ codes "validation 04, Parameter_Checksum is another: the set is written to the device" ∷ [] }
 {}
 
-/// What stands in the sectors of a disk with 2 ports and 4 slots.
+/// What stands in the sectors of a disk with 2 ports and 4 slots, of which an area keeps three, and in some of one in version 1.
 pub fn places()
-    ensures area_a { map (λ sector. place_text (place_at (record { ports = 2; slots = 4 }) sector)) (0 ∷ 1 ∷ 2 ∷ 3 ∷ 4 ∷ 12
-        ∷ 13 ∷ 21 ∷ 22 ∷ 23 ∷ 38 ∷ 39 ∷ 89 ∷ [])
+    ensures area_a { map (λ sector. place_text (place_at (layout_of two_by_four) sector)) (0 ∷ 1 ∷ 2 ∷ 3 ∷ 4 ∷ 20
+        ∷ 21 ∷ 37 ∷ 38 ∷ 39 ∷ 54 ∷ 55 ∷ 88 ∷ 89 ∷ [])
         ≡ codes "geometry"
         ∷ codes "gate of the disk"
         ∷ codes "gate of area A"
@@ -299,27 +301,31 @@ pub fn places()
         ∷ codes "body of slot 1 in area A"
         ∷ codes "body of slot 1 in area A"
         ∷ codes "gate of slot 2 in area A"
-        ∷ codes "body of slot 4 in area A" ∷ [] }
-    ensures area_b { map (λ sector. place_text (place_at (record { ports = 2; slots = 4 }) sector)) (90 ∷ 91 ∷ 92 ∷ 109 ∷ 110
-        ∷ 177 ∷ 178 ∷ [])
+        ∷ codes "body of slot 3 in area A"
+        ∷ codes "behind the slots of area A" ∷ [] }
+    ensures area_b { map (λ sector. place_text (place_at (layout_of two_by_four) sector)) (90 ∷ 91 ∷ 92 ∷ 125 ∷ 126
+        ∷ 176 ∷ 177 ∷ 178 ∷ [])
         ≡ codes "gate of area B"
         ∷ codes "header of area B"
         ∷ codes "record of port 1 in area B"
         ∷ codes "record of port 2 in area B"
         ∷ codes "gate of slot 1 in area B"
-        ∷ codes "body of slot 4 in area B"
+        ∷ codes "body of slot 3 in area B"
+        ∷ codes "behind the slots of area B"
         ∷ codes "behind the journal" ∷ [] }
+    ensures older { map (λ sector. place_text (place_at (older_standing_of 0 0).layout sector)) (12 ∷ 13 ∷ 22 ∷ 89 ∷ [])
+        ≡ codes "record of port 1 in area A"
+        ∷ codes "record of port 2 in area A"
+        ∷ codes "gate of slot 1 in area A"
+        ∷ codes "body of slot 4 in area A" ∷ [] }
 {}
 
 /// The lines of disk calls.
 pub fn disk_calls()
-    ensures open { call_line (record { ports = 2; slots = 4 }) (ToldCall.Write 22 true)
-        ≡ codes "disk write sector 22, gate of slot 1 in area A, open\n" }
-    ensures closed { call_line (record { ports = 2; slots = 4 }) (ToldCall.Write 90 false)
-        ≡ codes "disk write sector 90, gate of area B, closed\n" }
-    ensures body { call_line (record { ports = 2; slots = 4 }) (ToldCall.Write 23 true)
-        ≡ codes "disk write sector 23, body of slot 1 in area A\n" }
-    ensures sync { call_line (record { ports = 2; slots = 4 }) ToldCall.Sync ≡ codes "disk sync\n" }
+    ensures open { call_line two_by_four (ToldCall.Write 38 true) ≡ codes "disk write sector 38, gate of slot 1 in area A, open\n" }
+    ensures closed { call_line two_by_four (ToldCall.Write 90 false) ≡ codes "disk write sector 90, gate of area B, closed\n" }
+    ensures body { call_line two_by_four (ToldCall.Write 39 true) ≡ codes "disk write sector 39, body of slot 1 in area A\n" }
+    ensures sync { call_line two_by_four ToldCall.Sync ≡ codes "disk sync\n" }
 {}
 
 /// The calls of a run: those behind the first sync, which is that of the recovery.

@@ -11,10 +11,10 @@ use crate::object::Object;
 use crate::octets::{four_octets, one_octet};
 use crate::request_words::{Asked, asked_by};
 use crate::row::{Row, row_of};
-use iol_core::Work;
 use iol_dsindex::StateProperty;
 use iol_isdu::Answer;
 use iol_port::PortStatus;
+use iol_run::ToldWork;
 use iol_types::Validation;
 
 // What was told of a port so far: its work, and what it has read of its device since it began to look at it.
@@ -41,12 +41,12 @@ impl Known {
     }
 
     // The port was told its work.
-    pub(crate) fn attended(self, work: &Work) -> Known
+    pub(crate) fn attended(self, work: &ToldWork) -> Known
         ensures { result ≡ attended self (work_told work.now) }
     {
         Known {
-            validation: work.config.validation,
-            stored: work.checksum,
+            validation: work.validation(),
+            stored: work.checksum(),
             property: self.property,
             checksum: self.checksum,
         }

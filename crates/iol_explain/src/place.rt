@@ -1,13 +1,11 @@
 //! What stands in a sector of a journal's disk (docs/FORMATS.md, "Disk layout").
 ghost use Rattle.std.specs.Prelude.{◌≡◌, ◌<◌};
-ghost use Rattle.iol_journal.specs.Layout.{area_sectors, layout_of};
 ghost use Rattle.iol_explain.specs.Places.{area_name, is_gate, place_at, place_in_area, place_in_slot};
 
-use iol_journal::{Area, Geometry};
+use iol_journal::Area;
+use iol_journal::survey::Layout;
 use std::fmt;
 
-// The sectors of the record of a port in an area.
-const PORT_SECTORS: usize = 9;
 // The sectors of a slot: its gate, and its body.
 const SLOT_SECTORS: usize = 17;
 
@@ -21,50 +19,47 @@ pub enum Place {
     Record(Area, usize),
     SlotGate(Area, usize),
     Body(Area, usize),
+    /// Behind the slots of an area.
+    Unused(Area),
     /// Behind the journal.
     Behind,
 }
 
-/// What stands in this sector.
-pub fn place_of(geometry: Geometry, sector: usize) -> Place
-    ensures { result ≡ place_at geometry sector }
+/// What stands in this sector of a disk that is laid out so.
+pub fn place_of(layout: Layout, sector: usize) -> Place
+    ensures { result ≡ place_at layout sector }
 {
-    let area = area_sectors(geometry);
+    let (a, b) = (layout.gate(Area::A), layout.gate(Area::B));
     if sector == 0 {
         Place::Geometry
     } else if sector == 1 {
         Place::DiskGate
-    } else if sector < 2 + area {
-        place_in_area(geometry, Area::A, sector - 2)
-    } else if sector < 2 + 2 * area {
-        place_in_area(geometry, Area::B, sector - 2 - area)
+    } else if sector < b {
+        place_in_area(layout, Area::A, sector - a)
+    } else if sector < layout.sectors() {
+        place_in_area(layout, Area::B, sector - b)
     } else {
         Place::Behind
     }
 }
 
-// How many sectors an area has.
-fn area_sectors(geometry: Geometry) -> usize
-    ensures sectors { result ≡ area_sectors (layout_of geometry) }
-    ensures bound { result < 5000 }
-{
-    let _sectors = geometry.sectors();
-    2 + PORT_SECTORS * usize::from(geometry.ports()) + SLOT_SECTORS * geometry.slots()
-}
-
 // What stands so far into an area.
-fn place_in_area(geometry: Geometry, area: Area, offset: usize) -> Place
-    ensures { result ≡ place_in_area geometry area offset }
+fn place_in_area(layout: Layout, area: Area, offset: usize) -> Place
+    ensures { result ≡ place_in_area layout area offset }
 {
-    let records = PORT_SECTORS * usize::from(geometry.ports());
+    let port_sectors = layout.port_sectors();
+    let records = port_sectors * usize::from(layout.ports());
+    let slots = SLOT_SECTORS * layout.slots();
     if offset == 0 {
         Place::AreaGate(area)
     } else if offset == 1 {
         Place::Header(area)
     } else if offset < 2 + records {
-        Place::Record(area, (offset - 2) / PORT_SECTORS + 1)
-    } else {
+        Place::Record(area, (offset - 2) / port_sectors + 1)
+    } else if offset < 2 + records + slots {
         place_in_slot(area, offset - 2 - records)
+    } else {
+        Place::Unused(area)
     }
 }
 
@@ -109,6 +104,7 @@ impl fmt::Display for Place {
                 write!(f, "gate of slot {slot} in area {}", area_name(area))
             }
             Place::Body(area, slot) => write!(f, "body of slot {slot} in area {}", area_name(area)),
+            Place::Unused(area) => write!(f, "behind the slots of area {}", area_name(area)),
             Place::Behind => f.write_str("behind the journal"),
         }
     }

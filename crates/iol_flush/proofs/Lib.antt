@@ -2,4 +2,3 @@ pub mod Keeping
 pub mod Steps
 pub mod RunLaws
 pub mod Turns
-pub mod LastCalls

@@ -1,5 +1,5 @@
 -- The first disk call of a batch that was given, and the published list beside each disk call.
-use Rattle.std.proofs.Common.{◌≡◌, refl, ◌<◌, ◌+◌, ◌*◌, ◌||◌, nat_le, ◌++◌, ℕ, Bool, true, false, if◌then◌else◌, List, [], length}
+use Rattle.std.proofs.Common.{◌≡◌, refl, ◌<◌, ◌+◌, ◌*◌, ◌||◌, not, nat_le, ◌++◌, ℕ, Bool, true, false, if◌then◌else◌, List, [], length}
 use Rattle.std.proofs.Common.{inl, inr, Option, Some, None, is_some, Result, Ok, Err, sym, ◌∙◌, ap, subst, arith, length-append, rules}
 use Rattle.std.proofs.lemmas.List.Sums.{fold-append}
 use Rattle.iol_types.specs.Command.{CommandValue}
@@ -9,7 +9,8 @@ use Rattle.iol_disk.specs.Disk.{Disk}
 use Rattle.iol_disk.specs.declared.fault.DiskFault.{DiskFault}
 use Rattle.iol_front.specs.Fronts.{Start}
 use Rattle.iol_journal.specs.Batches.{batch_calls}
-use Rattle.iol_journal.specs.Begin.{batch_refusal, is_too_large, follows}
+use Rattle.iol_journal.specs.Begin.{batch_refusal, fits_no_area, wants_checkpoint, follows}
+use Rattle.iol_journal.specs.Layout.{is_renewed}
 use Rattle.iol_journal.specs.BegunViews.{BegunView}
 use Rattle.iol_journal.specs.CheckpointViews.{CheckpointingView, begun_in, checkpoint_of, stages_left}
 use Rattle.iol_journal.specs.Checkpointing.{IsCheckpointMoved, IsCheckpointDone}
@@ -23,7 +24,7 @@ use Rattle.iol_journal.specs.History.{History}
 use Rattle.iol_journal.specs.Batch.{Batch}
 use Rattle.iol_journal.specs.BeginCause.{BeginCause}
 use Rattle.iol_journal.specs.BeginCause.TheVariants.{TooLarge, NeedsCheckpoint, Misfit}
-use Rattle.iol_flush.specs.Stages.{is_due, wants_checkpoint, disk_of, next_calls, calls_owed, failure_of, paused_calls}
+use Rattle.iol_flush.specs.Stages.{is_due, disk_of, next_calls, calls_owed, failure_of, paused_calls}
 use Rattle.iol_flush.specs.Stages.{HasHistory, StandsBehind, IsInStep}
 use Rattle.iol_flush.specs.Steps.{HasMadeOfBatch, HasBegun, HasMadeOfCheckpoint, HasMade, HasAdvanced, IsLeftPaused, IsDiskStep}
 use Rattle.iol_flush.specs.declared.need.Need.TheVariants as need
@@ -44,7 +45,7 @@ finds_slot false false fits none = refl
 pub not_full : {D : Type 0} (j : JournalView D) (batch : Batch) → batch_refusal j.standing batch.first (values batch.commands.items) ≡ None
     → wants_checkpoint j.standing (values batch.commands.items) ≡ false
 not_full j batch none =
-    finds_slot (is_too_large j.standing.layout.slots (values batch.commands.items))
+    finds_slot (fits_no_area j.standing (values batch.commands.items))
     (wants_checkpoint j.standing (values batch.commands.items)) (follows j.standing batch.first (values batch.commands.items)) none
 
 next_of_batch : {D : Type 0} (j : JournalView D) (batch : Batch) → batch_refusal j.standing batch.first (values batch.commands.items) ≡ None
@@ -84,10 +85,10 @@ begun disk j batch w new (Err fault.Misfit) is step = absurd step.0
 
 -- a new checkpoint is begun where half of the slots are used, and one at least
 pub half_used : {D : Type 0} (j : JournalView D) (half : Bool) → half ≡ nat_le j.standing.layout.slots (2 * j.standing.used)
-    → (half ≡ true → 0 < j.standing.used) → is_due j ≡ true → j.begun ≡ None → 0 < j.standing.used
-half_used j half is used due none =
+    → (half ≡ true → 0 < j.standing.used) → is_due j ≡ true → j.begun ≡ None → is_renewed j.standing.layout ≡ true → 0 < j.standing.used
+half_used j half is used due none newest =
     used (is ∙ (ap (λ (paused : Option BegunView). is_some paused || nat_le j.standing.layout.slots (2 * j.standing.used)) (sym none)
-    ∙ due))
+    ∙ (ap (λ (test : Bool). not test || (is_some j.begun || nat_le j.standing.layout.slots (2 * j.standing.used))) (sym newest) ∙ due)))
 
 next_of_due : {D : Type 0} (j : JournalView D) → is_due j ≡ true → next_calls (Resting j) ≡ calls_of j.standing (begun_in j)
 next_of_due j due = ap (λ (due : Bool). if due then calls_of j.standing (begun_in j) else []) due
@@ -117,7 +118,7 @@ pub set_aside_step : {D : Type 0} (disk : D → Disk) (c more : CheckpointingVie
     → MakesFirst (stages_left c) (stages_left more) (disk c.disk) (disk more.disk) (Ok tt) → IsLeftPaused more new
     → IsDiskStep disk (Opening c) new (Ok tt)
 set_aside_step {D} disk c more (Resting j) moved made aside =
-    subst (λ (k : JournalView D). IsDiskStep disk (Opening c) (Resting k) (Ok tt)) (sym aside) (inr (more, moved, refl), made)
+    subst (λ (k : JournalView D). IsDiskStep disk (Opening c) (Resting k) (Ok tt)) (sym aside.1) (inr (more, moved, aside.0, refl), made)
 set_aside_step {D} disk c more (Opening d) moved made aside =
     subst (λ (e : CheckpointingView D). IsDiskStep disk (Opening c) (Opening e) (Ok tt)) (sym aside) (moved, made)
 set_aside_step disk c more (Given j b) moved made aside = absurd aside
@@ -196,7 +197,7 @@ checkpointed_in_step start published c batch (Failed d f) has was = absurd has
 advanced_in_step : {D : Type 0} (start : Start) (published : List CommandValue) (c : CheckpointingView D) (new : FlushStage D)
     → HasAdvanced c new → StandsBehind start published c.standing c.history → IsInStep start new published
 advanced_in_step start published c (Resting j) (inl is) was = done_in_step start published c j is was
-advanced_in_step {D} start published c (Resting j) (inr (more, moved, is)) was =
+advanced_in_step {D} start published c (Resting j) (inr (more, moved, may, is)) was =
     same_in_step start published c.standing j.standing c.history j.history
     (ap (λ (k : JournalView D). k.standing) is ∙ moved.standing) (ap (λ (k : JournalView D). k.history) is ∙ moved.history) was
 advanced_in_step start published c (Opening d) is was =

@@ -1,17 +1,19 @@
 -- Each disk call leaves fewer calls to make, and a batch of the queue is never refused for what it is.
-use Rattle.std.proofs.Common.{◌≡◌, ◌≤◌, ◌⊎◌, inl, inr, ◌+◌, ◌*◌, ◌||◌, ℕ, Bool, true, false, if◌then◌else◌, nat_lt, List, [], length}
-use Rattle.std.proofs.Common.{Option, Some, None, zero-add, Result, Ok, Err, refl, sym, ◌∙◌, ap, subst, arith, rules}
+use Rattle.std.proofs.Common.{◌≡◌, ◌≤◌, ◌⊎◌, inl, inr, ◌+◌, ◌-◌, ◌*◌, ◌||◌, ℕ, Bool, true, false, if◌then◌else◌, nat_lt, List, [], length}
+use Rattle.std.proofs.Common.{Option, Some, None, Result, Ok, Err, refl, sym, ◌∙◌, ap, subst, arith, rules}
 use Rattle.std.proofs.lemmas.Bool.Decides.{nat_tests}
 use Rattle.iol_disk.specs.Calls.{Call, MakesFirst}
 use Rattle.iol_disk.specs.Disk.{Disk}
 use Rattle.iol_journal.specs.Batches.{batch_calls}
-use Rattle.iol_journal.specs.Begin.{is_too_large, follows}
+use Rattle.iol_journal.specs.Begin.{is_too_large, fits_no_area, wants_checkpoint, follows}
 use Rattle.iol_journal.specs.Body.{slots_for, values}
 use Rattle.iol_journal.specs.BegunViews.{BegunView}
 use Rattle.iol_journal.specs.CheckpointViews.{CheckpointingView, begun_in, end_of, stages_left, checkpoint_of}
 use Rattle.iol_journal.specs.Pauses.{calls_of}
 use Rattle.iol_journal.specs.Checkpoints.{checkpointed, first_stage, stage_calls}
-use Rattle.iol_journal.specs.Layout.{Layout}
+use Rattle.iol_journal.specs.Layout.{Layout, is_renewed, renewed}
+use Rattle.iol_journal.specs.Standings.{free_slots}
+use Rattle.iol_journal.proofs.Layouts.{renewed-same, renewed-renewed, renewed-twice}
 use Rattle.iol_journal.specs.Journals.{JournalView, WritingView, calls_left, writing_of}
 use Rattle.iol_journal.specs.Meaning.{Standing}
 use Rattle.iol_journal.specs.Batch.{Batch}
@@ -23,7 +25,7 @@ use Rattle.iol_journal.specs.BeginCause.{BeginCause}
 use Rattle.iol_journal.specs.BeginCause.TheVariants.{TooLarge, NeedsCheckpoint, Misfit}
 use Rattle.iol_disk.specs.declared.fault.DiskFault.{DiskFault}
 use Rattle.iol_flush.specs.Flushing.{FitsBatch, GoesOn}
-use Rattle.iol_flush.specs.Stages.{failure_of, wants_checkpoint, disk_of, calls_owed, HasFewCalls, most_batch_calls, most_checkpoint_calls}
+use Rattle.iol_flush.specs.Stages.{failure_of, disk_of, calls_owed, HasFewCalls, most_batch_calls, most_checkpoint_calls}
 use Rattle.iol_flush.specs.Steps.{HasAdvanced, HasMadeOfBatch, HasMadeOfCheckpoint, HasBegun, HasMade, IsDiskStep, IsUnfit}
 use Rattle.iol_flush.specs.Turns.{freeing_calls, given_calls, calls_again, calls_needed}
 use Rattle.iol_flush.specs.declared.fault.FlushFault.{FlushFault}
@@ -32,18 +34,27 @@ use Rattle.iol_flush.specs.declared.stage.FlushStage.{FlushStage}
 use Rattle.iol_flush.specs.declared.stage.FlushStage.TheVariants.{Resting, Opening, Given, Checkpointing, Writing, Publishing, Failed}
 
 -- one call less is owed
-one_less : (calls left : List Call) (old new : Disk) → MakesFirst calls left old new (Ok tt) → length calls ≡ length left + 1
+pub one_less : (calls left : List Call) (old new : Disk) → MakesFirst calls left old new (Ok tt) → length calls ≡ length left + 1
 one_less calls left old new made = ap length made.order ∙ omega arith
 
 -- a batch that fits an area finds room where no slot is used
-finds_room : (slots used : ℕ) (commands : List CommandValue) → is_too_large slots commands ≡ false → used ≡ 0
-    → nat_lt slots (used + slots_for commands) ≡ false
-finds_room slots used commands small none =
-    rw (none, zero-add) (second (nat_lt 64 (length commands)) (nat_lt slots (slots_for commands)) small)
+finds_room : (s : Standing) (commands : List CommandValue) → is_renewed s.layout ≡ true → fits_no_area s commands ≡ false → s.used ≡ 0
+    → wants_checkpoint s commands ≡ false
+finds_room s commands newest small none =
+    let small_now : is_too_large s.layout.slots commands ≡ false =
+    ap (λ (l : Layout). is_too_large l.slots commands) (sym (renewed-same s.layout newest)) ∙ small in
+    let free : free_slots s ≡ s.layout.slots =
+    ap (λ (test : Bool). if test then s.layout.slots - s.used else 0) newest ∙ omega (arith, none) in
+    ap (λ (n : ℕ). nat_lt n (slots_for commands)) free
+    ∙ second (nat_lt 64 (length commands)) (nat_lt s.layout.slots (slots_for commands)) small_now
   where
     second : (many long : Bool) → (many || long) ≡ false → long ≡ false
     second true long small = absurd cc
     second false long small = small
+
+-- the layout behind a checkpoint, once it is renewed
+same_layout : (was now : Layout) → now ≡ renewed was → renewed now ≡ renewed was
+same_layout was now is = ap renewed is ∙ renewed-twice was
 
 -- a new checkpoint has two disk calls at least
 two_calls : {D : Type 0} (j : JournalView D) → j.begun ≡ None → 2 ≤ length (calls_of j.standing (begun_in j))
@@ -67,27 +78,29 @@ module _ {D : Type 0} (disk : D → Disk) where
 
   -- a checkpoint that ends with slots used may be followed by another one
   given_again : (c : CheckpointingView D) (commands : List CommandValue) (s : Standing) (used : Bool)
-      → is_too_large c.standing.layout.slots commands ≡ false → s ≡ end_of c → s.layout ≡ c.standing.layout
+      → fits_no_area c.standing commands ≡ false → s ≡ end_of c → s.layout ≡ renewed c.standing.layout
       → nat_lt 0 (end_of c).used ≡ used
-      → given_calls s.layout commands None (wants_checkpoint s commands)
-      ≤ most_batch_calls commands + 2 + (if used then most_checkpoint_calls c.standing.layout + 1 else 0)
+      → given_calls (renewed s.layout) commands None (wants_checkpoint s commands)
+      ≤ most_batch_calls commands + 2 + (if used then most_checkpoint_calls (renewed c.standing.layout) + 1 else 0)
   given_again c commands s true small same layout again =
       subst (λ (l : Layout). given_calls l commands None (wants_checkpoint s commands)
-      ≤ most_batch_calls commands + 2 + (most_checkpoint_calls c.standing.layout + 1)) (sym layout)
+      ≤ most_batch_calls commands + 2 + (most_checkpoint_calls (renewed c.standing.layout) + 1))
+      (sym (same_layout c.standing.layout s.layout layout))
       (either (wants_checkpoint s commands))
     where
-      either : (full : Bool) → given_calls c.standing.layout commands None full
-          ≤ most_batch_calls commands + 2 + (most_checkpoint_calls c.standing.layout + 1)
+      either : (full : Bool) → given_calls (renewed c.standing.layout) commands None full
+          ≤ most_batch_calls commands + 2 + (most_checkpoint_calls (renewed c.standing.layout) + 1)
       either true = omega arith
       either false = omega arith
   given_again c commands s false small same layout again =
       let none : s.used ≡ 0 = grind (arith, nat_tests, again, ap (λ (t : Standing). t.used) same) in
       let free : wants_checkpoint s commands ≡ false =
-      finds_room s.layout.slots s.used commands (ap (λ (l : Layout). is_too_large l.slots commands) layout ∙ small) none in
+      finds_room s commands (ap is_renewed layout ∙ renewed-renewed c.standing.layout)
+      (ap (λ (l : Layout). is_too_large l.slots commands) (same_layout c.standing.layout s.layout layout) ∙ small) none in
       rw free (omega arith)
 
   checkpointed_needs : (c : CheckpointingView D) (batch : Batch) (new : FlushStage D) (n : ℕ)
-      → is_too_large c.standing.layout.slots (values batch.commands.items) ≡ false
+      → fits_no_area c.standing (values batch.commands.items) ≡ false
       → HasMadeOfCheckpoint c batch new
       → length (calls_owed new) + 1 ≤ n → calls_needed new + 1 ≤ most_batch_calls (values batch.commands.items) + 2 + n + calls_again c
   checkpointed_needs c batch (Checkpointing d kept) n small has le =
@@ -95,14 +108,14 @@ module _ {D : Type 0} (disk : D → Disk) where
     where
       same_again : calls_again d ≡ calls_again c
       same_again =
-          ap (λ (s : Standing). if nat_lt 0 s.used then most_checkpoint_calls d.standing.layout + 1 else 0) has.0.end
-          ∙ ap (λ (s : Standing). if nat_lt 0 (end_of c).used then most_checkpoint_calls s.layout + 1 else 0) has.0.standing
+          ap (λ (s : Standing). if nat_lt 0 s.used then most_checkpoint_calls (renewed d.standing.layout) + 1 else 0) has.0.end
+          ∙ ap (λ (s : Standing). if nat_lt 0 (end_of c).used then most_checkpoint_calls (renewed s.layout) + 1 else 0) has.0.standing
   checkpointed_needs c batch (Given j kept) n small has le =
       let commands = values batch.commands.items in
       let again = given_again c commands j.standing (nat_lt 0 (end_of c).used) small has.0.standing has.0.layout refl in
-      subst (λ (begun : Option BegunView). given_calls j.standing.layout (values kept.commands.items) begun
+      subst (λ (begun : Option BegunView). given_calls (renewed j.standing.layout) (values kept.commands.items) begun
       (wants_checkpoint j.standing (values kept.commands.items)) + 1 ≤ most_batch_calls commands + 2 + n + calls_again c) (sym has.0.none)
-      (subst (λ (b : Batch). given_calls j.standing.layout (values b.commands.items) None
+      (subst (λ (b : Batch). given_calls (renewed j.standing.layout) (values b.commands.items) None
       (wants_checkpoint j.standing (values b.commands.items)) + 1 ≤ most_batch_calls commands + 2 + n + calls_again c) (sym has.1)
       (omega (arith, le, again)))
   checkpointed_needs c batch (Resting j) n small has le = absurd has
@@ -113,13 +126,14 @@ module _ {D : Type 0} (disk : D → Disk) where
 
   -- a new checkpoint carries none, so no other follows it
   again_in : (j : JournalView D) (begun : Option BegunView) → j.begun ≡ begun
-      → most_checkpoint_calls j.standing.layout + calls_again (checkpoint_of j) + 1 ≤ freeing_calls j.standing.layout begun
+      → most_checkpoint_calls (renewed j.standing.layout) + calls_again (checkpoint_of j) + 1
+      ≤ freeing_calls (renewed j.standing.layout) begun
   again_in j None none = rw none (omega arith)
   again_in j (Some b) some = either (nat_lt 0 (end_of (checkpoint_of j)).used)
     where
-      either : (used : Bool) → most_checkpoint_calls j.standing.layout +
-          (if used then most_checkpoint_calls j.standing.layout + 1 else 0) + 1
-          ≤ 2 * (most_checkpoint_calls j.standing.layout + 1)
+      either : (used : Bool) → most_checkpoint_calls (renewed j.standing.layout) +
+          (if used then most_checkpoint_calls (renewed j.standing.layout) + 1 else 0) + 1
+          ≤ 2 * (most_checkpoint_calls (renewed j.standing.layout) + 1)
       either true = omega arith
       either false = omega arith
 
@@ -127,42 +141,43 @@ module _ {D : Type 0} (disk : D → Disk) where
       → HasFewCalls new
       → MakesFirst (if full then calls_of j.standing (begun_in j) else batch_calls j.standing (values batch.commands.items))
       (calls_owed new) old next (Ok tt)
-      → calls_needed new + 1 ≤ given_calls j.standing.layout (values batch.commands.items) j.begun full
+      → calls_needed new + 1 ≤ given_calls (renewed j.standing.layout) (values batch.commands.items) j.begun full
   begun_needs true j batch (Checkpointing c kept) old next has few made =
       omega (
         arith,
         few.1,
         ap (λ (b : Batch). most_batch_calls (values b.commands.items)) has.1.1,
-        ap (λ (s : Standing). most_checkpoint_calls s.layout) has.1.0.standing,
+        ap (λ (s : Standing). most_checkpoint_calls (renewed s.layout)) has.1.0.standing,
         again_in j j.begun refl,
         same_again,
       )
     where
       same_again : calls_again c ≡ calls_again (checkpoint_of j)
       same_again =
-          ap (λ (s : Standing). if nat_lt 0 s.used then most_checkpoint_calls c.standing.layout + 1 else 0) has.1.0.end
-          ∙ ap (λ (s : Standing). if nat_lt 0 (end_of (checkpoint_of j)).used then most_checkpoint_calls s.layout + 1 else 0)
+          ap (λ (s : Standing). if nat_lt 0 s.used then most_checkpoint_calls (renewed c.standing.layout) + 1 else 0) has.1.0.end
+          ∙ ap (λ (s : Standing). if nat_lt 0 (end_of (checkpoint_of j)).used then most_checkpoint_calls (renewed s.layout) + 1 else 0)
           has.1.0.standing
   begun_needs true j batch (Given k kept) old next has few made = by_begun j.begun refl
     where
       by_begun : (begun : Option BegunView) → j.begun ≡ begun
-          → calls_needed (Given k kept) + 1 ≤ given_calls j.standing.layout (values batch.commands.items) begun true
+          → calls_needed (Given k kept) + 1 ≤ given_calls (renewed j.standing.layout) (values batch.commands.items) begun true
       by_begun None none =
           absurd (omega (arith, two_calls j none, one_less (calls_of j.standing (begun_in j)) [] old next made))
       by_begun (Some b) some =
-          subst (λ (begun : Option BegunView). given_calls k.standing.layout (values kept.commands.items) begun
+          subst (λ (begun : Option BegunView). given_calls (renewed k.standing.layout) (values kept.commands.items) begun
           (wants_checkpoint k.standing (values kept.commands.items)) + 1
-          ≤ given_calls j.standing.layout (values batch.commands.items) (Some b) true) (sym has.1.0.none)
+          ≤ given_calls (renewed j.standing.layout) (values batch.commands.items) (Some b) true) (sym has.1.0.none)
           (subst (λ (l : Layout). given_calls l (values kept.commands.items) None
           (wants_checkpoint k.standing (values kept.commands.items)) + 1
-          ≤ given_calls j.standing.layout (values batch.commands.items) (Some b) true) (sym has.1.0.layout)
-          (subst (λ (kept : Batch). given_calls j.standing.layout (values kept.commands.items) None
+          ≤ given_calls (renewed j.standing.layout) (values batch.commands.items) (Some b) true)
+          (sym (same_layout j.standing.layout k.standing.layout has.1.0.layout))
+          (subst (λ (kept : Batch). given_calls (renewed j.standing.layout) (values kept.commands.items) None
           (wants_checkpoint k.standing (values kept.commands.items)) + 1
-          ≤ given_calls j.standing.layout (values batch.commands.items) (Some b) true) (sym has.1.1)
+          ≤ given_calls (renewed j.standing.layout) (values batch.commands.items) (Some b) true) (sym has.1.1)
           (either (wants_checkpoint k.standing (values batch.commands.items)))))
         where
-          either : (full : Bool) → given_calls j.standing.layout (values batch.commands.items) None full + 1
-              ≤ given_calls j.standing.layout (values batch.commands.items) (Some b) true
+          either : (full : Bool) → given_calls (renewed j.standing.layout) (values batch.commands.items) None full + 1
+              ≤ given_calls (renewed j.standing.layout) (values batch.commands.items) (Some b) true
           either true = omega arith
           either false = omega arith
   begun_needs true j batch (Resting k) old next has few made = absurd has.1
@@ -212,7 +227,7 @@ only_full false false false small fit is = search rules
 -- a batch that goes on where the journal stands is not refused for what it is
 pub is_fit : {D : Type 0} (stage : FlushStage D) → GoesOn stage → IsUnfit stage → ⊥
 is_fit (Given j batch) goes unfit =
-    only_full (is_too_large j.standing.layout.slots (values batch.commands.items))
+    only_full (fits_no_area j.standing (values batch.commands.items))
     (wants_checkpoint j.standing (values batch.commands.items))
     (follows j.standing batch.first (values batch.commands.items))
     goes.small goes.next unfit
@@ -229,7 +244,8 @@ checkpointed_goes c batch (Checkpointing d kept) has goes =
     subst (λ (b : Batch). FitsBatch d.standing b) (sym has.1) (subst (λ (s : Standing). FitsBatch s batch) (sym has.0.standing) goes)
 checkpointed_goes c batch (Given j kept) has goes =
     subst (λ (b : Batch). FitsBatch j.standing b) (sym has.1) (record {
-      small = ap (λ (l : Layout). is_too_large l.slots (values batch.commands.items)) has.0.layout ∙ goes.small;
+      small = ap (λ (l : Layout). is_too_large l.slots (values batch.commands.items))
+          (same_layout c.standing.layout j.standing.layout has.0.layout) ∙ goes.small;
       next = ap (λ (n : ℕ). follows_at n j.standing.state) has.0.number ∙ ap (follows_at c.standing.number) has.0.state ∙ goes.next;
     })
   where

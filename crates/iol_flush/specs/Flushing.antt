@@ -4,7 +4,7 @@ use Rattle.iol_types.specs.Command.{CommandValue}
 use Rattle.iol_types.specs.State.{State, legal}
 use Rattle.iol_disk.specs.Content.{Image, IsImageSince}
 use Rattle.iol_disk.specs.Disk.{Disk}
-use Rattle.iol_journal.specs.Begin.{is_too_large, follows}
+use Rattle.iol_journal.specs.Begin.{fits_no_area, follows}
 use Rattle.iol_journal.specs.CheckpointRuns.{IsRunCheckpointing}
 use Rattle.iol_journal.specs.Journals.{JournalView}
 use Rattle.iol_journal.specs.Body.{values}
@@ -58,7 +58,7 @@ IsFlushing disk number state published waiting marks (Failed left fault) =
 
 -- a batch goes on where a journal stands: it fits an area, and follows (own)
 pub record FitsBatch (standing : Standing) (batch : Batch) : Type 0 where
-  pub small : is_too_large standing.layout.slots (values batch.commands.items) ≡ false
+  pub small : fits_no_area standing (values batch.commands.items) ≡ false
   pub next : follows standing batch.first (values batch.commands.items) ≡ true
 
 -- the batch that was given, if one is still to be begun, goes on where the journal stands (own)

@@ -1,5 +1,5 @@
 -- How far a flusher is: what it needs, its disk, and the disk calls that are owed.
-use Rattle.std.specs.Prelude.{◌≡◌, ◌≤◌, ℕ, ◌+◌, ◌*◌, nat_lt, nat_le, Bool, true, false, ◌||◌, if◌then◌else◌, List, [], ◌++◌, length}
+use Rattle.std.specs.Prelude.{◌≡◌, ◌≤◌, ℕ, ◌+◌, ◌*◌, nat_le, not, Bool, true, false, ◌||◌, if◌then◌else◌, List, [], ◌++◌, length}
 use Rattle.std.specs.Prelude.{Option, Some, None, is_some}
 use Rattle.iol_types.specs.Command.{CommandValue}
 use Rattle.iol_types.specs.State.{after}
@@ -7,13 +7,12 @@ use Rattle.iol_disk.specs.Calls.{Call}
 use Rattle.iol_disk.specs.declared.fault.DiskFault.{DiskFault}
 use Rattle.iol_front.specs.Fronts.{Start}
 use Rattle.iol_journal.specs.Batches.{batch_calls}
-use Rattle.iol_journal.specs.Begin.{is_too_large, room_in}
+use Rattle.iol_journal.specs.Begin.{fits_no_area, wants_checkpoint, room_in}
 use Rattle.iol_journal.specs.BegunViews.{BegunView}
-use Rattle.iol_journal.specs.Body.{slots_of, slots_for, values}
+use Rattle.iol_journal.specs.Body.{slots_of, values}
 use Rattle.iol_journal.specs.CheckpointViews.{begun_in, stages_left}
 use Rattle.iol_journal.specs.Pauses.{calls_of}
-use Rattle.iol_journal.specs.Drafts.{can_pause}
-use Rattle.iol_journal.specs.Layout.{Layout, record_sectors}
+use Rattle.iol_journal.specs.Layout.{Layout, is_renewed, renewed, record_sectors}
 use Rattle.iol_journal.specs.Meaning.{Standing}
 use Rattle.iol_journal.specs.Journals.{JournalView, calls_left}
 use Rattle.iol_journal.specs.Limits.{MOST_RECORD_OCTETS}
@@ -24,13 +23,21 @@ use Rattle.iol_flush.specs.declared.need.Need.TheVariants as need
 use Rattle.iol_flush.specs.declared.stage.FlushStage.{FlushStage}
 use Rattle.iol_flush.specs.declared.stage.FlushStage.TheVariants.{Resting, Opening, Given, Checkpointing, Writing, Publishing, Failed}
 
--- a checkpoint is to be gone on with, as one is paused, or to be begun, as half of the slots are used (own)
+-- a checkpoint is to be begun, as the journal has an older layout or half of its slots are used, or to be gone on with, as one is
+-- paused (own)
 abbrev pub is_due : {D : Type 0} → JournalView D → Bool
-is_due journal = is_some journal.begun || nat_le journal.standing.layout.slots (2 * journal.standing.used)
+is_due journal =
+    not (is_renewed journal.standing.layout)
+    || (is_some journal.begun || nat_le journal.standing.layout.slots (2 * journal.standing.used))
+
+-- the call that comes next where one is due: before that of an older layout no batch is taken (own)
+abbrev pub due_need : Bool → Need
+due_need true = need.BatchOrDisk
+due_need false = need.Disk
 
 -- the call that comes next (own)
 abbrev pub need_of : {D : Type 0} → FlushStage D → Need
-need_of (Resting journal) = if is_due journal then need.BatchOrDisk else need.Batch
+need_of (Resting journal) = if is_due journal then due_need (is_renewed journal.standing.layout) else need.Batch
 need_of (Opening checkpoint) = need.Disk
 need_of (Given journal batch) = need.Disk
 need_of (Checkpointing checkpoint batch) = need.Disk
@@ -60,9 +67,9 @@ abbrev pub room_of : {D : Type 0} → FlushStage D → ℕ
 room_of (Resting journal) = room_in journal.standing
 room_of stage = MOST_RECORD_OCTETS
 
--- records of no more than so many octets fit the area of a journal at rest (own)
+-- records of no more than so many octets fit an area of a journal at rest, in the layout that is written (own)
 abbrev pub FitsArea : {D : Type 0} → FlushStage D → ℕ → Type 0
-FitsArea (Resting journal) room = (octets : ℕ) → octets ≤ room → slots_of octets ≤ journal.standing.layout.slots
+FitsArea (Resting journal) room = (octets : ℕ) → octets ≤ room → slots_of octets ≤ (renewed journal.standing.layout).slots
 FitsArea stage room = Unit {0}
 
 -- the disk of a flusher (own)
@@ -87,10 +94,6 @@ calls_owed (Opening checkpoint) = stages_left checkpoint
 calls_owed (Checkpointing checkpoint batch) = stages_left checkpoint
 calls_owed (Writing writing) = calls_left writing
 calls_owed stage = []
-
--- too few slots of a journal are free for commands (own)
-abbrev pub wants_checkpoint : Standing → List CommandValue → Bool
-wants_checkpoint standing commands = nat_lt standing.layout.slots (standing.used + slots_for commands)
 
 -- the disk calls that come next: those of a batch that was given or, where too few slots are free for it, of a checkpoint; where
 -- no batch was given, those of the checkpoint that is due (own)
@@ -134,13 +137,13 @@ most_checkpoint_calls layout = 20 * layout.slots + record_sectors layout + 9
 abbrev pub most_batch_calls : List CommandValue → ℕ
 most_batch_calls commands = BODY_SECTORS * length commands + 3
 
--- what is on its way has few disk calls: those of a batch, those of a checkpoint into an area that the batch fits, and the last
--- one of a checkpoint for which no batch waits (own)
+-- what is on its way has few disk calls: those of a batch, those of a checkpoint into an area that the batch fits, and those of
+-- one for which no batch waits (own)
 abbrev pub HasFewCalls : {D : Type 0} → FlushStage D → Type 0
-HasFewCalls (Opening checkpoint) = can_pause checkpoint.begun.stage ≡ false
+HasFewCalls (Opening checkpoint) = length (stages_left checkpoint) ≤ most_checkpoint_calls (renewed checkpoint.standing.layout)
 HasFewCalls (Checkpointing checkpoint batch) =
-    (is_too_large checkpoint.standing.layout.slots (values batch.commands.items) ≡ false)
-    × (length (stages_left checkpoint) ≤ most_checkpoint_calls checkpoint.standing.layout)
+    (fits_no_area checkpoint.standing (values batch.commands.items) ≡ false)
+    × (length (stages_left checkpoint) ≤ most_checkpoint_calls (renewed checkpoint.standing.layout))
 HasFewCalls (Writing writing) = length (calls_left writing) ≤ most_batch_calls writing.commands
 HasFewCalls stage = Unit {0}
 

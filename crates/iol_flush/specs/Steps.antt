@@ -3,7 +3,9 @@ use Rattle.std.specs.Prelude.{◌≡◌, ◌⊎◌, Bool, true, false, List, ◌
 use Rattle.iol_types.specs.Command.{CommandValue}
 use Rattle.iol_disk.specs.Disk.{Disk}
 use Rattle.iol_front.specs.Fronts.{CommittedView}
-use Rattle.iol_journal.specs.Begin.{batch_refusal, is_too_large}
+use Rattle.iol_journal.specs.Begin.{batch_refusal, fits_no_area, wants_checkpoint}
+use Rattle.iol_journal.specs.Drafts.{may_pause}
+use Rattle.iol_journal.specs.Layout.{is_renewed}
 use Rattle.iol_journal.specs.CheckpointViews.{CheckpointingView, checkpoint_of, paused_in}
 use Rattle.iol_journal.specs.Checkpointing.{IsCheckpointMoved, IsCheckpointDone}
 use Rattle.iol_journal.specs.Journals.{JournalView, WritingView, writing_of}
@@ -13,7 +15,7 @@ use Rattle.iol_disk.specs.Calls.{Call, MakesFirst}
 use Rattle.iol_journal.specs.Batch.{Batch}
 use Rattle.iol_journal.specs.BeginCause.TheVariants.{TooLarge, Misfit}
 use Rattle.iol_journal.specs.Written.{WrittenView}
-use Rattle.iol_flush.specs.Stages.{FlusherView, wants_checkpoint, disk_of, next_calls, calls_owed, is_due, names_batch, need_of, failure_of}
+use Rattle.iol_flush.specs.Stages.{FlusherView, disk_of, next_calls, calls_owed, is_due, names_batch, need_of, failure_of}
 use Rattle.iol_flush.specs.declared.need.Need.TheVariants as need
 use Rattle.iol_flush.specs.declared.fault.FlushFault.{FlushFault}
 use Rattle.iol_flush.specs.declared.fault.FlushFault.TheVariants as fault
@@ -38,10 +40,10 @@ HasMadeOfCheckpoint c batch stage = ⊥
 
 -- a checkpoint is paused behind a disk call, and the journal at rest meanwhile (own)
 abbrev pub HasPaused : {D : Type 0} → CheckpointingView D → JournalView D → Type 0
-HasPaused {D} c j = (more : CheckpointingView D) × IsCheckpointMoved c more × (j ≡ paused_in more)
+HasPaused {D} c j =
+    (more : CheckpointingView D) × IsCheckpointMoved c more × (may_pause more.standing more.begun.stage ≡ true) × (j ≡ paused_in more)
 
--- a disk call of a checkpoint is made for which no batch waits: it is done, or paused, or its gate is written, behind which it cannot
--- be paused (own)
+-- a disk call of a checkpoint is made for which no batch waits: it is done, or paused, or it cannot be paused (own)
 abbrev pub HasAdvanced : {D : Type 0} → CheckpointingView D → FlushStage D → Type 0
 HasAdvanced c (Resting j) = IsCheckpointDone c j ⊎ HasPaused c j
 HasAdvanced c (Opening d) = IsCheckpointMoved c d
@@ -49,14 +51,14 @@ HasAdvanced c stage = ⊥
 
 -- a checkpoint is paused where it can be (own)
 abbrev pub IsLeftPaused : {D : Type 0} → CheckpointingView D → FlushStage D → Type 0
-IsLeftPaused c (Resting j) = j ≡ paused_in c
+IsLeftPaused c (Resting j) = (may_pause c.standing c.begun.stage ≡ true) × (j ≡ paused_in c)
 IsLeftPaused c (Opening d) = d ≡ c
 IsLeftPaused c stage = ⊥
 
 -- the first disk call is made after a batch was given: its own or, where too few slots are free for it, of a checkpoint (own)
 abbrev pub HasBegun : {D : Type 0} → Bool → JournalView D → Batch → FlushStage D → Type 0
 HasBegun true journal batch new =
-    (is_too_large journal.standing.layout.slots (values batch.commands.items) ≡ false)
+    (fits_no_area journal.standing (values batch.commands.items) ≡ false)
     × HasMadeOfCheckpoint (checkpoint_of journal) batch new
 HasBegun false journal batch new =
     (batch_refusal journal.standing batch.first (values batch.commands.items) ≡ None)
@@ -82,7 +84,7 @@ IsUnfit stage = ⊥
 -- a checkpoint that is paused takes none (own)
 abbrev pub MayWant : {D : Type 0} → FlushStage D → Type 0
 MayWant (Given journal batch) =
-    (is_too_large journal.standing.layout.slots (values batch.commands.items) ≡ false)
+    (fits_no_area journal.standing (values batch.commands.items) ≡ false)
     × (wants_checkpoint journal.standing (values batch.commands.items) ≡ true → journal.begun ≡ None)
 MayWant (Resting journal) = (is_due journal ≡ true) × (journal.begun ≡ None)
 MayWant stage = ⊥
@@ -139,10 +141,19 @@ HasJournal (Resting journal) back = back ≡ journal
 HasJournal (Publishing journal written) back = back ≡ journal
 HasJournal stage back = ⊥
 
--- what is handed back: the journal and the publisher where no batch is on its way, and else the disk (own)
+-- a batch that was given is not yet durable, or a checkpoint that cannot be paused is on its way (own)
+abbrev pub IsMidway : {D : Type 0} → FlushStage D → Type 0
+IsMidway (Opening checkpoint) = Unit {0}
+IsMidway (Given journal batch) = Unit {0}
+IsMidway (Checkpointing checkpoint batch) = Unit {0}
+IsMidway (Writing writing) = Unit {0}
+IsMidway stage = ⊥
+
+-- what is handed back: the journal and the publisher where no batch is on its way, whatever layout it has, and else the disk (own)
 abbrev pub IsEnd : {D F : Type 0} → FlusherView D → FlushEnd D F → Type 0
 IsEnd flusher (end.Closed journal publisher) =
     HasJournal flusher.stage journal × (publisher ≡ flusher.published)
-    × ((names_batch (need_of flusher.stage) ≡ true) ⊎ (need_of flusher.stage ≡ need.Publish))
-IsEnd flusher (end.Midway disk) = (need_of flusher.stage ≡ need.Disk) × (disk ≡ disk_of flusher.stage)
+    × ((names_batch (need_of flusher.stage) ≡ true) ⊎ (need_of flusher.stage ≡ need.Publish)
+    ⊎ (is_renewed journal.standing.layout ≡ false))
+IsEnd flusher (end.Midway disk) = IsMidway flusher.stage × (disk ≡ disk_of flusher.stage)
 IsEnd flusher (end.Faulted disk cause) = (failure_of flusher.stage ≡ Some cause) × (disk ≡ disk_of flusher.stage)

@@ -1,9 +1,10 @@
 //! One disk call of the journal that a flusher has.
 
 ghost use Rattle.std.specs.Prelude.{◌≡◌, ◌<◌, ◌⊎◌, true, false};
-ghost use Rattle.iol_journal.specs.Begin.{is_too_large};
+ghost use Rattle.iol_journal.specs.Begin.{fits_no_area, wants_checkpoint};
+ghost use Rattle.iol_journal.specs.Layout.{is_renewed};
 ghost use Rattle.iol_journal.specs.Body.{values};
-ghost use Rattle.iol_flush.specs.Stages.{HasFewCalls, is_due, names_disk, need_of, wants_checkpoint};
+ghost use Rattle.iol_flush.specs.Stages.{HasFewCalls, is_due, names_disk, need_of};
 ghost use Rattle.iol_flush.specs.Steps.{IsDiskStep, IsLeftPaused};
 ghost use Rattle.iol_flush.specs.Flushing.{KeepsRun, IsSound};
 ghost use Rattle.iol_flush.specs.declared.need.Need.TheVariants as need;
@@ -65,6 +66,7 @@ fn go_on<D: SectorDisk>(journal: Journal<D>) -> (FlushStage<D>, Result<(), Flush
 fn advance<D: SectorDisk>(
     checkpointing: Checkpointing<D>,
 ) -> (FlushStage<D>, Result<(), FlushFault>)
+    requires few { HasFewCalls (stage.Opening checkpointing) }
     ensures step { IsDiskStep D.disk (stage.Opening checkpointing) result.0 result.1 }
     ensures few { HasFewCalls result.0 }
     ensures run { KeepsRun D.disk (stage.Opening checkpointing) result.0 }
@@ -84,6 +86,7 @@ fn advance<D: SectorDisk>(
 
 // Pauses a checkpoint, where it can be paused, so that a batch may come before its next disk call.
 fn set_aside<D: SectorDisk>(checkpointing: Checkpointing<D>) -> FlushStage<D>
+    requires few { HasFewCalls (stage.Opening checkpointing) }
     ensures aside { IsLeftPaused checkpointing result }
     ensures few { HasFewCalls result }
     ensures run { KeepsRun D.disk (stage.Opening checkpointing) result }
@@ -133,8 +136,8 @@ fn begin_checkpoint<D: SectorDisk>(
     batch: Batch,
 ) -> (FlushStage<D>, Result<(), FlushFault>)
     requires wanted { wants_checkpoint journal.standing (values batch.commands.items) ≡ true }
-    requires small { is_too_large journal.standing.layout.slots (values batch.commands.items) ≡ false }
-    requires used { 0 < journal.standing.used }
+    requires small { fits_no_area journal.standing (values batch.commands.items) ≡ false }
+    requires used { is_renewed journal.standing.layout ≡ true → 0 < journal.standing.used }
     ensures step { IsDiskStep D.disk (stage.Given journal batch) result.0 result.1 }
     ensures few { HasFewCalls result.0 }
     ensures run { KeepsRun D.disk (stage.Given journal batch) result.0 }

@@ -41,8 +41,8 @@ pub enum FlushEnd<D: SectorDisk, F: Name> {
     /// The journal at rest, and the publisher, which lacks the last batch where that was still to be published. A checkpoint that
     /// was begun is paused in the journal.
     Closed(Journal<D>, Publisher<F>),
-    /// A batch was given and is not yet durable, or the gate of a checkpoint was written and is not yet durable. The disk may be
-    /// recovered again.
+    /// A batch was given and is not yet durable, or a checkpoint that cannot be paused is on its way. The disk may be recovered
+    /// again.
     Midway(D),
     /// A disk call had failed. A disk of which a sync has failed is not gone on with: many systems drop the pages of a
     /// failed sync and answer the next with success. Behind another fault the disk may be recovered again.

@@ -1,13 +1,14 @@
 //! Laws of a flusher, which no code calls: what it does to a run of its journal beside its disk calls, and how soon a batch
 //! is through. Proofs of other crates cite them from `proofs/RunLaws.antt` and `proofs/Turns.antt`, under the same names.
 
-ghost use Rattle.std.specs.Prelude.{◌≡◌, ◌≤◌, ◌<◌, ◌⊎◌, ℕ, ◌+◌, ◌*◌, true, List, ◌∷◌, ◌++◌, length, Result, Ok, None, is_some};
+ghost use Rattle.std.specs.Prelude.{◌≡◌, ◌≤◌, ◌<◌, ◌⊎◌, ℕ, ◌+◌, ◌*◌, true, false, List, ◌∷◌, ◌++◌, length, Result, Ok, None, is_some};
 ghost use Rattle.iol_types.specs.Command.{CommandValue};
 ghost use Rattle.iol_types.specs.State.{State, after, legal};
 ghost use Rattle.iol_disk.specs.Content.{clock};
 ghost use Rattle.iol_front.specs.Fronts.{CommittedView};
 ghost use Rattle.iol_journal.specs.Journals.{JournalView};
 ghost use Rattle.iol_journal.specs.Body.{values};
+ghost use Rattle.iol_journal.specs.Layout.{is_renewed};
 ghost use Rattle.iol_journal.specs.Runs.{Mark};
 ghost use Rattle.iol_journal.specs.Batch.{Batch};
 ghost use Rattle.iol_flush.specs.Flushing.{AreFirst, IsFlushing, GoesOn, HoldsBy};
@@ -89,10 +90,13 @@ pub fn goes_on<D: SectorDisk>()
     ensures { (old new : FlushStage D) (answer : Result Unit FlushFault) → IsDiskStep D.disk old new answer → GoesOn old → GoesOn new }
 {}
 
-/// While the journal rests a disk call is named beside the batch exactly where a checkpoint is paused, or half of the slots are used.
+/// While the journal rests a disk call is named beside the batch exactly where a checkpoint is paused, or half of the slots are used;
+/// and alone exactly where its layout is an older one.
 pub fn due_at_half<D: SectorDisk>()
-    ensures batch { (j : JournalView D) → need_of (Resting j) ≡ need.Batch
+    ensures batch { (j : JournalView D) → need_of (Resting j) ≡ need.Batch → is_renewed j.standing.layout ≡ true
         → (j.begun ≡ None) × (2 * j.standing.used < j.standing.layout.slots) }
-    ensures either { (j : JournalView D) → need_of (Resting j) ≡ need.BatchOrDisk
+    ensures either { (j : JournalView D) → need_of (Resting j) ≡ need.BatchOrDisk → is_renewed j.standing.layout ≡ true
         → (is_some j.begun ≡ true) ⊎ (j.standing.layout.slots ≤ 2 * j.standing.used) }
+    ensures renewed { (j : JournalView D) → is_renewed j.standing.layout ≡ true → need_of (Resting j) ≡ need.Disk → ⊥ }
+    ensures older { (j : JournalView D) → is_renewed j.standing.layout ≡ false → need_of (Resting j) ≡ need.Disk }
 {}

@@ -12,7 +12,8 @@ use iol_journal::{Batch, Checkpointing, Journal, Writing, Written};
 pub enum FlushStage<D: SectorDisk> {
     /// All that was given is published. A checkpoint may be paused.
     Resting(Journal<D>),
-    /// The gate of the other area is written, and its sync is owed. No batch waits.
+    /// A checkpoint that cannot be paused is on its way, as it writes another layout, or the gate of the other area is written. No
+    /// batch waits.
     Opening(Checkpointing<D>),
     /// A batch was given, and no disk call of it is made yet.
     Given(Journal<D>, Batch),
@@ -55,16 +56,19 @@ impl<D: SectorDisk> FlushStage<D> {
 fn need_at_rest<D: SectorDisk>(journal: &Journal<D>) -> Need
     ensures { result ≡ need_of (Resting journal.now) }
 {
-    if is_due(journal) {
+    if !is_due(journal) {
+        Need::Batch
+    } else if journal.is_renewed() {
         Need::BatchOrDisk
     } else {
-        Need::Batch
+        Need::Disk
     }
 }
 
-// Whether a checkpoint is to be begun, as half of the slots are used, or gone on with, as one is paused.
+// Whether a checkpoint is to be begun, as the layout is an older one or half of the slots are used, or gone on with, as one is
+// paused.
 fn is_due<D: SectorDisk>(journal: &Journal<D>) -> bool
     ensures { result ≡ is_due journal.now }
 {
-    journal.is_paused() || journal.is_half_used()
+    !journal.is_renewed() || journal.is_paused() || journal.is_half_used()
 }

@@ -1,12 +1,13 @@
 -- While the gate of the disk is shut nothing counts that is written behind it; what is there counts once the gate is durable and open.
 use Rattle.std.proofs.Common.{◌≡◌, ◌≢◌, ◌≤◌, ℕ, zero, suc, false, List, [], ◌∷◌, ◌++◌, inl, sym, ◌∙◌, ap, subst, take}
+use Rattle.iol_record.specs.declared.version.Version.{Version}
 use Rattle.iol_disk.specs.Content.{Image, Content, IsImage, reads, wrote, synced}
 use Rattle.iol_disk.specs.Calls.{Call, write, sync, content_after, content_after_all}
 use Rattle.iol_disk.proofs.DiskLaws.{reads-is_image, image-wrote, image-synced, reads-wrote_here, reads-wrote_other, HasOnTheWay}
 use Rattle.iol_slots.specs.Gate.{is_open, open_gate}
 use Rattle.iol_slots.proofs.SlotLaws.{is_open-open_gate}
 use Rattle.iol_layout.specs.Geometry.{Geometry}
-use Rattle.iol_layout.specs.Layout.{layout_of, total}
+use Rattle.iol_layout.specs.Layout.{laid_out, total}
 use Rattle.iol_format.specs.Formatting.{IsEmptyJournalOf, IsEmptyOrUnformatted}
 use Rattle.iol_format.proofs.EmptyParts.{IsEmptyJournal}
 use Rattle.iol_format.specs.Orders.{opening_calls}
@@ -61,8 +62,8 @@ way_append (call ∷ first) second c P a b zero image is = a zero image is
 way_append (call ∷ first) second c P a b (suc place) image is =
     way_append first second (content_after call c) P (λ n. a (suc n)) b place image is
 
-module _ (g : Geometry) (sectors : ℕ) (fits : total (layout_of g) ≤ sectors) (c : Content) (shut : Shut c)
-    (journal : IsEmptyJournal g (reads c)) where
+module _ (version : Version) (g : Geometry) (sectors : ℕ) (fits : total (laid_out version g) ≤ sectors) (c : Content) (shut : Shut c)
+    (journal : IsEmptyJournal version g (reads c)) where
   unformatted_now : (image : Image) → is_open (image DISK_GATE) ≡ false → IsEmptyOrUnformatted g sectors image
   unformatted_now image closed = inl (shut-unformatted sectors image closed)
 
@@ -73,8 +74,8 @@ module _ (g : Geometry) (sectors : ℕ) (fits : total (layout_of g) ≤ sectors)
   gate_written : (image : Image) → IsImage gated image → IsEmptyOrUnformatted g sectors image
   gate_written image is =
       let w = image-wrote DISK_GATE open_gate (synced c) image is in
-      let was = subst (IsEmptyJournal g) (sym (image-synced c w.0 w.1)) journal in
-      empty-or_unformatted g sectors image fits (journal-behind_gate g image w.0 w.2 was)
+      let was = subst (IsEmptyJournal version g) (sym (image-synced c w.0 w.1)) journal in
+      empty-or_unformatted version g sectors image fits (journal-behind_gate version g image w.0 w.2 was)
 
   -- the gate is opened behind a sync
   pub opened : HasOnTheWay opening_calls c (IsEmptyOrUnformatted g sectors)
@@ -96,5 +97,5 @@ module _ (g : Geometry) (sectors : ℕ) (fits : total (layout_of g) ≤ sectors)
   pub durable : (image : Image) → IsImage (content_after_all opening_calls c) image → IsEmptyJournalOf g sectors image
   durable image is =
       subst (λ (left : Image). IsEmptyJournalOf g sectors left) (sym (image-synced gated image is))
-      (empty-journal g sectors (reads gated) fits (ap is_open (reads-wrote_here DISK_GATE open_gate (synced c)) ∙ is_open-open_gate)
-      (journal-behind_gate g (reads gated) (reads c) (λ i other. reads-wrote_other DISK_GATE open_gate (synced c) i other) journal))
+      (empty-journal version g sectors (reads gated) fits (ap is_open (reads-wrote_here DISK_GATE open_gate (synced c)) ∙ is_open-open_gate)
+      (journal-behind_gate version g (reads gated) (reads c) (λ i other. reads-wrote_other DISK_GATE open_gate (synced c) i other) journal))

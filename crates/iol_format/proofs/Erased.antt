@@ -14,8 +14,9 @@ use Rattle.iol_disk.proofs.DiskLaws.{reads-is_image, image-wrote, image-synced, 
 use Rattle.iol_disk.proofs.DiskLaws.{leaves_sync, made_one, made_append, made_then_same, failed_first, failed_later}
 use Rattle.iol_slots.specs.Gate.{is_open, closed_gate}
 use Rattle.iol_slots.proofs.SlotLaws.{is_open-closed_gate}
-use Rattle.iol_layout.specs.Layout.{Layout, gate_at, header_at}
-use Rattle.iol_layout.specs.Meaning.{unformatted, is_formatted, layout_in, header_in, in_use_in, greatest, ports_from, log_from}
+use Rattle.iol_layout.specs.Layout.{Layout, layout_of, gate_at, header_at}
+use Rattle.iol_layout.specs.Meaning.{unformatted, is_formatted, geometry_in, header_in, in_use_in, greatest, ports_from}
+use Rattle.iol_layout.specs.Meaning.{log_from, layout_used}
 use Rattle.iol_layout.specs.Meaning.{standing_in, meaning}
 use Rattle.iol_format.specs.Erasing.{erase_calls, MakesErasureOf, MakesErasure, MeansAsBeforeOrNothing, EachUnformatted}
 use Rattle.iol_layout.specs.declared.area.Area.{Area}
@@ -36,8 +37,8 @@ module _ (sectors : ℕ) (old new : Image) (same : (i : ℕ) → i ≢ DISK_GATE
   behind layout A = omega arith
   behind layout B = omega arith
 
-  layout_same : layout_in sectors new ≡ layout_in sectors old
-  layout_same = rw (gate, same GEOMETRY (omega arith)) refl
+  geometry_same : geometry_in sectors new ≡ geometry_in sectors old
+  geometry_same = rw (gate, same GEOMETRY (omega arith)) refl
 
   header_same : (layout : Layout) (a : Area) → header_in layout new a ≡ header_in layout old a
   header_same layout a =
@@ -63,10 +64,10 @@ module _ (sectors : ℕ) (old new : Image) (same : (i : ℕ) → i ≢ DISK_GATE
   standing_same : standing_in sectors new ≡ standing_in sectors old
   unfolding standing_in
   standing_same =
-      rw layout_same
-      (bind_same (layout_in sectors old) _ _ (λ layout. rw (in_use_same layout)
-      (bind_same (in_use_in layout old) _ _ (λ u. rw (ports_same layout u.area)
-      (bind_same (ports_from layout u.area old 0 layout.ports) _ _ (λ ports. rw (log_same layout u ports) refl))))))
+      rw geometry_same
+      (bind_same (geometry_in sectors old) _ _ (λ g. rw (in_use_same (layout_of g))
+      (bind_same (in_use_in (layout_of g) old) _ _ (λ u. rw (ports_same (layout_used g u) u.area)
+      (bind_same (ports_from (layout_used g u) u.area old 0 g.ports) _ _ (λ ports. rw (log_same (layout_used g u) u ports) refl))))))
 
   pub meaning_same : meaning sectors new ≡ meaning sectors old
   meaning_same = rw standing_same refl

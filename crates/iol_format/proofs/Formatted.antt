@@ -1,6 +1,8 @@
 -- What a stop leaves of a disk while it is formatted.
 use Rattle.std.proofs.Common.{◌≡◌, ◌≤◌, ◌⊎◌, ℕ, ◌+◌, Bool, true, false, IsTrue, ◌∷◌, [], ◌++◌, Result, Ok, Err, IfErr, inl, inr, ◌∙◌, ap}
 use Rattle.std.proofs.Common.{sym, subst, arith, length-append}
+use Rattle.iol_record.specs.Record.{newest}
+use Rattle.iol_record.specs.declared.version.Version.{Version}
 use Rattle.iol_disk.specs.Content.{Image, Content, IsImage, IsImageSince, clock, now, reads, synced}
 use Rattle.iol_disk.specs.Disk.{Disk, After, Same, Shows}
 use Rattle.iol_disk.specs.Moments.{LeavesOnly}
@@ -11,7 +13,7 @@ use Rattle.iol_disk.proofs.DiskLaws.{then_same, weaker, quiet_sync}
 use Rattle.iol_disk.specs.Calls.{content_after_all, Made, FailedIn, Makes}
 use Rattle.iol_slots.specs.Gate.{is_open, IsShut}
 use Rattle.iol_layout.specs.Geometry.{Geometry, IsGeometry}
-use Rattle.iol_layout.specs.Layout.{layout_of, total}
+use Rattle.iol_layout.specs.Layout.{laid_out, layout_of, total}
 use Rattle.iol_format.specs.Formatting.{EachIsEmptyJournal, IfUntouched, IsEmptyJournalOf, IsEmptyOrUnformatted, LeavesFormat}
 use Rattle.iol_format.specs.Orders.{MakesFormat, journal_writes, opening_calls, format_calls}
 use Rattle.iol_layout.specs.declared.geometry.TheConstants.{DISK_GATE}
@@ -58,31 +60,34 @@ pub behind-nothing : (g : Geometry) (d : Disk) → WritesBehind g d d
 behind-nothing g d shut = started d _ (λ h image is. inl (shut-unformatted d.sectors image (shut h image is)))
 
 -- the way of the calls behind the first sync
-way : (g : Geometry) (sectors : ℕ) (c : Content) → IsGeometry g → total (layout_of g) ≤ sectors → Shut c
-    → HasOnTheWay (journal_writes g ++ opening_calls) c (IsEmptyOrUnformatted g sectors)
-way g sectors c is fits shut =
-    way_append (journal_writes g) opening_calls c (IsEmptyOrUnformatted g sectors)
+way : (version : Version) (g : Geometry) (sectors : ℕ) (c : Content) → IsGeometry g → total (laid_out version g) ≤ sectors → Shut c
+    → HasOnTheWay (journal_writes version g ++ opening_calls) c (IsEmptyOrUnformatted g sectors)
+way version g sectors c is fits shut =
+    way_append (journal_writes version g) opening_calls c (IsEmptyOrUnformatted g sectors)
     (λ place image is_image.
-    inl (shut-unformatted sectors image (spared (journal_writes g) c (spares-journal g) shut place image is_image)))
-    (opened g sectors fits (content_after_all (journal_writes g) c) (spared-end (journal_writes g) c (spares-journal g) shut)
-    (journal-writes g c is))
+    inl (shut-unformatted sectors image (spared (journal_writes version g) c (spares-journal version g) shut place image is_image)))
+    (opened version g sectors fits (content_after_all (journal_writes version g) c)
+    (spared-end (journal_writes version g) c (spares-journal version g) shut)
+    (journal-writes version g c is))
 
-pub behind-makes : (result : Result Unit DiskFault) (g : Geometry) (old new : Disk) → IsGeometry g → total (layout_of g) ≤ old.sectors
-    → Makes (journal_writes g ++ opening_calls) old new result → WritesBehind g old new
-behind-makes (Ok done) g old new is fits made shut = made_leaves _ old new _ made (λ h. way g old.sectors old.content is fits (shut h))
-behind-makes (Err told) g old new is fits failed shut =
-    failed_leaves _ told old new _ failed (λ h. way g old.sectors old.content is fits (shut h))
+pub behind-makes : (result : Result Unit DiskFault) (version : Version) (g : Geometry) (old new : Disk) → IsGeometry g
+    → total (laid_out version g) ≤ old.sectors
+    → Makes (journal_writes version g ++ opening_calls) old new result → WritesBehind g old new
+behind-makes (Ok done) version g old new is fits made shut =
+    made_leaves _ old new _ made (λ h. way version g old.sectors old.content is fits (shut h))
+behind-makes (Err told) version g old new is fits failed shut =
+    failed_leaves _ told old new _ failed (λ h. way version g old.sectors old.content is fits (shut h))
 
 -- all of them made, each image is the empty journal
-pub made-empty : (g : Geometry) (old new : Disk) → IsGeometry g → total (layout_of g) ≤ old.sectors
-    → Made (journal_writes g ++ opening_calls) old new → IsShut DISK_GATE old → EachIsEmptyJournal new g
-made-empty g old new is fits made shut h image is_image =
+pub made-empty : (version : Version) (g : Geometry) (old new : Disk) → IsGeometry g → total (laid_out version g) ≤ old.sectors
+    → Made (journal_writes version g ++ opening_calls) old new → IsShut DISK_GATE old → EachIsEmptyJournal new g
+made-empty version g old new is fits made shut h image is_image =
     let h_old = subst IsTrue made.after.honest h in
-    let written = content_after_all (journal_writes g) old.content in
-    let all = made.after.content h_old ∙ content_after_append (journal_writes g) opening_calls old.content in
+    let written = content_after_all (journal_writes version g) old.content in
+    let all = made.after.content h_old ∙ content_after_append (journal_writes version g) opening_calls old.content in
     subst (λ (n : ℕ). IsEmptyJournalOf g n image) (sym made.after.sectors)
-    (durable g old.sectors fits written (spared-end (journal_writes g) old.content (spares-journal g) (shut h_old))
-    (journal-writes g old.content is) image
+    (durable version g old.sectors fits written (spared-end (journal_writes version g) old.content (spares-journal version g) (shut h_old))
+    (journal-writes version g old.content is) image
     (subst (λ (c : Content). IsImage c image) all is_image))
 
 behind-synced : (g : Geometry) (old mid read new : Disk) → After synced old mid → Same mid read
@@ -127,8 +132,21 @@ untouched (Err Memory) P p = p
 untouched (Err (DiskFailed fault)) P p = tt
 
 -- no call of a format but a write or a sync fails so
-pub format_failed : (g : Geometry) (told : DiskFault) (old new : Disk) → FailedIn (format_calls g) told old new
-    → MakesFormat g old new (Err (DiskFailed told))
-format_failed g Read old new failed = absurd (no_read failed.call failed.kind)
-format_failed g Write old new failed = failed
-format_failed g Sync old new failed = failed
+pub format_failed : (version : Version) (g : Geometry) (told : DiskFault) (old new : Disk) → FailedIn (format_calls version g) told old new
+    → MakesFormat version g old new (Err (DiskFailed told))
+format_failed version g Read old new failed = absurd (no_read failed.call failed.kind)
+format_failed version g Write old new failed = failed
+format_failed version g Sync old new failed = failed
+
+-- the version that is written, as a call gives it
+pub fits-newest : (version : Version) (g : Geometry) (sectors : ℕ) → version ≡ newest → total (layout_of g) ≤ sectors
+    → total (laid_out version g) ≤ sectors
+fits-newest version g sectors is fits = subst (λ (v : Version). total (laid_out v g) ≤ sectors) (sym is) fits
+
+pub made-newest : {old new : Disk} (version : Version) (g : Geometry) → version ≡ newest → Made (format_calls version g) old new
+    → Made (format_calls newest g) old new
+made-newest {old} {new} version g is made = subst (λ (v : Version). Made (format_calls v g) old new) is made
+
+pub failed-newest : {told : DiskFault} {old new : Disk} (version : Version) (g : Geometry) → version ≡ newest
+    → FailedIn (format_calls version g) told old new → FailedIn (format_calls newest g) told old new
+failed-newest {told} {old} {new} version g is failed = subst (λ (v : Version). FailedIn (format_calls v g) told old new) is failed

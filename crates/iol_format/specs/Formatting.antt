@@ -1,14 +1,16 @@
 -- What a format answers, and what it leaves.
-use Rattle.std.specs.Prelude.{◌≡◌, ◌<◌, ◌⊎◌, ◌+◌, ℕ, IsTrue, Ok, Err}
+use Rattle.std.specs.Prelude.{◌≡◌, ◌<◌, ◌⊎◌, ◌+◌, ℕ, IsTrue, Some, Ok, Err}
 use Rattle.iol_types.specs.State.{empty_state}
+use Rattle.iol_record.specs.declared.version.Version.{Version}
 use Rattle.iol_disk.specs.Content.{Image, EachImage, IsImageSince, clock}
 use Rattle.iol_disk.specs.Disk.{Disk}
 use Rattle.iol_area.specs.AreaPlans.{IsAreaPlan}
 use Rattle.iol_layout.specs.Geometry.{Geometry}
-use Rattle.iol_layout.specs.Layout.{layout_of}
-use Rattle.iol_layout.specs.Meaning.{unformatted, layout_in, meaning}
+use Rattle.iol_layout.specs.Layout.{laid_out}
+use Rattle.iol_layout.specs.Meaning.{unformatted, geometry_in, meaning}
 use Rattle.iol_layout.specs.Kept.{KeptMeans}
 use Rattle.iol_layout.specs.declared.area.Area.TheVariants.{A}
+use Rattle.iol_layout.specs.declared.header.Header.{Header}
 use Rattle.iol_area.specs.declared.area_plan.AreaPlan.{AreaPlan}
 use Rattle.iol_format.specs.declared.formatting.FormatFault.{FormatFault}
 use Rattle.iol_format.specs.declared.formatting.FormatFault.TheVariants.{Disk as DiskFailed}
@@ -18,10 +20,10 @@ abbrev pub IfUntouched : FormatFault → Type 0 → Type 0
 IfUntouched (DiskFailed fault) P = Unit {0}
 IfUntouched fault P = P
 
--- an image of so many sectors is an empty journal of this geometry: it is laid out for these ports and slots, is kept, and means
+-- an image of so many sectors is an empty journal of this geometry: it is formatted for these ports and slots, is kept, and means
 -- number 0 and the empty state (own)
 pub record IsEmptyJournalOf (g : Geometry) (sectors : ℕ) (image : Image) : Type 0 where
-  pub laid_out : layout_in sectors image ≡ Ok (layout_of g)
+  pub formatted : geometry_in sectors image ≡ Ok g
   pub empty : KeptMeans sectors 0 (empty_state g.ports) image
 
 -- each image of an honest disk is an empty journal of this geometry (own)
@@ -39,6 +41,10 @@ LeavesFormat g old new =
     IsTrue old.honest → clock old.content < clock new.content
     → (image : Image) → IsImageSince (clock old.content + 1) new.content image → IsEmptyOrUnformatted g old.sectors image
 
--- the plan of the first area of a disk of this geometry: epoch 1, base 0, ports that were never configured (own)
-abbrev pub IsFirstArea : Geometry → AreaPlan → Type 0
-IsFirstArea g plan = IsAreaPlan (layout_of g) A (record { epoch = 1; base = 0 }) (empty_state g.ports) plan
+-- the header of the first area of a version: epoch 1, base 0 (format, Headers)
+abbrev pub first_header : Version → Header
+first_header version = record { epoch = 1; base = 0; version = Some version }
+
+-- the plan of the first area of a disk of this geometry in a version: its header, and ports that were never configured (own)
+abbrev pub IsFirstArea : Version → Geometry → AreaPlan → Type 0
+IsFirstArea version g plan = IsAreaPlan (laid_out version g) A (first_header version) (empty_state g.ports) plan

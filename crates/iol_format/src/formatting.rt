@@ -6,7 +6,8 @@ ghost use Rattle.iol_disk.specs.Moments.{LeavesOnly};
 ghost use Rattle.iol_slots.specs.Gate.{is_open};
 ghost use Rattle.iol_area.specs.AreaWrites.{header_write};
 ghost use Rattle.iol_format.specs.Formatting.{EachIsEmptyJournal, IfUntouched, IsEmptyOrUnformatted, IsFirstArea, LeavesFormat};
-ghost use Rattle.iol_layout.specs.Layout.{layout_of, total};
+ghost use Rattle.iol_layout.specs.Layout.{laid_out, layout_of, total};
+ghost use Rattle.iol_record.specs.Record.{newest};
 ghost use Rattle.iol_disk.specs.Calls.{Makes};
 ghost use Rattle.iol_format.specs.Orders.{MakesFormat, gate_writes, journal_writes, opening_calls};
 ghost use Rattle.iol_disk.specs.Disk.{Shows};
@@ -15,7 +16,8 @@ ghost use Rattle.iol_format.specs.declared.formatting.FormatFault.TheVariants.{T
 
 use iol_area::AreaPlan;
 use iol_disk::{DiskFault, SectorDisk};
-use iol_layout::{Area, DISK_GATE, GEOMETRY, Geometry, Header, gate};
+use iol_layout::{Area, DISK_GATE, GEOMETRY, Geometry, Header, Layout, gate};
+use iol_record::Version;
 use iol_types::MasterState;
 use std::alloc::{AllocError, Global};
 use thiserror::Error;
@@ -71,7 +73,7 @@ pub fn format<D: SectorDisk>(
 ) -> Result<(), FormatFault>
     ensures too_small { IsErrOf result TooSmall ↔ ((D.disk disk.old).sectors < total (layout_of geometry)) }
     ensures formatted_already { IsErrOf result AlreadyFormatted → Shows (D.disk disk.old) (λ image. is_open (image DISK_GATE) ≡ true) }
-    ensures makes { MakesFormat geometry (D.disk disk.old) (D.disk disk.new) result }
+    ensures makes { MakesFormat newest geometry (D.disk disk.old) (D.disk disk.new) result }
     // Memory is asked for only where the gate of the disk is closed.
     ensures memory { result ≡ Err Memory → Shows (D.disk disk.old) (λ image. is_open (image DISK_GATE) ≡ false) }
     // Until its first sync, and where it refuses, each image was one before.
@@ -97,31 +99,47 @@ pub fn format<D: SectorDisk>(
     if gate(DISK_GATE).is_open(disk)? {
         return Err(FormatFault::AlreadyFormatted);
     }
-    let plan = first_area(alloc, geometry)?;
-    write_journal(disk, geometry, &plan)?;
+    let version = Version::newest();
+    let plan = first_area(alloc, version, geometry)?;
+    write_journal(disk, version, geometry, &plan)?;
     Ok(())
 }
 
 // What area A begins with: it is in its first epoch, and its ports were never configured.
-fn first_area(alloc: Global, geometry: Geometry) -> Result<AreaPlan, AllocError>
-    ensures { IfOk result (IsFirstArea geometry) }
+pub(crate) fn first_area(
+    alloc: Global,
+    version: Version,
+    geometry: Geometry,
+) -> Result<AreaPlan, AllocError>
+    ensures { IfOk result (IsFirstArea version geometry) }
 {
     let state = MasterState::new(alloc, geometry.ports())?;
-    let header = Header { epoch: 1, base: 0 };
-    AreaPlan::of(alloc, geometry.layout(), Area::A, header, &state)
+    let header = Header {
+        epoch: 1,
+        base: 0,
+        version: Some(version),
+    };
+    AreaPlan::of(
+        alloc,
+        Layout::of(version, geometry),
+        Area::A,
+        header,
+        &state,
+    )
 }
 
 // Writes an empty journal, and opens the gate of the disk once all else is durable.
-fn write_journal<D: SectorDisk>(
+pub(crate) fn write_journal<D: SectorDisk>(
     disk: &mut D,
+    version: Version,
     geometry: Geometry,
     plan: &AreaPlan,
 ) -> Result<(), DiskFault>
-    requires fits { total (layout_of geometry) ≤ (D.disk disk.old).sectors }
-    requires plan { IsFirstArea geometry plan.now }
-    ensures { Makes (journal_writes geometry ++ opening_calls) (D.disk disk.old) (D.disk disk.new) result }
+    requires fits { total (laid_out version geometry) ≤ (D.disk disk.old).sectors }
+    requires plan { IsFirstArea version geometry plan.now }
+    ensures { Makes (journal_writes version geometry ++ opening_calls) (D.disk disk.old) (D.disk disk.new) result }
 {
-    write_gates(disk, geometry)?;
+    write_gates(disk, version, geometry)?;
     plan.close_slots(disk)?;
     write_headers(disk, plan)?;
     plan.write_records(disk)?;
@@ -129,11 +147,15 @@ fn write_journal<D: SectorDisk>(
 }
 
 // Writes the geometry, and the gates of the areas.
-fn write_gates<D: SectorDisk>(disk: &mut D, geometry: Geometry) -> Result<(), DiskFault>
-    requires { total (layout_of geometry) ≤ (D.disk disk.old).sectors }
-    ensures { Makes (gate_writes geometry) (D.disk disk.old) (D.disk disk.new) result }
+fn write_gates<D: SectorDisk>(
+    disk: &mut D,
+    version: Version,
+    geometry: Geometry,
+) -> Result<(), DiskFault>
+    requires { total (laid_out version geometry) ≤ (D.disk disk.old).sectors }
+    ensures { Makes (gate_writes version geometry) (D.disk disk.old) (D.disk disk.new) result }
 {
-    let layout = geometry.layout();
+    let layout = Layout::of(version, geometry);
     disk.write(GEOMETRY, &geometry.octets())?;
     gate(layout.gate(Area::A)).open_gate(disk)?;
     gate(layout.gate(Area::B)).close_gate(disk)
@@ -147,8 +169,8 @@ fn write_headers<D: SectorDisk>(disk: &mut D, plan: &AreaPlan) -> Result<(), Dis
         (D.disk disk.old) (D.disk disk.new) result }
 {
     plan.write_header(disk)?;
-    let unused = Header { epoch: 0, base: 0 };
-    disk.write(plan.layout.header(Area::B), &unused.octets())
+    let unused = Header::octets(plan.layout.version(), 0, 0);
+    disk.write(plan.layout.header(Area::B), &unused)
 }
 
 // Opens the gate of the disk once all that was written is durable.

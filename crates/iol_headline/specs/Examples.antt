@@ -11,7 +11,7 @@ use Rattle.iol_trace.specs.Statuses.{Work, Starting, Uploading, Storing, Ready, 
 
 -- for worked examples: a port is IOL_MANUAL with Backup and Restore, for the device 43981 of vendor 500 (own)
 abbrev pub example_config : PortConfig
-example_config = record { mode = IolManual; validation = BackupAndRestore; vendor = 500; device = 43981 }
+example_config = record { mode = IolManual; validation = BackupAndRestore; vendor = 500; device = 43981; label = [] }
 
 -- for worked examples: what the port is to work with, at its first revision, with the checksum of its durable set (own)
 abbrev pub example_work : Option ℕ → Work

@@ -1,11 +1,14 @@
 -- The laws of journals, for proofs of other crates.
-use Rattle.std.proofs.Common.{◌≡◌, ◌<◌, ◌⊎◌, ◌+◌, nat_lt, true, false, IsTrue, ℕ, List, Some, None, inl, inr, refl, arith}
+use Rattle.std.proofs.Common.{◌≡◌, ◌<◌, ◌⊎◌, ◌+◌, ◌-◌, nat_lt, Bool, true, false, if◌then◌else◌, IsTrue, ℕ, List, Some, None, inl, inr}
+use Rattle.std.proofs.Common.{refl, sym, ◌∙◌, ap, arith}
 use Rattle.std.proofs.lemmas.Bool.Decides.{nat_tests}
 use Rattle.iol_types.specs.Command.{CommandValue}
 use Rattle.iol_disk.specs.Content.{Image, Content, IsImage}
 use Rattle.iol_disk.specs.Disk.{Disk}
 use Rattle.iol_batch.specs.Batches.{body_for, sectors_for}
-use Rattle.iol_batch.specs.Begin.{follows, is_too_large, batch_refusal}
+use Rattle.iol_batch.specs.Begin.{follows, is_too_large, fits_no_area, wants_checkpoint, batch_refusal}
+use Rattle.iol_layout.specs.Layout.{Layout, is_renewed}
+use Rattle.iol_layout.proofs.Layouts.{renewed-same}
 use Rattle.iol_layout.specs.Body.{slots_for}
 use Rattle.iol_checkpoint.specs.Checkpoints.{target}
 use Rattle.iol_journal.specs.CheckpointViews.{CheckpointingView, IsCheckpointUnderway}
@@ -53,11 +56,20 @@ pub rest_means_its_state : (d : Disk) (s : Standing) (idle : Idle) → IsAtRest 
 rest_means_its_state d s idle rests h image is = kept_means d.sectors s idle image (rests h image is)
 
 -- a batch that goes on where the journal stands, and fits an area, wants free slots, or nothing
-pub following_batch_wants_a_slot : (s : Standing) (first : ℕ) (commands : List CommandValue) → is_too_large s.layout.slots commands ≡ false
+pub following_batch_wants_a_slot : (s : Standing) (first : ℕ) (commands : List CommandValue) → fits_no_area s commands ≡ false
     → follows s first commands ≡ true
     → (batch_refusal s first commands ≡ None)
-    ⊎ ((batch_refusal s first commands ≡ Some NeedsCheckpoint) × (s.layout.slots < s.used + slots_for commands) × (0 < s.used))
+    ⊎ ((batch_refusal s first commands ≡ Some NeedsCheckpoint) × (wants_checkpoint s commands ≡ true)
+    × (is_renewed s.layout ≡ true → 0 < s.used))
 following_batch_wants_a_slot s first commands fits goes_on =
-    by_test (nat_lt s.layout.slots (s.used + slots_for commands)) _
-    (λ full. inr (rw (fits, full) refl, grind (arith, nat_tests), grind (arith, nat_tests)))
+    by_test (wants_checkpoint s commands) _
+    (λ full. inr (rw (fits, full) refl, full, λ newest. used newest full))
     (λ free. inl (rw (fits, free, goes_on) refl))
+  where
+    used : is_renewed s.layout ≡ true → wants_checkpoint s commands ≡ true → 0 < s.used
+    used newest full =
+        let small : is_too_large s.layout.slots commands ≡ false =
+        ap (λ (l : Layout). is_too_large l.slots commands) (sym (renewed-same s.layout newest)) ∙ fits in
+        let wants : nat_lt (s.layout.slots - s.used) (slots_for commands) ≡ true =
+        ap (λ (test : Bool). nat_lt (if test then s.layout.slots - s.used else 0) (slots_for commands)) (sym newest) ∙ full in
+        grind (arith, nat_tests, small, wants)

@@ -5,5 +5,6 @@ pub mod RunSteps
 pub mod Steps
 pub mod StretchLaws
 pub mod Views
-pub use Rattle.iol_layout.proofs.Chains
+pub use Rattle.iol_layout.proofs.Layouts
+pub use Rattle.iol_layout.proofs.Readings
 pub use Rattle.iol_layout.proofs.Geometries

@@ -82,6 +82,7 @@ module _ (s : Standing) (idle : Idle) (commands : List CommandValue) (body : Lis
 
   pub planned_next : (q : Phase) → Some q ≡ next_phase sectors p → Made (call_of s body p ∷ []) old new → IsPlanned new s commands q
   planned_next q is made = record {
+    laid_out = planned.laid_out;
     fits = subst (λ (n : ℕ). total s.layout ≤ n) (sym made.after.sectors) planned.fits;
     follows = planned.follows;
     in_phase = in_next (sectors_for s commands) p q planned.in_phase (sym (next_is (Some q) is));
@@ -124,7 +125,7 @@ module _ (s : Standing) (idle : Idle) (commands : List CommandValue) (body : Lis
 pub resting_behind : (d d' : Disk) (s : Standing) (commands : List CommandValue) (p : Phase) → IsPlanned d s commands p → d'.sectors
     ≡ d.sectors → IsResting d' (with_batch s commands)
 resting_behind d d' s commands p planned same = rests_with d' s commands planned.follows
-    (subst (λ (n : ℕ). total s.layout ≤ n) (sym same) planned.fits) planned.begun planned.count
+    (subst (λ (n : ℕ). total s.layout ≤ n) (sym same) planned.fits) planned.laid_out planned.begun planned.count
 
 -- the same of the batch as contracts see it
 pub moment_of : {D : Type 0} (disk : D → Disk) {w v : WritingView D} {plan : Plan} (left : D) (result : Result Unit DiskFault) → w ≡ v

@@ -35,6 +35,7 @@ pub planned_in : {E : Type 0} (d : Disk) (s : Standing) (commands : List Command
     → IfOk result (λ plan. IsPlanned d s commands (Body 0) × IsPlan s commands plan × (first ≡ s.number + 1))
 planned_in d s commands first (Ok plan) rests is follows next = (
   record {
+    laid_out = rests.laid_out;
     fits = rests.fits;
     follows = follows;
     in_phase = omega (arith, sectors_for-some s commands);

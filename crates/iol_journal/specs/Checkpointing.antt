@@ -3,6 +3,7 @@ use Rattle.std.specs.Prelude.{◌≡◌, List, [], Some, None, Ok, Err}
 use Rattle.iol_disk.specs.Calls.{Call, MakesFirst}
 use Rattle.iol_disk.specs.Disk.{Disk}
 use Rattle.iol_checkpoint.specs.Drafts.{begun_behind}
+use Rattle.iol_layout.specs.Layout.{renewed}
 use Rattle.iol_layout.specs.declared.idle.Idle.TheVariants.{Older}
 use Rattle.iol_journal.specs.Journals.{JournalView}
 use Rattle.iol_journal.specs.declared.checkpointing.CheckpointProgress.{CheckpointProgress}
@@ -31,8 +32,8 @@ pub record IsCheckpointMoved {D : Type 0} (c d : CheckpointingView D) : Type 0 w
   pub behind : begun_behind c.standing c.begun ≡ Some d.begun
   pub end : end_of d ≡ end_of c
 
--- the journal behind the last disk call of a checkpoint: the other area is in use, under the next epoch, with the batches that were
--- carried, at the same number and state (own)
+-- the journal behind the last disk call of a checkpoint: the other area is in use, in the layout that is written and under the next
+-- epoch, with the batches that were carried, at the same number and state (own)
 pub record IsCheckpointDone {D : Type 0} (c : CheckpointingView D) (j : JournalView D) : Type 0 where
   pub standing : j.standing ≡ end_of c
   pub idle : j.idle ≡ Older
@@ -40,7 +41,7 @@ pub record IsCheckpointDone {D : Type 0} (c : CheckpointingView D) (j : JournalV
   pub none : j.begun ≡ None
   pub number : j.standing.number ≡ c.standing.number
   pub state : j.standing.state ≡ c.standing.state
-  pub layout : j.standing.layout ≡ c.standing.layout
+  pub layout : j.standing.layout ≡ renewed c.standing.layout
 
 -- a step makes the first of the calls that are left, or it fails in it (own)
 abbrev pub CheckpointStepMakes : {D : Type 0} → (D → Disk) → List Call → CheckpointProgress D → Disk → Type 0

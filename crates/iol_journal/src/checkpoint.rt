@@ -16,24 +16,26 @@ impl<D: SectorDisk> Journal<D> {
     ghost use Rattle.iol_journal.specs.Runs.{Run};
     ghost use Rattle.iol_journal.specs.Running.{IsRunAtRest};
     ghost use Rattle.iol_batch.specs.Phases.{IsAtRest};
-    ghost use Rattle.iol_layout.specs.Layout.{record_sectors};
+    ghost use Rattle.iol_layout.specs.Layout.{is_renewed, renewed, record_sectors};
 
-    /// Makes a checkpoint ready, which frees all slots but those of the batches that are written while it is paused; or goes on
+    /// Makes a checkpoint ready, which writes the newest layout and frees all slots but those of the batches that are written
+    /// while it is paused; or goes on
     /// with the one that is paused, without memory. Its steps take no memory.
     ///
     /// # Errors
     /// Out of memory, where none is paused; the journal is handed back.
     pub fn checkpoint(self) -> Result<Checkpointing<D>, CheckpointFault<D>>
-        requires { self.begun ≡ None → 0 < self.standing.used }
+        requires { self.begun ≡ None → is_renewed self.standing.layout ≡ true → 0 < self.standing.used }
         ensures begun { IfOk result (λ c. c ≡ checkpoint_of self) }
         // A new one makes these disk calls: one for each slot, one for each sector of a port's record, and nine more, at most.
         ensures calls { self.begun ≡ None
             → IfOk result (λ c. stages_left c ≡ checkpoint_calls (checkpointed self.standing) [] self.idle) }
         ensures at_most { self.begun ≡ None
-            → IfOk result (λ c. length (stages_left c) ≤ self.standing.layout.slots + record_sectors self.standing.layout + 9) }
+            → IfOk result (λ c. length (stages_left c)
+            ≤ (renewed self.standing.layout).slots + record_sectors (renewed self.standing.layout) + 9) }
         // One that is gone on with carries batches of no more slots than an area has, at most 19 calls for each.
         ensures carrying { IfOk result (λ c.
-            length (stages_left c) ≤ 20 * self.standing.layout.slots + record_sectors self.standing.layout + 9) }
+            length (stages_left c) ≤ 20 * (renewed self.standing.layout).slots + record_sectors (renewed self.standing.layout) + 9) }
         // It changes no meaning.
         ensures underway { IsAtRest (D.disk self.disk) self.standing self.idle → IsPaused (D.disk self.disk) self.standing self.begun
             → IfOk result (λ c. IsCheckpointUnderway D.disk c) }
@@ -59,7 +61,8 @@ impl<D: SectorDisk> Journal<D> {
     fn go_on(self) -> Checkpointing<D>
         requires { is_some self.begun ≡ true }
         ensures begun { result ≡ checkpoint_of self }
-        ensures carrying { length (stages_left result) ≤ 20 * self.standing.layout.slots + record_sectors self.standing.layout + 9 }
+        ensures carrying { length (stages_left result)
+            ≤ 20 * (renewed self.standing.layout).slots + record_sectors (renewed self.standing.layout) + 9 }
     {
         let Journal { disk, parts, begun } = self;
         let Some(begun) = begun else { unreachable!() };
@@ -81,11 +84,11 @@ impl<D: SectorDisk> Journal<D> {
 
     // A new checkpoint.
     fn new_checkpoint(&self) -> Result<Begun, AllocError>
-        requires { 0 < self.now.standing.used }
+        requires { is_renewed self.now.standing.layout ≡ true → 0 < self.now.standing.used }
         ensures begun { IfOk result (IsBegun (D.disk self.now.disk) self.now.standing) }
         ensures view { IfOk result (λ b. view_of b ≡ new_begun self.now.standing self.now.idle) }
         ensures at_most { IfOk result (λ b. length (calls_of self.now.standing (view_of b))
-            ≤ self.now.standing.layout.slots + record_sectors self.now.standing.layout + 9) }
+            ≤ (renewed self.now.standing.layout).slots + record_sectors (renewed self.now.standing.layout) + 9) }
     {
         Begun::new(&self.parts)
     }

@@ -51,7 +51,7 @@ impl<D: SectorDisk> Checkpointing<D> {
     ghost use Rattle.std.specs.Prelude.{◌≡◌, true, Some, None};
     ghost use Rattle.iol_disk.specs.Moments.{LeavesOnly};
     ghost use Rattle.iol_checkpoint.specs.BegunParts.{view_of, IsBegun};
-    ghost use Rattle.iol_checkpoint.specs.Drafts.{can_pause};
+    ghost use Rattle.iol_checkpoint.specs.Drafts.{may_pause};
     ghost use Rattle.iol_layout.specs.Standings.{IsResting};
     ghost use Rattle.iol_batch.specs.Parts.{stands};
     ghost use Rattle.iol_batch.specs.Planned.{LeadsTo};
@@ -93,16 +93,16 @@ impl<D: SectorDisk> Checkpointing<D> {
         disk
     }
 
-    /// Whether it can be paused: until the gate of the other area is written.
+    /// Whether it can be paused: until the gate of the other area is written, and never where the journal has an older layout.
     pub fn can_pause(&self) -> bool
-        ensures { result ≡ can_pause self.now.begun.stage }
+        ensures { result ≡ may_pause self.now.standing self.now.begun.stage }
     {
-        self.begun.stage.can_pause()
+        self.parts.place.layout.is_renewed() && self.begun.stage.can_pause()
     }
 
     /// Sets it aside. Batches may then be written, until [`Journal::checkpoint`] goes on with it.
     pub fn pause(self) -> Journal<D>
-        requires { can_pause self.begun.stage ≡ true }
+        requires { may_pause self.standing self.begun.stage ≡ true }
         ensures paused { result ≡ paused_in self }
         // It changes no meaning.
         ensures rest { IsCheckpointUnderway D.disk self → IsAtRest (D.disk result.disk) result.standing result.idle
@@ -142,7 +142,8 @@ impl<D: SectorDisk> Checkpointing<D> {
         if let Err(fault) = make_stage(&mut disk, &parts.place, &begun) {
             return CheckpointProgress::Failed(disk, fault);
         }
-        let slots = parts.place.slots();
+        let layout = parts.place.renewed_layout();
+        let slots = layout.slots();
         match begun.next_stage(slots) {
             Some(stage) => CheckpointProgress::More(Checkpointing {
                 disk,
@@ -150,10 +151,13 @@ impl<D: SectorDisk> Checkpointing<D> {
                 begun: begun.moved_to(stage, slots),
             }),
             None => {
-                parts.place.area = parts.place.area.other();
-                parts.place.epoch += 1;
-                parts.place.used = begun.used;
-                parts.place.idle = Idle::Older;
+                parts.place = Place {
+                    layout,
+                    area: parts.place.area.other(),
+                    epoch: parts.place.epoch + 1,
+                    used: begun.used,
+                    idle: Idle::Older,
+                };
                 CheckpointProgress::Done(Journal::at_rest(disk, parts, None))
             }
         }

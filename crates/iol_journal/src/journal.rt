@@ -68,7 +68,8 @@ impl<D: SectorDisk> Journal<D> {
     ghost use Rattle.iol_journal.specs.Runs.{Run, with_batch_begun};
     ghost use Rattle.iol_journal.specs.Running.{IsRunAtRest, IsRunWriting};
     ghost use Rattle.iol_types.specs.Command.{CommandValue};
-    ghost use Rattle.iol_layout.specs.Standings.{IsResting};
+    ghost use Rattle.iol_layout.specs.Layout.{is_renewed, renewed};
+    ghost use Rattle.iol_layout.specs.Standings.{IsResting, free_slots};
     ghost use Rattle.iol_batch.specs.Parts.{stands};
     ghost use Rattle.iol_layout.specs.Body.{values};
     ghost use Rattle.iol_journal.specs.Journals.{calls_left, writing_of};
@@ -103,12 +104,19 @@ impl<D: SectorDisk> Journal<D> {
         self.parts.number
     }
 
-    /// Whether a slot is free. Where none is, a checkpoint comes before the next batch.
+    /// Whether a slot is free: of an older layout none is. Where none is, a checkpoint comes before the next batch.
     pub fn has_free_slot(&self) -> bool
-        ensures free { result ≡ nat_lt self.now.standing.used self.now.standing.layout.slots }
-        ensures used { result ≡ false → 0 < self.now.standing.used }
+        ensures free { result ≡ nat_lt 0 (free_slots self.now.standing) }
+        ensures used { result ≡ false → is_renewed self.now.standing.layout ≡ true → 0 < self.now.standing.used }
     {
-        self.parts.place.used < self.parts.place.layout.slots()
+        0 < self.parts.place.free_slots()
+    }
+
+    /// Whether its layout is the one that is written. Where it is an older one, a checkpoint comes before all else, and writes that.
+    pub fn is_renewed(&self) -> bool
+        ensures { result ≡ is_renewed self.now.standing.layout }
+    {
+        self.parts.place.layout.is_renewed()
     }
 
     /// Whether half of the slots are used, or more: a checkpoint that is begun now can be done before the others are full.
@@ -130,10 +138,10 @@ impl<D: SectorDisk> Journal<D> {
     pub fn room(&self) -> usize
         ensures room { result ≡ room_in self.now.standing }
         ensures least { MOST_RECORD_OCTETS ≤ result }
-        // Records of no more octets fit the area.
-        ensures fits { (octets : ℕ) → octets ≤ result → slots_of octets ≤ self.now.standing.layout.slots }
+        // Records of no more octets fit an area, in the layout that is written.
+        ensures fits { (octets : ℕ) → octets ≤ result → slots_of octets ≤ (renewed self.now.standing.layout).slots }
     {
-        let free = self.parts.place.layout.slots() - self.parts.place.used;
+        let free = self.parts.place.free_slots();
         BODY_OCTETS * free.max(1) - BODY_HEAD_OCTETS
     }
 
@@ -171,7 +179,8 @@ impl<D: SectorDisk> Journal<D> {
         ensures follows { OnOk result (batch_refusal self.standing batch.first (values batch.commands.items) ≡ None) }
         ensures cause { IfErr result (λ fault. IsBatchRefusal self.standing batch.first (values batch.commands.items) fault.cause) }
         // Where too few slots are free, a checkpoint can be made.
-        ensures used { IfErr result (λ fault. fault.cause ≡ BeginCause.NeedsCheckpoint → 0 < self.standing.used) }
+        ensures used { IfErr result (λ fault. fault.cause ≡ BeginCause.NeedsCheckpoint → is_renewed self.standing.layout ≡ true
+            → 0 < self.standing.used) }
         ensures back { IfErr result (λ fault. (fault.journal ≡ self) × (fault.batch ≡ batch)) }
     {
         match self.plan(&batch) {
@@ -217,7 +226,8 @@ impl<D: SectorDisk> Journal<D> {
         ensures few { OnOk result (slots_for (values batch.now.commands.items) ≤ length (values batch.now.commands.items)) }
         ensures follows { OnOk result (batch_refusal self.now.standing batch.now.first (values batch.now.commands.items) ≡ None) }
         ensures cause { IfErr result (IsBatchRefusal self.now.standing batch.now.first (values batch.now.commands.items)) }
-        ensures used { IfErr result (λ cause. cause ≡ BeginCause.NeedsCheckpoint → 0 < self.now.standing.used) }
+        ensures used { IfErr result (λ cause. cause ≡ BeginCause.NeedsCheckpoint → is_renewed self.now.standing.layout ≡ true
+            → 0 < self.now.standing.used) }
     {
         Plan::of(&self.parts, batch)
     }

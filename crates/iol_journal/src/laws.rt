@@ -4,8 +4,8 @@ ghost use Rattle.std.specs.Prelude.{◌≡◌, ◌<◌, ◌⊎◌, ◌+◌, ℕ,
 ghost use Rattle.iol_types.specs.Command.{CommandValue};
 ghost use Rattle.iol_disk.specs.Content.{EachImage};
 ghost use Rattle.iol_disk.specs.Disk.{Disk};
-ghost use Rattle.iol_layout.specs.Body.{slots_for};
-ghost use Rattle.iol_batch.specs.Begin.{follows, is_too_large, batch_refusal};
+ghost use Rattle.iol_layout.specs.Layout.{is_renewed};
+ghost use Rattle.iol_batch.specs.Begin.{follows, fits_no_area, wants_checkpoint, batch_refusal};
 ghost use Rattle.iol_journal.specs.CheckpointViews.{CheckpointingView, IsCheckpointUnderway};
 ghost use Rattle.iol_journal.specs.Journals.{WritingView};
 ghost use Rattle.iol_layout.specs.Kept.{KeptEither, EachMeans};
@@ -36,9 +36,9 @@ pub fn rest_means_its_state()
 
 /// A batch that is not too large and goes on where the journal stands is refused for want of a slot alone.
 pub fn following_batch_wants_a_slot()
-    ensures { (s : Standing) (first : ℕ) (commands : List CommandValue) → is_too_large s.layout.slots commands ≡ false
+    ensures { (s : Standing) (first : ℕ) (commands : List CommandValue) → fits_no_area s commands ≡ false
         → follows s first commands ≡ true
         → (batch_refusal s first commands ≡ None)
-        ⊎ ((batch_refusal s first commands ≡ Some BeginCause.NeedsCheckpoint) × (s.layout.slots < s.used + slots_for commands)
-        × (0 < s.used)) }
+        ⊎ ((batch_refusal s first commands ≡ Some BeginCause.NeedsCheckpoint) × (wants_checkpoint s commands ≡ true)
+        × (is_renewed s.layout ≡ true → 0 < s.used)) }
 {}

@@ -28,7 +28,7 @@ mod writing;
 pub use checkpointing::{CheckpointProgress, Checkpointing};
 pub use iol_batch::{Batch, BeginCause, History, Phase};
 pub use iol_checkpoint::Stage;
-pub use iol_format::{FormatFault, erase, format};
+pub use iol_format::{FormatFault, erase, format, format_one};
 pub use iol_layout::{Area, Geometry, Head, Header, Idle, InUse, LAST_NUMBER, MOST_RECORD_OCTETS};
 pub use iol_recovery::RecoverCause;
 pub use journal::{BeginFault, CheckpointFault, Journal};

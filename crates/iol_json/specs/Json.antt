@@ -14,11 +14,12 @@ use Rattle.iol_types.specs.declared.config.PortConfig.{PortConfig}
 abbrev pub whole : ℕ → Data
 whole n = json.number (unsigned n)
 
--- a configuration, each number by its name; names stand in the order of the alphabet (format, JSON)
+-- a configuration, each number and the label by its name; names stand in the order of the alphabet (format, JSON)
 abbrev pub config_data : PortConfig → Data
 config_data config =
-    object (member (codes "device") (whole config.device) (member (codes "mode") (whole (mode_octet config.mode))
-    (member (codes "validation") (whole (validation_octet config.validation)) (member (codes "vendor") (whole config.vendor) no_members))))
+    object (member (codes "device") (whole config.device) (member (codes "label") (string config.label)
+    (member (codes "mode") (whole (mode_octet config.mode)) (member (codes "validation") (whole (validation_octet config.validation))
+    (member (codes "vendor") (whole config.vendor) no_members)))))
 
 -- a parameter: its octets in hexadecimal, its Index and its Subindex (format, JSON)
 abbrev pub entry_data : Entry → Data

@@ -10,13 +10,14 @@ ghost use Rattle.iol_json.specs.Json.{whole, entry_data, state_data};
 /// A text that reads as a state of two ports: one with a stored set, and one without.
 pub fn a_state()
     ensures { read (codes "{\"recovered\": 4, \"ports\": [{\"port\": 1, \"revision\": 1, "
-        ++ codes "\"configuration\": {\"mode\": 1, \"validation\": 3, \"vendor\": 500, \"device\": 43981}, \"set\": "
+        ++ codes "\"configuration\": {\"mode\": 1, \"validation\": 3, \"vendor\": 500, \"device\": 43981, \"label\": \"\"}, \"set\": "
         ++ codes "{\"checksum\": 591, \"octets\": 11, "
-        ++ codes "\"under\": {\"mode\": 1, \"validation\": 3, \"vendor\": 500, \"device\": 43981}, "
+        ++ codes "\"under\": {\"mode\": 1, \"validation\": 3, \"vendor\": 500, \"device\": 43981, \"label\": \"\"}, "
         ++ codes "\"entries\": [{\"index\": 64, \"subindex\": 0, \"data\": \"0A64\"}, "
         ++ codes "{\"index\": 65, \"subindex\": 1, \"data\": \"7F\"}]}}, "
         ++ codes "{\"port\": 2, \"revision\": 7, "
-        ++ codes "\"configuration\": {\"mode\": 1, \"validation\": 3, \"vendor\": 500, \"device\": 43981}, \"set\": null}]}")
+        ++ codes "\"configuration\": {\"mode\": 1, \"validation\": 3, \"vendor\": 500, \"device\": 43981, \"label\": \"\"}, "
+        ++ codes "\"set\": null}]}")
         ≡ Some (state_data 4 (example_port ∷ port_of example_config 7 ∷ [])) }
 {}
 

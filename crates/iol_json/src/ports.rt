@@ -84,12 +84,13 @@ fn set_of(alloc: Global, stored: &StoredSet) -> Result<Value, AllocError>
     json!(in alloc; {"checksum": checksum, "octets": octets, "under": under, "entries": entries})
 }
 
-// A configuration, each number by its name.
+// A configuration, each number and the label by its name.
 fn config_of(alloc: Global, config: PortConfig) -> Result<Value, AllocError>
     ensures { IfOk result (λ value. view value ≡ config_data config) }
 {
     let mode = config.mode.to_octet();
     let validation = config.validation.to_octet();
     let device = config.device.number();
-    json!(in alloc; {"mode": mode, "validation": validation, "vendor": config.vendor, "device": device})
+    let (vendor, label) = (config.vendor, config.label.as_str());
+    json!(in alloc; {"mode": mode, "validation": validation, "vendor": vendor, "device": device, "label": label})
 }

@@ -11,7 +11,7 @@ use Rattle.iol_record.specs.declared.version.Version.{Version}
 use Rattle.iol_layout.specs.Layout.{Layout, other, gate_at, header_at, slot_at}
 use Rattle.iol_layout.specs.Header.{header_of}
 use Rattle.iol_layout.specs.Body.{records_of, slots_for, batch_of}
-use Rattle.iol_layout.specs.Meaning.{layout_in, header_in, greatest, log_from, Log, Standing, body_in, span_in}
+use Rattle.iol_layout.specs.Meaning.{geometry_in, header_in, greatest, log_from, Log, Standing, body_in, span_in}
 use Rattle.iol_layout.specs.Kept.{IsIdle, IsKeptAs, IsKept, KeptMeans}
 use Rattle.iol_layout.specs.Standings.{with_batch}
 use Rattle.iol_layout.specs.declared.area.Area.{Area}
@@ -20,10 +20,9 @@ use Rattle.iol_layout.specs.declared.idle.Idle.{Idle}
 use Rattle.iol_layout.specs.declared.idle.Idle.TheVariants.{Older, Closed}
 use Rattle.iol_layout.specs.declared.header.Header.{Header}
 use Rattle.iol_layout.specs.declared.geometry.TheConstants.{GEOMETRY, DISK_GATE}
-use Rattle.iol_layout.proofs.Chains.{IsRead, read_stands, stands_read}
+use Rattle.iol_layout.proofs.Readings.{IsRead, read_stands, stands_read}
 use Rattle.iol_layout.proofs.Sectors.{ports_from-same}
 use Rattle.iol_layout.proofs.Logs.{log-same, log-more}
-use Rattle.iol_layout.proofs.Geometries.{layout_in-newest}
 use Rattle.iol_layout.proofs.Spans.{slots_of-some}
 
 -- outside of the first free slots, so many, the images are the same, and so are the gates of all slots but the first free one
@@ -78,7 +77,11 @@ module _ (s : Standing) (n : ℕ) (old new : Image) (room : s.used + n ≤ s.lay
       → IsRead sectors new
       (record { layout = s.layout; area = s.area; epoch = s.epoch; used = log.used; number = log.number; state = log.state }) base ports
   fronts_same sectors base ports is log logged = record {
-    layout = layouts (at_front 1 (omega arith)) (at_front 0 (omega arith)) ∙ is.layout;
+    layout = record {
+      geometry = is.layout.geometry;
+      found = geometries (at_front 1 (omega arith)) (at_front 0 (omega arith)) ∙ is.layout.found;
+      so = is.layout.so;
+    };
     in_use = ap (λ (a : Option Header). greatest s.layout a (header_in s.layout new B)) (headers_same A)
         ∙ ap (λ (b : Option Header). greatest s.layout (header_in s.layout old A) b) (headers_same B) ∙ is.in_use;
     ports_are = ports_from-same s.layout s.area old new 0 s.layout.ports (λ i above below. same.outside i (inl (omega (arith, below))))
@@ -86,8 +89,8 @@ module _ (s : Standing) (n : ℕ) (old new : Image) (room : s.used + n ≤ s.lay
     log = logged;
   }
     where
-      layouts : new DISK_GATE ≡ old DISK_GATE → new GEOMETRY ≡ old GEOMETRY → layout_in sectors new ≡ layout_in sectors old
-      layouts gate sector = rw (gate, sector) refl
+      geometries : new DISK_GATE ≡ old DISK_GATE → new GEOMETRY ≡ old GEOMETRY → geometry_in sectors new ≡ geometry_in sectors old
+      geometries gate sector = rw (gate, sector) refl
 
   idle_same : (idle : Idle) → IsIdle s idle old → IsIdle s idle new
   idle_same Older is = rw (at_header (other s.area)) is
@@ -124,14 +127,14 @@ kept_closed sectors s n idle old new room some same kept shut = stand (stands_re
 
 -- Behind its open gate a batch counts.
 pub kept_open : (sectors : ℕ) (s : Standing) (idle : Idle) (old new : Image) (commands : List CommandValue)
-    → s.used + slots_for commands ≤ s.layout.slots
+    → s.layout.version ≡ newest → s.used + slots_for commands ≤ s.layout.slots
     → SameButSlots s (slots_for commands) old new
     → IsKeptAs sectors s idle old → is_open (new (slot_at s.layout s.area s.used)) ≡ true
     → span_in s.layout s.area new s.used ≡ slots_for commands
     → batch_of newest s.epoch (s.number + 1) (body_in s.layout s.area new s.used (slots_for commands)) ≡ Some commands
     → legal s.state commands ≡ true
     → IsKeptAs sectors (with_batch s commands) idle new
-kept_open sectors s idle old new commands room same kept gate span batch passes = stand (stands_read sectors old s kept.stands)
+kept_open sectors s idle old new commands is_newest room same kept gate span batch passes = stand (stands_read sectors old s kept.stands)
   where
     some : 1 ≤ slots_for commands
     some = slots_of-some (length (records_of commands))
@@ -139,11 +142,9 @@ kept_open sectors s idle old new commands room same kept gate span batch passes 
     behind : (k : ℕ) → s.used + slots_for commands ≤ k → k < s.layout.slots → is_open (new (slot_at s.layout s.area k)) ≡ false
     behind k above below = rest_same s (slots_for commands) old new same kept.rest k (omega (arith, above, some)) below
 
-    in_version : layout_in sectors old ≡ Ok s.layout
-        → batch_of s.layout.version s.epoch (s.number + 1) (body_in s.layout s.area new s.used (slots_for commands)) ≡ Some commands
-    in_version laid_out =
-        ap (λ (v : Version). batch_of v s.epoch (s.number + 1) (body_in s.layout s.area new s.used (slots_for commands)))
-        (layout_in-newest sectors old s.layout laid_out) ∙ batch
+    in_version : batch_of s.layout.version s.epoch (s.number + 1) (body_in s.layout s.area new s.used (slots_for commands)) ≡ Some commands
+    in_version =
+        ap (λ (v : Version). batch_of v s.epoch (s.number + 1) (body_in s.layout s.area new s.used (slots_for commands))) is_newest ∙ batch
 
     idle_with : (idle : Idle) → IsIdle s idle new → IsIdle (with_batch s commands) idle new
     idle_with Older is = is
@@ -155,7 +156,7 @@ kept_open sectors s idle old new commands room same kept gate span batch passes 
           (fronts_same s (slots_for commands) old new room some same sectors base ports is _
           (log-more s.layout s.area s.epoch old new 0 0 s.layout.slots base (slots_for commands) ports _ commands (omega arith) is.log
           (λ i above below. same.outside i (inl below))
-          (omega (arith, room)) gate span (in_version is.layout) passes
+          (omega (arith, room)) gate span in_version passes
           (λ less. behind (s.used + slots_for commands) (omega arith) (omega (arith, less)))));
       rest = behind;
       other_area = idle_with idle (idle_same s (slots_for commands) old new room some same idle kept.other_area);

@@ -1,6 +1,8 @@
 pub mod Sectors
 pub mod Bodies
 pub mod Chains
+pub mod AreasInUse
+pub mod Readings
 pub mod Spans
 pub mod Logs
 pub mod Frames

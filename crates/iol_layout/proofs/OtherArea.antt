@@ -8,7 +8,8 @@ use Rattle.iol_disk.specs.Content.{Image}
 use Rattle.iol_slots.specs.Gate.{is_open}
 use Rattle.iol_layout.specs.Header.{header_of, is_sound}
 use Rattle.iol_layout.specs.Layout.{Layout, other, area_sectors, gate_at, header_at, slot_at}
-use Rattle.iol_layout.specs.Meaning.{Cause, layout_in, header_in, in_use, greatest, in_use_in, ports_from, log_from, Standing}
+use Rattle.iol_record.specs.declared.version.Version.{Version}
+use Rattle.iol_layout.specs.Meaning.{geometry_in, header_in, in_use_in, ports_from, log_from, Standing}
 use Rattle.iol_layout.specs.Kept.{IsIdle, IsKeptAs}
 use Rattle.iol_layout.specs.declared.area.Area.{Area}
 use Rattle.iol_layout.specs.declared.area.Area.TheVariants.{A, B}
@@ -17,97 +18,11 @@ use Rattle.iol_layout.specs.declared.geometry.TheConstants.{GEOMETRY, DISK_GATE}
 use Rattle.iol_layout.specs.declared.in_use.InUse.{InUse}
 use Rattle.iol_layout.specs.declared.idle.Idle.{Idle}
 use Rattle.iol_layout.specs.declared.idle.Idle.TheVariants.{Older, Closed}
-use Rattle.iol_layout.proofs.Chains.{IsRead, read_stands, stands_read, if_sound-ok}
+use Rattle.iol_layout.proofs.AreasInUse.{IsBefore, in_use_header, put_in_use}
+use Rattle.iol_layout.proofs.Chains.{ok}
+use Rattle.iol_layout.proofs.Readings.{IsFormattedFor, IsRead, read_stands, stands_read}
 use Rattle.iol_layout.proofs.Logs.{log_from-same}
 use Rattle.iol_layout.proofs.Sectors.{ports_from-same}
-
--- ---- the area in use
-
--- of two headers that of an area
-abbrev of : Area → Option Header → Option Header → Option Header
-of A a b = a
-of B a b = b
-
--- the header is not there, or older
-abbrev pub IsBefore : ℕ → Option Header → Type 0
-IsBefore epoch None = Unit {0}
-IsBefore epoch (Some header) = header.epoch < epoch
-
-use_of : (a : Area) (header : Header) → InUse
-use_of a header = record { area = a; header = header }
-
-is_use : (layout : Layout) (a b : Area) (x header : Header) → in_use layout a x ≡ Ok (record { area = b; header = header }) → (a ≡ b)
-    × (x ≡ header) × (is_sound x ≡ true)
-is_use layout a b x header is =
-    let parts = if_sound-ok (is_sound x) (header_at layout a) (record { area = a; header = x }) (record { area = b; header = header }) is in
-    (ap (λ (u : InUse). u.area) parts.1, ap (λ (u : InUse). u.header) parts.1, parts.0)
-
--- the area in use has the header that was found, which is sound
-found : (layout : Layout) (a : Area) (header : Header) (x y : Option Header) → greatest layout x y
-    ≡ Ok (record { area = a; header = header })
-    → (of a x y ≡ Some header) × (is_sound header ≡ true)
-found layout a header None None is = absurd cc
-found layout a header (Some x) None is = put (is_use layout A a x header is)
-  where
-    put : (A ≡ a) × (x ≡ header) × (is_sound x ≡ true) → (of a (Some x) None ≡ Some header) × (is_sound header ≡ true)
-    put (at, same, sound) =
-        (ap (λ (b : Area). of b (Some x) None) (sym at) ∙ ap Some same, subst (λ (h : Header). is_sound h ≡ true) same sound)
-found layout a header None (Some y) is = put (is_use layout B a y header is)
-  where
-    put : (B ≡ a) × (y ≡ header) × (is_sound y ≡ true) → (of a None (Some y) ≡ Some header) × (is_sound header ≡ true)
-    put (at, same, sound) =
-        (ap (λ (b : Area). of b None (Some y)) (sym at) ∙ ap Some same, subst (λ (h : Header). is_sound h ≡ true) same sound)
-found layout a header (Some x) (Some y) is = by_epochs (x.epoch == y.epoch) (nat_lt x.epoch y.epoch) is
-  where
-    first : (A ≡ a) × (x ≡ header) × (is_sound x ≡ true) → (of a (Some x) (Some y) ≡ Some header) × (is_sound header ≡ true)
-    first (at, same, sound) =
-        (ap (λ (b : Area). of b (Some x) (Some y)) (sym at) ∙ ap Some same, subst (λ (h : Header). is_sound h ≡ true) same sound)
-
-    second : (B ≡ a) × (y ≡ header) × (is_sound y ≡ true) → (of a (Some x) (Some y) ≡ Some header) × (is_sound header ≡ true)
-    second (at, same, sound) =
-        (ap (λ (b : Area). of b (Some x) (Some y)) (sym at) ∙ ap Some same, subst (λ (h : Header). is_sound h ≡ true) same sound)
-
-    by_epochs : (equal less : Bool)
-        → (if equal then Err (Cause.damaged (header_at layout B)) else if less then in_use layout B y else in_use layout A x)
-        ≡ Ok (record { area = a; header = header })
-        → (of a (Some x) (Some y) ≡ Some header) × (is_sound header ≡ true)
-    by_epochs true less is = absurd cc
-    by_epochs false true is = second (is_use layout B a y header is)
-    by_epochs false false is = first (is_use layout A a x header is)
-
--- an area is in use whose header is sound, where the other's is not there or older
-chosen : (layout : Layout) (a : Area) (header : Header) (x y : Option Header) → of a x y ≡ Some header → is_sound header ≡ true
-    → IsBefore header.epoch (of (other a) x y)
-    → greatest layout x y ≡ Ok (record { area = a; header = header })
-chosen layout A header x None is sound before = rw (is, sound) refl
-chosen layout A header x (Some y) is sound before =
-    let differ : (header.epoch == y.epoch) ≡ false = grind (arith, nat_tests) in
-    let later : nat_lt header.epoch y.epoch ≡ false = grind (arith, nat_tests) in
-    rw (is, differ, later, sound) refl
-chosen layout B header None y is sound before = rw (is, sound) refl
-chosen layout B header (Some x) y is sound before =
-    let differ : (x.epoch == header.epoch) ≡ false = grind (arith, nat_tests) in
-    let earlier : nat_lt x.epoch header.epoch ≡ true = grind (arith, nat_tests) in
-    rw (is, differ, earlier, sound) refl
-
-header_of_area : (layout : Layout) (image : Image) (a : Area) → of a (header_in layout image A) (header_in layout image B)
-    ≡ header_in layout image a
-header_of_area layout image A = refl
-header_of_area layout image B = refl
-
-pub in_use_header : (layout : Layout) (image : Image) (a : Area) (header : Header) → in_use_in layout image
-    ≡ Ok (record { area = a; header = header })
-    → (header_in layout image a ≡ Some header) × (is_sound header ≡ true)
-in_use_header layout image a header is =
-    let parts = found layout a header (header_in layout image A) (header_in layout image B) is in
-    (sym (header_of_area layout image a) ∙ parts.0, parts.1)
-
-pub put_in_use : (layout : Layout) (image : Image) (a : Area) (header : Header) → header_in layout image a ≡ Some header → is_sound header
-    ≡ true
-    → IsBefore header.epoch (header_in layout image (other a)) → in_use_in layout image ≡ Ok (record { area = a; header = header })
-put_in_use layout image a header is sound before =
-    chosen layout a header (header_in layout image A) (header_in layout image B) (header_of_area layout image a ∙ is) sound
-    (subst (IsBefore header.epoch) (sym (header_of_area layout image (other a))) before)
 
 -- an area that is harmless is not chosen
 idle_before : (s : Standing) (idle : Idle) (image : Image) → IsIdle s idle image
@@ -142,7 +57,7 @@ module _ (s : Standing) (old new : Image) (same : SameButArea s.layout (other s.
   at_front : (i : ℕ) → i < 2 → new i ≡ old i
   at_front i below = same i (inl (omega (arith, below, two_before s.layout (other s.area))))
 
-  front_same : (sectors : ℕ) → layout_in sectors new ≡ layout_in sectors old
+  front_same : (sectors : ℕ) → geometry_in sectors new ≡ geometry_in sectors old
   front_same sectors = rw (at_front DISK_GATE (omega arith), at_front GEOMETRY (omega arith)) refl
 
   own_header : header_in s.layout new s.area ≡ header_in s.layout old s.area
@@ -157,7 +72,7 @@ module _ (s : Standing) (old new : Image) (same : SameButArea s.layout (other s.
   stands sectors base ports idle is harmless =
       let own = in_use_header s.layout old s.area _ is.in_use in
       record {
-        layout = front_same sectors ∙ is.layout;
+        layout = record { geometry = is.layout.geometry; found = front_same sectors ∙ is.layout.found; so = is.layout.so };
         in_use = put_in_use s.layout new s.area _ (own_header ∙ own.0) own.1 (idle_before s idle new harmless);
         ports_are = ports_from-same s.layout s.area old new 0 s.layout.ports (λ i above below.
             in_area i (omega (arith, above)) (omega (arith, below))) ∙ is.ports_are;
@@ -198,14 +113,17 @@ standing_with layout a header state =
     record { layout = layout; area = a; epoch = header.epoch; used = 0; number = header.base; state = state }
 
 pub whole_stands : (sectors : ℕ) (layout : Layout) (a : Area) (header : Header) (state : State) (idle : Idle) (image : Image)
-    → layout_in sectors image ≡ Ok layout → is_open (image (gate_at layout a)) ≡ true → is_sound header ≡ true
+    → IsFormattedFor sectors image layout → is_open (image (gate_at layout a)) ≡ true → header.version ≡ Some layout.version
+    → is_sound header ≡ true
     → IsBefore header.epoch (header_in layout image (other a)) → IsIdle (standing_with layout a header state) idle image
     → IsWhole layout a header state image
     → IsKeptAs sectors (standing_with layout a header state) idle image
-whole_stands sectors layout a header state idle image laid_out gate sound before harmless whole = record {
+whole_stands sectors layout a header state idle image laid_out gate named sound before harmless whole = record {
   stands = read_stands sectors image (standing_with layout a header state) header.base state (record {
     layout = laid_out;
-    in_use = put_in_use layout image a header (rw (gate, whole.head) refl) sound before;
+    in_use = put_in_use layout image a header (rw (gate, whole.head) refl) sound before
+        ∙ ap (λ (v : Option Version). ok (record { area = a; header = record { epoch = header.epoch; base = header.base; version = v } }))
+        named;
     ports_are = whole.ports_are;
     log = log-none layout a header.epoch image layout.slots header.base state (λ some. whole.shut 0 some);
   });

@@ -1,9 +1,9 @@
 -- Where things stand on a disk (docs/FORMATS.md, "Disk layout").
-use Rattle.std.specs.Prelude.{ℕ, ◌+◌, ◌-◌, ◌*◌, ◌/◌, ◌<◌}
+use Rattle.std.specs.Prelude.{◌≡◌, ℕ, ◌+◌, ◌-◌, ◌*◌, ◌/◌, Bool}
 use Rattle.iol_record.specs.declared.version.Version.{Version}
 use Rattle.iol_record.specs.declared.version.Version.TheVariants.{One, Two}
-use Rattle.iol_record.specs.Record.{newest}
-use Rattle.iol_layout.specs.Geometry.{Geometry}
+use Rattle.iol_record.specs.Record.{newest, is_newest}
+use Rattle.iol_layout.specs.Geometry.{Geometry, IsGeometry, given_up}
 use Rattle.iol_slots.specs.declared.slot.TheConstants.{BODY_SECTORS}
 use Rattle.iol_layout.specs.declared.geometry.TheConstants.{PORT_SECTORS, PORT_SECTORS_OF_TWO}
 use Rattle.iol_layout.specs.declared.area.Area.{Area}
@@ -22,16 +22,6 @@ pub record Layout : Type 0 where
   pub port_sectors : ℕ
   pub slots : ℕ
   pub spare_sectors : ℕ
-
--- the slots that an area gives up for larger records of so many ports: in version 2 as many as have the further sectors
--- of all records (format, Disk layout)
-abbrev pub given_up : Version → ℕ → ℕ
-given_up One ports = 0
-given_up Two ports = ((PORT_SECTORS_OF_TWO - PORT_SECTORS) * ports + BODY_SECTORS) / (1 + BODY_SECTORS)
-
--- an area of a geometry keeps a slot in a version (format, Disk layout)
-abbrev pub KeepsSlot : Version → Geometry → Type 0
-KeepsSlot version g = given_up version g.ports < g.slots
 
 -- the sectors of a port's record in a version (format, Disk layout)
 abbrev pub port_sectors_of : Version → ℕ
@@ -54,14 +44,40 @@ placed version ports slots = record {
   spare_sectors = spare_of version ports;
 }
 
+-- the slots that an area of a geometry keeps in a version (format, Disk layout)
+abbrev pub kept_slots : Version → Geometry → ℕ
+kept_slots One g = g.slots
+kept_slots Two g = g.slots - given_up Two g.ports
+
 -- the layout of a geometry in a version: the place and the size of an area are the same in both (format, Disk layout)
 abbrev pub laid_out : Version → Geometry → Layout
-laid_out One g = placed One g.ports g.slots
-laid_out Two g = placed Two g.ports (g.slots - given_up Two g.ports)
+laid_out version g = placed version g.ports (kept_slots version g)
+
+-- the geometry whose areas are laid out so (format, Disk layout)
+abbrev pub geometry_for : Layout → Geometry
+geometry_for layout = record { ports = layout.ports; slots = layout.slots + given_up layout.version layout.ports }
 
 -- the layout of a geometry as it is written (format, Disk layout)
 abbrev pub layout_of : Geometry → Layout
 layout_of g = laid_out newest g
+
+-- it is the layout of a geometry in its version (own)
+pub record IsLayout (layout : Layout) : Type 0 where
+  pub geometry : Geometry
+  pub is : IsGeometry geometry
+  pub so : layout ≡ laid_out layout.version geometry
+
+-- a layout in the version that is written, of the same geometry (format, Disk layout)
+abbrev pub renewed_from : Version → Layout → Layout
+renewed_from One layout = placed Two layout.ports (layout.slots - given_up Two layout.ports)
+renewed_from Two layout = layout
+
+abbrev pub renewed : Layout → Layout
+renewed layout = renewed_from layout.version layout
+
+-- a layout is in the version that is written (own)
+abbrev pub is_renewed : Layout → Bool
+is_renewed layout = is_newest layout.version
 
 -- the sectors of the records of all ports (format, Disk layout)
 abbrev pub record_sectors : Layout → ℕ

@@ -5,14 +5,15 @@ use Rattle.iol_types.specs.State.{Port, State, after, legal}
 use Rattle.iol_record.specs.Reading.{◌>>=◌, port_record_at}
 use Rattle.iol_record.specs.declared.fault.RecordFault.{RecordFault}
 use Rattle.iol_record.specs.declared.version.Version.{Version}
+use Rattle.iol_record.specs.declared.version.Version.TheVariants.{One, Two}
 use Rattle.iol_disk.specs.Content.{Image}
 use Rattle.iol_slots.specs.Gate.{is_open}
-use Rattle.iol_layout.specs.Geometry.{geometry_of}
-use Rattle.iol_layout.specs.Layout.{Layout, layout_of, total, gate_at, header_at, port_at, slot_at, body_at}
+use Rattle.iol_layout.specs.Geometry.{Geometry, geometry_of, given_up}
+use Rattle.iol_layout.specs.Layout.{Layout, laid_out, layout_of, total, gate_at, header_at, port_at, slot_at, body_at}
 use Rattle.iol_layout.specs.Octets.{octets_at}
 use Rattle.iol_types.specs.Command.{CommandValue}
 use Rattle.iol_layout.specs.Body.{head_of, slots_of, batch_of}
-use Rattle.iol_layout.specs.Header.{header_of, is_sound}
+use Rattle.iol_layout.specs.Header.{header_of, is_sound, version_in}
 use Rattle.iol_layout.specs.declared.area.Area.{Area}
 use Rattle.iol_layout.specs.declared.area.Area.TheVariants.{A, B}
 use Rattle.iol_slots.specs.declared.slot.TheConstants.{BODY_SECTORS}
@@ -20,9 +21,11 @@ use Rattle.iol_layout.specs.declared.geometry.TheConstants.{GEOMETRY, DISK_GATE}
 use Rattle.iol_layout.specs.declared.header.Header.{Header}
 use Rattle.iol_layout.specs.declared.in_use.InUse.{InUse}
 
--- why an image means no state: it was not formatted, or this sector is the first that is damaged (format, Recovery)
+-- why an image means no state: it was not formatted, an area keeps no slot in version 2, or this sector is the first that
+-- is damaged (format, Recovery)
 pub data Cause : Type 0 where
   unformatted : Cause
+  too_small : Cause
   damaged : (sector : ℕ) → Cause
 
 -- a value where the test holds, else the sector is damaged (own)
@@ -39,12 +42,16 @@ or_damaged None sector = Err (damaged sector)
 abbrev pub is_formatted : ℕ → Image → Bool
 is_formatted sectors image = nat_lt DISK_GATE sectors && is_open (image DISK_GATE)
 
--- the layout that a disk of so many sectors is formatted with (format, Recovery)
-abbrev pub layout_in : ℕ → Image → Result Layout Cause
-layout_in sectors image =
+-- a geometry, where an area keeps a slot in version 2 (format, Recovery)
+abbrev pub or_too_small : Geometry → Result Geometry Cause
+or_too_small g = if nat_lt (given_up Two g.ports) g.slots then Ok g else Err too_small
+
+-- the geometry that a disk of so many sectors is formatted for (format, Recovery)
+abbrev pub geometry_in : ℕ → Image → Result Geometry Cause
+geometry_in sectors image =
     if is_formatted sectors image
     then (or_damaged (geometry_of (image GEOMETRY)) GEOMETRY >>= λ g.
-    if_sound (nat_le (total (layout_of g)) sectors) GEOMETRY (layout_of g))
+    if_sound (nat_le (total (laid_out One g)) sectors) GEOMETRY g >>= or_too_small)
     else Err unformatted
 
 -- the header of an area, where the area's gate is open (format, Recovery)
@@ -64,7 +71,7 @@ greatest layout (Some a) (Some b) =
     if a.epoch == b.epoch then Err (damaged (header_at layout B))
     else if nat_lt a.epoch b.epoch then in_use layout B b else in_use layout A a
 
--- the area that is in use (format, Recovery)
+-- the area that is in use; gates and headers stand where they do in each version (format, Recovery)
 abbrev pub in_use_in : Layout → Image → Result InUse Cause
 in_use_in layout image = greatest layout (header_in layout image A) (header_in layout image B)
 
@@ -127,16 +134,21 @@ pub record Standing : Type 0 where
   pub number : ℕ
   pub state : State
 
+-- the layout of the area in use: in the version that its header names (format, Recovery)
+abbrev pub layout_used : Geometry → InUse → Layout
+layout_used g used = laid_out (version_in used.header) g
+
 -- how a journal stands on an image of so many sectors, or the first cause, in the order of reading, why none does
 -- (format, Recovery)
 unfoldable pub standing_in : ℕ → Image → Result Standing Cause
 standing_in sectors image =
-    layout_in sectors image
-    >>= λ layout. in_use_in layout image
-    >>= λ used. ports_from layout used.area image 0 layout.ports
-    >>= λ ports. log_from layout used.area used.header.epoch image 0 0 layout.slots used.header.base ports
+    geometry_in sectors image
+    >>= λ g. in_use_in (layout_of g) image
+    >>= λ used. ports_from (layout_used g used) used.area image 0 g.ports
+    >>= λ ports.
+    log_from (layout_used g used) used.area used.header.epoch image 0 0 (layout_used g used).slots used.header.base ports
     >>= λ log. Ok (record {
-      layout = layout;
+      layout = layout_used g used;
       area = used.area;
       epoch = used.header.epoch;
       used = log.used;

@@ -1,9 +1,10 @@
 -- How a journal stands: where it writes next, how many commands it has, and the state after them.
-use Rattle.std.specs.Prelude.{◌≡◌, ◌≤◌, ◌<◌, ℕ, ◌+◌, List, length}
+use Rattle.std.specs.Prelude.{◌≡◌, ◌≤◌, ◌<◌, ℕ, ◌+◌, ◌-◌, if◌then◌else◌, List, length}
 use Rattle.iol_types.specs.Command.{CommandValue}
 use Rattle.iol_types.specs.State.{State, after}
 use Rattle.iol_disk.specs.Disk.{Disk}
-use Rattle.iol_layout.specs.Layout.{total}
+use Rattle.iol_layout.specs.Header.{epochs_ahead}
+use Rattle.iol_layout.specs.Layout.{IsLayout, is_renewed, total}
 use Rattle.iol_layout.specs.Meaning.{Standing}
 use Rattle.iol_layout.specs.declared.place.Place.{Place}
 use Rattle.iol_layout.specs.declared.header.TheConstants.{LAST_NUMBER}
@@ -31,12 +32,18 @@ with_batch s commands = record {
   state = after s.state commands;
 }
 
+-- the slots that a batch may take: those that are not used, where the layout is the one that is written; in an older one
+-- nothing is written (format, Slots)
+abbrev pub free_slots : Standing → ℕ
+free_slots s = if is_renewed s.layout then s.layout.slots - s.used else 0
+
 -- What holds of a journal at rest, on any disk (own)
 pub record IsResting (d : Disk) (s : Standing) : Type 0 where
+  pub laid_out : IsLayout s.layout
   pub fits : total s.layout ≤ d.sectors
   pub within : s.used ≤ s.layout.slots
   pub bound : s.number ≤ LAST_NUMBER
-  -- each epoch but the first has begun after a command, and there is one in the used slots
-  pub begun : s.epoch ≤ s.number + 1
-  pub in_use : 0 < s.used → s.epoch ≤ s.number
+  -- each epoch but the first, and one of version 2, has begun after a command, and there is one in the used slots
+  pub begun : s.epoch ≤ s.number + epochs_ahead s.layout.version
+  pub in_use : 0 < s.used → s.epoch < s.number + epochs_ahead s.layout.version
   pub count : length s.state ≡ s.layout.ports

@@ -1,9 +1,9 @@
 //! The ports and slots of a journal.
 
-use crate::layout::Layout;
-use crate::numbers::array_at;
+use crate::layout::{Layout, given_up};
 use crate::sector::sector_of;
 use iol_disk::SECTOR_OCTETS;
+use iol_record::Version;
 use iol_slots::BODY_SECTORS;
 use std::marker::Model;
 
@@ -45,38 +45,23 @@ impl Model for Geometry {
 
 impl Geometry {
     ghost use Rattle.std.specs.Prelude.{◌≡◌, ◌<◌, ◌≤◌, Some, IfSome, IfNone};
-    ghost use Rattle.iol_layout.specs.Geometry.{IsGeometry, geometry_of, geometry_octets};
+    ghost use Rattle.iol_layout.specs.Geometry.{IsGeometry, geometry_octets};
     ghost use Rattle.iol_layout.specs.Layout.{layout_of, total};
 
-    /// The geometry of so many ports, 1 to 32, and of so many slots in each area, 1 to 256.
+    /// The geometry of so many ports, 1 to 32, and of so many slots in each area, 1 to 256, of which one is left where larger records
+    /// take theirs: more than 8 for each 17 ports, rounded up.
     pub fn new(ports: u16, slots: u16) -> Option<Geometry>
         ensures some { IfSome result (λ g. (g.ports ≡ ports) × (g.slots ≡ slots) × IsGeometry g) }
         ensures none { IfNone result (IsGeometry (record { ports = ports; slots = slots }) → ⊥) }
     {
-        if ports == 0 || MOST_PORTS < ports || slots == 0 || MOST_SLOTS < slots {
+        if ports == 0 || MOST_PORTS < ports || MOST_SLOTS < slots {
             return None;
         }
-        Some(Geometry {
-            ports: ports as u8,
-            slots,
-        })
-    }
-
-    /// The geometry that its sector says, or `None` where the sector says none.
-    #[tactic(auto, unfolding(crate::specs::Geometry::geometry_of))]
-    pub fn read(octets: &[u8; SECTOR_OCTETS]) -> Option<Geometry>
-        ensures { result ≡ geometry_of octets.now }
-    {
-        if octets.starts_with(&GEOMETRY_MARK)
-            && u16::from_be_bytes(array_at(octets, 8)) as usize == BODY_SECTORS
-        {
-            Geometry::new(
-                u16::from(octets[5]),
-                u16::from_be_bytes(array_at(octets, 6)),
-            )
-        } else {
-            None
+        let ports = ports as u8;
+        if usize::from(slots) <= given_up(Version::Two, ports) {
+            return None;
         }
+        Some(Geometry { ports, slots })
     }
 
     /// The octets of its sector.
@@ -120,6 +105,6 @@ impl Geometry {
     pub fn layout(self) -> Layout
         ensures { result ≡ layout_of self }
     {
-        Layout::of(self)
+        Layout::of(Version::newest(), self)
     }
 }

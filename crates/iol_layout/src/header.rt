@@ -1,13 +1,20 @@
 //! The header of an area.
 
-ghost use Rattle.std.specs.Prelude.{◌≡◌};
+ghost use Rattle.std.specs.Prelude.{◌≡◌, ◌≤◌};
+ghost use Rattle.iol_layout.specs.Header.{epochs_ahead, name_of, version_named};
 
 use crate::numbers::array_at;
 use crate::sector::sector_of;
 use iol_disk::SECTOR_OCTETS;
+use iol_record::Version;
 
 /// The greatest number of a command.
 pub const LAST_NUMBER: u64 = 1 << 62;
+
+// The octets that name the versions of a layout.
+pub(crate) const NAME_OF_ONE: u8 = 0;
+
+pub(crate) const NAME_OF_TWO: u8 = 2;
 
 /// The header of an area (docs/FORMATS.md, "Headers").
 #[derive(Clone, Copy)]
@@ -16,10 +23,44 @@ pub struct Header {
     pub epoch: u64,
     /// How many commands the area's port records already hold.
     pub base: u64,
+    /// The version of the area's layout; none where its octet names no version.
+    pub version: Option<Version>,
+}
+
+// The octet that names a version.
+fn name_of(version: Version) -> u8
+    ensures { result ≡ name_of version }
+{
+    match version {
+        Version::One => NAME_OF_ONE,
+        Version::Two => NAME_OF_TWO,
+    }
+}
+
+// The version that an octet names.
+fn version_named(octet: u8) -> Option<Version>
+    ensures { result ≡ version_named octet }
+{
+    match octet {
+        NAME_OF_ONE => Some(Version::One),
+        NAME_OF_TWO => Some(Version::Two),
+        _ => None,
+    }
+}
+
+// How far an epoch may be ahead of the number of commands before it.
+fn epochs_ahead(version: Version) -> u64
+    ensures count { result ≡ epochs_ahead version }
+    ensures few { result ≤ 2 }
+{
+    match version {
+        Version::One => 1,
+        Version::Two => 2,
+    }
 }
 
 impl Header {
-    ghost use Rattle.iol_layout.specs.Header.{header_of, header_octets, is_sound};
+    ghost use Rattle.iol_layout.specs.Header.{header_of, header_octets, is_sound, version_in};
 
     /// The header in the octets of its sector.
     #[tactic(auto, unfolding(crate::specs::Header::header_of))]
@@ -29,16 +70,18 @@ impl Header {
         Header {
             epoch: u64::from_be_bytes(array_at(octets, 0)),
             base: u64::from_be_bytes(array_at(octets, 8)),
+            version: version_named(u8::from_be_bytes(array_at(octets, 16))),
         }
     }
 
-    /// The octets of its sector.
-    pub fn octets(self) -> [u8; SECTOR_OCTETS]
-        ensures { result ≡ header_octets self.epoch self.base }
+    /// The octets of the sector of a header of a version.
+    pub fn octets(version: Version, epoch: u64, base: u64) -> [u8; SECTOR_OCTETS]
+        ensures { result ≡ header_octets version epoch base }
     {
-        let mut octets = [0; 16];
-        octets[..8].copy_from_slice(&self.epoch.to_be_bytes());
-        octets[8..].copy_from_slice(&self.base.to_be_bytes());
+        let mut octets = [0; 17];
+        octets[..8].copy_from_slice(&epoch.to_be_bytes());
+        octets[8..16].copy_from_slice(&base.to_be_bytes());
+        octets[16] = name_of(version);
         sector_of(&octets)
     }
 
@@ -46,6 +89,23 @@ impl Header {
     pub fn is_sound(self) -> bool
         ensures { result ≡ is_sound self }
     {
-        1 <= self.epoch && self.base <= LAST_NUMBER && self.epoch <= self.base + 1
+        match self.version {
+            Some(version) => {
+                1 <= self.epoch
+                    && self.base <= LAST_NUMBER
+                    && self.epoch <= self.base + epochs_ahead(version)
+            }
+            None => false,
+        }
+    }
+
+    /// The version of the area's layout, where it may be in use.
+    pub fn version_in_use(self) -> Version
+        ensures { result ≡ version_in self }
+    {
+        match self.version {
+            Some(version) => version,
+            None => Version::newest(),
+        }
     }
 }

@@ -1,10 +1,14 @@
 //! Where everything stands on a disk.
 
 ghost use Rattle.std.specs.Prelude.{◌≡◌, ◌≤◌};
-ghost use Rattle.iol_layout.specs.Layout.{given_up};
+ghost use Rattle.iol_layout.specs.Geometry.{given_up};
 
 use crate::area::Area;
-use crate::geometry::{Geometry, PORT_SECTORS, PORT_SECTORS_OF_TWO};
+use crate::geometry::{
+    GEOMETRY_MARK, Geometry, MOST_PORTS, MOST_SLOTS, PORT_SECTORS, PORT_SECTORS_OF_TWO,
+};
+use crate::numbers::array_at;
+use iol_disk::SECTOR_OCTETS;
 use iol_record::Version;
 use iol_slots::{BODY_SECTORS, Slot};
 use std::marker::Model;
@@ -21,21 +25,21 @@ pub struct Layout {
 }
 
 impl Model for Layout {
-    ghost use Rattle.iol_layout.specs.Layout.{Layout as Places, given_up, placed};
-    ghost use Rattle.iol_layout.specs.Geometry.{IsGeometry};
+    ghost use Rattle.iol_layout.specs.Layout.{Layout as Places, placed};
+    ghost use Rattle.iol_layout.specs.Geometry.{IsInRange, given_up};
     ghost use Rattle.std.specs.Prelude.{◌≤◌, ◌+◌};
 
     ghost Value = { Places };
 
     ghost view = { λ l. placed l.version l.ports l.slots };
 
-    ghost invariant = { λ l. IsGeometry (record { ports = l.ports; slots = l.slots + given_up l.version l.ports }) × (1 ≤ l.slots) };
+    ghost invariant = { λ l. IsInRange (record { ports = l.ports; slots = l.slots + given_up l.version l.ports }) × (1 ≤ l.slots) };
 
     ghost inverse = { λ l. record { version = l.version; ports = l.ports; slots = l.slots } };
 }
 
 // How many slots an area gives up for the larger records of so many ports.
-fn given_up(version: Version, ports: u8) -> usize
+pub(crate) fn given_up(version: Version, ports: u8) -> usize
     requires { ports ≤ 32 }
     ensures count { result ≡ given_up version ports }
     ensures most { result ≤ 16 }
@@ -50,37 +54,81 @@ fn given_up(version: Version, ports: u8) -> usize
 
 impl Layout {
     ghost use Rattle.std.specs.Prelude.{◌≡◌, ◌<◌, ◌≤◌, ◌+◌, ◌*◌, IfSome, IfNone};
+    ghost use Rattle.std.specs.Option.{option_map};
+    ghost use Rattle.iol_record.specs.declared.version.Version.TheVariants.{One};
+    ghost use Rattle.iol_layout.specs.Geometry.{IsGeometry, geometry_of};
     ghost use Rattle.iol_record.specs.declared.encode.TheConstants.{LARGEST_PORT_RECORD};
     ghost use Rattle.iol_disk.specs.declared.disk.TheConstants.{SECTOR_OCTETS};
-    ghost use Rattle.iol_layout.specs.Layout.{KeepsSlot, laid_out, layout_of, total, area_sectors, gate_at, header_at, port_at};
+    ghost use Rattle.iol_layout.specs.Layout.{laid_out, geometry_for, renewed, is_renewed, total, area_sectors, gate_at, header_at};
+    ghost use Rattle.iol_layout.specs.Layout.{port_at};
     ghost use Rattle.iol_layout.specs.Layout.{slot_at, body_at};
 
-    /// The layout of a geometry in a version, if an area keeps a slot in it.
-    pub fn new(version: Version, geometry: Geometry) -> Option<Layout>
-        ensures some { IfSome result (λ layout. layout ≡ laid_out version geometry) }
-        ensures none { IfNone result (KeepsSlot version geometry → ⊥) }
+    /// The layout of a geometry in a version.
+    pub fn of(version: Version, geometry: Geometry) -> Layout
+        ensures { result ≡ laid_out version geometry }
     {
         let ports = geometry.ports();
-        let given_up = given_up(version, ports);
-        if geometry.slots() <= given_up {
-            return None;
-        }
-        Some(Layout {
+        Layout {
             version,
             ports,
-            slots: (geometry.slots() - given_up) as u16,
-        })
+            slots: (geometry.slots() - given_up(version, ports)) as u16,
+        }
     }
 
-    // The layout of a geometry as it is written.
-    pub(crate) fn of(geometry: Geometry) -> Layout
-        ensures { result ≡ layout_of geometry }
+    /// The layout in version 1 of the numbers that sector 0 says, or `None` where it says none: what a disk of any version is
+    /// judged by first.
+    #[tactic(auto, unfolding(crate::specs::Geometry::geometry_of))]
+    pub fn read(octets: &[u8; SECTOR_OCTETS]) -> Option<Layout>
+        ensures { result ≡ option_map (laid_out One) (geometry_of octets.now) }
     {
-        Layout {
-            version: Version::One,
-            ports: geometry.ports(),
-            slots: geometry.slots() as u16,
+        let ports = octets[5];
+        let slots = u16::from_be_bytes(array_at(octets, 6));
+        if octets.starts_with(&GEOMETRY_MARK)
+            && u16::from_be_bytes(array_at(octets, 8)) as usize == BODY_SECTORS
+            && 1 <= ports
+            && u16::from(ports) <= MOST_PORTS
+            && 1 <= slots
+            && slots <= MOST_SLOTS
+        {
+            Some(Layout {
+                version: Version::One,
+                ports,
+                slots,
+            })
+        } else {
+            None
         }
+    }
+
+    /// The geometry whose areas are laid out so, or `None` where an area keeps no slot in version 2.
+    pub fn geometry(self) -> Option<Geometry>
+        ensures some { IfSome result (λ geometry. geometry ≡ geometry_for self) }
+        ensures none { IfNone result (IsGeometry (geometry_for self) → ⊥) }
+    {
+        let slots = usize::from(self.slots) + given_up(self.version, self.ports);
+        Geometry::new(u16::from(self.ports), slots as u16)
+    }
+
+    /// The layout of the same geometry in the version that is written.
+    pub fn renewed(self) -> Layout
+        requires { IsGeometry (geometry_for self) }
+        ensures { result ≡ renewed self }
+    {
+        match self.version {
+            Version::One => Layout {
+                version: Version::Two,
+                ports: self.ports,
+                slots: self.slots - given_up(Version::Two, self.ports) as u16,
+            },
+            Version::Two => self,
+        }
+    }
+
+    /// Whether it is in the version that is written.
+    pub fn is_renewed(self) -> bool
+        ensures { result ≡ is_renewed self }
+    {
+        self.version.is_newest()
     }
 
     /// The version that its records are spelled in.
@@ -121,8 +169,8 @@ impl Layout {
         }
     }
 
-    // How many sectors a disk needs.
-    pub(crate) fn sectors(self) -> usize
+    /// How many sectors a disk needs.
+    pub fn sectors(self) -> usize
         ensures total { result ≡ total self }
         ensures bound { result < 10000 }
     {

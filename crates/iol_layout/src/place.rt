@@ -16,8 +16,9 @@ pub struct Place {
 }
 
 impl Place {
-    ghost use Rattle.std.specs.Prelude.{◌≡◌, ◌≤◌, ◌+◌, ◌*◌};
-    ghost use Rattle.iol_layout.specs.Layout.{slot_at, body_at};
+    ghost use Rattle.std.specs.Prelude.{◌≡◌, ◌≤◌, ◌+◌, ◌-◌, ◌*◌, if◌then◌else◌};
+    ghost use Rattle.iol_layout.specs.Geometry.{IsGeometry};
+    ghost use Rattle.iol_layout.specs.Layout.{geometry_for, is_renewed, renewed, slot_at, body_at};
     ghost use Rattle.iol_slots.specs.declared.slot.TheConstants.{BODY_SECTORS};
 
     /// How many slots the area has, 1 to 256.
@@ -26,6 +27,27 @@ impl Place {
         ensures bound { result ≤ 256 }
     {
         self.layout.slots()
+    }
+
+    /// The layout of the same geometry that is written.
+    pub fn renewed_layout(&self) -> Layout
+        requires { IsGeometry (geometry_for self.now.layout) }
+        ensures { result ≡ renewed self.now.layout }
+    {
+        self.layout.renewed()
+    }
+
+    /// How many slots a batch may take: those that are not used, and none where the layout is an older one.
+    pub fn free_slots(&self) -> usize
+        requires { self.now.used ≤ self.now.layout.slots }
+        ensures free { result ≡ (if is_renewed self.now.layout then self.now.layout.slots - self.now.used else 0) }
+        ensures bound { result ≤ 256 }
+    {
+        if self.layout.is_renewed() {
+            self.layout.slots() - self.used
+        } else {
+            0
+        }
     }
 
     /// How many sectors a port's record has.

@@ -10,7 +10,7 @@ use Rattle.iol_script.specs.declared.device.Device.{Device}
 use Rattle.iol_front.specs.Fronts.{Start}
 use Rattle.iol_journal.specs.Journals.{JournalView}
 use Rattle.iol_journal.specs.Kept.{EachMeans, IsKept}
-use Rattle.iol_journal.specs.Meaning.{Cause, Meaning, unformatted, damaged, standing_in}
+use Rattle.iol_journal.specs.Meaning.{Cause, Meaning, unformatted, too_small, damaged, standing_in}
 use Rattle.iol_flush.specs.Flushing.{Rests}
 use Rattle.iol_commands.specs.Images.{TellsWhy}
 use Rattle.iol_commands.specs.Recovered.{TellsState, recovered_text}
@@ -75,11 +75,11 @@ told_of_left disk start first master left receipts told text honest rest from sa
 -- what is met of a disk on which a journal stands is a disk call or memory that failed
 met : {Y : Type 0} (read : Result Y Cause) (y : Y) (fault : Fault) → TellsWhy read fault → read ≡ Ok y → IsRunCause fault
 met read y NotFormatted tells is = let wrong : ◌≡◌ {A = Result _ Cause} (Err unformatted) (Ok y) = sym tells ∙ is in absurd cc
+met read y TooSmall tells is = let wrong : ◌≡◌ {A = Result _ Cause} (Err too_small) (Ok y) = sym tells ∙ is in absurd cc
 met read y (Damaged sector) tells is = let wrong : ◌≡◌ {A = Result _ Cause} (Err (damaged sector)) (Ok y) = sym tells ∙ is in absurd cc
 met read y OfDisk tells is = tt
 met read y Memory tells is = tt
 met read y AlreadyFormatted tells is = absurd tells
-met read y TooSmall tells is = absurd tells
 met read y Words tells is = absurd tells
 met read y (File path) tells is = absurd tells
 met read y InUse tells is = absurd tells

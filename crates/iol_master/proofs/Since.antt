@@ -6,12 +6,13 @@ use Rattle.iol_disk.specs.Calls.{Call}
 use Rattle.iol_disk.specs.Disk.{Disk, HasFailed}
 use Rattle.iol_disk.specs.declared.fault.DiskFault.{DiskFault}
 use Rattle.iol_front.specs.Fronts.{CommittedView}
+use Rattle.iol_journal.specs.Begin.{wants_checkpoint}
 use Rattle.iol_journal.specs.CheckpointViews.{CheckpointingView, checkpoint_of}
 use Rattle.iol_journal.specs.Journals.{JournalView, WritingView, writing_of}
 use Rattle.iol_journal.specs.Body.{values}
 use Rattle.iol_journal.specs.Batch.{Batch}
 use Rattle.iol_flush.specs.Flushing.{IsSound}
-use Rattle.iol_flush.specs.Stages.{FlusherView, disk_of, failure_of, wants_checkpoint, next_calls}
+use Rattle.iol_flush.specs.Stages.{FlusherView, disk_of, failure_of, next_calls}
 use Rattle.iol_flush.specs.Steps.{HasAdvanced, HasBegun, HasMadeOfCheckpoint, HasMade, HasPublished}
 use Rattle.iol_flush.specs.Steps.{HasTaken, HasMadeOfBatch, IsDiskStep, IsGift, IsPublished, IsWithdrawn}
 use Rattle.iol_flush.specs.declared.fault.FlushFault.{FlushFault}

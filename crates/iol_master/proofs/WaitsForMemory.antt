@@ -1,13 +1,15 @@
 -- Where a flusher waits for memory, and that it may end from there.
-use Rattle.std.proofs.Common.{◌≡◌, true, false, Option, Some, None, if◌then◌else◌, refl, sym, ap, ◌∙◌, subst}
+use Rattle.std.proofs.Common.{◌≡◌, inl, inr, Bool, true, false, Option, Some, None, if◌then◌else◌, refl, sym, ap, subst}
 use Rattle.iol_journal.specs.Batch.{Batch}
 use Rattle.iol_journal.specs.Journals.{JournalView}
-use Rattle.iol_flush.specs.Stages.{is_due, names_batch, need_of}
+use Rattle.iol_journal.specs.Layout.{is_renewed}
+use Rattle.iol_flush.specs.Stages.{due_need, is_due, names_batch}
 use Rattle.iol_flush.specs.Steps.{IsUnfit, IsWithdrawn, MayWant}
 use Rattle.iol_flush.specs.declared.need.Need.TheVariants as need
 use Rattle.iol_flush.specs.declared.stage.FlushStage.{FlushStage}
 use Rattle.iol_flush.specs.declared.stage.FlushStage.TheVariants.{Resting, Opening, Given, Checkpointing, Writing, Publishing, Failed}
-use Rattle.iol_master.specs.Endings.{MayWait}
+use Rattle.iol_master.specs.Endings.{MayEnd, MayWait}
+use Rattle.iol_master.specs.declared.flushing.Turned.TheVariants.{Ended}
 
 module _ {D : Type 0} where
   -- a disk call that wants memory is made of a journal at rest
@@ -36,20 +38,21 @@ module _ {D : Type 0} where
   pub waits_unfit : (old new : FlushStage D) → IsUnfit old → new ≡ old → MayWait new
   waits_unfit old new is same = subst (λ (s : FlushStage D). MayWait s) (sym same) (unfit old is)
 
-  -- a journal at rest may be given a batch
-  rest_names : (j : JournalView D) → names_batch (need_of (Resting j)) ≡ true
-  rest_names j =
-      elim (is_due j) as (λ due. names_batch (if due then need.BatchOrDisk else need.Batch) ≡ true) [ true ↦ refl | false ↦ refl ]
+  -- a journal at rest may be given a batch, or has an older layout
+  rest_names : (j : JournalView D) (renewed : Bool) → is_renewed j.standing.layout ≡ renewed → MayEnd (Resting j) Ended
+  rest_names j true is =
+      inl (elim (is_due j) as (λ due. names_batch (if due then due_need (is_renewed j.standing.layout) else need.Batch) ≡ true)
+      [ true ↦ ap (λ (renewed : Bool). names_batch (due_need renewed)) is | false ↦ refl ])
+  rest_names j false is = inr (inr is)
 
-  names : (new : FlushStage D) (j : JournalView D) → new ≡ Resting j → names_batch (need_of new) ≡ true
-  names new j is = ap (λ (s : FlushStage D). names_batch (need_of s)) is ∙ rest_names j
+  rests : (new : FlushStage D) (j : JournalView D) → new ≡ Resting j → MayEnd new Ended
+  rests new j is = subst (λ (s : FlushStage D). MayEnd s Ended) (sym is) (rest_names j (is_renewed j.standing.layout) refl)
 
   -- once the batch that waits is taken back, the flusher may end
-  pub ends_withdrawn : (old new : FlushStage D) (back : Option Batch) → MayWait old → IsWithdrawn old new back
-      → names_batch (need_of new) ≡ true
-  ends_withdrawn (Resting j) new None may is = names new j is
+  pub ends_withdrawn : (old new : FlushStage D) (back : Option Batch) → MayWait old → IsWithdrawn old new back → MayEnd new Ended
+  ends_withdrawn (Resting j) new None may is = rests new j is
   ends_withdrawn (Resting j) new (Some back) may is = absurd is
-  ends_withdrawn (Given j b) new (Some back) may is = names new j is.0
+  ends_withdrawn (Given j b) new (Some back) may is = rests new j is.0
   ends_withdrawn (Given j b) new None may is = absurd is
   ends_withdrawn (Opening c) new back may is = absurd may
   ends_withdrawn (Checkpointing k b) new back may is = absurd may

@@ -1,10 +1,11 @@
 -- How the run of a flusher ends, and of a master.
-use Rattle.std.specs.Prelude.{◌≡◌, ◌≢◌, ◌⊎◌, ℕ, true, List, length}
+use Rattle.std.specs.Prelude.{◌≡◌, ◌≢◌, ◌⊎◌, ℕ, true, false, List, length}
 use Rattle.iol_types.specs.Command.{CommandValue}
 use Rattle.iol_disk.specs.Disk.{Disk, HasFailed}
 use Rattle.iol_front.specs.Fronts.{Start}
 use Rattle.iol_journal.specs.Journals.{JournalView}
 use Rattle.iol_journal.specs.Kept.{EachMeans}
+use Rattle.iol_journal.specs.Layout.{is_renewed}
 use Rattle.iol_flush.specs.Flushing.{Rests}
 use Rattle.iol_flush.specs.Stages.{StandsBehind, names_batch, need_of}
 use Rattle.iol_flush.specs.declared.flusher.FlushEnd.{FlushEnd}
@@ -19,11 +20,16 @@ use Rattle.iol_master.specs.declared.ending.Ending.TheVariants as ending
 use Rattle.iol_master.specs.declared.ending.StartFault.{StartFault}
 use Rattle.iol_master.specs.declared.ending.StartFault.TheVariants as start_fault
 
--- a flusher ends where it may be given a batch, or where a disk call has failed (own)
+-- a journal is at rest in an older layout: a checkpoint comes before the next batch (own)
+abbrev pub RestsOlder : {D : Type 0} → FlushStage D → Type 0
+RestsOlder (Resting journal) = is_renewed journal.standing.layout ≡ false
+RestsOlder stage = ⊥
+
+-- a flusher ends where it may be given a batch, where its journal is at rest in an older layout, or where a disk call has failed (own)
 abbrev pub MayEnd : {D : Type 0} → FlushStage D → Turned → Type 0
 MayEnd stage Made = Unit {0}
 MayEnd stage Waited = Unit {0}
-MayEnd stage Ended = (names_batch (need_of stage) ≡ true) ⊎ (need_of stage ≡ need.Stopped)
+MayEnd stage Ended = (names_batch (need_of stage) ≡ true) ⊎ (need_of stage ≡ need.Stopped) ⊎ RestsOlder stage
 
 -- a flusher waits for memory where no disk call of a batch is made: its journal is at rest (own)
 abbrev pub MayWait : {D : Type 0} → FlushStage D → Type 0

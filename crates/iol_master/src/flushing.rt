@@ -71,8 +71,8 @@ impl<D: SectorDisk, F: Name> Promise<FlushEnd<D, F>> for FromCharge<D, F> {
     ghost kept_by = { λ p end. EndsFrom D.disk F.front.start p.0.value end };
 }
 
-// Brings batches to the disk until no more is taken and nothing waits, or a disk call fails; or until no memory is left for a batch,
-// where the run is to end.
+// Brings batches to the disk until no more is taken and nothing waits, or a disk call fails; or until no memory is left for a batch or
+// a checkpoint, where the run is to end.
 pub(crate) fn flush_all<D: SectorDisk, F: Name, R: Wait + Copy>(
     rt: R,
     shared: Arc<Shared<F>, Global>,

@@ -2,12 +2,12 @@
 
 use crate::entry::{Entry, Form, Role};
 use crate::keys::{KEYS, Key};
-use crate::line::{write_at, write_found, write_may, write_said};
+use crate::line::{write_at, write_found, write_said};
 use crate::nearest::write_unknown;
 use crate::part::Part;
 use crate::reading::entries_of;
 use crate::rules::{Kind, May, STEPS};
-use crate::trial::{is_right, ports_by};
+use crate::trial::{MOST_SLOTS, is_right, least_slots, ports_by};
 use iol_types::PORTS;
 use std::alloc::{AllocError, Global};
 use toml::Value;
@@ -18,14 +18,14 @@ pub(crate) struct Judge<'t> {
     pub(crate) alloc: Global,
     pub(crate) text: &'t str,
     pub(crate) entries: Vec<Entry>,
-    // How many ports the script has; where it does not say so, the most that it may have.
-    pub(crate) ports: i64,
+    // How many ports the script has, where it says so.
+    ports: Option<i64>,
 }
 
 impl<'t> Judge<'t> {
     pub(crate) fn new(alloc: Global, text: &'t str) -> Result<Judge<'t>, AllocError> {
         let entries = entries_of(alloc, text)?;
-        let ports = ports_in(alloc, text, &entries)?;
+        let ports = ports_by(alloc, ports_value(&entries).of(text))?;
         Ok(Judge {
             alloc,
             text,
@@ -95,7 +95,7 @@ impl<'t> Judge<'t> {
         }
         write_at(lines, self.text, table.name.start, key.name())?;
         lines.push_str(": missing: ")?;
-        write_may(lines, may, self.ports)
+        self.write_may(may, lines)
     }
 
     // Writes that a value among tables is none.
@@ -157,7 +157,21 @@ impl<'t> Judge<'t> {
         if has_array(kind, key) {
             return Ok(self.is_array(entry.value));
         }
-        is_right(self.alloc, self.ports, kind, key, entry.value.of(self.text))
+        let ports = match kind {
+            Kind::Script => self.fewest_ports(),
+            _ => self.most_ports(),
+        };
+        is_right(self.alloc, ports, kind, key, entry.value.of(self.text))
+    }
+
+    // How many ports the script has; where it does not say so, the most that it may have.
+    fn most_ports(&self) -> i64 {
+        self.ports.unwrap_or(i64::from(PORTS))
+    }
+
+    // How many ports its slots are judged by; where it does not say so, one, for which the fewest are enough.
+    fn fewest_ports(&self) -> i64 {
+        self.ports.unwrap_or(1)
     }
 
     // Writes the mistakes of a value that is right where it stands alone.
@@ -182,7 +196,30 @@ impl<'t> Judge<'t> {
     fn write_wrong(&self, entry: Entry, may: May, lines: &mut String) -> Result<(), AllocError> {
         let name = entry.name.of(self.text);
         write_found(lines, self.text, entry.name.start, name, entry.value)?;
-        write_may(lines, may, self.ports)
+        self.write_may(may, lines)
+    }
+
+    // What may stand at a key, and the end of the line.
+    fn write_may(&self, may: May, lines: &mut String) -> Result<(), AllocError> {
+        match may {
+            May::Words(words) => writeln!(lines, "{words}"),
+            May::OfPorts => {
+                let ports = self.most_ports();
+                writeln!(lines, "1 to {ports}")
+            }
+            May::ForPorts => self.write_slots(lines),
+        }
+    }
+
+    // How many slots the script may have, which its ports decide.
+    fn write_slots(&self, lines: &mut String) -> Result<(), AllocError> {
+        let least = least_slots(self.alloc, self.fewest_ports())?;
+        write!(lines, "{least} to {MOST_SLOTS}")?;
+        match self.ports {
+            Some(1) => lines.push_str(" for 1 port\n"),
+            Some(ports) => writeln!(lines, " for {ports} ports"),
+            None => lines.push('\n'),
+        }
     }
 
     pub(crate) fn is_array(&self, value: Part) -> bool {
@@ -277,14 +314,6 @@ fn step_named(alloc: Global, value: &str) -> Result<Option<Kind>, AllocError> {
 
 fn step_of(value: &Value) -> Option<Kind> {
     Kind::of_step(value.as_str()?)
-}
-
-// How many ports a script has.
-fn ports_in(alloc: Global, text: &str, entries: &[Entry]) -> Result<i64, AllocError> {
-    match ports_by(alloc, ports_value(entries).of(text))? {
-        Some(ports) => Ok(ports),
-        None => Ok(i64::from(PORTS)),
-    }
 }
 
 // What stands at `ports`.

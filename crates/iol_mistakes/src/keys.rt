@@ -21,12 +21,13 @@ pub(crate) enum Key {
     Event,
     Mode,
     Validation,
+    Label,
     Times,
     Keep,
 }
 
 // All keys, in the order in which a table is told its own.
-pub(crate) const KEYS: [Key; 20] = [
+pub(crate) const KEYS: [Key; 21] = [
     Key::Do,
     Key::Ports,
     Key::Slots,
@@ -36,6 +37,7 @@ pub(crate) const KEYS: [Key; 20] = [
     Key::Validation,
     Key::Vendor,
     Key::Device,
+    Key::Label,
     Key::Step,
     Key::Revision,
     Key::Isdu,
@@ -81,6 +83,7 @@ impl Key {
             Key::Event => "event",
             Key::Mode => "mode",
             Key::Validation => "validation",
+            Key::Label => "label",
             Key::Times => "times",
             Key::Keep => "keep",
         }

@@ -4,7 +4,8 @@
 //! keys a script has, and where keys and values stand, is found here. Whether a value may stand at its key is asked of the call
 //! that a run makes, by a script that is right but for it.
 //!
-//! Which mistakes are told is tested (`tests/check.cases`, `tests/check_agrees`), so no wrong body is tried.
+//! Which mistakes are told is tested (`tests/check.cases`, `tests/check_agrees`). Proved is that a script is called right or wrong as
+//! a run takes it or does not.
 //!
 //! Modules in reading order:
 //! - `keys` has the keys of scripts, and `rules` which of them a table may have, and what may stand at each.

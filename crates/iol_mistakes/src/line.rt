@@ -1,9 +1,8 @@
-//! What the lines of mistakes have in common: the place, the key, what was found, and what may stand there.
+//! What the lines of mistakes have in common: the place, the key, and what was found.
 
 use crate::entry::Entry;
 use crate::part::Part;
 use crate::place::Place;
-use crate::rules::May;
 use std::alloc::AllocError;
 
 // How many characters of a text are shown.
@@ -47,14 +46,6 @@ pub(crate) fn write_found(
         write_cut(lines, found)?;
     }
     lines.push_str(": ")
-}
-
-// What may stand at a key of a script of so many ports, and the end of the line.
-pub(crate) fn write_may(lines: &mut String, may: May, ports: i64) -> Result<(), AllocError> {
-    match may {
-        May::Words(words) => writeln!(lines, "{words}"),
-        May::OfPorts => writeln!(lines, "1 to {ports}"),
-    }
 }
 
 // A text on one line, and no more of it than is shown.

@@ -23,6 +23,8 @@ pub(crate) enum May {
     Words(&'static str),
     // The number of one of the script's ports.
     OfPorts,
+    // A number of slots that is enough for the script's ports.
+    ForPorts,
 }
 
 // A key of a table.
@@ -85,6 +87,8 @@ const VENDOR: &str = "0 to 65,535";
 
 const DEVICE: &str = "0 to 16,777,215";
 
+const LABEL: &str = "0 to 32 printable characters of ASCII, and no quotation mark";
+
 const TIMES: &str = "1 to 10,000";
 
 const TRUTH: &str = "true or false";
@@ -94,7 +98,7 @@ const CALLS: &str = "0 to 9,223,372,036,854,775,807";
 fn of_script(key: Key) -> Option<Rule> {
     match key {
         Key::Ports => needed("1", "1 to 32"),
-        Key::Slots => needed("1", "1 to 256"),
+        Key::Slots => needed_slots(),
         Key::Fail => free("\"read n\", \"write n\" or \"sync n\", n from 1 to 1,000,000"),
         Key::Device => free("tables [[device]]"),
         Key::Step => free("tables [[step]]"),
@@ -123,6 +127,7 @@ fn of_configure(key: Key) -> Option<Rule> {
         Key::Mode | Key::Validation => needed("0", "0 to 4"),
         Key::Vendor => needed("0", VENDOR),
         Key::Device => needed("0", DEVICE),
+        Key::Label => free(LABEL),
         _ => None,
     }
 }
@@ -179,6 +184,13 @@ fn needed_port() -> Option<Rule> {
     Some(Rule {
         needed: Some("1"),
         may: May::OfPorts,
+    })
+}
+
+fn needed_slots() -> Option<Rule> {
+    Some(Rule {
+        needed: Some("256"),
+        may: May::ForPorts,
     })
 }
 

@@ -7,8 +7,8 @@ use crate::rules::Kind;
 use iol_commands::{Fault, read_playable};
 use std::alloc::{AllocError, Global};
 
-// What stands before the table of a device or a step that is tried.
-const OPENING: &str = "slots = 1\n";
+// The most slots that a script may have, which are enough for any number of ports.
+pub(crate) const MOST_SLOTS: u16 = 256;
 
 // Whether a value, as it stands in a script of so many ports, may stand at a key of such a table.
 pub(crate) fn is_right(
@@ -33,10 +33,21 @@ pub(crate) fn ports_by(alloc: Global, value: &str) -> Result<Option<i64>, AllocE
     }
 }
 
+// The fewest slots that a script of so many ports may have.
+pub(crate) fn least_slots(alloc: Global, ports: i64) -> Result<u16, AllocError> {
+    for slots in 1..MOST_SLOTS {
+        let script = format!(in alloc; "ports = {ports}\nslots = {slots}\n")?;
+        if can_be_run(alloc, script.as_str())? {
+            return Ok(slots);
+        }
+    }
+    Ok(MOST_SLOTS)
+}
+
 // Whether a device may have these keys and values, as they stand between the brackets of their arrays.
 pub(crate) fn are_parameters(alloc: Global, keys: &str, values: &str) -> Result<bool, AllocError> {
     let mut script = String::new(alloc);
-    write!(script, "ports = 1\n{OPENING}")?;
+    write!(script, "ports = 1\nslots = {MOST_SLOTS}\n")?;
     script.push_str("device = [{ port = 1, vendor = 0, device = 0, keys = [")?;
     script.push_str(keys)?;
     script.push_str("], values = [")?;
@@ -58,7 +69,7 @@ fn can_be_run(alloc: Global, script: &str) -> Result<bool, AllocError>
     }
 }
 
-// A script with what it needs, in which a value stands at a key of such a table.
+// A script of so many ports with what it needs, in which a value stands at a key of such a table.
 fn script_with(
     alloc: Global,
     ports: i64,
@@ -67,39 +78,38 @@ fn script_with(
     value: &str,
 ) -> Result<String, AllocError> {
     let mut script = String::new(alloc);
-    if kind == Kind::Script {
-        write_pairs(&mut script, kind, key, value, "\n")?;
-        return Ok(script);
+    if kind != Kind::Script || key != Key::Ports {
+        writeln!(script, "ports = {ports}")?;
     }
-    write!(script, "ports = {ports}\n{OPENING}")?;
-    let array = if kind == Kind::Device {
-        Key::Device
-    } else {
-        Key::Step
-    };
-    script.push_str(array.name())?;
-    script.push_str(" = [{ ")?;
-    write_pairs(&mut script, kind, key, value, ", ")?;
-    script.push_str("}]\n")?;
+    if kind != Kind::Script || key != Key::Slots {
+        writeln!(script, "slots = {MOST_SLOTS}")?;
+    }
+    match kind {
+        Kind::Script => write_pair(&mut script, key, value, "\n")?,
+        Kind::Device => write_table(&mut script, Key::Device, kind, key, value)?,
+        _ => write_table(&mut script, Key::Step, kind, key, value)?,
+    }
     Ok(script)
 }
 
-// The keys that such a table needs with right values, and a value at a key of it.
-fn write_pairs(
+// An array of one table, with the keys that it needs, and a value at a key of it.
+fn write_table(
     script: &mut String,
+    array: Key,
     kind: Kind,
     key: Key,
     value: &str,
-    behind: &str,
 ) -> Result<(), AllocError> {
+    script.push_str(array.name())?;
+    script.push_str(" = [{ ")?;
     for other in KEYS {
         if other == key {
-            write_pair(script, other, value, behind)?;
+            write_pair(script, other, value, ", ")?;
         } else if let Some(right) = kind.right_value(other) {
-            write_pair(script, other, right, behind)?;
+            write_pair(script, other, right, ", ")?;
         }
     }
-    Ok(())
+    script.push_str("}]\n")
 }
 
 fn write_pair(script: &mut String, key: Key, value: &str, behind: &str) -> Result<(), AllocError> {

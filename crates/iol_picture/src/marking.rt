@@ -42,7 +42,7 @@ impl Marking {
                 sector,
                 is_gate_open,
             } => DiskMark::Wrote {
-                place: place_of(self.geometry, sector),
+                place: place_of(self.geometry.layout(), sector),
                 sector,
                 is_gate_open,
             },

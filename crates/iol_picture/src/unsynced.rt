@@ -36,7 +36,7 @@ pub(crate) fn unsynced_spans(alloc: Global, run: &Explained) -> Result<Vec<Span>
     let from = unsynced_from(calls, &run.events);
     for call in calls_between(calls, from, calls.len()) {
         if let ToldCall::Write { sector, .. } = *call {
-            add_sector(&mut spans, place_of(run.geometry, sector), sector)?;
+            add_sector(&mut spans, place_of(run.geometry.layout(), sector), sector)?;
         }
     }
     Ok(spans)

@@ -3,7 +3,7 @@
 use crossbeam_channel::{Receiver, Sender};
 use iol_front::Name;
 use iol_master::{CallFault, Client, ReadFault, Receipt};
-use iol_types::{DeviceId, PortConfig, PortId, PortMode, Validation};
+use iol_types::{DeviceId, Label, PortConfig, PortId, PortMode, Validation};
 use std::alloc::Global;
 use std::sync::Wait;
 use std::{fmt, thread};
@@ -146,5 +146,6 @@ fn config_for(device: u32) -> Option<PortConfig> {
         validation: Validation::BackupAndRestore,
         vendor: 500,
         device: DeviceId::new(device)?,
+        label: Label::empty(),
     })
 }

@@ -6,7 +6,7 @@ use anyhow::{Context, bail};
 use iol_core::View;
 use iol_front::Name;
 use iol_master::{Client, ReadFault, Receipt};
-use iol_types::{Change, DeviceId, PortConfig, PortId, PortMode, Validation};
+use iol_types::{Change, DeviceId, Label, PortConfig, PortId, PortMode, Validation};
 use std::marker::Model;
 use std::sync::Wait;
 use std::thread;
@@ -46,6 +46,7 @@ fn config() -> anyhow::Result<PortConfig> {
         validation: Validation::BackupAndRestore,
         vendor: 500,
         device: DeviceId::new(43981).context("no DeviceID")?,
+        label: Label::empty(),
     })
 }
 

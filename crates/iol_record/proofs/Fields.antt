@@ -10,6 +10,7 @@ use Rattle.iol_types.specs.declared.config.PortMode.{PortMode}
 use Rattle.iol_types.specs.declared.config.PortMode.TheVariants.{Deactivated, IolManual, IolAutostart, DigitalInput, DigitalOutput}
 use Rattle.iol_types.specs.declared.config.Validation.{Validation}
 use Rattle.iol_types.specs.declared.config.Validation.TheVariants.{NoCheck, TypeCompatibleV10, TypeCompatibleV11, BackupAndRestore, Restore}
+use Rattle.iol_types.specs.declared.label.TheConstants.{MOST_LABEL_OCTETS}
 use Rattle.iol_types.specs.declared.port_id.TheConstants.{PORTS}
 use Rattle.iol_types.specs.declared.device_id.TheConstants.{DEVICE_NUMBERS}
 use Rattle.iol_types.specs.declared.port_state.TheConstants.{LAST_REVISION}
@@ -25,7 +26,7 @@ use Rattle.iol_types.specs.DataSet.{Entry, data_at, octets_of}
 use Rattle.iol_record.specs.declared.reader.Tag.{Tag}
 use Rattle.iol_record.specs.declared.reader.Tag.TheVariants as tag
 use Rattle.iol_record.specs.Reading.{from_to, tag_octet, tag_of, has_set, spare_of, spare_field, new_key, tag_field, port_field, mode_field}
-use Rattle.iol_record.specs.Reading.{validation_field}
+use Rattle.iol_record.specs.Reading.{validation_field, label_length_field}
 use Rattle.iol_record.specs.Reading.{vendor_field, device_field, revision_field, checksum_field, count_field, flag_field, index_field}
 use Rattle.iol_record.specs.Reading.{subindex_field, length_field}
 use Rattle.iol_record.proofs.Readers.{AreOctets, IsField}
@@ -203,6 +204,9 @@ device_reads = record {
       let found = from_to-is 0 (DEVICE_NUMBERS - 1) (from_be_bytes w32 octets) n e in
       (sym (be_bytes_4 octets n len are (sym found.0)), omega (arith, found.0, found.2));
 }
+
+pub label_length_reads : IsField label_length_field (λ n. n ∷ []) (λ n. (0 ≤ n) × (n ≤ MOST_LABEL_OCTETS))
+label_length_reads = from_to_field BadField 0 MOST_LABEL_OCTETS
 
 pub revision_reads : IsField revision_field (to_be_bytes w64) (λ n. n ≤ LAST_REVISION)
 revision_reads = record {

@@ -11,6 +11,8 @@ use Rattle.iol_types.specs.declared.port_id.TheConstants.{PORTS}
 use Rattle.iol_types.specs.declared.device_id.TheConstants.{DEVICE_NUMBERS}
 use Rattle.iol_types.specs.declared.data_set.TheConstants.{MOST_ENTRY_OCTETS, ENTRY_HEAD_OCTETS, MOST_SET_OCTETS}
 use Rattle.iol_types.specs.Config.{mode_of, validation_of}
+use Rattle.iol_types.specs.Label.{is_label}
+use Rattle.iol_types.specs.declared.label.TheConstants.{MOST_LABEL_OCTETS}
 use Rattle.iol_types.specs.Key.{is_reserved}
 use Rattle.iol_types.specs.DataSet.{Entry, SetValue, data_at, octets_of}
 use Rattle.iol_types.specs.Command.{CommandValue, Configure, Clear, Store}
@@ -77,6 +79,9 @@ vendor_field = record { width = w16; value = Some; fault = BadField }
 
 abbrev pub device_field : Field ℕ
 device_field = record { width = w32; value = from_to 0 (DEVICE_NUMBERS - 1); fault = BadField }
+
+abbrev pub label_length_field : Field ℕ
+label_length_field = record { width = w8; value = from_to 0 MOST_LABEL_OCTETS; fault = BadField }
 
 abbrev pub revision_field : Field ℕ
 revision_field = record { width = w64; value = Some; fault = BadField }
@@ -154,20 +159,27 @@ joined whole parts octets = parts octets >>= λ a. Ok (whole a.0, a.1)
 abbrev pub tested : {A : Type 0} → (A → Bool) → Reading A → Reading A
 tested test value octets = value octets >>= λ a. ok_or (if_so (test a.0) a) BadField
 
--- the reading of what version 2 keeps for later use: an octet 00 (format, Records)
+-- the reading of what version 2 keeps for later use at the end of a port: an octet 00 (format, Records)
 unfoldable pub spare_at : Version → Reading (Unit {0})
 spare_at One octets = Ok (tt, octets)
 spare_at Two octets = field_at spare_field octets
 
--- the reading of the numbers of a configuration: mode, validation, vendor, device (format, Records)
-unfoldable pub numbers_at : Reading PortConfig
-numbers_at =
-    joined (λ (mode, (validation, (vendor, device))). record { mode = mode; validation = validation; vendor = vendor; device = device })
-    (both (field_at mode_field) (both (field_at validation_field) (both (field_at vendor_field) (field_at device_field))))
+-- the reading of a label, which version 1 has not: its length, and so many octets, which are a label (format, Records)
+unfoldable pub label_at : Version → Reading (List ℕ)
+label_at One octets = Ok ([], octets)
+label_at Two octets = followed (field_at label_length_field) (λ count. tested is_label (octets_at count)) octets
 
--- the reading of a configuration: its numbers, and what is kept for later use (format, Records)
+-- a configuration with these parts (own)
+abbrev pub config_of : PortMode × (Validation × (ℕ × (ℕ × List ℕ))) → PortConfig
+config_of (mode, (validation, (vendor, (device, label)))) =
+    record { mode = mode; validation = validation; vendor = vendor; device = device; label = label }
+
+-- the reading of a configuration: mode, validation, vendor, device, label (format, Records)
 unfoldable pub config_at : Version → Reading PortConfig
-config_at version = joined (λ (config, spare). config) (both numbers_at (spare_at version))
+config_at version =
+    joined config_of
+    (both (field_at mode_field) (both (field_at validation_field) (both (field_at vendor_field) (both (field_at device_field)
+    (label_at version)))))
 
 -- the reading of an entry behind others: Index, Subindex, length, data (format, Records)
 unfoldable pub entry_at : List Entry → Reading Entry

@@ -1,5 +1,5 @@
 -- The one spelling of each command and of each port in a version, numbers most significant octet first.
-use Rattle.std.specs.Prelude.{◌≡◌, ℕ, List, [], ◌∷◌, ◌++◌, length, Option, Some, None}
+use Rattle.std.specs.Prelude.{◌≡◌, ℕ, Bool, true, false, List, [], ◌∷◌, ◌++◌, length, Option, Some, None, IfSome}
 use Rattle.std.specs.List.{flat_map}
 use Rattle.std.specs.Int.{w16, w32, w64, to_be_bytes}
 use Rattle.iol_types.specs.declared.config.PortConfig.{PortConfig}
@@ -7,28 +7,43 @@ use Rattle.iol_types.specs.Config.{mode_octet, validation_octet}
 use Rattle.iol_types.specs.DataSet.{SetValue}
 use Rattle.iol_types.specs.Parts.{entry_octets}
 use Rattle.iol_types.specs.Command.{CommandValue, Configure, Clear, Store, IsCommand}
-use Rattle.iol_types.specs.State.{Stored, Port, IsPort}
+use Rattle.iol_types.specs.State.{Stored, Port, State, IsPort}
 use Rattle.iol_record.specs.declared.reader.TheConstants.{CONFIGURE, CLEAR, STORE, NO_SET, SET, SPARE}
 use Rattle.iol_record.specs.declared.version.Version.{Version}
 use Rattle.iol_record.specs.declared.version.Version.TheVariants.{One, Two}
 
--- what version 2 keeps for later use: an octet 00 (format, Records)
+-- what version 2 keeps for later use at the end of a port: an octet 00 (format, Records)
 abbrev pub spare_octets : Version → List ℕ
 spare_octets One = []
 spare_octets Two = SPARE ∷ []
 
 -- the version that is written (format, Records)
 abbrev pub newest : Version
-newest = One
+newest = Two
+
+-- whether it is a version (format, Records)
+abbrev pub is_newest : Version → Bool
+is_newest One = false
+is_newest Two = true
 
 -- the octets of the numbers of a configuration: mode 1, validation 1, vendor 2, device 4 (format, Records)
 abbrev pub numbers_octets : PortConfig → List ℕ
 numbers_octets config =
     mode_octet config.mode ∷ validation_octet config.validation ∷ (to_be_bytes w16 config.vendor ++ to_be_bytes w32 config.device)
 
--- the octets of a configuration: its numbers, and what is kept for later use (format, Records)
+-- the octets of a label in a version: none in version 1, and in version 2 its length 1, and its own (format, Records)
+abbrev pub label_octets : Version → List ℕ → List ℕ
+label_octets One label = []
+label_octets Two label = length label ∷ label
+
+-- version 1 spells no label: there it is empty (format, Records)
+abbrev pub SpellsLabel : Version → List ℕ → Type 0
+SpellsLabel One label = label ≡ []
+SpellsLabel Two label = Unit {0}
+
+-- the octets of a configuration: its numbers, and its label (format, Records)
 abbrev pub config_octets : Version → PortConfig → List ℕ
-config_octets version config = numbers_octets config ++ spare_octets version
+config_octets version config = numbers_octets config ++ label_octets version config.label
 
 -- the octets of a set: vendor 2, device 4, checksum 4, count 2, and its entries in order (format, Records)
 abbrev pub set_octets : SetValue → List ℕ
@@ -55,12 +70,30 @@ port_octets version port =
     config_octets version port.config
     ++ (to_be_bytes w64 port.revision ++ (stored_octets version port.stored ++ spare_octets version))
 
+-- a version spells a command: the label that it gives a port, if it gives one (format, Records)
+abbrev pub SpellsCommand : Version → CommandValue → Type 0
+SpellsCommand version (Configure port config) = SpellsLabel version config.label
+SpellsCommand version (Clear port) = Unit {0}
+SpellsCommand version (Store port revision set) = Unit {0}
+
+-- a version spells a port: its label, and the one under which its set was taken, if it has a set (format, Records)
+pub record SpellsPort (version : Version) (port : Port) : Type 0 where
+  pub label : SpellsLabel version port.config.label
+  pub recorded : IfSome port.stored (λ stored. SpellsLabel version stored.recorded.label)
+
+-- a version spells each port of a state (format, Records)
+abbrev pub SpellsState : Version → State → Type 0
+SpellsState version [] = Unit {0}
+SpellsState version (port ∷ ports) = SpellsPort version port × SpellsState version ports
+
 -- the octets are the one spelling of the command, whose numbers are in range (format, Records)
 pub record IsCommandRecord (version : Version) (octets : List ℕ) (command : CommandValue) : Type 0 where
   pub spelling : octets ≡ command_octets version command
   pub in_range : IsCommand command
+  pub spelled : SpellsCommand version command
 
 -- the octets are the one spelling of the port, whose numbers are in range (format, Records)
 pub record IsPortRecord (version : Version) (octets : List ℕ) (port : Port) : Type 0 where
   pub spelling : octets ≡ port_octets version port
   pub in_range : IsPort port
+  pub spelled : SpellsPort version port

@@ -15,14 +15,14 @@ use std::alloc::Global;
 /// What follows the record is not read.
 ///
 /// A Configure record has 10 octets: `tag u8 = 01 | port u8 | mode u8 | validation u8 | vendor u16 |
-/// device u32`, and in version 2 one more, `spare u8 = 00`. A Clear record has 2: `tag u8 = 02 |
+/// device u32`, and in version 2 its label, `length u8 | octets`. A Clear record has 2: `tag u8 = 02 |
 /// port u8`. A Store record has 22 and its entries: `tag u8 = 03 | port u8 | revision u64 | vendor
 /// u16 | device u32 | checksum u32 | count u16`, then so many entries `index u16 | subindex u8 | length u8 | data`.
 ///
 /// # Errors
 /// The first that comes, field by field: `Short` where the octets end within the field, `BadTag`
 /// where the tag is none of these, `BadField` where the port is 0 or over 32, the mode or the
-/// validation is over 4, the device is 2^24 or more, the octet behind a configuration is not 00, an Index is
+/// validation is over 4, the device is 2^24 or more, a label has over 32 octets or one that may not stand in it, an Index is
 /// reserved, a key stands twice (at its Subindex), a length is over 232 or makes a set that is too large. `Memory` at an entry of a Store
 /// alone, and at the end of a Store.
 pub fn decode_command(
@@ -52,13 +52,14 @@ pub fn decode_command(
 /// The record has 17 octets: `mode u8 | validation u8 | vendor u16 | device u32 | revision u64 | flag
 /// u8 = 00`. Where a set is stored it has 37 and the set's entries: the flag is 01, and behind it
 /// stand the configuration that the set was taken under, and the set as in a Store record. In version 2
-/// one more octet 00 stands behind each configuration, and one at the end.
+/// a label stands behind each configuration, and one octet 00 at the end.
 ///
 /// # Errors
 /// The first that comes, field by field: `Short` where the octets end within the field, `BadField`
 /// where the mode or the validation is over 4, the device is 2^24 or more, the flag is neither 00 nor
-/// 01, an octet of version 2 is not 00, or a field of the set is as `decode_command` refuses it; at the end `BadField` where the port
-/// may not have the set (`PortState::new`). `Memory` at an entry of a set alone, and at its end.
+/// 01, a label is none, the last octet of version 2 is not 00, or a field of the set is as `decode_command`
+/// refuses it; at the end `BadField` where the port may not have the set (`PortState::new`). `Memory` at an
+/// entry of a set alone, and at its end.
 pub fn decode_port(
     alloc: Global,
     version: Version,

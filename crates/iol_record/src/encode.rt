@@ -1,22 +1,24 @@
 //! Records written.
-ghost use Rattle.std.specs.Prelude.{◌≡◌, ◌<◌, ◌≤◌, ◌++◌, length, Some, OnOk, IfOk};
+ghost use Rattle.std.specs.Prelude.{◌≡◌, ◌<◌, ◌≤◌, ◌^◌, ◌++◌, length, true, Some, OnOk, IfOk};
 ghost use Rattle.std.specs.List.{flat_map};
 ghost use Rattle.std.specs.Int.{w16, w32, to_be_bytes};
+ghost use Rattle.iol_types.specs.Numbers.{IsDeviceNumber};
+ghost use Rattle.iol_types.specs.Label.{is_label};
 ghost use Rattle.iol_types.specs.Config.{IsConfig};
 ghost use Rattle.iol_types.specs.DataSet.{IsSet};
 ghost use Rattle.iol_types.specs.Parts.{entry_octets};
 ghost use Rattle.iol_types.specs.Command.{Configure, Clear, Store, value_of};
 ghost use Rattle.iol_types.specs.Port.{stored_of};
 ghost use Rattle.iol_record.specs.declared.encode.TheConstants.{LARGEST_COMMAND_RECORD};
-ghost use Rattle.iol_record.specs.Record.{spare_octets, numbers_octets, config_octets, command_octets, set_octets, stored_octets};
-ghost use Rattle.iol_record.specs.Record.{IsCommandRecord, IsPortRecord};
+ghost use Rattle.iol_record.specs.Record.{spare_octets, label_octets, numbers_octets, config_octets, command_octets, set_octets};
+ghost use Rattle.iol_record.specs.Record.{stored_octets, SpellsLabel, SpellsCommand, SpellsPort, IsCommandRecord, IsPortRecord};
 
 use crate::reader::{CLEAR, CONFIGURE, NO_SET, SET, SPARE, STORE};
 use crate::version::Version;
-use iol_types::{Command, DataSet, PortConfig, PortId, PortState, StoredSet};
+use iol_types::{Command, DataSet, Label, PortConfig, PortId, PortState, StoredSet};
 use std::alloc::{AllocError, Global};
 
-// The octets of a Configure record in version 1.
+// The octets of a Configure record in front of its label.
 const CONFIGURE_OCTETS: usize = 10;
 
 // The octets of a Clear record.
@@ -25,14 +27,14 @@ const CLEAR_OCTETS: usize = 2;
 // The octets of a Store record in front of its entries.
 const STORE_OCTETS: usize = 22;
 
-// The octets of the record of a port without a set in version 1.
+// The octets of the record of a port without a set, its label and what is kept for later use left out.
 const PORT_OCTETS: usize = 17;
 
 /// The most octets that the record of a command has: a Store of a set that counts 4,096.
 pub const LARGEST_COMMAND_RECORD: usize = 4118;
 
-/// The most octets that the record of a port has: in version 2, with a set that counts 4,096.
-pub const LARGEST_PORT_RECORD: usize = 4136;
+/// The most octets that the record of a port has: in version 2, with a set that counts 4,096, and two labels of 32 octets.
+pub const LARGEST_PORT_RECORD: usize = 4200;
 
 fn spare_octets(version: Version) -> usize
     ensures count { result ≡ length (spare_octets version) }
@@ -44,18 +46,44 @@ fn spare_octets(version: Version) -> usize
     }
 }
 
+// How many octets a label has in a version.
+fn label_octets(version: Version, label: &Label) -> usize
+    ensures count { result ≡ length (label_octets version label.now) }
+    ensures most { result ≤ 33 }
+{
+    match version {
+        Version::One => 0,
+        Version::Two => 1 + label.len(),
+    }
+}
+
+fn push_label(octets: &mut Vec<u8>, version: Version, label: &Label) -> Result<(), AllocError>
+    ensures octets { OnOk result (octets.new.items ≡ octets.old.items ++ label_octets version label.now) }
+    ensures label { is_label label.now ≡ true }
+{
+    let own = label.octets();
+    match version {
+        Version::One => Ok(()),
+        Version::Two => {
+            octets.push(own.len() as u8)?;
+            octets.extend_from_slice(own)
+        }
+    }
+}
+
 fn push_spare(octets: &mut Vec<u8>, version: Version) -> Result<(), AllocError>
     ensures { OnOk result (octets.new.items ≡ octets.old.items ++ spare_octets version) }
 {
-    match version {
-        Version::One => Ok(()),
-        Version::Two => Ok(octets.push(SPARE)?),
+    if let Version::Two = version {
+        octets.push(SPARE)?;
     }
+    Ok(())
 }
 
 fn push_numbers(octets: &mut Vec<u8>, config: &PortConfig) -> Result<(), AllocError>
     ensures octets { OnOk result (octets.new.items ≡ octets.old.items ++ numbers_octets config.now) }
-    ensures in_range { OnOk result (IsConfig config.now) }
+    ensures vendor { OnOk result (config.now.vendor < 2 ^ 16) }
+    ensures device { OnOk result (IsDeviceNumber config.now.device) }
 {
     octets.push(config.mode.to_octet())?;
     octets.push(config.validation.to_octet())?;
@@ -73,7 +101,7 @@ fn push_config(
     ensures in_range { OnOk result (IsConfig config.now) }
 {
     push_numbers(octets, config)?;
-    push_spare(octets, version)?;
+    push_label(octets, version, &config.label)?;
     Ok(())
 }
 
@@ -129,9 +157,11 @@ fn encode_configure(
     port: PortId,
     config: &PortConfig,
 ) -> Result<Vec<u8>, AllocError>
+    requires { SpellsLabel version config.now.label }
     ensures { IfOk result (λ octets. IsCommandRecord version octets.items (Configure port config.now)) }
 {
-    let mut octets = Vec::with_capacity(alloc, CONFIGURE_OCTETS + spare_octets(version))?;
+    let label = label_octets(version, &config.label);
+    let mut octets = Vec::with_capacity(alloc, CONFIGURE_OCTETS + label)?;
     octets.push(CONFIGURE)?;
     octets.push(port.number())?;
     push_config(&mut octets, version, config)?;
@@ -169,7 +199,8 @@ pub fn command_record_octets(version: Version, command: &Command) -> usize
     ensures most { result ≤ LARGEST_COMMAND_RECORD }
 {
     match command {
-        Command::Configure { .. } => CONFIGURE_OCTETS + spare_octets(version),
+        Command::Configure { config, .. } => CONFIGURE_OCTETS
+            + label_octets(version, &config.label),
         Command::Clear { .. } => CLEAR_OCTETS,
         Command::Store { set, .. } => STORE_OCTETS + set.octets(),
     }
@@ -184,6 +215,8 @@ pub fn encode_command(
     version: Version,
     command: &Command,
 ) -> Result<Vec<u8>, AllocError>
+    // Version 1 has no labels.
+    requires { SpellsCommand version (value_of command.now) }
     ensures { IfOk result (λ octets. IsCommandRecord version octets.items (value_of command.now)) }
 {
     match command {
@@ -212,9 +245,12 @@ fn push_stored(octets: &mut Vec<u8>, version: Version, stored: &StoredSet) -> Re
 /// # Errors
 /// `AllocError` where it is out of memory.
 pub fn encode_port(alloc: Global, version: Version, port: &PortState) -> Result<Vec<u8>, AllocError>
+    // Version 1 has no labels.
+    requires { SpellsPort version port.now }
     ensures { IfOk result (λ octets. IsPortRecord version octets.items port.now) }
 {
-    let mut octets = Vec::with_capacity(alloc, PORT_OCTETS + 2 * spare_octets(version))?;
+    let label = label_octets(version, &port.config().label);
+    let mut octets = Vec::with_capacity(alloc, PORT_OCTETS + label + spare_octets(version))?;
     push_config(&mut octets, version, &port.config())?;
     octets.extend_from_slice(&port.revision().to_be_bytes())?;
     match port.stored() {

@@ -1,7 +1,8 @@
 //! Records with values from outside, worked out by the check: an octet that is wrong in a definition
 //! and in the code alike is refused here.
 
-ghost use Rattle.std.specs.Prelude.{◌≡◌, ◌++◌, [], ◌∷◌, false, true, Some, None, Ok, Err, IsOk, map, replicate, slice_set, take};
+ghost use Rattle.std.specs.Prelude.{◌≡◌, ◌++◌, [], ◌∷◌, false, true, Some, None, Ok, Err, IsOk, map, replicate, slice_set, take, drop};
+ghost use Rattle.std.specs.Prelude.{codes};
 ghost use Rattle.std.specs.List.{range_with_len};
 ghost use Rattle.iol_types.specs.Command.{Configure, Clear, Store};
 ghost use Rattle.iol_types.specs.State.{blank};
@@ -55,6 +56,15 @@ pub const CONFIGURE_RECORD_OF_TWO: [u8; 11] = [
     0x01, 0x01, 0x01, 0x03, 0x01, 0xF4, 0x00, 0x00, 0xAB, 0xCD, 0x00,
 ];
 
+/// [`CONFIGURE_RECORD_OF_TWO`] with the label `Pump 3`.
+pub const LABELLED_RECORD: [u8; 17] = [
+    0x01, 0x01, 0x01, 0x03, 0x01, 0xF4, 0x00, 0x00, 0xAB, 0xCD, 0x06, 0x50, 0x75, 0x6D, 0x70, 0x20,
+    0x33,
+];
+
+/// [`BLANK_RECORD`] in version 2.
+pub const BLANK_RECORD_OF_TWO: [u8; 19] = [0x00; 19];
+
 /// [`PORT_RECORD`] in version 2.
 pub const PORT_RECORD_OF_TWO: [u8; 19] = [
     0x01, 0x03, 0x01, 0xF4, 0x00, 0x00, 0xAB, 0xCD, 0x00, 0x00, 0x00, 0x00, 0x00, 0x00, 0x00, 0x00,
@@ -70,14 +80,14 @@ pub const PORT_WITH_SET_RECORD_OF_TWO: [u8; 51] = [
 ];
 
 /// [`CONFIGURE_RECORD`] is the record of its command, and is read as it.
-#[tactic(auto, unfolding(crate::specs::Reading::command_at, crate::specs::Reading::arguments_at, crate::specs::Reading::config_at, crate::specs::Reading::numbers_at, crate::specs::Reading::spare_at))]
+#[tactic(auto, unfolding(crate::specs::Reading::command_at, crate::specs::Reading::arguments_at, crate::specs::Reading::config_at, crate::specs::Reading::label_at, crate::specs::Reading::spare_at))]
 pub fn a_configure_record()
     ensures written { IsCommandRecord One CONFIGURE_RECORD (Configure 1 example_config) }
     ensures read { command_at One CONFIGURE_RECORD ≡ Ok (Configure 1 example_config, []) }
 {}
 
 /// [`BLANK_RECORD`] and [`PORT_RECORD`] are the records of their ports, and are read as them.
-#[tactic(auto, unfolding(crate::specs::Reading::port_record_at, crate::specs::Reading::port_parts_at, crate::specs::Reading::stored_at, crate::specs::Reading::config_at, crate::specs::Reading::numbers_at, crate::specs::Reading::spare_at))]
+#[tactic(auto, unfolding(crate::specs::Reading::port_record_at, crate::specs::Reading::port_parts_at, crate::specs::Reading::stored_at, crate::specs::Reading::config_at, crate::specs::Reading::label_at, crate::specs::Reading::spare_at))]
 pub fn port_records()
     ensures blank_written { IsPortRecord One BLANK_RECORD blank }
     ensures blank_read { port_record_at One BLANK_RECORD ≡ Ok (blank, []) }
@@ -88,7 +98,7 @@ pub fn port_records()
 
 /// [`CONFIGURE_RECORD`] with one field out of its range: the tag is 04, the port 0 or 33, the mode 5,
 /// the validation 5, the device 01 00 AB CD.
-#[tactic(auto, unfolding(crate::specs::Reading::command_at, crate::specs::Reading::arguments_at, crate::specs::Reading::config_at, crate::specs::Reading::numbers_at, crate::specs::Reading::spare_at))]
+#[tactic(auto, unfolding(crate::specs::Reading::command_at, crate::specs::Reading::arguments_at, crate::specs::Reading::config_at, crate::specs::Reading::label_at, crate::specs::Reading::spare_at))]
 pub fn commands_out_of_range()
     ensures tag { command_at One (slice_set CONFIGURE_RECORD 0 0x04) ≡ Err RecordFault.BadTag }
     ensures port_below { command_at One (slice_set CONFIGURE_RECORD 1 0) ≡ Err RecordFault.BadField }
@@ -99,14 +109,14 @@ pub fn commands_out_of_range()
 {}
 
 /// The flag 02 of a port is out of its range.
-#[tactic(auto, unfolding(crate::specs::Reading::port_record_at, crate::specs::Reading::port_parts_at, crate::specs::Reading::stored_at, crate::specs::Reading::config_at, crate::specs::Reading::numbers_at, crate::specs::Reading::spare_at))]
+#[tactic(auto, unfolding(crate::specs::Reading::port_record_at, crate::specs::Reading::port_parts_at, crate::specs::Reading::stored_at, crate::specs::Reading::config_at, crate::specs::Reading::label_at, crate::specs::Reading::spare_at))]
 pub fn a_flag_out_of_range()
     ensures { port_record_at One (slice_set PORT_RECORD 16 0x02) ≡ Err RecordFault.BadField }
 {}
 
 /// The first 0 to 9 octets of [`CONFIGURE_RECORD`], and the first 0 to 16 of [`PORT_RECORD`], are
 /// short.
-#[tactic(auto, unfolding(crate::specs::Reading::command_at, crate::specs::Reading::arguments_at, crate::specs::Reading::port_record_at, crate::specs::Reading::port_parts_at, crate::specs::Reading::stored_at, crate::specs::Reading::config_at, crate::specs::Reading::numbers_at, crate::specs::Reading::spare_at))]
+#[tactic(auto, unfolding(crate::specs::Reading::command_at, crate::specs::Reading::arguments_at, crate::specs::Reading::port_record_at, crate::specs::Reading::port_parts_at, crate::specs::Reading::stored_at, crate::specs::Reading::config_at, crate::specs::Reading::label_at, crate::specs::Reading::spare_at))]
 pub fn records_cut_off()
     ensures command { map (λ count. command_at One (take count CONFIGURE_RECORD)) (range_with_len 0 10)
         ≡ replicate 10 (Err RecordFault.Short) }
@@ -114,10 +124,10 @@ pub fn records_cut_off()
         ≡ replicate 17 (Err RecordFault.Short) }
 {}
 
-/// A command's record has at most 4,118 octets, a port's at most 4,136.
+/// A command's record has at most 4,118 octets, a port's at most 4,200.
 pub fn largest_records()
     ensures command { LARGEST_COMMAND_RECORD ≡ 4118 }
-    ensures port { LARGEST_PORT_RECORD ≡ 4136 }
+    ensures port { LARGEST_PORT_RECORD ≡ 4200 }
 {}
 
 /// [`CLEAR_RECORD`] and [`STORE_RECORD`] are read as their commands, and are what these are written as.
@@ -130,7 +140,7 @@ pub fn clear_and_store_records()
 {}
 
 /// [`PORT_WITH_SET_RECORD`] is read as its port, and is what that is written as.
-#[tactic(auto, unfolding(crate::specs::Reading::port_record_at, crate::specs::Reading::port_parts_at, crate::specs::Reading::stored_at, crate::specs::Reading::config_at, crate::specs::Reading::numbers_at, crate::specs::Reading::spare_at, crate::specs::Reading::set_at, crate::specs::Reading::set_head_at, crate::specs::Reading::entry_at))]
+#[tactic(auto, unfolding(crate::specs::Reading::port_record_at, crate::specs::Reading::port_parts_at, crate::specs::Reading::stored_at, crate::specs::Reading::config_at, crate::specs::Reading::label_at, crate::specs::Reading::spare_at, crate::specs::Reading::set_at, crate::specs::Reading::set_head_at, crate::specs::Reading::entry_at))]
 pub fn a_port_with_a_set()
     ensures written { PORT_WITH_SET_RECORD ≡ port_octets One example_port }
     ensures read { port_record_at One PORT_WITH_SET_RECORD ≡ Ok (example_port, []) }
@@ -150,7 +160,7 @@ pub fn stores_out_of_range()
 /// [`PORT_WITH_SET_RECORD`] under a configuration that may not have the set: another vendor, device or
 /// mode, no check; a set taken under Restore or in another mode, a set of another vendor or device. Under
 /// Restore it may have it.
-#[tactic(auto, unfolding(crate::specs::Reading::port_record_at, crate::specs::Reading::port_parts_at, crate::specs::Reading::stored_at, crate::specs::Reading::config_at, crate::specs::Reading::numbers_at, crate::specs::Reading::spare_at, crate::specs::Reading::set_at, crate::specs::Reading::set_head_at, crate::specs::Reading::entry_at))]
+#[tactic(auto, unfolding(crate::specs::Reading::port_record_at, crate::specs::Reading::port_parts_at, crate::specs::Reading::stored_at, crate::specs::Reading::config_at, crate::specs::Reading::label_at, crate::specs::Reading::spare_at, crate::specs::Reading::set_at, crate::specs::Reading::set_head_at, crate::specs::Reading::entry_at))]
 pub fn ports_without_right_to_their_set()
     ensures vendor { port_record_at One (slice_set PORT_WITH_SET_RECORD 3 0xF5) ≡ Err RecordFault.BadField }
     ensures device_now { port_record_at One (slice_set PORT_WITH_SET_RECORD 7 0xCE) ≡ Err RecordFault.BadField }
@@ -206,7 +216,7 @@ pub fn fields_of_entries()
 
 /// Fields are judged from left to right: a tag before the port behind it, and each field before what is
 /// missing behind it.
-#[tactic(auto, unfolding(crate::specs::Reading::command_at, crate::specs::Reading::arguments_at, crate::specs::Reading::port_record_at, crate::specs::Reading::port_parts_at, crate::specs::Reading::stored_at, crate::specs::Reading::config_at, crate::specs::Reading::numbers_at, crate::specs::Reading::spare_at, crate::specs::Reading::set_at, crate::specs::Reading::set_head_at))]
+#[tactic(auto, unfolding(crate::specs::Reading::command_at, crate::specs::Reading::arguments_at, crate::specs::Reading::port_record_at, crate::specs::Reading::port_parts_at, crate::specs::Reading::stored_at, crate::specs::Reading::config_at, crate::specs::Reading::label_at, crate::specs::Reading::spare_at, crate::specs::Reading::set_at, crate::specs::Reading::set_head_at))]
 pub fn faults_from_the_left()
     ensures tag { command_at One (0x04 ∷ 0x00 ∷ []) ≡ Err RecordFault.BadTag }
     ensures no_port { command_at One (0x02 ∷ []) ≡ Err RecordFault.Short }
@@ -220,7 +230,7 @@ pub fn faults_from_the_left()
 {}
 
 /// What follows a record is left unread.
-#[tactic(auto, unfolding(crate::specs::Reading::command_at, crate::specs::Reading::arguments_at, crate::specs::Reading::port_record_at, crate::specs::Reading::port_parts_at, crate::specs::Reading::stored_at, crate::specs::Reading::config_at, crate::specs::Reading::numbers_at, crate::specs::Reading::spare_at))]
+#[tactic(auto, unfolding(crate::specs::Reading::command_at, crate::specs::Reading::arguments_at, crate::specs::Reading::port_record_at, crate::specs::Reading::port_parts_at, crate::specs::Reading::stored_at, crate::specs::Reading::config_at, crate::specs::Reading::label_at, crate::specs::Reading::spare_at))]
 pub fn octets_behind_a_record()
     ensures clear { command_at One (CLEAR_RECORD ++ 0xFF ∷ []) ≡ Ok (Clear 1, 0xFF ∷ []) }
     ensures configure { command_at One (CONFIGURE_RECORD ++ 0xFF ∷ []) ≡ Ok (Configure 1 example_config, 0xFF ∷ []) }
@@ -230,7 +240,7 @@ pub fn octets_behind_a_record()
 
 /// Memory may run out in a Store and in a port's record from the whole of the first entry on, which ends
 /// at octets 28 and 43, and not before; without a set it does not.
-#[tactic(auto, unfolding(crate::specs::Reading::store_begun_at, crate::specs::Reading::begun_behind, crate::specs::Reading::port_begun_at, crate::specs::Reading::stored_begun_at, crate::specs::Reading::set_begun_at, crate::specs::Reading::config_at, crate::specs::Reading::numbers_at, crate::specs::Reading::spare_at, crate::specs::Reading::set_head_at, crate::specs::Reading::entry_at))]
+#[tactic(auto, unfolding(crate::specs::Reading::store_begun_at, crate::specs::Reading::begun_behind, crate::specs::Reading::port_begun_at, crate::specs::Reading::stored_begun_at, crate::specs::Reading::set_begun_at, crate::specs::Reading::config_at, crate::specs::Reading::label_at, crate::specs::Reading::spare_at, crate::specs::Reading::set_head_at, crate::specs::Reading::entry_at))]
 pub fn records_that_take_memory()
     ensures store { IsOk (store_begun_at (take 28 STORE_RECORD)) }
     ensures store_before { store_begun_at (take 27 STORE_RECORD) ≡ Err RecordFault.Short }
@@ -241,13 +251,14 @@ pub fn records_that_take_memory()
     ensures no_set { port_begun_at One PORT_RECORD ≡ Err RecordFault.BadField }
 {}
 
-/// In version 2 a configuration has one octet more, and so has a port; Clear and Store have none.
-#[tactic(auto, unfolding(crate::specs::Reading::command_at, crate::specs::Reading::arguments_at, crate::specs::Reading::port_record_at, crate::specs::Reading::port_parts_at, crate::specs::Reading::stored_at, crate::specs::Reading::config_at, crate::specs::Reading::numbers_at, crate::specs::Reading::spare_at, crate::specs::Reading::set_at, crate::specs::Reading::set_head_at, crate::specs::Reading::entry_at))]
+/// In version 2 a configuration has its label, here none, and a port one octet more; Clear and Store are as in version 1.
+#[tactic(auto, unfolding(crate::specs::Reading::command_at, crate::specs::Reading::arguments_at, crate::specs::Reading::port_record_at, crate::specs::Reading::port_parts_at, crate::specs::Reading::stored_at, crate::specs::Reading::config_at, crate::specs::Reading::label_at, crate::specs::Reading::spare_at, crate::specs::Reading::set_at, crate::specs::Reading::set_head_at, crate::specs::Reading::entry_at))]
 pub fn records_of_two()
     ensures configure { CONFIGURE_RECORD_OF_TWO ≡ command_octets Two (Configure 1 example_config) }
     ensures configure_read { command_at Two CONFIGURE_RECORD_OF_TWO ≡ Ok (Configure 1 example_config, []) }
     ensures clear { CLEAR_RECORD ≡ command_octets Two (Clear 1) }
     ensures store { STORE_RECORD ≡ command_octets Two (Store 1 1 example_set) }
+    ensures blank { BLANK_RECORD_OF_TWO ≡ port_octets Two blank }
     ensures port { PORT_RECORD_OF_TWO ≡ port_octets Two (record { config = example_config; revision = 1; stored = None }) }
     ensures port_read { port_record_at Two PORT_RECORD_OF_TWO
         ≡ Ok (record { config = example_config; revision = 1; stored = None }, []) }
@@ -255,15 +266,31 @@ pub fn records_of_two()
     ensures with_set_read { port_record_at Two PORT_WITH_SET_RECORD_OF_TWO ≡ Ok (example_port, []) }
 {}
 
-/// The octets that version 2 keeps for later use are 00, and have to be there; a record of one version is
-/// none of the other.
-#[tactic(auto, unfolding(crate::specs::Reading::command_at, crate::specs::Reading::arguments_at, crate::specs::Reading::port_record_at, crate::specs::Reading::port_parts_at, crate::specs::Reading::stored_at, crate::specs::Reading::config_at, crate::specs::Reading::numbers_at, crate::specs::Reading::spare_at, crate::specs::Reading::set_at, crate::specs::Reading::set_head_at, crate::specs::Reading::entry_at))]
+/// The label of a configuration in version 2, and the octet 00 that ends a port, have to be there; a record of one version is none of
+/// the other.
+#[tactic(auto, unfolding(crate::specs::Reading::command_at, crate::specs::Reading::arguments_at, crate::specs::Reading::port_record_at, crate::specs::Reading::port_parts_at, crate::specs::Reading::stored_at, crate::specs::Reading::config_at, crate::specs::Reading::label_at, crate::specs::Reading::spare_at, crate::specs::Reading::set_at, crate::specs::Reading::set_head_at, crate::specs::Reading::entry_at))]
 pub fn octets_kept_for_later()
-    ensures command { command_at Two (slice_set CONFIGURE_RECORD_OF_TWO 10 0x01) ≡ Err RecordFault.BadField }
+    ensures command { command_at Two (slice_set CONFIGURE_RECORD_OF_TWO 10 0x01) ≡ Err RecordFault.Short }
     ensures command_of_one { command_at Two CONFIGURE_RECORD ≡ Err RecordFault.Short }
     ensures config { port_record_at Two (slice_set PORT_WITH_SET_RECORD_OF_TWO 8 0x01) ≡ Err RecordFault.BadField }
     ensures recorded { port_record_at Two (slice_set PORT_WITH_SET_RECORD_OF_TWO 26 0x01) ≡ Err RecordFault.BadField }
     ensures last { port_record_at Two (slice_set PORT_WITH_SET_RECORD_OF_TWO 50 0x01) ≡ Err RecordFault.BadField }
     ensures last_missing { port_record_at Two (take 50 PORT_WITH_SET_RECORD_OF_TWO) ≡ Err RecordFault.Short }
     ensures port_of_two { port_record_at One PORT_RECORD_OF_TWO ≡ Err RecordFault.Short }
+{}
+
+/// [`LABELLED_RECORD`] is read as its command, and is what that is written as. A label of 33 octets is refused, and one with an
+/// octet that may not stand in it, but a record that ends before its label does is short.
+#[tactic(auto, unfolding(crate::specs::Reading::command_at, crate::specs::Reading::arguments_at, crate::specs::Reading::config_at, crate::specs::Reading::label_at))]
+pub fn labels_of_records()
+    ensures written { LABELLED_RECORD ≡ command_octets Two (Configure 1 (record example_config { label = codes "Pump 3" })) }
+    ensures read { command_at Two LABELLED_RECORD ≡ Ok (Configure 1 (record example_config { label = codes "Pump 3" }), []) }
+    ensures longest { command_at Two (CONFIGURE_RECORD ++ (32 ∷ replicate 32 0x7E))
+        ≡ Ok (Configure 1 (record example_config { label = replicate 32 0x7E }), []) }
+    ensures too_long { command_at Two (CONFIGURE_RECORD ++ (33 ∷ replicate 33 0x7E)) ≡ Err RecordFault.BadField }
+    ensures octets { map (λ octet. command_at Two (slice_set LABELLED_RECORD 16 octet)) (0x1F ∷ 0x22 ∷ 0x7F ∷ 0xFF ∷ [])
+        ≡ replicate 4 (Err RecordFault.BadField) }
+    ensures cut_off { command_at Two (take 16 (slice_set LABELLED_RECORD 11 0x22)) ≡ Err RecordFault.Short }
+    ensures of_one { command_at One LABELLED_RECORD ≡ Ok (Configure 1 example_config, drop 10 LABELLED_RECORD) }
+    ensures not_in_one { ¬ IsCommandRecord One CONFIGURE_RECORD (Configure 1 (record example_config { label = codes "Pump 3" })) }
 {}

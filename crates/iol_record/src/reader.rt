@@ -3,13 +3,13 @@ ghost use Rattle.std.specs.Prelude.{◌≡◌, ◌≤◌, ◌^◌, ◌<◌, List
 ghost use Rattle.std.specs.Int.{w8};
 ghost use Rattle.iol_record.specs.Reading.{Reads, next_number, octets_at, field_at, tag_field, port_field, mode_field, validation_field};
 ghost use Rattle.iol_record.specs.Reading.{vendor_field, device_field, revision_field, checksum_field, count_field, flag_field};
-ghost use Rattle.iol_record.specs.Reading.{index_field, subindex_field, length_field, numbers_at, spare_at, config_at};
+ghost use Rattle.iol_record.specs.Reading.{label_length_field, index_field, subindex_field, length_field, spare_at, label_at, config_at};
 
 use crate::fault::RecordFault;
 use crate::version::Version;
 use iol_types::{
-    DeviceId, ENTRY_HEAD_OCTETS, Key, MOST_ENTRY_OCTETS, MOST_SET_OCTETS, PortConfig, PortId,
-    PortMode, SetBuilder, Validation,
+    DeviceId, ENTRY_HEAD_OCTETS, Key, Label, MOST_ENTRY_OCTETS, MOST_LABEL_OCTETS, MOST_SET_OCTETS,
+    PortConfig, PortId, PortMode, SetBuilder, Validation,
 };
 use std::marker::Model;
 
@@ -28,7 +28,7 @@ pub(crate) const NO_SET: u8 = 0;
 // The flag of a port that has a parameter set, which follows.
 pub(crate) const SET: u8 = 1;
 
-// What version 2 keeps for later use.
+// What version 2 keeps for later use, the last octet of a port.
 pub(crate) const SPARE: u8 = 0;
 
 // The kind of a command, as its tag says.
@@ -135,6 +135,18 @@ impl<'a> Reader<'a> {
         DeviceId::new(u32::from_be_bytes(self.front()?)).ok_or(RecordFault::BadField)
     }
 
+    // How many octets a label has, 0 to 32.
+    fn label_length(&mut self) -> Result<usize, RecordFault>
+        ensures { Reads (λ count. (count, self.new)) result (field_at label_length_field self.old) }
+    {
+        let count = usize::from(self.octet()?);
+        if count <= MOST_LABEL_OCTETS {
+            Ok(count)
+        } else {
+            Err(RecordFault::BadField)
+        }
+    }
+
     // A revision, eight octets.
     pub(crate) fn revision(&mut self) -> Result<u64, RecordFault>
         ensures { Reads (λ revision. (revision, self.new)) result (field_at revision_field self.old) }
@@ -217,21 +229,22 @@ impl<'a> Reader<'a> {
         Ok(octets)
     }
 
-    // The numbers of a configuration: mode, validation, vendor, device.
-    #[tactic(auto, unfolding(crate::specs::Reading::numbers_at))]
-    fn numbers(&mut self) -> Result<PortConfig, RecordFault>
-        ensures read { Reads (λ config. (config, self.new)) result (numbers_at self.old) }
+    // A label, which version 1 has not.
+    #[tactic(auto, unfolding(crate::specs::Reading::label_at))]
+    fn label(&mut self, version: Version) -> Result<Label, RecordFault>
+        ensures read { Reads (λ label. (label, self.new)) result (label_at version self.old) }
         ensures no_memory { IfErr result (λ fault. fault ≡ RecordFault.Memory → ⊥) }
     {
-        Ok(PortConfig {
-            mode: self.mode()?,
-            validation: self.validation()?,
-            vendor: self.vendor()?,
-            device: self.device()?,
-        })
+        match version {
+            Version::One => Ok(Label::empty()),
+            Version::Two => {
+                let count = self.label_length()?;
+                Label::new(self.octets(count)?).ok_or(RecordFault::BadField)
+            }
+        }
     }
 
-    // What version 2 keeps for later use.
+    // What version 2 keeps for later use at the end of a port.
     #[tactic(auto, unfolding(crate::specs::Reading::spare_at))]
     pub(crate) fn spare(&mut self, version: Version) -> Result<(), RecordFault>
         ensures read { Reads (λ spare. (spare, self.new)) result (spare_at version self.old) }
@@ -246,14 +259,18 @@ impl<'a> Reader<'a> {
         }
     }
 
-    // A configuration: its numbers, and what is kept for later use.
+    // A configuration: mode, validation, vendor, device, label.
     #[tactic(auto, unfolding(crate::specs::Reading::config_at))]
     pub(crate) fn config(&mut self, version: Version) -> Result<PortConfig, RecordFault>
         ensures read { Reads (λ config. (config, self.new)) result (config_at version self.old) }
         ensures no_memory { IfErr result (λ fault. fault ≡ RecordFault.Memory → ⊥) }
     {
-        let config = self.numbers()?;
-        self.spare(version)?;
-        Ok(config)
+        Ok(PortConfig {
+            mode: self.mode()?,
+            validation: self.validation()?,
+            vendor: self.vendor()?,
+            device: self.device()?,
+            label: self.label(version)?,
+        })
     }
 }

@@ -1,14 +1,14 @@
 //! The versions of a disk's layout, by which records are spelled.
 
 ghost use Rattle.std.specs.Prelude.{◌≡◌};
-ghost use Rattle.iol_record.specs.Record.{newest};
+ghost use Rattle.iol_record.specs.Record.{newest, is_newest};
 
 /// The version of the layout that a record stands in (docs/FORMATS.md, "Records").
 #[derive(Clone, Copy)]
 pub enum Version {
-    /// A configuration is its numbers alone, and a port ends with what it has stored.
+    /// A configuration is its numbers alone, without a label, and a port ends with what it has stored.
     One,
-    /// Behind the numbers of each configuration, and at the end of a port, stands an octet 00, which is kept for later use.
+    /// Behind the numbers of each configuration stands its label, and at the end of a port an octet 00, which is kept for later use.
     Two,
 }
 
@@ -17,6 +17,13 @@ impl Version {
     pub fn newest() -> Version
         ensures { result ≡ newest }
     {
-        Version::One
+        Version::Two
+    }
+
+    /// Whether it is the version that is written.
+    pub fn is_newest(self) -> bool
+        ensures { result ≡ is_newest self }
+    {
+        matches!(self, Version::Two)
     }
 }

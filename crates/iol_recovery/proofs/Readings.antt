@@ -12,6 +12,7 @@ pub counted_behind : (T : Type 0) (told : RecoverCause) (old mid new : Disk) →
     → Counted {T = T} mid new (Err told) → Counted {T = T} old new (Err told)
 counted_behind T (cause.Disk fault) old mid new quiet counted = (counted.0, failed_behind old mid new quiet counted.1)
 counted_behind T cause.NotFormatted old mid new quiet counted = counted ∙ quiet
+counted_behind T cause.TooSmall old mid new quiet counted = counted ∙ quiet
 counted_behind T (cause.Damaged sector) old mid new quiet counted = counted ∙ quiet
 counted_behind T cause.Memory old mid new quiet counted = counted ∙ quiet
 
@@ -19,5 +20,6 @@ counted_behind T cause.Memory old mid new quiet counted = counted ∙ quiet
 pub fault-says_nothing : {Y : Type 0} (read : Result Y Cause) (told : RecoverCause) → IsFault told → SaysWhy read told
 fault-says_nothing read (cause.Disk fault) is = tt
 fault-says_nothing read cause.NotFormatted is = absurd is
+fault-says_nothing read cause.TooSmall is = absurd is
 fault-says_nothing read (cause.Damaged sector) is = absurd is
 fault-says_nothing read cause.Memory is = tt

@@ -5,8 +5,9 @@ use Rattle.iol_disk.specs.Calls.{sync, FailedIn}
 use Rattle.iol_disk.specs.Disk.{Disk, After, Same, Shows}
 use Rattle.iol_disk.specs.declared.fault.DiskFault.{DiskFault}
 use Rattle.iol_disk.specs.declared.fault.DiskFault.TheVariants.{Read, Write, Sync}
-use Rattle.iol_layout.specs.Layout.{Layout}
-use Rattle.iol_layout.specs.Meaning.{Cause, layout_in, in_use_in}
+use Rattle.iol_layout.specs.Geometry.{Geometry}
+use Rattle.iol_layout.specs.Layout.{Layout, layout_of}
+use Rattle.iol_layout.specs.Meaning.{Cause, geometry_in, in_use_in}
 use Rattle.iol_recovery.specs.Reading.{SaysWhy}
 use Rattle.iol_recovery.specs.Finding.{HasChosen, MakesRecovery}
 use Rattle.iol_layout.specs.declared.in_use.InUse.{InUse}
@@ -19,10 +20,10 @@ pub found_after : {Y : Type 0} (old new : Disk) (read : Image → Result Y Cause
     → Shows new (λ image. read image ≡ Ok y) → Shows old (λ image. read image ≡ Ok y)
 found_after old new read y after is h = ap read (sym (synced-reads old new after h)) ∙ is (synced-honest old new after h)
 
-pub layout_after : (old new : Disk) (layout : Layout) → After synced old new
-    → Shows new (λ image. layout_in new.sectors image ≡ Ok layout) → Shows old (λ image. layout_in old.sectors image ≡ Ok layout)
-layout_after old new layout after is h =
-    ap (λ (n : ℕ). layout_in n (reads old.content)) (sym after.sectors) ∙ found_after old new (layout_in new.sectors) layout after is h
+pub geometry_after : (old new : Disk) (g : Geometry) → After synced old new → Shows new (λ image. geometry_in new.sectors image ≡ Ok g)
+    → Shows old (λ image. geometry_in old.sectors image ≡ Ok g)
+geometry_after old new g after is h =
+    ap (λ (n : ℕ). geometry_in n (reads old.content)) (sym after.sectors) ∙ found_after old new (geometry_in new.sectors) g after is h
 
 -- a cause that is met in a part after a sync is met in the whole
 pub cause_after : {Y Z : Type 0} (old mid : Disk) (part : Image → Result Y Cause) (whole : Image → Result Z Cause) (told : RecoverCause)
@@ -33,19 +34,22 @@ cause_after old mid part whole told after carries is = λ h.
     carries h (subst (λ (image : Image). SaysWhy (part image) told) (synced-reads old mid after h) (is (synced-honest old mid after h)))
 
 -- the geometry is sound and an area is in use, where both were found after a sync
-pub areas_found : (old first second : Disk) (layout : Layout) (used : InUse) → After synced old first → Same first second
-    → Shows first (λ image. layout_in first.sectors image ≡ Ok layout) → Shows second (λ image. in_use_in layout image ≡ Ok used)
-    → Shows old (λ image. (layout_in old.sectors image ≡ Ok layout) × (in_use_in layout image ≡ Ok used))
-areas_found old first second layout used after same laid_out in_use h = (
-  layout_after old first layout after laid_out h,
-  found_after old second (in_use_in layout) used (synced-then old first second after same) in_use h,
+pub areas_found : (old first second : Disk) (g : Geometry) (layout : Layout) (used : InUse) → After synced old first → Same first second
+    → layout ≡ layout_of g → Shows first (λ image. geometry_in first.sectors image ≡ Ok g)
+    → Shows second (λ image. in_use_in layout image ≡ Ok used)
+    → Shows old (λ image. (geometry_in old.sectors image ≡ Ok g) × (in_use_in (layout_of g) image ≡ Ok used))
+areas_found old first second g layout used after same so found in_use h = (
+  geometry_after old first g after found h,
+  subst (λ (l : Layout). in_use_in l (reads old.content) ≡ Ok used) so
+      (found_after old second (in_use_in layout) used (synced-then old first second after same) in_use h),
 )
 
-pub chosen_after : (old first second : Disk) (layout : Layout) (used : InUse) → After synced old first → Same first second
-    → Shows first (λ image. layout_in first.sectors image ≡ Ok layout) → Shows second (λ image. in_use_in layout image ≡ Ok used)
+pub chosen_after : (old first second : Disk) (g : Geometry) (layout : Layout) (used : InUse) → After synced old first → Same first second
+    → layout ≡ layout_of g → Shows first (λ image. geometry_in first.sectors image ≡ Ok g)
+    → Shows second (λ image. in_use_in layout image ≡ Ok used)
     → Shows old (HasChosen old.sectors)
-chosen_after old first second layout used after same laid_out in_use h =
-    let areas = areas_found old first second layout used after same laid_out in_use h in (layout, used, areas.0, areas.1)
+chosen_after old first second g layout used after same so found in_use h =
+    let areas = areas_found old first second g layout used after same so found in_use h in (g, used, areas.0, areas.1)
 
 -- a sync that failed ends a recovery
 pub recovery_failed : (T : Type 0) (told : DiskFault) (old new : Disk) → FailedIn (sync ∷ []) told old new

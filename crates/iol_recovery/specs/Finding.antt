@@ -4,9 +4,10 @@ use Rattle.iol_disk.specs.Content.{Image}
 use Rattle.iol_disk.specs.Calls.{sync, content_after_all, Made, FailedIn}
 use Rattle.iol_disk.specs.Disk.{Disk, After, HasFailed}
 use Rattle.iol_disk.specs.declared.fault.DiskFault.TheVariants.{Read}
-use Rattle.iol_layout.specs.Layout.{Layout, other, header_at}
+use Rattle.iol_layout.specs.Geometry.{Geometry}
+use Rattle.iol_layout.specs.Layout.{layout_of, other, header_at}
 use Rattle.iol_layout.specs.Header.{header_of}
-use Rattle.iol_layout.specs.Meaning.{Standing, layout_in, in_use_in}
+use Rattle.iol_layout.specs.Meaning.{Standing, geometry_in, in_use_in}
 use Rattle.iol_layout.specs.declared.idle.Idle.{Idle}
 use Rattle.iol_layout.specs.declared.idle.Idle.TheVariants.{Older, Closed}
 use Rattle.iol_layout.specs.declared.in_use.InUse.{InUse}
@@ -19,7 +20,8 @@ idle_in s image = if nat_lt (header_of (image (header_at s.layout (other s.area)
 
 -- an image of so many sectors has a sound geometry and an area in use (own)
 abbrev pub HasChosen : ℕ → Image → Type 0
-HasChosen sectors image = (layout : Layout) × (used : InUse) × (layout_in sectors image ≡ Ok layout) × (in_use_in layout image ≡ Ok used)
+HasChosen sectors image =
+    (g : Geometry) × (used : InUse) × (geometry_in sectors image ≡ Ok g) × (in_use_in (layout_of g) image ≡ Ok used)
 
 -- a recovery makes one sync and reads: it fails in the sync or in a read, or counts no failure (format, Orders of
 -- disk calls)

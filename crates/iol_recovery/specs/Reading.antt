@@ -2,7 +2,7 @@
 use Rattle.std.specs.Prelude.{◌≡◌, Result, Ok, Err}
 use Rattle.iol_disk.specs.Content.{Image}
 use Rattle.iol_disk.specs.Disk.{Disk, Shows}
-use Rattle.iol_layout.specs.Meaning.{Cause, unformatted, damaged}
+use Rattle.iol_layout.specs.Meaning.{Cause, unformatted, too_small, damaged}
 use Rattle.iol_recovery.specs.declared.cause.RecoverCause.{RecoverCause}
 use Rattle.iol_recovery.specs.declared.cause.RecoverCause.TheVariants as cause
 
@@ -10,6 +10,7 @@ use Rattle.iol_recovery.specs.declared.cause.RecoverCause.TheVariants as cause
 abbrev pub SaysWhy : {Y : Type 0} → Result Y Cause → RecoverCause → Type 0
 SaysWhy read (cause.Disk fault) = Unit {0}
 SaysWhy read cause.NotFormatted = read ≡ Err unformatted
+SaysWhy read cause.TooSmall = read ≡ Err too_small
 SaysWhy read (cause.Damaged sector) = read ≡ Err (damaged sector)
 SaysWhy read cause.Memory = Unit {0}
 

@@ -13,6 +13,9 @@ pub enum RecoverCause {
     /// The gate of the disk is closed, or there is no such sector.
     #[error("the disk is not formatted")]
     NotFormatted,
+    /// Its areas keep no slot in version 2 of the layout; only an earlier release has formatted such a disk.
+    #[error("the disk is too small")]
+    TooSmall,
     /// What stands from this sector on is nothing that a journal writes.
     #[error("damaged at sector {sector}")]
     Damaged { sector: usize },

@@ -10,7 +10,7 @@ ghost use Rattle.iol_recovery.specs.Reading.{Finds};
 ghost use Rattle.iol_recovery.specs.Finding.{HasChosen, MakesRecovery, idle_in};
 
 use crate::cause::RecoverCause;
-use crate::opening::{find_areas, find_layout};
+use crate::opening::{find_areas, find_geometry, layout_used};
 use crate::replay::replay_slots;
 use crate::snapshot::read_ports;
 use iol_disk::SectorDisk;
@@ -46,8 +46,9 @@ pub fn find<D: SectorDisk>(alloc: Global, disk: &mut D) -> Result<Found, Recover
     ensures copy { IfOk result (λ found. found.copy ≡ found.state) }
 {
     disk.sync()?;
-    let layout = find_layout(disk)?;
-    let areas = find_areas(disk, layout)?;
+    let geometry = find_geometry(disk)?;
+    let areas = find_areas(disk, geometry.layout())?;
+    let layout = layout_used(geometry, areas.in_use);
     let mut state = read_ports(alloc, disk, layout, areas.in_use.area)?;
     let end = replay_slots(
         alloc,

@@ -1,12 +1,13 @@
-//! The first reads of a recovery: the layout, and the area in use.
+//! The first reads of a recovery: the geometry, and the area in use.
 
 ghost use Rattle.std.specs.Prelude.{◌≡◌, ◌<◌, ◌≤◌, ◌+◌, Some, None, Err, IfOk, IfErr, if◌then◌else◌};
+ghost use Rattle.iol_record.specs.declared.version.Version.{Version};
 ghost use Rattle.iol_disk.specs.Disk.{Same, FailsOnlyAs, Shows};
 ghost use Rattle.iol_disk.specs.declared.fault.DiskFault.{DiskFault};
 ghost use Rattle.iol_recovery.specs.Faults.{Counted, IsFault};
-ghost use Rattle.iol_layout.specs.Layout.{other, total, header_at};
-ghost use Rattle.iol_layout.specs.Header.{header_of};
-ghost use Rattle.iol_layout.specs.Meaning.{layout_in, header_in, greatest, in_use, in_use_in};
+ghost use Rattle.iol_layout.specs.Layout.{other, laid_out, total, header_at};
+ghost use Rattle.iol_layout.specs.Header.{header_of, epochs_ahead, version_in};
+ghost use Rattle.iol_layout.specs.Meaning.{geometry_in, header_in, greatest, in_use, in_use_in, layout_used};
 ghost use Rattle.iol_recovery.specs.Reading.{Says, Finds};
 ghost use Rattle.iol_layout.specs.declared.header.TheConstants.{LAST_NUMBER};
 
@@ -16,10 +17,11 @@ use iol_layout::{
     Area, GEOMETRY, Geometry, Header, InUse, Layout, gate, is_formatted, read_sector,
 };
 
-// The layout of a formatted disk.
-pub(crate) fn find_layout<D: SectorDisk>(disk: &mut D) -> Result<Layout, RecoverCause>
-    ensures fits { IfOk result (λ layout. total layout ≤ (D.disk disk.old).sectors) }
-    ensures finds { Finds (λ layout. layout) (D.disk disk.old) (layout_in (D.disk disk.old).sectors) result }
+// The geometry that a disk is formatted for.
+#[tactic(auto, using(iol_layout::proofs::Layouts::same_total))]
+pub(crate) fn find_geometry<D: SectorDisk>(disk: &mut D) -> Result<Geometry, RecoverCause>
+    ensures fits { IfOk result (λ g. (version : Version) → total (laid_out version g) ≤ (D.disk disk.old).sectors) }
+    ensures finds { Finds (λ g. g) (D.disk disk.old) (geometry_in (D.disk disk.old).sectors) result }
     ensures counted { Counted (D.disk disk.old) (D.disk disk.new) result }
     ensures takes_no_memory { result ≡ Err RecoverCause.Memory → ⊥ }
     ensures same { Same (D.disk disk.old) (D.disk disk.new) }
@@ -29,8 +31,11 @@ pub(crate) fn find_layout<D: SectorDisk>(disk: &mut D) -> Result<Layout, Recover
         return Err(RecoverCause::NotFormatted);
     }
     let octets = read_sector(disk, GEOMETRY)?;
-    match Geometry::read(&octets) {
-        Some(geometry) if geometry.sectors() <= sectors => Ok(geometry.layout()),
+    match Layout::read(&octets) {
+        Some(layout) if layout.sectors() <= sectors => match layout.geometry() {
+            Some(geometry) => Ok(geometry),
+            None => Err(RecoverCause::TooSmall),
+        },
         _ => Err(RecoverCause::Damaged { sector: GEOMETRY }),
     }
 }
@@ -42,6 +47,13 @@ pub(crate) struct Areas {
     pub other: Header,
 }
 
+// The layout of the area in use.
+pub(crate) fn layout_used(geometry: Geometry, used: InUse) -> Layout
+    ensures { result ≡ layout_used geometry used }
+{
+    Layout::of(used.header.version_in_use(), geometry)
+}
+
 // Reads the gates, the headers of the open areas, and then the other one's where that is closed.
 pub(crate) fn find_areas<D: SectorDisk>(disk: &mut D, layout: Layout) -> Result<Areas, RecoverCause>
     requires { total layout ≤ (D.disk disk.old).sectors }
@@ -49,7 +61,8 @@ pub(crate) fn find_areas<D: SectorDisk>(disk: &mut D, layout: Layout) -> Result<
     ensures other { IfOk result (λ areas.
         Shows (D.disk disk.old) (λ image. areas.other ≡ header_of (image (header_at layout (other areas.in_use.area))))) }
     ensures base { IfOk result (λ areas. areas.in_use.header.base ≤ LAST_NUMBER) }
-    ensures begun { IfOk result (λ areas. areas.in_use.header.epoch ≤ areas.in_use.header.base + 1) }
+    ensures begun { IfOk result (λ areas.
+        areas.in_use.header.epoch ≤ areas.in_use.header.base + epochs_ahead (version_in areas.in_use.header)) }
     ensures counted { Counted (D.disk disk.old) (D.disk disk.new) result }
     ensures takes_no_memory { result ≡ Err RecoverCause.Memory → ⊥ }
     ensures same { Same (D.disk disk.old) (D.disk disk.new) }
@@ -139,7 +152,7 @@ pub fn greatest_of(
     ensures says { Says (λ used. used) (greatest layout a b) result }
     ensures no_fault { IfErr result (λ told. IsFault told → ⊥) }
     ensures base { IfOk result (λ used. used.header.base ≤ LAST_NUMBER) }
-    ensures begun { IfOk result (λ used. used.header.epoch ≤ used.header.base + 1) }
+    ensures begun { IfOk result (λ used. used.header.epoch ≤ used.header.base + epochs_ahead (version_in used.header)) }
 {
     match (a, b) {
         (None, None) => Err(RecoverCause::Damaged {
@@ -165,7 +178,7 @@ fn in_use_of(layout: Layout, area: Area, header: Header) -> Result<InUse, Recove
     ensures says { Says (λ used. used) (in_use layout area header) result }
     ensures no_fault { IfErr result (λ told. IsFault told → ⊥) }
     ensures base { IfOk result (λ used. used.header.base ≤ LAST_NUMBER) }
-    ensures begun { IfOk result (λ used. used.header.epoch ≤ used.header.base + 1) }
+    ensures begun { IfOk result (λ used. used.header.epoch ≤ used.header.base + epochs_ahead (version_in used.header)) }
 {
     if header.is_sound() {
         Ok(InUse { area, header })

@@ -21,6 +21,7 @@ use Rattle.iol_flush.specs.declared.stage.FlushStage.{FlushStage}
 use Rattle.iol_flush.specs.declared.stage.FlushStage.TheVariants.{Resting, Opening, Given, Checkpointing, Writing, Publishing, Failed}
 use Rattle.iol_front.specs.Fronts.{Start, CommittedView}
 use Rattle.iol_journal.specs.Body.{records_of, slots_of, slots_for, values}
+use Rattle.iol_journal.specs.Layout.{renewed}
 use Rattle.iol_journal.specs.Meaning.{Standing}
 use Rattle.iol_journal.specs.Batch.{Batch}
 use Rattle.iol_journal.specs.Numbers.{LAST_NUMBER}
@@ -54,13 +55,13 @@ all false b c d one two three four = one
 -- it goes on where the journal stands
 taken_fits : (start : Start) (published : List CommandValue) (old new : CoreView) (s : Standing) (batch : Batch) (room : ℕ)
     → s.number ≡ start.number + length published → s.state ≡ after start.state published → IsDurable start old published
-    → IsTaken old room new batch → ((octets : ℕ) → octets ≤ room → slots_of octets ≤ s.layout.slots)
+    → IsTaken old room new batch → ((octets : ℕ) → octets ≤ room → slots_of octets ≤ (renewed s.layout).slots)
     → legal old.durable (values batch.commands.items) ≡ true
     → (length (values batch.commands.items) ≤ 64) × (batch.first + length (values batch.commands.items) ≤ LAST_NUMBER + 1)
     → FitsBatch s batch
 taken_fits start published old new s batch room number state durable is has_room passes bound = record {
   small =
-      small (length (values batch.commands.items)) s.layout.slots (slots_for (values batch.commands.items)) bound.0
+      small (length (values batch.commands.items)) (renewed s.layout).slots (slots_for (values batch.commands.items)) bound.0
       (has_room _ (subst (λ (cs : List CommandValue). length (records_of cs) ≤ room) (sym is.commands) is.longest.fits));
   next = all (nat_le 1 count) (batch.first == s.number + 1) (nat_le (s.number + count) LAST_NUMBER)
       (legal s.state (values batch.commands.items))

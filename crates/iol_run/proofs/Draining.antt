@@ -9,7 +9,7 @@ use Rattle.iol_flush.specs.declared.need.Need.{Need}
 use Rattle.iol_flush.specs.declared.need.Need.TheVariants as need
 use Rattle.iol_front.specs.Fronts.{CommittedView}
 use Rattle.iol_journal.specs.Journals.{JournalView}
-use Rattle.iol_journal.specs.Layout.{Layout}
+use Rattle.iol_journal.specs.Layout.{Layout, renewed}
 use Rattle.iol_link.specs.Link.{LinkCall, LinkAnswer}
 use Rattle.iol_trace.specs.Events.{Event}
 use Rattle.iol_trace.specs.Words.{accepted, acked, HasFailure}
@@ -112,7 +112,8 @@ module _ {D L : Type 0} (disk : D → Disk) (connection : L → ℕ) (allows : L
             turns_none layout disk last.master.committed last.master new.master drained.idle.0 refl drained.idle.1.1 before.served quiet
 
     pub all_drained : (tasks : List Task) (ended : Ended) (made : List Step) (waits : ℕ) (journal : JournalView D) (links : List L)
-        (old new : RunView D L) → IsFresh disk journal links old → journal.standing.layout ≡ layout → journal.standing.number ≡ first
+        (old new : RunView D L) → IsFresh disk journal links old → renewed journal.standing.layout ≡ layout
+        → journal.standing.number ≡ first
         → HasRun disk connection allows tasks ended made waits old new → AllDrained tasks ended first new.events
     all_drained tasks ended made waits journal links old new fresh same number run before ends whole sound =
         drain_leaves parts.2 parts.0 new

@@ -8,7 +8,7 @@ use Rattle.iol_core.specs.declared.stop.StopCause.{StopCause}
 use Rattle.iol_flush.specs.declared.stage.FlushStage.{FlushStage}
 use Rattle.iol_front.specs.Fronts.{CommittedView}
 use Rattle.iol_journal.specs.Journals.{JournalView}
-use Rattle.iol_journal.specs.Layout.{Layout}
+use Rattle.iol_journal.specs.Layout.{Layout, renewed}
 use Rattle.iol_link.specs.Link.{LinkCall, LinkAnswer}
 use Rattle.iol_trace.specs.Events.{Stamp, stamped}
 use Rattle.iol_trace.specs.Words.{accepted, acked, HasFailure}
@@ -95,13 +95,14 @@ module _ {D L : Type 0} (disk : D → Disk) (connection : L → ℕ) (allows : L
 
     -- a run before its first step
     pub fresh_holds : (journal : JournalView D) (links : List L) (run : RunView D L)
-        → IsFresh disk journal links run → journal.standing.layout ≡ layout → journal.standing.number ≡ first → Holds run
+        → IsFresh disk journal links run → renewed journal.standing.layout ≡ layout → journal.standing.number ≡ first → Holds run
     fresh_holds journal links run fresh same number = record {
       served =
           subst (λ (c : Option CommittedView). IsServed layout run.master.core run.master.flusher.stage c) (sym fresh.committed)
           (subst (λ (s : FlushStage D). IsServed layout run.master.core s None) (sym fresh.stage) (record {
             batch = fresh.flight;
             layout_is = same;
+            newest = tt;
             few_calls = tt;
             few_wait = omega (arith, ap length fresh.queue);
           }));
@@ -141,7 +142,7 @@ module _ {D L : Type 0} (disk : D → Disk) (connection : L → ℕ) (allows : L
 
     -- of steps that were made from a fresh run on; a count of those that waited tells none only where there are none
     pub all_flushed : (steps : List Step) (waits count : ℕ) (journal : JournalView D) (links : List L) (old new : RunView D L)
-        → IsFresh disk journal links old → journal.standing.layout ≡ layout → journal.standing.number ≡ first
+        → IsFresh disk journal links old → renewed journal.standing.layout ≡ layout → journal.standing.number ≡ first
         → HasMade disk connection allows steps waits old new → IsCountOf count waits
         → AllFlushed (queue_turns layout) steps first count new.events
     all_flushed steps waits count journal links old new fresh same number made counts ends none sound =

@@ -11,6 +11,7 @@ pub mod Crash
 pub mod TurnsLeft
 pub mod Served
 pub mod Counted
+pub mod OwnTurns
 pub mod Progress
 pub mod Flushing
 pub mod Draining

@@ -1,6 +1,6 @@
 -- Each turn of the flusher that has not to wait leaves fewer turns.
-use Rattle.std.proofs.Common.{◌≡◌, refl, ◌≤◌, ◌⊎◌, inl, inr, ℕ, zero, suc, ◌+◌, ◌-◌, ◌*◌, ◌&&◌, nat_eq, nat_lt, not, Bool, true, false}
-use Rattle.std.proofs.Common.{if◌then◌else◌, List, [], Ok}
+use Rattle.std.proofs.Common.{◌≡◌, refl, ◌≤◌, ◌⊎◌, inl, inr, ℕ, zero, suc, ◌+◌, ◌-◌, ◌*◌, ◌&&◌, ◌||◌, nat_eq, nat_lt, nat_le, not, Bool}
+use Rattle.std.proofs.Common.{true, false, if◌then◌else◌, is_some, List, [], Ok}
 use Rattle.std.proofs.Common.{◌∷◌, length, Option, Some, None, ap, sym, ◌∙◌, subst, arith, rules, length-drop}
 use Rattle.std.proofs.lemmas.Bool.Decides.{nat_tests}
 use Rattle.std.proofs.Math.Nat.{mul-le-mul_right, mul-zero, one-mul}
@@ -8,26 +8,29 @@ use Rattle.iol_disk.specs.Disk.{Disk}
 use Rattle.iol_core.specs.Batches.{has_batch}
 use Rattle.iol_core.specs.Core.{CoreView}
 use Rattle.iol_core.specs.Submit.{has_failed}
-use Rattle.iol_flush.proofs.Turns.{advances}
-use Rattle.iol_flush.proofs.LastCalls.{none_behind}
-use Rattle.iol_flush.specs.Stages.{FlusherView, HasFewCalls, is_due, wants_checkpoint, room_of, need_of}
-use Rattle.iol_flush.specs.Steps.{HasAdvanced, HasTaken, HasPublished, IsDiskStep}
-use Rattle.iol_flush.specs.Turns.{calls_needed, given_calls}
+use Rattle.iol_flush.proofs.Turns.{advances, one_less}
+use Rattle.iol_flush.specs.Stages.{FlusherView, HasFewCalls, calls_owed, disk_of, due_need, most_checkpoint_calls, need_of, room_of}
+use Rattle.iol_flush.specs.Steps.{HasTaken, HasPublished, IsDiskStep}
+use Rattle.iol_flush.specs.Turns.{given_calls, opening_calls}
 use Rattle.iol_flush.specs.declared.need.Need.{Need}
 use Rattle.iol_flush.specs.declared.need.Need.TheVariants as need
 use Rattle.iol_flush.specs.declared.stage.FlushStage.{FlushStage}
 use Rattle.iol_flush.specs.declared.stage.FlushStage.TheVariants.{Resting, Opening, Given, Checkpointing, Writing, Publishing, Failed}
 use Rattle.iol_front.specs.Fronts.{CommittedView}
 use Rattle.iol_types.specs.Command.{CommandValue}
-use Rattle.iol_journal.specs.CheckpointViews.{CheckpointingView, checkpoint_of}
-use Rattle.iol_journal.specs.Layout.{Layout}
+use Rattle.iol_journal.specs.Begin.{wants_checkpoint}
+use Rattle.iol_journal.specs.CheckpointViews.{checkpoint_of, stages_left}
+use Rattle.iol_journal.specs.Layout.{Layout, is_renewed, renewed}
 use Rattle.iol_journal.specs.Body.{values}
 use Rattle.iol_journal.specs.Batch.{Batch}
 use Rattle.iol_trace.specs.Events.{Event}
 use Rattle.iol_run.proofs.Batches.{taken_flight}
+use Rattle.iol_run.proofs.OwnTurns.{some_count, rests_own, takes_own, written_own, freed_own, begun_own, advanced_own, advanced_less}
+use Rattle.iol_run.proofs.OwnTurns.{first_less}
 use Rattle.iol_run.proofs.Served.{IsServed, Served}
 use Rattle.iol_run.proofs.Serving.{knows}
-use Rattle.iol_run.proofs.TurnsLeft.{HasBatch, HasLayout, own_turns, turns_behind, turns_left, fewer_behind, given_turns, flies_within}
+use Rattle.iol_run.proofs.TurnsLeft.{HasBatch, HasLayout, IsNewest, own_turns, turns_behind, turns_left, fewer_behind}
+use Rattle.iol_run.proofs.TurnsLeft.{given_turns, flies_within}
 use Rattle.iol_run.specs.CoreOnDisk.{CoreOnDiskView, IsInFlight, HasFlight, IsAtRest}
 use Rattle.iol_run.specs.Flushed.{batch_turns}
 use Rattle.iol_run.specs.Tasks.{waits_of}
@@ -52,65 +55,31 @@ nothing_waits (suc n) flies true none rests sound = absurd (sound refl)
 nothing_waits (suc n) zero false none rests sound = search rules
 nothing_waits (suc n) (suc flies) false none rests sound = absurd (omega (arith, rests))
 
--- the last call of a checkpoint is a turn where something waits
-last_turn : (waits : ℕ) (some : Bool) → nat_lt 0 waits ≡ some → 1 ≤ waits → 1 ≤ (if some then 1 else 0)
-last_turn waits true is le = omega arith
-last_turn waits false is le = let none : waits ≡ 0 = grind (arith, nat_tests, is) in absurd (omega (arith, none, le))
+-- where the need of a disk call is met beside a batch, no batch may be taken, or the layout is an older one
+none_there : (newest other there : Bool) → need_met (if not newest || other then due_need newest else need.Batch) there ≡ need.Disk
+    → (there ≡ false) ⊎ (newest ≡ false)
+none_there false other there met = inr refl
+none_there true true true met = search rules
+none_there true true false met = inl refl
+none_there true false there met = search rules
 
--- where the need of a disk call is met beside a batch, no batch may be taken
-none_there : (due there : Bool) → need_met (if due then need.BatchOrDisk else need.Batch) there ≡ need.Disk → there ≡ false
-none_there true true met = search rules
-none_there true false met = refl
-none_there false there met = search rules
+never_stopped : (newest other there : Bool)
+    → need_met (if not newest || other then due_need newest else need.Batch) there ≡ need.Stopped → ⊥
+never_stopped false other there met = search rules
+never_stopped true true true met = search rules
+never_stopped true true false met = search rules
+never_stopped true false there met = search rules
 
 module _ {D : Type 0} where
-  rests_own : (waits : ℕ) (stage : FlushStage D) → IsAtRest stage → own_turns waits stage None ≡ 0
-  rests_own waits (Resting j) at = refl
-  rests_own waits (Opening c) at = absurd at
-  rests_own waits (Given j b) at = absurd at
-  rests_own waits (Checkpointing c b) at = absurd at
-  rests_own waits (Writing w) at = absurd at
-  rests_own waits (Publishing j written) at = absurd at
-  rests_own waits (Failed d f) at = absurd at
-
-  own_calls : (waits : ℕ) (stage : FlushStage D) → own_turns waits stage None ≤ calls_needed stage + 1
-  own_calls waits (Resting j) = omega arith
-  own_calls waits (Opening c) = one (nat_lt 0 waits)
-    where
-      one : (last : Bool) → (if last then 1 else 0) ≤ 1
-      one true = omega arith
-      one false = omega arith
-  own_calls waits (Given j b) = omega arith
-  own_calls waits (Checkpointing c b) = omega arith
-  own_calls waits (Writing w) = omega arith
-  own_calls waits (Publishing j written) = omega arith
-  own_calls waits (Failed d f) = omega arith
-
-  -- while nothing waits, a checkpoint for which no batch waits counts no turns
-  advanced_own : (c : CheckpointingView D) (stage : FlushStage D) → HasAdvanced c stage → own_turns 0 stage None ≡ 0
-  advanced_own c (Resting j) has = refl
-  advanced_own c (Opening d) has = refl
-  advanced_own c (Given j b) has = absurd has
-  advanced_own c (Checkpointing d b) has = absurd has
-  advanced_own c (Writing w) has = absurd has
-  advanced_own c (Publishing j written) has = absurd has
-  advanced_own c (Failed d f) has = absurd has
-
-  -- behind its last call it counts none
-  ended_own : (waits : ℕ) (c : CheckpointingView D) (stage : FlushStage D) → HasFewCalls (Opening c) → HasAdvanced c stage
-      → own_turns waits stage None ≡ 0
-  ended_own waits c (Resting j) few has = refl
-  ended_own waits c (Opening d) few has = absurd (none_behind c.standing c.begun d.begun few has.behind)
-  ended_own waits c (Given j b) few has = absurd has
-  ended_own waits c (Checkpointing d b) few has = absurd has
-  ended_own waits c (Writing w) few has = absurd has
-  ended_own waits c (Publishing j written) few has = absurd has
-  ended_own waits c (Failed d f) few has = absurd has
-
   -- fewer turns are left behind a disk call, or nothing waits
   abbrev IsLess : ℕ → FlushStage D → FlushStage D → Type 0
   IsLess waits old new =
       (own_turns waits new None + 1 ≤ own_turns waits old None) ⊎ ((waits ≡ 0) × (own_turns waits new None ≡ 0))
+
+  -- a flusher at rest makes a disk call where nothing waits, or where the layout is an older one
+  abbrev MayAdvance : ℕ → FlushStage D → Type 0
+  MayAdvance waits (Resting j) = (waits ≡ 0) ⊎ (is_renewed j.standing.layout ≡ false)
+  MayAdvance waits stage = Unit {0}
 
 module _ {D : Type 0} (layout : Layout) where
   -- the turns that are left of a master
@@ -122,8 +91,8 @@ module _ {D : Type 0} (layout : Layout) where
   IsFewer old new = left_of new ≤ left_of old - 1
 
   acknowledged_fewer : (old new : CoreOnDiskView D) (committed : CommittedView) (told : List Event) → old.committed ≡ Some committed
-      → Acknowledges old new told → IsAtRest old.flusher.stage → IsFewer old new
-  acknowledged_fewer old new committed told there is at =
+      → Acknowledges old new told → IsAtRest old.flusher.stage → IsNewest old.flusher.stage (Some committed) → IsFewer old new
+  acknowledged_fewer old new committed told there is at newest =
       less_own (own_turns (length old.core.queue) old.flusher.stage old.committed)
       (own_turns (length new.core.queue) new.flusher.stage new.committed) (turns_behind layout old.core) (turns_behind layout new.core)
       (omega (arith, before, after)) (ap (λ (n : ℕ). batch_turns layout * n) behind)
@@ -135,7 +104,7 @@ module _ {D : Type 0} (layout : Layout) where
       after =
           ap (own_turns (length new.core.queue) new.flusher.stage) is.2
           ∙ (ap (λ (f : FlusherView D). own_turns (length new.core.queue) f.stage None) is.1
-          ∙ rests_own (length new.core.queue) old.flusher.stage at)
+          ∙ rests_own (length new.core.queue) old.flusher.stage committed at newest)
 
       behind : length new.core.queue - new.core.flight ≡ length old.core.queue - old.core.flight
       behind =
@@ -192,7 +161,8 @@ module _ {D : Type 0} (layout : Layout) where
 
       before : own_turns (length old.core.queue) old.flusher.stage old.committed ≡ 0
       before =
-          ap (own_turns (length old.core.queue) old.flusher.stage) none ∙ rests_own (length old.core.queue) old.flusher.stage rest.0
+          ap (own_turns (length old.core.queue) old.flusher.stage) none
+          ∙ takes_own (length old.core.queue) old.flusher.stage (has_batch old.core) needs
 
       commands : List CommandValue
       commands = values is.0.commands.items
@@ -226,7 +196,7 @@ module _ {D : Type 0} (layout : Layout) where
           ∙ omega (
             arith,
             ap (own_turns (length old.core.queue) old.flusher.stage) none,
-            rests_own (length old.core.queue) old.flusher.stage rest.0,
+            takes_own (length old.core.queue) old.flusher.stage (has_batch old.core) needs,
             ap (λ (n : ℕ). batch_turns layout * n) behind
                 ∙ mul-zero (batch_turns layout),
           )
@@ -234,34 +204,53 @@ module _ {D : Type 0} (layout : Layout) where
 
   module _ (disk : D → Disk) where
     -- a disk call
-    called_less : (waits : ℕ) (old new : FlushStage D) → (IsAtRest old → waits ≡ 0) → HasFewCalls old → HasFewCalls new
+    called_less : (waits : ℕ) (old new : FlushStage D) → MayAdvance waits old → HasFewCalls old → HasFewCalls new
         → IsDiskStep disk old new (Ok tt) → IsLess waits old new
-    called_less waits (Resting j) new none few_old few_new step =
-        inr (none tt, ap (λ (n : ℕ). own_turns n new None) (none tt) ∙ advanced_own (checkpoint_of j) new step.0.1)
-    called_less zero (Opening c) new none few_old few_new step = inr (refl, advanced_own c new step.0)
-    called_less (suc n) (Opening c) new none few_old few_new step =
-        let last : 1 ≤ own_turns (suc n) (Opening c) None = last_turn (suc n) (nat_lt 0 (suc n)) refl (omega arith) in
-        inl (omega (arith, last, ended_own (suc n) c new few_old step.0))
-    called_less waits (Given j b) new none few_old few_new step =
-        inl (omega (arith, own_calls waits new, advances disk (Given j b) new (omega arith) few_old few_new step))
-    called_less waits (Checkpointing c b) new none few_old few_new step =
-        inl (omega (arith, own_calls waits new, advances disk (Checkpointing c b) new (omega arith) few_old few_new step))
-    called_less waits (Writing w) new none few_old few_new step =
-        inl (omega (arith, own_calls waits new, advances disk (Writing w) new (omega arith) few_old few_new step))
-    called_less waits (Publishing j written) new none few_old few_new step = absurd step.0
-    called_less waits (Failed d f) new none few_old few_new step = absurd step.0
+    called_less waits (Resting j) new (inl none) few_old few_new step =
+        inr (none, ap (λ (n : ℕ). own_turns n new None) none ∙ advanced_own (checkpoint_of j) new step.0.1)
+    called_less zero (Resting j) new (inr older) few_old few_new step = inr (refl, advanced_own (checkpoint_of j) new step.0.1)
+    called_less (suc n) (Resting j) new (inr older) few_old few_new step =
+        let counts = some_count (suc n) (opening_calls (Resting j)) (nat_lt 0 (suc n)) refl (omega arith) in
+        let opens : opening_calls (Resting j) ≡ most_checkpoint_calls (renewed j.standing.layout) + 1 =
+        ap (λ (is : Bool). if is then 0 else most_checkpoint_calls (renewed j.standing.layout) + 1) older in
+        inl (subst (λ (most : ℕ). own_turns (suc n) new None + 1 ≤ most) (sym (counts ∙ opens))
+        (first_less (suc n) (checkpoint_of j) new step.0.1 few_new))
+    called_less zero (Opening c) new may few_old few_new step = inr (refl, advanced_own c new step.0)
+    called_less (suc n) (Opening c) new may few_old few_new step =
+        let counts = some_count (suc n) (length (stages_left c)) (nat_lt 0 (suc n)) refl (omega arith) in
+        let less : length (calls_owed new) + 1 ≤ length (stages_left c) =
+        omega (arith, one_less (stages_left c) (calls_owed new) (disk c.disk) (disk (disk_of new)) step.1) in
+        inl (subst (λ (most : ℕ). own_turns (suc n) new None + 1 ≤ most) (sym counts)
+        (advanced_less (suc n) (length (stages_left c)) c new step.0 less))
+    called_less waits (Given j b) new may few_old few_new step =
+        inl (omega (
+          arith,
+          begun_own waits (wants_checkpoint j.standing (values b.commands.items)) j b new step.0,
+          advances disk (Given j b) new (omega arith) few_old few_new step,
+        ))
+    called_less waits (Checkpointing c b) new may few_old few_new step =
+        inl (omega (arith, freed_own waits c b new step.0, advances disk (Checkpointing c b) new (omega arith) few_old few_new step))
+    called_less waits (Writing w) new may few_old few_new step =
+        inl (omega (arith, written_own waits w new step.0, advances disk (Writing w) new (omega arith) few_old few_new step))
+    called_less waits (Publishing j written) new may few_old few_new step = absurd step.0
+    called_less waits (Failed d f) new may few_old few_new step = absurd step.0
 
-    -- a flusher at rest makes one where no batch may be taken: none waits
-    none_at_rest : (core : CoreView) (stage : FlushStage D) → need_met (need_of stage) (has_batch core) ≡ need.Disk → HasFlight core stage
-        → (has_failed core.stopped ≡ true → ⊥) → IsAtRest stage → length core.queue ≡ 0
-    none_at_rest core (Resting j) met flight sound at =
-        nothing_waits (length core.queue) core.flight (has_failed core.stopped) (none_there (is_due j) (has_batch core) met) flight sound
-    none_at_rest core (Opening c) met flight sound at = absurd at
-    none_at_rest core (Given j b) met flight sound at = absurd at
-    none_at_rest core (Checkpointing c b) met flight sound at = absurd at
-    none_at_rest core (Writing w) met flight sound at = absurd at
-    none_at_rest core (Publishing j written) met flight sound at = absurd at
-    none_at_rest core (Failed d f) met flight sound at = absurd at
+    -- a flusher at rest makes one where no batch may be taken: none waits, or the layout is an older one
+    may_advance : (core : CoreView) (stage : FlushStage D) → need_met (need_of stage) (has_batch core) ≡ need.Disk → HasFlight core stage
+        → (has_failed core.stopped ≡ true → ⊥) → MayAdvance (length core.queue) stage
+    may_advance core (Resting j) met flight sound =
+        either (none_there (is_renewed j.standing.layout)
+        (is_some j.begun || nat_le j.standing.layout.slots (2 * j.standing.used)) (has_batch core) met)
+      where
+        either : (has_batch core ≡ false) ⊎ (is_renewed j.standing.layout ≡ false) → MayAdvance (length core.queue) (Resting j)
+        either (inl none) = inl (nothing_waits (length core.queue) core.flight (has_failed core.stopped) none flight sound)
+        either (inr older) = inr older
+    may_advance core (Opening c) met flight sound = tt
+    may_advance core (Given j b) met flight sound = tt
+    may_advance core (Checkpointing c b) met flight sound = tt
+    may_advance core (Writing w) met flight sound = tt
+    may_advance core (Publishing j written) met flight sound = tt
+    may_advance core (Failed d f) met flight sound = tt
 
     -- none is left where nothing waits
     less_left : (old new : CoreOnDiskView D) → old.committed ≡ None → new.committed ≡ None → new.core ≡ old.core
@@ -297,7 +286,7 @@ module _ {D : Type 0} (layout : Layout) where
     called_fewer old new [] none after met is was before sound =
         less_left old new none after is.0
         (called_less (length old.core.queue) old.flusher.stage new.flusher.stage
-        (none_at_rest old.core old.flusher.stage met was.batch before) was.few_calls is.2 is.1)
+        (may_advance old.core old.flusher.stage met was.batch before) was.few_calls is.2 is.1)
     called_fewer old new (e ∷ told) none after met is was before sound =
         absurd (sound (ap (λ (c : CoreView). has_failed c.stopped) is.2 ∙ knows (has_failed old.core.stopped)))
 
@@ -327,12 +316,9 @@ module _ {D : Type 0} (layout : Layout) where
     pub stopped : (core : CoreView) (stage : FlushStage D) (there : Bool) → need_met (need_of stage) there ≡ need.Stopped
         → HasFlight core stage → has_failed core.stopped ≡ true
     stopped core (Failed d f) there met flight = flight
-    stopped core (Resting j) there met flight = absurd (never (is_due j) there met)
-      where
-        never : (due there : Bool) → need_met (if due then need.BatchOrDisk else need.Batch) there ≡ need.Stopped → ⊥
-        never true true met = search rules
-        never true false met = search rules
-        never false there met = search rules
+    stopped core (Resting j) there met flight =
+        absurd (never_stopped (is_renewed j.standing.layout)
+        (is_some j.begun || nat_le j.standing.layout.slots (2 * j.standing.used)) there met)
     stopped core (Opening c) there met flight = search rules
     stopped core (Given j b) there met flight = search rules
     stopped core (Checkpointing c b) there met flight = search rules
@@ -360,8 +346,8 @@ module _ {D : Type 0} (layout : Layout) where
         → IsTurn disk committed old new told turned → Served layout old → waits_of turned ≡ 0 → (has_failed old.core.stopped ≡ true → ⊥)
         → (has_failed new.core.stopped ≡ true → ⊥) → IsFewer old new
     turn_fewer (Some committed) old new told turned there is was waits before after =
-        acknowledged_fewer old new committed told there is.1
-        (subst (λ (c : Option CommittedView). IsServed layout old.core old.flusher.stage c) there was).batch.1
+        let served = subst (λ (c : Option CommittedView). IsServed layout old.core old.flusher.stage c) there was in
+        acknowledged_fewer old new committed told there is.1 served.batch.1 served.newest
     turn_fewer None old new told turned there is was waits before after =
         serves_fewer (met_by old) old new told turned refl there is
         (subst (λ (c : Option CommittedView). IsServed layout old.core old.flusher.stage c) there was) waits before after
@@ -383,12 +369,8 @@ module _ {D : Type 0} (layout : Layout) where
   none_left core stage (Some committed) batch sound none = absurd (omega (arith, none))
   none_left core (Resting j) None batch sound none =
       no_turns (batch_turns layout) (length core.queue) core.flight (omega arith) (omega (arith, none)) batch
-  none_left core (Opening c) None batch sound none = last (length core.queue) refl
-    where
-      last : (waits : ℕ) → length core.queue ≡ waits → length core.queue ≡ 0
-      last zero is = is
-      last (suc n) is =
-          absurd (omega (arith, ap {B = ℕ} (λ waits. if nat_lt 0 waits then 1 else 0) is, none))
+  none_left core (Opening c) None batch sound none =
+      no_turns (batch_turns layout) (length core.queue) core.flight (omega arith) (omega (arith, none)) batch
   none_left core (Given j b) None batch sound none = absurd (omega (arith, none))
   none_left core (Checkpointing c b) None batch sound none = absurd (omega (arith, none))
   none_left core (Writing w) None batch sound none = absurd (omega (arith, none))

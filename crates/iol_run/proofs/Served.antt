@@ -1,29 +1,32 @@
 -- What each step keeps of a master: what is in flight is with the flusher, whose journal keeps its layout, and few wait.
-use Rattle.std.proofs.Common.{◌≡◌, refl, ◌≤◌, ℕ, ◌+◌, nat_le, Bool, true, false, if◌then◌else◌, List, [], ◌∷◌, length, Option, Some, None}
-use Rattle.std.proofs.Common.{inl, inr, Result, Ok, Err, ap, sym, ◌∙◌, subst, arith, rules, length-append, length-drop}
+use Rattle.std.proofs.Common.{◌≡◌, refl, ◌≤◌, ℕ, ◌+◌, ◌*◌, ◌||◌, nat_le, not, Bool, true, false, if◌then◌else◌, List, [], ◌∷◌, length}
+use Rattle.std.proofs.Common.{inl, inr, Option, Some, None, is_some, Result, Ok, Err, ap, sym, ◌∙◌, subst, arith, rules}
+use Rattle.std.proofs.Common.{length-append, length-drop}
 use Rattle.iol_types.specs.Command.{CommandValue, command_of}
 use Rattle.iol_types.specs.State.{check}
 use Rattle.iol_types.specs.declared.command.CommandFault.{CommandFault}
 use Rattle.iol_disk.specs.Disk.{Disk}
 use Rattle.iol_disk.specs.declared.fault.DiskFault.{DiskFault}
-use Rattle.iol_core.specs.Batches.{IsTaken}
+use Rattle.iol_core.specs.Batches.{IsTaken, has_batch}
 use Rattle.iol_core.specs.Core.{CoreView, live}
 use Rattle.iol_core.specs.Submit.{IsSubmit, is_stopped, queue_fault, queued, first_cause}
 use Rattle.iol_core.specs.declared.permit.Grant.{Grant}
 use Rattle.iol_core.specs.declared.core_value.TheConstants.{QUEUE_COMMANDS}
 use Rattle.iol_core.specs.declared.ticket.SubmitFault.{SubmitFault}
 use Rattle.iol_core.specs.declared.ticket.SubmitFault.TheVariants as fault
-use Rattle.iol_flush.specs.Stages.{FlusherView, HasFewCalls, wants_checkpoint, room_of, failure_of}
+use Rattle.iol_flush.specs.Stages.{FlusherView, HasFewCalls, due_need, need_of, room_of, failure_of}
 use Rattle.iol_flush.specs.Steps.{HasAdvanced, HasMadeOfBatch, HasMadeOfCheckpoint, HasBegun, HasMade, HasTaken, HasPublished}
 use Rattle.iol_flush.specs.declared.need.Need.{Need}
 use Rattle.iol_flush.specs.declared.need.Need.TheVariants as need
 use Rattle.iol_flush.specs.declared.stage.FlushStage.{FlushStage}
 use Rattle.iol_flush.specs.declared.stage.FlushStage.TheVariants.{Resting, Opening, Given, Checkpointing, Writing, Publishing, Failed}
 use Rattle.iol_front.specs.Fronts.{CommittedView}
+use Rattle.iol_journal.proofs.Layouts.{renewed-renewed, renewed-twice}
+use Rattle.iol_journal.specs.Begin.{wants_checkpoint}
 use Rattle.iol_journal.specs.CheckpointViews.{CheckpointingView, checkpoint_of}
 use Rattle.iol_journal.specs.Journals.{JournalView, WritingView, writing_of}
 use Rattle.iol_journal.specs.Body.{values}
-use Rattle.iol_journal.specs.Layout.{Layout}
+use Rattle.iol_journal.specs.Layout.{Layout, is_renewed, renewed}
 use Rattle.iol_journal.specs.Meaning.{Standing}
 use Rattle.iol_journal.specs.Batch.{Batch}
 use Rattle.iol_trace.specs.Events.{Event}
@@ -34,11 +37,11 @@ use Rattle.iol_run.proofs.Changes.{Change, Permits, Waits, HasRoom, changed, roo
 use Rattle.iol_run.proofs.PortCalls.{step_becomes}
 use Rattle.iol_run.proofs.InStep.{more_waits, flight_stays}
 use Rattle.iol_run.proofs.Serving.{made_flight, failed_flight}
-use Rattle.iol_run.proofs.TurnsLeft.{HasBatch, HasLayout}
+use Rattle.iol_run.proofs.TurnsLeft.{HasBatch, HasLayout, IsNewest}
 use Rattle.iol_run.specs.CoreOnDisk.{CoreOnDiskView, IsInFlight, HasFlight, IsAtRest}
 use Rattle.iol_run.specs.Ports.{PortsView, StepsIf}
 use Rattle.iol_run.specs.Steps.{Does}
-use Rattle.iol_run.specs.Turns.{Acknowledges, Takes, HasCalled, Publishes, Serves, IsTurn, met_by}
+use Rattle.iol_run.specs.Turns.{Acknowledges, Takes, HasCalled, Publishes, Serves, IsTurn, met_by, need_met}
 use Rattle.iol_run.specs.declared.core_on_disk.Turned.{Turned}
 use Rattle.iol_run.specs.declared.core_on_disk.Turned.TheVariants.{Made, Idle, Waited}
 use Rattle.iol_run.specs.declared.step.Step.{Step}
@@ -49,6 +52,7 @@ pub record IsServed {D : Type 0} (layout : Layout) (core : CoreView) (stage : Fl
     (committed : Option CommittedView) : Type 0 where
   pub batch : HasBatch core stage committed
   pub layout_is : HasLayout layout stage
+  pub newest : IsNewest stage committed
   pub few_calls : HasFewCalls stage
   pub few_wait : length core.queue ≤ QUEUE_COMMANDS
 
@@ -56,12 +60,27 @@ pub record IsServed {D : Type 0} (layout : Layout) (core : CoreView) (stage : Fl
 abbrev pub Served : {D : Type 0} → Layout → CoreOnDiskView D → Type 0
 Served layout master = IsServed layout master.core master.flusher.stage master.committed
 
+-- where the need of a batch is met, the journal at rest has the layout that is written
+met_newest : (newest other there : Bool) → need_met (if not newest || other then due_need newest else need.Batch) there ≡ need.Batch
+    → newest ≡ true
+met_newest true other there met = refl
+met_newest false other there met = search rules
+
+pub rests_newest : {D : Type 0} (j : JournalView D) (there : Bool) → need_met (need_of (Resting j)) there ≡ need.Batch
+    → is_renewed j.standing.layout ≡ true
+rests_newest j there met =
+    met_newest (is_renewed j.standing.layout) (is_some j.begun || nat_le j.standing.layout.slots (2 * j.standing.used)) there met
+
 -- where a command is taken, the queue takes it
 queue_causes : (stopped : Bool) (queue : Option SubmitFault) (checked : Option CommandFault)
     → (if stopped then Some fault.Stopped else first_cause checked queue) ≡ None → queue ≡ None
 queue_causes true queue checked none = search rules
 queue_causes false queue (Some f) none = search rules
 queue_causes false queue None none = none
+
+-- behind a checkpoint the layout is the renewed one
+done_layout : (was now layout : Layout) → now ≡ renewed was → renewed was ≡ layout → (renewed now ≡ layout) × (is_renewed now ≡ true)
+done_layout was now layout done is = (ap renewed done ∙ (renewed-twice was ∙ is), ap is_renewed done ∙ renewed-renewed was)
 
 module _ {D : Type 0} (layout : Layout) where
   queued_batch : (core : CoreView) (command : CommandValue) (stage : FlushStage D) (committed : Option CommittedView)
@@ -78,6 +97,7 @@ module _ {D : Type 0} (layout : Layout) where
   queued_served core command stage committed room was = record {
     batch = queued_batch core command stage committed was.batch;
     layout_is = was.layout_is;
+    newest = was.newest;
     few_calls = was.few_calls;
     few_wait = omega (arith, length-append core.queue (command ∷ []), room);
   }
@@ -94,6 +114,7 @@ module _ {D : Type 0} (layout : Layout) where
   permits_served core permits stage committed was = record {
     batch = permits_batch core permits stage committed was.batch;
     layout_is = was.layout_is;
+    newest = was.newest;
     few_calls = was.few_calls;
     few_wait = was.few_wait;
   }
@@ -124,6 +145,7 @@ module _ {D : Type 0} (layout : Layout) where
       (record {
         batch = rests old.flusher.stage was.batch.1;
         layout_is = was.layout_is;
+        newest = acknowledged_newest old.flusher.stage was.batch.1;
         few_calls = was.few_calls;
         few_wait = fewer;
       }))
@@ -137,26 +159,37 @@ module _ {D : Type 0} (layout : Layout) where
       rests (Publishing j written) at = absurd at
       rests (Failed d f) at = absurd at
 
+      acknowledged_newest : (s : FlushStage D) → IsAtRest s → IsNewest s None
+      acknowledged_newest (Resting j) at = tt
+      acknowledged_newest (Opening c) at = absurd at
+      acknowledged_newest (Given j b) at = absurd at
+      acknowledged_newest (Checkpointing c b) at = absurd at
+      acknowledged_newest (Writing w) at = absurd at
+      acknowledged_newest (Publishing j written) at = absurd at
+      acknowledged_newest (Failed d f) at = absurd at
+
       fewer : length new.core.queue ≤ QUEUE_COMMANDS
       fewer = omega (arith, ap (λ (c : CoreView). length c.queue) is.0, length-drop old.core.flight old.core.queue, was.few_wait)
 
-  -- a batch is taken
-  taken_served : (old new : CoreView) (s t : FlushStage D) (batch : Batch) (room : ℕ) → IsTaken old room new batch → HasTaken s batch t
+  -- a batch is taken, as the flusher needs one
+  taken_served : (old new : CoreView) (s t : FlushStage D) (batch : Batch) (room : ℕ) (there : Bool)
+      → need_met (need_of s) there ≡ need.Batch → IsTaken old room new batch → HasTaken s batch t
       → IsServed layout old s None → IsServed layout new t None
-  taken_served old new (Resting j) t batch room is has was =
+  taken_served old new (Resting j) t batch room there met is has was =
       subst (λ (u : FlushStage D). IsServed layout new u None) (sym has) (record {
         batch = taken_flight old new room batch is;
         layout_is = was.layout_is;
+        newest = rests_newest j there met;
         few_calls = tt;
         few_wait = subst (λ (cs : List CommandValue). length cs ≤ QUEUE_COMMANDS) (sym (ap (λ (c : CoreView). c.queue) is.others))
             was.few_wait;
       })
-  taken_served old new (Opening c) t batch room is has was = absurd has
-  taken_served old new (Given j b) t batch room is has was = absurd has
-  taken_served old new (Checkpointing c b) t batch room is has was = absurd has
-  taken_served old new (Writing w) t batch room is has was = absurd has
-  taken_served old new (Publishing j written) t batch room is has was = absurd has
-  taken_served old new (Failed d f) t batch room is has was = absurd has
+  taken_served old new (Opening c) t batch room there met is has was = absurd has
+  taken_served old new (Given j b) t batch room there met is has was = absurd has
+  taken_served old new (Checkpointing c b) t batch room there met is has was = absurd has
+  taken_served old new (Writing w) t batch room there met is has was = absurd has
+  taken_served old new (Publishing j written) t batch room there met is has was = absurd has
+  taken_served old new (Failed d f) t batch room there met is has was = absurd has
 
   same_served : (old new : CoreOnDiskView D) → new ≡ old → Served layout old → Served layout new
   same_served old new same was = subst (λ (m : CoreOnDiskView D). Served layout m) (sym same) was
@@ -169,29 +202,39 @@ module _ {D : Type 0} (layout : Layout) where
       subst (λ (c : Option CommittedView). IsServed layout new.core new.flusher.stage c) (sym after)
       (goes (subst (λ (c : Option CommittedView). IsServed layout old.core old.flusher.stage c) before was))
 
-  takes_served : (old new : CoreOnDiskView D) (told : List Event) (turned : Turned) → old.committed ≡ None → Takes old new told turned
-      → Served layout old → Served layout new
-  takes_served old new told Made none is was =
+  takes_served : (old new : CoreOnDiskView D) (told : List Event) (turned : Turned) → old.committed ≡ None → met_by old ≡ need.Batch
+      → Takes old new told turned → Served layout old → Served layout new
+  takes_served old new told Made none met is was =
       none_served old new none is.4
-      (taken_served old.core new.core old.flusher.stage new.flusher.stage is.0 (room_of old.flusher.stage) is.1 is.2) was
-  takes_served old new told Idle none is was = same_served old new is.1 was
-  takes_served old new told Waited none is was = same_served old new is.1 was
+      (taken_served old.core new.core old.flusher.stage new.flusher.stage is.0 (room_of old.flusher.stage) (has_batch old.core) met is.1
+      is.2) was
+  takes_served old new told Idle none met is was = same_served old new is.1 was
+  takes_served old new told Waited none met is was = same_served old new is.1 was
 
-  -- the layout stays in a disk call
-  written_layout : (w : WritingView D) (new : FlushStage D) → HasMadeOfBatch w new → w.standing.layout ≡ layout → HasLayout layout new
-  written_layout w (Writing v) has is = ap (λ (s : Standing). s.layout) has.standing ∙ is
-  written_layout w (Publishing j written) has is = ap (λ (s : Standing). s.layout) has.standing ∙ is
-  written_layout w (Resting j) has is = absurd has
-  written_layout w (Opening c) has is = absurd has
-  written_layout w (Given j b) has is = absurd has
-  written_layout w (Checkpointing c b) has is = absurd has
-  written_layout w (Failed d f) has is = absurd has
+  -- what a disk call leaves has the layout, and a batch is written in the one that is written
+  abbrev KeepsLayout : FlushStage D → Type 0
+  KeepsLayout stage = HasLayout layout stage × IsNewest stage None
+
+  written_layout : (w : WritingView D) (new : FlushStage D) → HasMadeOfBatch w new → renewed w.standing.layout ≡ layout
+      → is_renewed w.standing.layout ≡ true → KeepsLayout new
+  written_layout w (Writing v) has is newest = (
+    ap (λ (s : Standing). renewed s.layout) has.standing ∙ is,
+    ap (λ (s : Standing). is_renewed s.layout) has.standing ∙ newest,
+  )
+  written_layout w (Publishing j written) has is newest = (
+    ap (λ (s : Standing). renewed s.layout) has.standing ∙ is,
+    ap (λ (s : Standing). is_renewed s.layout) has.standing ∙ newest,
+  )
+  written_layout w (Resting j) has is newest = absurd has
+  written_layout w (Opening c) has is newest = absurd has
+  written_layout w (Given j b) has is newest = absurd has
+  written_layout w (Checkpointing c b) has is newest = absurd has
+  written_layout w (Failed d f) has is newest = absurd has
 
   checkpointed_layout : (c : CheckpointingView D) (batch : Batch) (new : FlushStage D) → HasMadeOfCheckpoint c batch new
-      → c.standing.layout ≡ layout
-      → HasLayout layout new
-  checkpointed_layout c batch (Checkpointing d kept) has is = ap (λ (s : Standing). s.layout) has.0.standing ∙ is
-  checkpointed_layout c batch (Given j kept) has is = has.0.layout ∙ is
+      → renewed c.standing.layout ≡ layout → KeepsLayout new
+  checkpointed_layout c batch (Checkpointing d kept) has is = (ap (λ (s : Standing). renewed s.layout) has.0.standing ∙ is, tt)
+  checkpointed_layout c batch (Given j kept) has is = done_layout c.standing.layout j.standing.layout layout has.0.layout is
   checkpointed_layout c batch (Resting j) has is = absurd has
   checkpointed_layout c batch (Opening d) has is = absurd has
   checkpointed_layout c batch (Writing w) has is = absurd has
@@ -199,33 +242,34 @@ module _ {D : Type 0} (layout : Layout) where
   checkpointed_layout c batch (Failed d f) has is = absurd has
 
   begun_layout : (full : Bool) (j : JournalView D) (batch : Batch) (new : FlushStage D) → HasBegun full j batch new
-      → j.standing.layout ≡ layout
-      → HasLayout layout new
-  begun_layout true j batch new has is = checkpointed_layout (checkpoint_of j) batch new has.1 is
-  begun_layout false j batch new has is = written_layout (writing_of j (values batch.commands.items)) new has.1 is
+      → renewed j.standing.layout ≡ layout → is_renewed j.standing.layout ≡ true → KeepsLayout new
+  begun_layout true j batch new has is newest = checkpointed_layout (checkpoint_of j) batch new has.1 is
+  begun_layout false j batch new has is newest = written_layout (writing_of j (values batch.commands.items)) new has.1 is newest
 
-  advanced_layout : (c : CheckpointingView D) (new : FlushStage D) → HasAdvanced c new → c.standing.layout ≡ layout → HasLayout layout new
-  advanced_layout c (Resting j) (inl has) is = has.layout ∙ is
-  advanced_layout c (Resting j) (inr (more, moved, has)) is =
-      ap (λ (k : JournalView D). k.standing.layout) has ∙ ap (λ (s : Standing). s.layout) moved.standing ∙ is
-  advanced_layout c (Opening d) has is = ap (λ (s : Standing). s.layout) has.standing ∙ is
+  advanced_layout : (c : CheckpointingView D) (new : FlushStage D) → HasAdvanced c new → renewed c.standing.layout ≡ layout
+      → KeepsLayout new
+  advanced_layout c (Resting j) (inl has) is = ((done_layout c.standing.layout j.standing.layout layout has.layout is).0, tt)
+  advanced_layout c (Resting j) (inr (more, moved, may, has)) is =
+      (ap (λ (k : JournalView D). renewed k.standing.layout) has ∙ ap (λ (s : Standing). renewed s.layout) moved.standing ∙ is, tt)
+  advanced_layout c (Opening d) has is = (ap (λ (s : Standing). renewed s.layout) has.standing ∙ is, tt)
   advanced_layout c (Given j b) has is = absurd has
   advanced_layout c (Checkpointing d b) has is = absurd has
   advanced_layout c (Writing w) has is = absurd has
   advanced_layout c (Publishing j written) has is = absurd has
   advanced_layout c (Failed d f) has is = absurd has
 
-  made_layout : (old new : FlushStage D) → HasMade old new → HasLayout layout old → HasLayout layout new
-  made_layout (Given j batch) new has is = begun_layout (wants_checkpoint j.standing (values batch.commands.items)) j batch new has is
-  made_layout (Checkpointing c batch) new has is = checkpointed_layout c batch new has is
-  made_layout (Writing w) new has is = written_layout w new has is
-  made_layout (Resting j) new has is = advanced_layout (checkpoint_of j) new has.1 is
-  made_layout (Opening c) new has is = advanced_layout c new has is
-  made_layout (Publishing j written) new has is = absurd has
-  made_layout (Failed d f) new has is = absurd has
+  made_layout : (old new : FlushStage D) → HasMade old new → HasLayout layout old → IsNewest old None → KeepsLayout new
+  made_layout (Given j batch) new has is newest =
+      begun_layout (wants_checkpoint j.standing (values batch.commands.items)) j batch new has is newest
+  made_layout (Checkpointing c batch) new has is newest = checkpointed_layout c batch new has is
+  made_layout (Writing w) new has is newest = written_layout w new has is newest
+  made_layout (Resting j) new has is newest = advanced_layout (checkpoint_of j) new has.1 is
+  made_layout (Opening c) new has is newest = advanced_layout c new has is
+  made_layout (Publishing j written) new has is newest = absurd has
+  made_layout (Failed d f) new has is newest = absurd has
 
-  failed_layout : (new : FlushStage D) (why : DiskFault) → failure_of new ≡ Some why → HasLayout layout new × HasFewCalls new
-  failed_layout (Failed d f) why is = (tt, tt)
+  failed_layout : (new : FlushStage D) (why : DiskFault) → failure_of new ≡ Some why → KeepsLayout new × HasFewCalls new
+  failed_layout (Failed d f) why is = ((tt, tt), tt)
   failed_layout (Resting j) why is = search rules
   failed_layout (Opening c) why is = search rules
   failed_layout (Given j b) why is = search rules
@@ -240,14 +284,16 @@ module _ {D : Type 0} (layout : Layout) where
     called_served old new [] is was =
         subst (λ (c : CoreView). IsServed layout c new.flusher.stage None) (sym is.0) (record {
           batch = made_flight old.core old.flusher.stage new.flusher.stage is.1.0 was.batch;
-          layout_is = made_layout old.flusher.stage new.flusher.stage is.1.0 was.layout_is;
+          layout_is = (made_layout old.flusher.stage new.flusher.stage is.1.0 was.layout_is was.newest).0;
+          newest = (made_layout old.flusher.stage new.flusher.stage is.1.0 was.layout_is was.newest).1;
           few_calls = is.2;
           few_wait = was.few_wait;
         })
     called_served old new (e ∷ told) is was =
         subst (λ (c : CoreView). IsServed layout c new.flusher.stage None) (sym is.2) (record {
           batch = failed_flight old.core new.flusher.stage is.0 is.3.0;
-          layout_is = (failed_layout new.flusher.stage is.0 is.3.0).0;
+          layout_is = (failed_layout new.flusher.stage is.0 is.3.0).0.0;
+          newest = (failed_layout new.flusher.stage is.0 is.3.0).0.1;
           few_calls = (failed_layout new.flusher.stage is.0 is.3.0).1;
           few_wait = was.few_wait;
         })
@@ -260,6 +306,7 @@ module _ {D : Type 0} (layout : Layout) where
         subst (λ (f : FlusherView D). IsServed layout core f.stage (Some committed)) (sym has.0) (record {
           batch = (subst (λ (cs : List CommandValue). IsInFlight core cs) (sym has.2) was.batch, tt);
           layout_is = was.layout_is;
+          newest = was.newest;
           few_calls = tt;
           few_wait = was.few_wait;
         })
@@ -279,14 +326,14 @@ module _ {D : Type 0} (layout : Layout) where
         (subst (λ (c : Option CommittedView). IsServed layout old.core old.flusher.stage c) none was)))
 
     serves_served : (need : Need) (old new : CoreOnDiskView D) (told : List Event) (turned : Turned) → old.committed ≡ None
-        → Serves disk need old new told turned → Served layout old → Served layout new
-    serves_served need.Batch old new told turned none is was = takes_served old new told turned none is was
-    serves_served need.Disk old new told Made none is was = none_served old new none is.1 (called_served old new told is.2) was
-    serves_served need.Disk old new told Idle none is was = absurd is
-    serves_served need.BatchOrDisk old new told turned none is was = absurd is
-    serves_served need.Disk old new told Waited none is was = same_served old new is.1 was
-    serves_served need.Publish old new told turned none is was = publishes_served old new told none is.1 was
-    serves_served need.Stopped old new told turned none is was = same_served old new is.1 was
+        → met_by old ≡ need → Serves disk need old new told turned → Served layout old → Served layout new
+    serves_served need.Batch old new told turned none met is was = takes_served old new told turned none met is was
+    serves_served need.Disk old new told Made none met is was = none_served old new none is.1 (called_served old new told is.2) was
+    serves_served need.Disk old new told Idle none met is was = absurd is
+    serves_served need.BatchOrDisk old new told turned none met is was = absurd is
+    serves_served need.Disk old new told Waited none met is was = same_served old new is.1 was
+    serves_served need.Publish old new told turned none met is was = publishes_served old new told none is.1 was
+    serves_served need.Stopped old new told turned none met is was = same_served old new is.1 was
 
     turn_served : (committed : Option CommittedView) (old new : CoreOnDiskView D) (told : List Event) (turned : Turned) → old.committed
         ≡ committed
@@ -294,7 +341,7 @@ module _ {D : Type 0} (layout : Layout) where
     turn_served (Some committed) old new told turned there is was =
         acknowledged_served old new committed told is.1
         (subst (λ (c : Option CommittedView). IsServed layout old.core old.flusher.stage c) there was)
-    turn_served None old new told turned there is was = serves_served (met_by old) old new told turned there is was
+    turn_served None old new told turned there is was = serves_served (met_by old) old new told turned there refl is was
 
     -- a step of a port
     port_served : {L : Type 0} (number : L → ℕ) (steps : L → LinkCall → LinkAnswer → L → Type 0) (there : Bool) (port : ℕ)

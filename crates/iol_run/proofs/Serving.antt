@@ -9,12 +9,13 @@ use Rattle.iol_core.specs.Submit.{has_failed}
 use Rattle.iol_core.specs.declared.stop.StopCause.TheVariants as cause
 use Rattle.iol_flush.proofs.Turns.{goes_on}
 use Rattle.iol_flush.specs.Flushing.{IsFlushing, KeepsRun}
-use Rattle.iol_flush.specs.Stages.{FlusherView, wants_checkpoint, failure_of}
+use Rattle.iol_flush.specs.Stages.{FlusherView, failure_of}
 use Rattle.iol_flush.specs.Steps.{HasAdvanced, HasMadeOfBatch, HasMadeOfCheckpoint, HasBegun, HasMade, IsDiskStep}
 use Rattle.iol_flush.specs.declared.fault.FlushFault.TheVariants as fault
 use Rattle.iol_flush.specs.declared.stage.FlushStage.{FlushStage}
 use Rattle.iol_flush.specs.declared.stage.FlushStage.TheVariants.{Resting, Opening, Given, Checkpointing, Writing, Publishing, Failed}
 use Rattle.iol_front.specs.Fronts.{Start}
+use Rattle.iol_journal.specs.Begin.{wants_checkpoint}
 use Rattle.iol_journal.specs.CheckpointViews.{CheckpointingView, checkpoint_of}
 use Rattle.iol_journal.specs.Journals.{JournalView, WritingView, writing_of}
 use Rattle.iol_journal.specs.Body.{values}

@@ -4,7 +4,7 @@ use Rattle.iol_disk.specs.Content.{clock, reads}
 use Rattle.iol_disk.specs.Disk.{Disk}
 use Rattle.iol_flush.specs.Stages.{disk_of}
 use Rattle.iol_journal.specs.Journals.{JournalView}
-use Rattle.iol_journal.specs.Layout.{total}
+use Rattle.iol_journal.specs.Layout.{renewed, total}
 use Rattle.iol_link.specs.Link.{LinkCall, LinkAnswer}
 use Rattle.iol_trace.specs.Events.{Stamp}
 use Rattle.iol_trace.specs.Words.{durable}
@@ -70,9 +70,10 @@ module _ {D L : Type 0} (disk : D → Disk) (number : L → ℕ) (steps : L → 
         (sym from.told)
         (clocks_rise disk number steps made from.waits journal links from.old from.new from.fresh run honest)));
     flushed =
-        subst (λ (ss : List Stamp). AllFlushed (queue_turns journal.standing.layout) made journal.standing.number trace.waits ss)
+        subst (λ (ss : List Stamp). AllFlushed (queue_turns (renewed journal.standing.layout)) made journal.standing.number trace.waits ss)
         (sym from.told)
-        (all_flushed disk number steps journal.standing.layout journal.standing.number made from.waits trace.waits journal links from.old
+        (all_flushed disk number steps
+        (renewed journal.standing.layout) journal.standing.number made from.waits trace.waits journal links from.old
         from.new from.fresh refl refl run from.count);
   }
     where
@@ -101,9 +102,10 @@ module _ {D L : Type 0} (disk : D → Disk) (number : L → ℕ) (steps : L → 
     failures = failures;
     drained =
         subst (λ (ss : List Stamp). AllDrained tasks trace.ended journal.standing.number ss) (sym runs.1.told)
-        (all_drained disk number steps journal.standing.layout journal.standing.number tasks trace.ended runs.0 runs.1.waits journal links
+        (all_drained disk number steps
+        (renewed journal.standing.layout) journal.standing.number tasks trace.ended runs.0 runs.1.waits journal links
         runs.1.old runs.1.new runs.1.fresh refl refl runs.1.run);
-    flushed = λ honest. more_flushed (queue_turns journal.standing.layout) (128 * total journal.standing.layout) runs.0
+    flushed = λ honest. more_flushed (queue_turns (renewed journal.standing.layout)) (128 * total journal.standing.layout) runs.0
         journal.standing.number trace.waits (told_in trace)
         (turns_within (disk given).sectors (reads (disk given).content) journal.standing (recovered.found honest)) runs.2.flushed;
   }

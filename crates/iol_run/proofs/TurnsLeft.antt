@@ -4,15 +4,17 @@ use Rattle.std.proofs.Common.{false, if◌then◌else◌, List, length, length-a
 use Rattle.std.proofs.Math.Nat.{mul-le-mul_left, mul-add, add-mul, le-mul_of_pos_right}
 use Rattle.iol_types.specs.Command.{CommandValue}
 use Rattle.iol_core.specs.Core.{CoreView}
-use Rattle.iol_flush.specs.Stages.{HasFewCalls, most_batch_calls, most_checkpoint_calls, wants_checkpoint}
-use Rattle.iol_flush.specs.Turns.{calls_again, calls_needed, freeing_calls, given_calls, most_freeing_calls}
+use Rattle.iol_flush.specs.Stages.{HasFewCalls, most_batch_calls, most_checkpoint_calls}
+use Rattle.iol_flush.specs.Turns.{calls_again, calls_needed, freeing_calls, given_calls, most_freeing_calls, opening_calls}
 use Rattle.iol_flush.specs.declared.stage.FlushStage.{FlushStage}
 use Rattle.iol_flush.specs.declared.stage.FlushStage.TheVariants.{Resting, Opening, Given, Checkpointing, Writing, Publishing, Failed}
 use Rattle.iol_front.specs.Fronts.{CommittedView}
+use Rattle.iol_journal.specs.Begin.{wants_checkpoint}
 use Rattle.iol_journal.specs.BegunViews.{BegunView}
 use Rattle.iol_journal.specs.CheckpointViews.{CheckpointingView, end_of, stages_left}
 use Rattle.iol_journal.specs.Body.{values}
-use Rattle.iol_journal.specs.Layout.{Layout}
+use Rattle.iol_journal.specs.Journals.{JournalView}
+use Rattle.iol_journal.specs.Layout.{Layout, is_renewed, renewed}
 use Rattle.iol_journal.specs.Sectors.{BODY_SECTORS}
 use Rattle.iol_run.specs.CoreOnDisk.{IsInFlight, HasFlight, IsAtRest}
 use Rattle.iol_run.specs.Flushed.{batch_turns}
@@ -22,22 +24,37 @@ abbrev pub HasBatch : {D : Type 0} → CoreView → FlushStage D → Option Comm
 HasBatch core stage None = HasFlight core stage
 HasBatch core stage (Some committed) = IsInFlight core committed.commands × IsAtRest stage
 
--- the journal has this layout
+-- the journal has this layout, once it is renewed
 abbrev pub HasLayout : {D : Type 0} → Layout → FlushStage D → Type 0
-HasLayout layout (Resting journal) = journal.standing.layout ≡ layout
-HasLayout layout (Opening checkpoint) = checkpoint.standing.layout ≡ layout
-HasLayout layout (Given journal batch) = journal.standing.layout ≡ layout
-HasLayout layout (Checkpointing checkpoint batch) = checkpoint.standing.layout ≡ layout
-HasLayout layout (Writing writing) = writing.standing.layout ≡ layout
-HasLayout layout (Publishing journal written) = journal.standing.layout ≡ layout
+HasLayout layout (Resting journal) = renewed journal.standing.layout ≡ layout
+HasLayout layout (Opening checkpoint) = renewed checkpoint.standing.layout ≡ layout
+HasLayout layout (Given journal batch) = renewed journal.standing.layout ≡ layout
+HasLayout layout (Checkpointing checkpoint batch) = renewed checkpoint.standing.layout ≡ layout
+HasLayout layout (Writing writing) = renewed writing.standing.layout ≡ layout
+HasLayout layout (Publishing journal written) = renewed journal.standing.layout ≡ layout
 HasLayout layout (Failed disk fault) = Unit {0}
 
+-- a batch is taken, written and published in the layout that is written
+abbrev pub IsNewest : {D : Type 0} → FlushStage D → Option CommittedView → Type 0
+IsNewest (Resting journal) None = Unit {0}
+IsNewest (Resting journal) (Some committed) = is_renewed journal.standing.layout ≡ true
+IsNewest (Given journal batch) committed = is_renewed journal.standing.layout ≡ true
+IsNewest (Writing writing) committed = is_renewed writing.standing.layout ≡ true
+IsNewest (Publishing journal written) committed = is_renewed journal.standing.layout ≡ true
+IsNewest (Opening checkpoint) committed = Unit {0}
+IsNewest (Checkpointing checkpoint batch) committed = Unit {0}
+IsNewest (Failed disk fault) committed = Unit {0}
+
+-- turns that count where some commands wait
+abbrev pub if_some : ℕ → ℕ → ℕ
+if_some waits turns = if nat_lt 0 waits then turns else 0
+
 -- the turns of the batch that is with the flusher: its calls, and its acknowledgement. Where it has none but so many commands wait,
--- a checkpoint whose gate is written makes its last call before one is taken
+-- a checkpoint that cannot be paused makes its calls before one is taken
 abbrev pub own_turns : {D : Type 0} → ℕ → FlushStage D → Option CommittedView → ℕ
 own_turns waits stage (Some committed) = 1
-own_turns waits (Resting journal) None = 0
-own_turns waits (Opening checkpoint) None = if nat_lt 0 waits then 1 else 0
+own_turns waits (Resting journal) None = if_some waits (opening_calls (Resting journal))
+own_turns waits (Opening checkpoint) None = if_some waits (opening_calls (Opening checkpoint))
 own_turns waits (Given journal batch) None = calls_needed (Given journal batch) + 1
 own_turns waits (Checkpointing checkpoint batch) None = calls_needed (Checkpointing checkpoint batch) + 1
 own_turns waits (Writing writing) None = calls_needed (Writing writing) + 1
@@ -52,16 +69,19 @@ abbrev pub turns_left : {D : Type 0} → Layout → CoreView → FlushStage D �
 turns_left layout core stage committed = own_turns (length core.queue) stage committed + turns_behind layout core
 
 -- ---- sums of turns, as numbers: the turns of a batch are not unfolded in them
-none_more : (turns all : ℕ) → turns ≤ all → 0 + turns ≤ all + 1
-none_more turns all le = omega (arith, le)
+or_more : (turns all more : ℕ) → turns ≤ all → turns ≤ all + more
+or_more turns all more le = omega (arith, le)
 
--- one more, where a checkpoint still owes its last call
-last_more : (last : Bool) (turns all : ℕ) → turns ≤ all → (if last then 1 else 0) + turns ≤ all + 1
-last_more true turns all le = omega (arith, le)
-last_more false turns all le = omega (arith, le)
+both_within : (own more turns all : ℕ) → own ≤ more → turns ≤ all → own + turns ≤ all + more
+both_within own more turns all few le = omega (arith, few, le)
 
-or_one_more : (turns all : ℕ) → turns ≤ all → turns ≤ all + 1
-or_one_more turns all le = omega (arith, le)
+if_within : (some : Bool) (turns most : ℕ) → turns ≤ most → (if some then turns else 0) ≤ most
+if_within true turns most le = le
+if_within false turns most le = omega arith
+
+but_if_within : (newest : Bool) (turns : ℕ) → (if newest then 0 else turns) ≤ turns
+but_if_within true turns = omega arith
+but_if_within false turns = omega arith
 
 add_within : (turns most more : ℕ) → turns ≤ most → turns + more ≤ most + more
 add_within turns most more le = omega (arith, le)
@@ -84,10 +104,11 @@ freeing_within : (layout : Layout) (begun : Option BegunView) → freeing_calls 
 freeing_within layout None = omega arith
 freeing_within layout (Some b) = omega arith
 
-again_within : {D : Type 0} (c : CheckpointingView D) → calls_again c ≤ most_checkpoint_calls c.standing.layout + 1
+again_within : {D : Type 0} (c : CheckpointingView D) → calls_again c ≤ most_checkpoint_calls (renewed c.standing.layout) + 1
 again_within c = either (nat_lt 0 (end_of c).used)
   where
-    either : (used : Bool) → (if used then most_checkpoint_calls c.standing.layout + 1 else 0) ≤ most_checkpoint_calls c.standing.layout + 1
+    either : (used : Bool) → (if used then most_checkpoint_calls (renewed c.standing.layout) + 1 else 0)
+        ≤ most_checkpoint_calls (renewed c.standing.layout) + 1
     either true = omega arith
     either false = omega arith
 
@@ -130,35 +151,52 @@ module _ (layout : Layout) where
       less : (n m : ℕ) → n - m ≤ n
       less n m = omega arith
 
-  none_with : (core : CoreView) → 0 + turns_behind layout core ≤ batch_turns layout * length core.queue + 1
-  none_with core = none_more (turns_behind layout core) (batch_turns layout * length core.queue) (behind_within core)
+  -- as many turns are left at most as each command that waits needs in a batch of its own, and those of a checkpoint
+  abbrev pub IsWithin : CoreView → ℕ → Type 0
+  IsWithin core own = own + turns_behind layout core ≤ batch_turns layout * length core.queue + (most_checkpoint_calls layout + 1)
+
+  opening_with : (core : CoreView) (own : ℕ) → own ≤ most_checkpoint_calls layout + 1 → IsWithin core own
+  opening_with core own few =
+      both_within own (most_checkpoint_calls layout + 1) (turns_behind layout core) (batch_turns layout * length core.queue) few
+      (behind_within core)
 
   one_with : (core : CoreView) (commands : List CommandValue) (own : ℕ) → IsInFlight core commands
-      → own ≤ batch_turns layout * length commands → own + turns_behind layout core ≤ batch_turns layout * length core.queue + 1
+      → own ≤ batch_turns layout * length commands → IsWithin core own
   one_with core commands own is most =
-      or_one_more (own + turns_behind layout core) (batch_turns layout * length core.queue)
+      or_more (own + turns_behind layout core) (batch_turns layout * length core.queue) (most_checkpoint_calls layout + 1)
       (fewer_behind (batch_turns layout) (length core.queue) core.flight own
       (subst (λ (n : ℕ). own ≤ batch_turns layout * n) (sym is.flight) most) (flies_within core commands is).1)
 
 module _ {D : Type 0} (layout : Layout) where
-  -- as many turns are left at most as each command that waits needs in a batch of its own, and one
+  -- a checkpoint that comes before all batches has few turns
+  renews_within : (waits : ℕ) (j : JournalView D) → renewed j.standing.layout ≡ layout
+      → if_some waits (opening_calls (Resting j)) ≤ most_checkpoint_calls layout + 1
+  renews_within waits j same =
+      if_within (nat_lt 0 waits) (opening_calls (Resting j)) (most_checkpoint_calls layout + 1)
+      (subst (λ (l : Layout). opening_calls (Resting j) ≤ most_checkpoint_calls l + 1) same
+      (but_if_within (is_renewed j.standing.layout) (most_checkpoint_calls (renewed j.standing.layout) + 1)))
+
+  opens_within : (waits : ℕ) (c : CheckpointingView D) → renewed c.standing.layout ≡ layout → HasFewCalls (Opening c)
+      → if_some waits (opening_calls (Opening c)) ≤ most_checkpoint_calls layout + 1
+  opens_within waits c same few =
+      if_within (nat_lt 0 waits) (length (stages_left c)) (most_checkpoint_calls layout + 1)
+      (or_more (length (stages_left c)) (most_checkpoint_calls layout) 1
+      (subst (λ (l : Layout). length (stages_left c) ≤ most_checkpoint_calls l) same few))
+
   pub most_left : (core : CoreView) (stage : FlushStage D) (committed : Option CommittedView) → HasBatch core stage committed
-      → HasLayout layout stage → HasFewCalls stage
-      → turns_left layout core stage committed ≤ batch_turns layout * length core.queue + 1
-  most_left core (Opening c) None batch same few =
-      last_more (nat_lt 0 (length core.queue)) (turns_behind layout core) (batch_turns layout * length core.queue)
-      (behind_within layout core)
+      → HasLayout layout stage → HasFewCalls stage → IsWithin layout core (own_turns (length core.queue) stage committed)
   most_left core stage (Some committed) batch same few =
       one_with layout core committed.commands 1 batch.0
       (few_within 1 (most_freeing_calls layout) (length committed.commands) batch.0.some (omega arith))
-  most_left core (Resting j) None batch same few = none_with layout core
+  most_left core (Opening c) None batch same few = opening_with layout core _ (opens_within (length core.queue) c same few)
+  most_left core (Resting j) None batch same few = opening_with layout core _ (renews_within (length core.queue) j same)
   most_left core (Given j b) None batch same few =
       one_with layout core commands _ batch (given_most (wants_checkpoint j.standing commands))
     where
       commands : List CommandValue
       commands = values b.commands.items
 
-      given_most : (full : Bool) → given_calls j.standing.layout commands j.begun full + 1 ≤ batch_turns layout * length commands
+      given_most : (full : Bool) → given_calls (renewed j.standing.layout) commands j.begun full + 1 ≤ batch_turns layout * length commands
       given_most full =
           subst (λ (l : Layout). given_calls l commands j.begun full + 1 ≤ batch_turns layout * length commands) (sym same)
           (one_less (given_calls layout commands j.begun full + 1) (batch_turns layout * length commands)
@@ -168,7 +206,7 @@ module _ {D : Type 0} (layout : Layout) where
       commands : List CommandValue
       commands = values b.commands.items
 
-      few_most : length (stages_left c) ≤ most_checkpoint_calls c.standing.layout
+      few_most : length (stages_left c) ≤ most_checkpoint_calls (renewed c.standing.layout)
           → most_batch_calls commands + 2 + length (stages_left c) + calls_again c + 1 ≤ batch_turns layout * length commands
       few_most le =
           let both : length (stages_left c) + calls_again c ≤ most_freeing_calls layout =
@@ -182,4 +220,4 @@ module _ {D : Type 0} (layout : Layout) where
   most_left core (Publishing j written) None batch same few =
       one_with layout core written.commands 2 batch
       (few_within 2 (most_freeing_calls layout) (length written.commands) batch.some (omega arith))
-  most_left core (Failed d f) None batch same few = none_with layout core
+  most_left core (Failed d f) None batch same few = opening_with layout core 0 (omega arith)

@@ -1,6 +1,7 @@
 -- What turns enough of the flusher leave, and what a drain does.
 use Rattle.std.specs.Prelude.{◌≡◌, ◌≤◌, ℕ, ◌+◌, ◌*◌, List, [], ◌∷◌, ◌++◌, length, replicate}
 use Rattle.iol_core.specs.declared.core_value.TheConstants.{QUEUE_COMMANDS}
+use Rattle.iol_flush.specs.Stages.{most_checkpoint_calls}
 use Rattle.iol_flush.specs.Turns.{most_freeing_calls}
 use Rattle.iol_journal.specs.Layout.{Layout}
 use Rattle.iol_trace.specs.Events.{Stamp}
@@ -38,7 +39,7 @@ AllDrained tasks ended first events =
 abbrev pub batch_turns : Layout → ℕ
 batch_turns layout = 24 + most_freeing_calls layout
 
--- the most turns that a full queue needs: each command is a batch of its own, and a checkpoint that is under way may still owe its
--- last call (own)
+-- the most turns that a full queue needs: each command is a batch of its own, and a checkpoint that cannot be paused may come before
+-- all, as it writes the layout in place of an older one (own)
 abbrev pub queue_turns : Layout → ℕ
-queue_turns layout = batch_turns layout * QUEUE_COMMANDS + 1
+queue_turns layout = batch_turns layout * QUEUE_COMMANDS + (most_checkpoint_calls layout + 1)

@@ -6,7 +6,7 @@ use Rattle.iol_disk.specs.Disk.{Disk, Shows}
 use Rattle.iol_flush.specs.Stages.{disk_of}
 use Rattle.iol_flush.specs.declared.stage.FlushStage.TheVariants.{Resting}
 use Rattle.iol_journal.specs.Journals.{JournalView}
-use Rattle.iol_journal.specs.Layout.{total}
+use Rattle.iol_journal.specs.Layout.{renewed, total}
 use Rattle.iol_journal.specs.Meaning.{standing_in}
 use Rattle.iol_link.specs.Link.{LinkCall, LinkAnswer}
 use Rattle.iol_trace.specs.Events.{Stamp}
@@ -91,7 +91,7 @@ module _ {D L : Type 0} (disk : D → Disk) (number : L → ℕ) (steps : L → 
     pub acknowledged : AcksRise journal.standing.number (told_in trace)
     pub stopped : NoneOnceFailed (told_in trace)
     pub clocks : IsTrue (disk trace.disk).honest → ClocksRise trace.begun (clock (disk trace.disk).content) (told_in trace)
-    pub flushed : AllFlushed (queue_turns journal.standing.layout) made journal.standing.number trace.waits (told_in trace)
+    pub flushed : AllFlushed (queue_turns (renewed journal.standing.layout)) made journal.standing.number trace.waits (told_in trace)
 
   -- steps were made so, and the trace tells so (own)
   abbrev pub RunsAndTells : JournalView D → List L → List Task → Trace D L → Type 0

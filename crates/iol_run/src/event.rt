@@ -3,8 +3,9 @@
 ghost use Rattle.std.specs.Prelude.{◌≡◌};
 
 use crate::said::Said;
+use crate::told_work::ToldWork;
 use arrayvec::ArrayVec;
-use iol_core::{SubmitFault, Work};
+use iol_core::SubmitFault;
 use iol_isdu::ISDU_OCTETS;
 use iol_link::PAGE_OCTETS;
 use iol_port::PortStatus;
@@ -68,7 +69,7 @@ pub enum Event {
     /// A port was told its work.
     Attended {
         port: PortId,
-        work: Work,
+        work: ToldWork,
     },
     /// The status of a port has changed.
     Status {

@@ -6,7 +6,7 @@
 //!
 //! Modules in reading order:
 //! - `core_on_disk` is a core and the flusher that brings its batches to the disk.
-//! - `said`, `event` and `moment` are what is told and when.
+//! - `said`, `told_work`, `event` and `moment` are what is told and when.
 //! - `port_step` and `ports` are the machines of ports over their links.
 //! - `step` and `task` are what a schedule consists of, `run` and `schedule` what is made of it.
 //!
@@ -25,6 +25,7 @@ mod said;
 mod schedule;
 mod step;
 mod task;
+mod told_work;
 
 pub use core_on_disk::{CoreOnDisk, Turn, Turned};
 pub use event::{Event, Exchanged};
@@ -36,3 +37,4 @@ pub use said::Said;
 pub use schedule::{Ended, RunFault, Trace, run_schedule};
 pub use step::Step;
 pub use task::Task;
+pub use told_work::ToldWork;

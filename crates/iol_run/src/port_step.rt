@@ -16,6 +16,7 @@ ghost use Rattle.iol_run.specs.PortSteps.{store_in, command_said};
 use crate::core_on_disk::CoreOnDisk;
 use crate::event::{Event, Exchanged};
 use crate::said::Said;
+use crate::told_work::ToldWork;
 use arrayvec::ArrayVec;
 use iol_core::UploadGrant;
 use iol_disk::SectorDisk;
@@ -268,7 +269,10 @@ fn reply_event(port: PortId, said: Option<Said>, reply: &Reply) -> Option<Event>
     ensures { told_of result ≡ reply_told port (command_said said) reply.now }
 {
     match reply {
-        Reply::Attended(Some(work)) => Some(Event::Attended { port, work: *work }),
+        Reply::Attended(Some(work)) => Some(Event::Attended {
+            port,
+            work: ToldWork::of(port, work),
+        }),
         Reply::FinishedUpload(Ok(ticket)) => match said {
             Some(said) => Some(Event::Accepted {
                 number: ticket.number(),

@@ -95,7 +95,7 @@ full_script = record {
   fail = Some (record { kind = Write; number = 7 });
   devices = full_device ∷ [];
   steps =
-      Configure 2 (record { mode = IolManual; validation = Restore; vendor = 502; device = 8 }) ∷ Clear 3 ∷ Port 2 6
+      Configure 2 (record { mode = IolManual; validation = Restore; vendor = 502; device = 8; label = codes "A & B" }) ∷ Clear 3 ∷ Port 2 6
       ∷ Flush 9 ∷ Drain ∷ [];
   keep = Zero;
 }
@@ -104,7 +104,7 @@ full_script = record {
 abbrev pub full_text : List ℕ
 full_text =
     codes "ports = 3\nslots = 5\nfail = \"write 7\"\n"
-    ++ codes "step = [{ do = \"configure\", port = 2, mode = 1, validation = 4, vendor = 502, device = 8 },"
+    ++ codes "step = [{ do = \"configure\", port = 2, mode = 1, validation = 4, vendor = 502, device = 8, label = \"A & B\" },"
     ++ codes "{ do = \"clear\", port = 3 }, { do = \"port\", port = 2, times = 6 }, { do = \"flush\", times = 9 },"
     ++ codes "{ do = \"drain\" }, { do = \"stop\", keep = \"zero\" }]\n"
     ++ codes "[[device]]\nport = 2\nvendor = 501\ndevice = 7\nrevision = 16\nisdu = false\nflag = true\nlocked = true\n"
@@ -115,7 +115,7 @@ abbrev pub live_script : SaidLive
 live_script = record {
   devices = full_device ∷ [];
   changes =
-      change.Configure 2 (record { mode = IolManual; validation = Restore; vendor = 502; device = 8 }) ∷ change.Clear 3 ∷ [];
+      change.Configure 2 (record { mode = IolManual; validation = Restore; vendor = 502; device = 8; label = [] }) ∷ change.Clear 3 ∷ [];
 }
 
 -- for worked examples: its text, by lines, with numbers and a failing call that are not read (own)

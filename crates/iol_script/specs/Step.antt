@@ -1,8 +1,9 @@
 -- What the steps of a script say in TOML.
 use Rattle.std.specs.Prelude.{ℕ, ◌^◌, if◌then◌else◌, List, [], ◌∷◌, codes, Option, Some, None, option_and_then, option_map}
 use Rattle.std.specs.Str.{bytes_eq}
-use Rattle.toml.specs.Data.{Data, Members, as_table}
+use Rattle.toml.specs.Data.{Data, Members, as_table, as_str, get_member}
 use Rattle.iol_types.specs.Config.{mode_of, validation_of}
+use Rattle.iol_types.specs.Label.{is_label}
 use Rattle.iol_types.specs.declared.config.PortConfig.{PortConfig}
 use Rattle.iol_types.specs.declared.config.PortMode.{PortMode}
 use Rattle.iol_types.specs.declared.config.Validation.{Validation}
@@ -11,12 +12,24 @@ use Rattle.iol_script.specs.Table.{text_at, has_only_keys}
 use Rattle.iol_script.specs.declared.step.Step.{Step}
 use Rattle.iol_script.specs.declared.step.Step.TheVariants.{Configure, Clear, Port, Flush, Drain}
 
--- the parts of a port's configuration that are no numbers: its mode and its validation (format, Scripts)
+-- the mode and the validation of a port (format, Scripts)
 abbrev pub mode_in : Members → Option PortMode
 mode_in table = option_and_then mode_of (number_below (2 ^ 8) (codes "mode") table)
 
 abbrev pub validation_in : Members → Option Validation
 validation_in table = option_and_then validation_of (number_below (2 ^ 8) (codes "validation") table)
+
+-- octets that are a label (own)
+abbrev pub label_of : List ℕ → Option (List ℕ)
+label_of octets = if is_label octets then Some octets else None
+
+-- the label of a port: the octets of a text, and none where the key is missing (format, Scripts)
+abbrev pub label_or_none : Option Data → Option (List ℕ)
+label_or_none None = Some []
+label_or_none (Some value) = option_and_then label_of (as_str value)
+
+abbrev pub label_in : Members → Option (List ℕ)
+label_in table = label_or_none (get_member (codes "label") table)
 
 -- the configuration of a port that a table says (format, Scripts)
 abbrev pub config_in : Members → Option PortConfig
@@ -24,12 +37,14 @@ config_in table =
     option_and_then (λ mode.
     option_and_then (λ validation.
     option_and_then (λ vendor.
-    option_map (λ device. record { mode = mode; validation = validation; vendor = vendor; device = device })
-    (device_in table)) (vendor_in table)) (validation_in table)) (mode_in table)
+    option_and_then (λ device.
+    option_map (λ label. record { mode = mode; validation = validation; vendor = vendor; device = device; label = label })
+    (label_in table)) (device_in table)) (vendor_in table)) (validation_in table)) (mode_in table)
 
 -- the keys of each kind of step, and the kind itself at the key `do` (format, Scripts)
 abbrev pub configure_keys : List (List ℕ)
-configure_keys = codes "do" ∷ codes "port" ∷ codes "mode" ∷ codes "validation" ∷ codes "vendor" ∷ codes "device" ∷ []
+configure_keys =
+    codes "do" ∷ codes "port" ∷ codes "mode" ∷ codes "validation" ∷ codes "vendor" ∷ codes "device" ∷ codes "label" ∷ []
 
 abbrev pub clear_keys : List (List ℕ)
 clear_keys = codes "do" ∷ codes "port" ∷ []

@@ -1,11 +1,12 @@
 //! One step of a script.
 ghost use Rattle.std.specs.Prelude.{◌≡◌};
 ghost use Rattle.toml.specs.View.{table_view};
-ghost use Rattle.iol_script.specs.Step.{configure_in, clear_in, port_step_in, flush_in, drain_in, config_in, mode_in, validation_in};
+ghost use Rattle.iol_script.specs.Step.{configure_in, clear_in, port_step_in, flush_in, drain_in, config_in, label_in, mode_in};
+ghost use Rattle.iol_script.specs.Step.{validation_in};
 
 use crate::number::{device_in, octet_at, port_in, times_in, vendor_in};
-use crate::table::{has_only_keys, text_at};
-use iol_types::{PortConfig, PortId, PortMode, Validation};
+use crate::table::{has_only_keys, text_at, value_at};
+use iol_types::{Label, PortConfig, PortId, PortMode, Validation};
 use toml::{Table, Value};
 
 /// A step of a script, but for the stop that ends it.
@@ -29,8 +30,8 @@ impl Step {
     ghost use Rattle.iol_script.specs.Step.{step_of};
 
     // The step that a value says: `{ do = "drain" }`, `{ do = "clear", .. }` with its port, `{ do = "configure", .. }`
-    // with its five whole numbers, `{ do = "port", .. }` with its port, or `{ do = "flush" }`, the last two perhaps with
-    // how often they are made.
+    // with its five whole numbers and perhaps a label, `{ do = "port", .. }` with its port, or `{ do = "flush" }`, the
+    // last two perhaps with how often they are made.
     pub(crate) fn read(value: &Value) -> Option<Step>
         ensures { result ≡ step_of (view value.now) }
     {
@@ -49,7 +50,15 @@ impl Step {
 fn configure_in(table: &Table) -> Option<Step>
     ensures { result ≡ configure_in (table_view table.now) }
 {
-    let keys = ["do", "port", "mode", "validation", "vendor", "device"];
+    let keys = [
+        "do",
+        "port",
+        "mode",
+        "validation",
+        "vendor",
+        "device",
+        "label",
+    ];
     if !has_only_keys(table, &keys) {
         return None;
     }
@@ -111,7 +120,18 @@ fn config_in(table: &Table) -> Option<PortConfig>
         validation: validation_in(table)?,
         vendor: vendor_in(table)?,
         device: device_in(table)?,
+        label: label_in(table)?,
     })
+}
+
+// The label of a port, which is empty where the key is missing.
+fn label_in(table: &Table) -> Option<Label>
+    ensures { result ≡ label_in (table_view table.now) }
+{
+    match value_at(table, "label") {
+        Some(value) => Label::new(value.as_str()?.as_bytes()),
+        None => Some(Label::empty()),
+    }
 }
 
 fn mode_in(table: &Table) -> Option<PortMode>

@@ -15,7 +15,7 @@ use iol_journal::{Geometry, format};
 use iol_port::PortStatus;
 use iol_run::{Ended, Event, Stamped, Task, run_schedule};
 use iol_sim::ScriptLink;
-use iol_types::{Change, DeviceId, PortConfig, PortId, PortMode, Validation};
+use iol_types::{Change, DeviceId, Label, PortConfig, PortId, PortMode, Validation};
 use std::alloc::Global;
 use std::process::Abort;
 
@@ -86,6 +86,7 @@ fn assert_run(
             validation: Validation::BackupAndRestore,
             vendor: 0x01F4,
             device: DeviceId::new(0x00ABCD).expect(rt, "a DeviceID"),
+            label: Label::empty(),
         },
     });
     let steps = Task::Port { port, times: 250 };

@@ -1,7 +1,7 @@
 //! A disk, and the configuration of a port.
 
 use iol_disk::MemoryDisk;
-use iol_types::{DeviceId, PortConfig, PortMode, Validation};
+use iol_types::{DeviceId, Label, PortConfig, PortMode, Validation};
 use std::alloc::Global;
 use std::process::Abort;
 
@@ -17,5 +17,6 @@ pub fn config() -> PortConfig {
         validation: Validation::BackupAndRestore,
         vendor: 500,
         device: DeviceId::new(43981).unwrap(),
+        label: Label::empty(),
     }
 }

@@ -16,9 +16,9 @@ pub fn configure<R: Abort>(rt: &R, port: u8) -> Command {
     }
 }
 
-/// A store of two ports and four slots, with so many Configures of port 1.
+/// A store of two ports, whose areas keep four of five slots, with so many Configures of port 1.
 pub fn store_of<R: Abort>(rt: &R, alloc: Global, configures: usize) -> Journal<MemoryDisk> {
-    let geometry = Geometry::new(2, 4).unwrap();
+    let geometry = Geometry::new(2, 5).unwrap();
     let Ok(mut journal) = create(alloc, blank(rt, alloc, geometry.sectors()), geometry) else {
         panic!(rt; "a disk is formatted and recovered")
     };
@@ -96,10 +96,11 @@ fn is_misfit<R: Abort>(
 #[test]
 fn a_command_that_does_not_fit_is_refused(rt: HostRuntime) {
     assert!(rt; is_misfit(&rt, rt.alloc(), store_of(&rt, rt.alloc(), 4), 3, 4));
-    // The header of area A: epoch 1, and as base the last number, 2^62.
+    // The header of area A: epoch 1, as base the last number, 2^62, and version 2.
     let mut header = [0; SECTOR_OCTETS];
     header[7] = 1;
     header[8] = 0x40;
+    header[16] = 2;
     let mut disk = store_of(&rt, rt.alloc(), 0).disk();
     assert!(rt; 3 < disk.sectors() && disk.write(3, &header).is_ok());
     let Ok((journal, _)) = open(rt.alloc(), disk) else {

@@ -5,7 +5,7 @@
 //! - `random_devices`: ports whose devices answer random octets, over `random_link`; `random_told` judges what is told of them.
 //! - `isdu`: the codec beside a plain reader of ISDUs. `link`: a link of which nothing is said.
 //! - `plain`: a recovery beside `plain_reading`, which is written from docs/FORMATS.md alone. `example_store`: the store of `iol_example`.
-//! - `paused`: a checkpoint that is paused while batches are written.
+//! - `paused`: a checkpoint that is paused while batches are written. `older_layout`: the one that renews a disk of an earlier release.
 //! - `largest`: the largest record of a command, and batches that do not follow behind others.
 //! - `front`, `core_reads`, `flush`: passes of two threads, a view of a port with a set, batches that do not fit.
 //! - `cut_file`: a file of which a read has failed. `no_link`: a run of a port without a link. `texts`: the texts of faults.
@@ -37,6 +37,8 @@ mod largest;
 mod link;
 #[cfg(test)]
 mod no_link;
+#[cfg(test)]
+mod older_layout;
 #[cfg(test)]
 mod paused;
 #[cfg(test)]

@@ -1,4 +1,4 @@
-//! A checkpoint of two ports and four slots that is paused while batches are written, with a stop behind each disk call.
+//! A checkpoint of two ports and four slots an area that is paused while batches are written, with a stop behind each disk call.
 
 use crate::example_store::{configure, found, store_of};
 use iol_disk::{MemoryDisk, Pick};
@@ -23,8 +23,8 @@ fn checkpoint<R: Abort>(rt: &R, journal: Journal<MemoryDisk>) -> Checkpointing<M
     }
 }
 
-// The checkpoint behind so many disk calls, none of which is its last one.
-fn stepped<R: Abort>(
+/// The checkpoint behind so many disk calls, none of which is its last one.
+pub fn stepped<R: Abort>(
     rt: &R,
     mut checkpointing: Checkpointing<MemoryDisk>,
     calls: usize,
@@ -38,8 +38,8 @@ fn stepped<R: Abort>(
     checkpointing
 }
 
-// The journal behind the last of so many disk calls.
-fn done<R: Abort>(
+/// The journal behind the last of so many disk calls.
+pub fn done<R: Abort>(
     rt: &R,
     checkpointing: Checkpointing<MemoryDisk>,
     calls: usize,

@@ -11,12 +11,25 @@ use std::alloc::Global;
 
 const OPEN: [u8; 8] = [0xA5, 0x5A, 0xA5, 0x5A, 0xA5, 0x5A, 0xA5, 0x5A];
 
-// An area that is open: where it begins, and its header.
+// An area that is open: where it begins, and its header, with the octet that names its version.
 #[derive(Clone, Copy)]
 struct Open {
     begin: usize,
     epoch: u64,
     base: u64,
+    name: u64,
+}
+
+// The area in use, with its version, the sectors of a port's record and the slots that it has there.
+#[derive(Clone, Copy)]
+struct Used {
+    begin: usize,
+    epoch: u64,
+    base: u64,
+    version: Version,
+    port_sectors: usize,
+    slots: usize,
+    ghost wide: { port_sectors ≤ 17 },
 }
 
 // An image, with the ports and slots that its first sector says.
@@ -71,7 +84,7 @@ fn gathered(
 }
 
 impl<'a> Plain<'a> {
-    // The sectors of an area: its gate, its header, nine for each port, and seventeen for each slot.
+    // The sectors of an area in both versions: its gate, its header, nine for each port, and seventeen for each slot.
     fn area(self) -> usize
         ensures { result < 2 ^ 21 }
     {
@@ -98,11 +111,20 @@ impl<'a> Plain<'a> {
             ports,
             slots,
         };
-        if (1..=256).contains(&slots) && 2 + 2 * plain.area() <= image.len() {
-            Ok(plain)
-        } else {
-            Err(damaged(0))
+        if !(1..=256).contains(&slots) || image.len() < 2 + 2 * plain.area() {
+            return Err(damaged(0));
         }
+        if slots <= plain.given_up() {
+            return Err(RecoverCause::TooSmall);
+        }
+        Ok(plain)
+    }
+
+    // The slots that an area gives up in version 2, for 8 sectors more of each port.
+    fn given_up(self) -> u16
+        ensures { result ≤ 16 }
+    {
+        (8 * u16::from(self.ports) + 16) / 17
     }
 
     fn open(self, begin: usize) -> Option<Open> {
@@ -114,11 +136,12 @@ impl<'a> Plain<'a> {
             begin,
             epoch: number_at(header, 0, 8),
             base: number_at(header, 8, 8),
+            name: number_at(header, 16, 1),
         })
     }
 
     // The open area with the greatest epoch.
-    fn in_use(self) -> Result<Open, RecoverCause> {
+    fn in_use(self) -> Result<Used, RecoverCause> {
         let b = 2 + self.area();
         let used = match (self.open(2), self.open(b)) {
             (None, None) => return Err(damaged(2)),
@@ -127,20 +150,33 @@ impl<'a> Plain<'a> {
             (_, Some(y)) => y,
             (Some(x), None) => x,
         };
-        if used.epoch == 0 || used.base > 1 << 62 || used.epoch - 1 > used.base {
+        let is_first = used.name == 0;
+        let ahead = if is_first { 1 } else { 2 };
+        let is_named = is_first || used.name == 2;
+        if !is_named || used.epoch == 0 || used.base > 1 << 62 || used.epoch > used.base + ahead {
             return Err(damaged(used.begin.saturating_add(1)));
         }
-        Ok(used)
+        let given_up = if is_first { 0 } else { self.given_up() };
+        Ok(Used {
+            begin: used.begin,
+            epoch: used.epoch,
+            base: used.base,
+            version: if is_first { Version::One } else { Version::Two },
+            port_sectors: if is_first { 9 } else { 17 },
+            slots: usize::from(self.slots.saturating_sub(given_up)),
+        })
     }
 
-    fn state(self, alloc: Global, used: Open) -> Result<MasterState, RecoverCause> {
+    fn state(self, alloc: Global, used: Used) -> Result<MasterState, RecoverCause> {
         let mut state = MasterState::new(alloc, self.ports)?;
         for place in 0..self.ports {
-            let first = used.begin.saturating_add(2 + 9 * usize::from(place));
-            let octets = gathered(alloc, self.image, first, 9, false)?;
+            let first = used
+                .begin
+                .saturating_add(2 + used.port_sectors * usize::from(place));
+            let octets = gathered(alloc, self.image, first, used.port_sectors, false)?;
             let (Some(port), Ok((read, _))) = (
                 PortId::new(place.saturating_add(1)),
-                decode_port(alloc, Version::newest(), &octets),
+                decode_port(alloc, used.version, &octets),
             ) else {
                 return Err(damaged(first));
             };
@@ -155,32 +191,32 @@ impl<'a> Plain<'a> {
     fn replayed(
         self,
         alloc: Global,
-        used: Open,
+        used: Used,
         state: &mut MasterState,
     ) -> Result<u64, RecoverCause> {
         let mut number = used.base;
         let mut slot = 0;
-        for _ in 0..self.slots {
+        for _ in 0..used.slots {
             let gate = self.gate(used, slot);
-            if usize::from(self.slots) <= slot || !is_open(self.image, gate) {
+            if used.slots <= slot || !is_open(self.image, gate) {
                 break;
             }
             let body = gate.saturating_add(1);
             let octets = number_at(sector(self.image, body), 18, 4) as usize;
             let span = octets.saturating_add(22).div_ceil(8192);
-            if usize::from(self.slots) - slot < span {
+            if used.slots - slot < span {
                 return Err(damaged(body));
             }
             let octets = gathered(alloc, self.image, body, 16 * span, true)?;
-            number = batch(alloc, &octets, used.epoch, number, state).ok_or(damaged(body))?;
+            number = batch(alloc, &octets, used, number, state).ok_or(damaged(body))?;
             slot += span;
         }
         Ok(number)
     }
 
     // The gate of a slot of an area.
-    fn gate(self, used: Open, slot: usize) -> usize {
-        let ports = 2 + 9 * usize::from(self.ports);
+    fn gate(self, used: Used, slot: usize) -> usize {
+        let ports = 2 + used.port_sectors * usize::from(self.ports);
         used.begin
             .saturating_add(ports)
             .saturating_add(slot.saturating_mul(17))
@@ -191,21 +227,21 @@ impl<'a> Plain<'a> {
 fn batch(
     alloc: Global,
     body: &[u8],
-    epoch: u64,
+    used: Used,
     number: u64,
     state: &mut MasterState,
 ) -> Option<u64> {
     let first = number_at(body, 8, 8);
     let count = number_at(body, 16, 2);
     let last = number.checked_add(count)?;
-    let is_fit = number_at(body, 0, 8) == epoch
+    let is_fit = number_at(body, 0, 8) == used.epoch
         && number.checked_add(1) == Some(first)
         && (1..=64).contains(&count)
         && last <= 1 << 62;
     let end = (number_at(body, 18, 4) as usize).checked_add(22)?;
     let mut rest = body.get(22..end)?;
     for _ in 0..count {
-        let (command, read) = decode_command(alloc, Version::newest(), rest).ok()?;
+        let (command, read) = decode_command(alloc, used.version, rest).ok()?;
         state.check(&command).ok()?;
         state.apply(command);
         rest = rest.get(read..)?;

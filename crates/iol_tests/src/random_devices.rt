@@ -23,7 +23,7 @@ const STEPS: u16 = 25;
 
 const ALL_STEPS: u32 = 10_000;
 
-const SLOTS: u16 = 8;
+const SLOTS: u16 = 24;
 
 // How many sets are stored at least.
 const SETS: usize = 1000;

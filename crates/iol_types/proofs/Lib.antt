@@ -2,6 +2,7 @@ pub mod Deciding
 pub mod Entries
 pub mod ExampleSet
 pub mod Kept
+pub mod Labels
 pub mod PartLemmas
 pub mod PortLemmas
 pub mod Places

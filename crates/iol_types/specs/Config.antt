@@ -1,6 +1,7 @@
 -- Port configurations: their octets and ranges, and when a parameter set outlives a change of configuration.
-use Rattle.std.specs.Prelude.{ℕ, ◌<◌, ◌^◌, ◌==◌, ◌&&◌, Bool, true, false, [], ◌∷◌, Option, find}
+use Rattle.std.specs.Prelude.{◌≡◌, ℕ, ◌<◌, ◌^◌, ◌==◌, ◌&&◌, Bool, true, false, [], ◌∷◌, Option, find}
 use Rattle.iol_types.specs.Numbers.{IsDeviceNumber}
+use Rattle.iol_types.specs.Label.{is_label}
 use Rattle.iol_types.specs.declared.config.PortConfig.{PortConfig}
 use Rattle.iol_types.specs.declared.config.PortMode.{PortMode}
 use Rattle.iol_types.specs.declared.config.PortMode.TheVariants.{Deactivated, IolManual, IolAutostart, DigitalInput, DigitalOutput}
@@ -34,10 +35,11 @@ validation_of octet =
     find (λ validation. validation_octet validation == octet) (NoCheck ∷ TypeCompatibleV10 ∷ TypeCompatibleV11 ∷ BackupAndRestore ∷ Restore
     ∷ [])
 
--- the numbers of a configuration are in their ranges (standard, port configuration)
+-- the numbers of a configuration are in their ranges, and its label is one (standard, port configuration; format, Records)
 pub record IsConfig (config : PortConfig) : Type 0 where
   pub vendor : config.vendor < 2 ^ 16
   pub device : IsDeviceNumber config.device
+  pub label : is_label config.label ≡ true
 
 -- a device's parameters are kept in the mode IOL_MANUAL alone (standard, port configuration)
 abbrev pub is_manual : PortMode → Bool
@@ -66,7 +68,7 @@ abbrev pub may_keep_set : PortConfig → Bool
 may_keep_set config = is_manual config.mode && restores config.validation
 
 -- a port keeps its parameter set under a new configuration: the old one and the new one may have
--- a set, with equal vendor and device (own)
+-- a set, with equal vendor and device, whatever the labels (own)
 abbrev pub keeps_set : PortConfig → PortConfig → Bool
 keeps_set old new =
     may_keep_set old && may_keep_set new && (old.vendor == new.vendor) && (old.device == new.device)

@@ -13,6 +13,7 @@ example_config = record {
   validation = BackupAndRestore;
   vendor = 500;
   device = 43981;
+  label = [];
 }
 
 -- for worked examples: the parameters 0040.00 with the octets 0A 64 and 0041.01 with 7F, of the device of that

@@ -1,4 +1,5 @@
 pub mod Numbers
+pub mod Label
 pub mod Config
 pub mod Key
 pub mod DataSet

@@ -78,6 +78,9 @@ same_set-laws = decided same_set same_set-Decides
 
 -- ---- configurations
 
+pub same_label-laws : IsEquivalence bytes_eq
+same_label-laws = decided bytes_eq bytes_eq-Decides
+
 mode_back : (mode : PortMode) → mode_of (mode_octet mode) ≡ Some mode
 mode_back Deactivated = refl
 mode_back IolManual = refl
@@ -102,7 +105,7 @@ same_validation one two is = ap (λ found. unwrap_or found one) (sym (validation
 abbrev pub same_config : PortConfig → PortConfig → Bool
 same_config one two =
     (mode_octet one.mode == mode_octet two.mode) && ((validation_octet one.validation == validation_octet two.validation)
-    && ((one.vendor == two.vendor) && (one.device == two.device)))
+    && ((one.vendor == two.vendor) && ((one.device == two.device) && bytes_eq one.label two.label)))
 
 pub same_config-Decides : (one two : PortConfig) → Decides (same_config one two) (one ≡ two)
 same_config-Decides one two = (
@@ -112,13 +115,16 @@ same_config-Decides one two = (
       let vendor = and_parts _ _ validation.1 in
       let m : one.mode ≡ two.mode = same_mode one.mode two.mode (eqb-true _ _ mode.0) in
       let l : one.validation ≡ two.validation = same_validation one.validation two.validation (eqb-true _ _ validation.0) in
+      let device = and_parts _ _ vendor.1 in
       let v : one.vendor ≡ two.vendor = eqb-true _ _ vendor.0 in
-      let d : one.device ≡ two.device = eqb-true _ _ vendor.1 in
-      λ i. record { mode = m i; validation = l i; vendor = v i; device = d i },
+      let d : one.device ≡ two.device = eqb-true _ _ device.0 in
+      let label : one.label ≡ two.label = (bytes_eq-Decides one.label two.label).0 device.1 in
+      λ i. record { mode = m i; validation = l i; vendor = v i; device = d i; label = label i },
   λ is. and_from _ _ (eq-eqb _ _ (ap (λ (config : PortConfig). mode_octet config.mode) is))
       (and_from _ _ (eq-eqb _ _ (ap (λ (config : PortConfig). validation_octet config.validation) is))
       (and_from _ _ (eq-eqb _ _ (ap (λ (config : PortConfig). config.vendor) is))
-      (eq-eqb _ _ (ap (λ (config : PortConfig). config.device) is)))),
+      (and_from _ _ (eq-eqb _ _ (ap (λ (config : PortConfig). config.device) is))
+      ((bytes_eq-Decides one.label two.label).1 (ap (λ (config : PortConfig). config.label) is))))),
 )
 
 -- ---- commands

@@ -35,6 +35,7 @@ pub record IsPort (port : Port) : Type 0 where
   pub config : IsConfig port.config
   pub revision : port.revision ≤ LAST_REVISION
   pub set : IfSome port.stored (λ stored. IsSet stored.set)
+  pub recorded : IfSome port.stored (λ stored. IsConfig stored.recorded)
   pub stored : IfSome port.stored (λ stored. may_have port.config stored ≡ true)
 
 -- the ports of a master in order, port 1 first (own)
@@ -44,7 +45,7 @@ State = List Port
 -- a port that was never configured (own)
 abbrev pub blank : Port
 blank = record {
-  config = record { mode = Deactivated; validation = NoCheck; vendor = 0; device = 0 };
+  config = record { mode = Deactivated; validation = NoCheck; vendor = 0; device = 0; label = [] };
   revision = 0;
   stored = None;
 }

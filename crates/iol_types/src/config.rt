@@ -3,6 +3,7 @@ ghost use Rattle.std.specs.Prelude.{◌≡◌};
 ghost use Rattle.iol_types.specs.Config.{mode_octet, mode_of, validation_octet, validation_of, keeps_set, may_keep_set, may_store_set};
 
 use crate::device_id::DeviceId;
+use crate::label::Label;
 
 /// What a port is used for (IO-Link V1.1, port configuration, PortMode).
 #[derive(Clone, Copy, Debug, PartialEq, Eq)]
@@ -93,13 +94,14 @@ impl Validation {
     }
 }
 
-/// The configuration of a port, with the VendorID and the DeviceID of the device that it wants.
+/// The configuration of a port, with the VendorID and the DeviceID of the device that it wants, and what the port is called.
 #[derive(Clone, Copy, Debug, PartialEq, Eq)]
 pub struct PortConfig {
     pub mode: PortMode,
     pub validation: Validation,
     pub vendor: u16,
     pub device: DeviceId,
+    pub label: Label,
 }
 
 impl PortConfig {
@@ -125,7 +127,7 @@ impl PortConfig {
 
 /// Whether a port's parameter set stays where the configuration `old` gives way to `new`: both are
 /// IOL_MANUAL with validation 3 or 4, and they name the same vendor and device (IO-Link V1.1, Data
-/// Storage, change of the port configuration).
+/// Storage, change of the port configuration). The labels say nothing of it.
 pub fn keeps_set(old: &PortConfig, new: &PortConfig) -> bool
     ensures { result ≡ keeps_set old.now new.now }
 {

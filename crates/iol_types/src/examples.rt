@@ -1,10 +1,11 @@
 //! Facts with values of the standard and of the crate's formats, worked out by the check: a number
 //! that is wrong in a definition and in the code alike is refused here.
 
-ghost use Rattle.std.specs.Prelude.{◌≡◌, ℕ, [], ◌∷◌, ◌++◌, length, map, replicate, true, false};
+ghost use Rattle.std.specs.Prelude.{◌≡◌, ℕ, [], ◌∷◌, ◌++◌, length, map, replicate, codes, true, false};
 ghost use Rattle.iol_types.specs.Numbers.{IsPortNumber, IsDeviceNumber};
 ghost use Rattle.iol_types.specs.Config.{mode_octet, mode_of, validation_octet, validation_of, IsConfig};
 ghost use Rattle.iol_types.specs.Config.{may_store_set, may_keep_set, keeps_set};
+ghost use Rattle.iol_types.specs.Label.{is_label_octet, is_label};
 ghost use Rattle.iol_types.specs.Command.{Configure, Clear, Store, IsCommand, command_of, set_in};
 ghost use Rattle.iol_types.specs.DataSet.{IsEntry, AreEntries, IsSet, octets_of, data_at, add_fault};
 ghost use Rattle.iol_types.specs.Parts.{parts_of};
@@ -73,12 +74,23 @@ pub fn last_revisions()
 
 /// A VendorID has two octets, an Index two, and a Subindex one.
 pub fn ranges()
-    ensures config { IsConfig (record example_config { vendor = 65535; device = 16777215 }) }
+    ensures config { IsConfig (record example_config { vendor = 65535; device = 16777215; label = replicate 32 126 }) }
     ensures vendor { ¬ IsConfig (record example_config { vendor = 65536 }) }
     ensures device { ¬ IsConfig (record example_config { device = 16777216 }) }
+    ensures label { ¬ IsConfig (record example_config { label = replicate 33 126 }) }
     ensures key { IsKey (record { index = 65535; subindex = 255 }) }
     ensures index { ¬ IsKey (record { index = 65536; subindex = 0 }) }
     ensures subindex { ¬ IsKey (record { index = 64; subindex = 256 }) }
+{}
+
+/// A label has 0 to 32 octets, each from 20 to 7E but 22.
+pub fn what_is_a_label()
+    ensures labels { map is_label ([] ∷ codes "P" ∷ codes "Pump 3" ∷ codes "\\ & < ~" ∷ replicate 32 32 ∷ [])
+        ≡ true ∷ true ∷ true ∷ true ∷ true ∷ [] }
+    ensures too_long { is_label (replicate 33 32) ≡ false }
+    ensures octets { map is_label_octet (0x1F ∷ 0x20 ∷ 0x21 ∷ 0x22 ∷ 0x23 ∷ 0x7E ∷ 0x7F ∷ 0xFF ∷ [])
+        ≡ false ∷ true ∷ true ∷ false ∷ true ∷ true ∷ false ∷ false ∷ [] }
+    ensures last { is_label (codes "Pump \"") ≡ false }
 {}
 
 /// Of the five modes IOL_MANUAL alone may store a set and may have one; of the five validations Backup
@@ -110,6 +122,7 @@ pub fn sets_kept()
     ensures another_vendor { keeps_set example_config (record example_config { vendor = 501 }) ≡ false }
     ensures another_device { keeps_set example_config (record example_config { device = 43982 }) ≡ false }
     ensures another_mode { keeps_set example_config (record example_config { mode = PortMode.IolAutostart }) ≡ false }
+    ensures another_label { keeps_set example_config (record example_config { label = codes "Pump 3" }) ≡ true }
 {}
 
 /// A set does not stay where the configuration before it might not have one.
@@ -134,7 +147,7 @@ pub fn rights_to_what_is_stored()
 /// A master begins with ports that are DEACTIVATED, and its ports are counted from 1.
 pub fn new_ports()
     ensures empty { empty_state 2 ≡ replicate 2
-        (port_of (record { mode = PortMode.Deactivated; validation = Validation.NoCheck; vendor = 0; device = 0 }) 0) }
+        (port_of (record { mode = PortMode.Deactivated; validation = Validation.NoCheck; vendor = 0; device = 0; label = [] }) 0) }
     ensures first { port_numbered (example_port ∷ port_of example_config 2 ∷ []) 1 ≡ Some example_port }
     ensures second { port_numbered (example_port ∷ port_of example_config 2 ∷ []) 2 ≡ Some (port_of example_config 2) }
     ensures none_before { port_numbered (example_port ∷ []) 0 ≡ None }

@@ -1,13 +1,13 @@
 //! What an IO-Link master keeps for its ports, and the commands that change it.
 //!
 //! Numbers come in through types that hold their ranges: [`PortId`], [`DeviceId`], [`PortMode`],
-//! [`Validation`]. They make up a port's [`PortConfig`]. A [`SetBuilder`] takes a device's parameters,
+//! [`Validation`]. With a [`Label`] they make up a port's [`PortConfig`]. A [`SetBuilder`] takes a device's parameters,
 //! each under its [`Key`], and makes a [`DataSet`] of them. A [`Command`] carries a configuration or a
 //! set, and a [`Change`] is a command that a client may ask for. A [`MasterState`] holds a
 //! [`PortState`] for each port; it checks a command and applies it. All lists of commands, on a disk
 //! or in a queue, act through these two calls alone.
 //!
-//! Modules in reading order: `port_id`, `device_id`, `config`, `key`, `data_set`, `set_builder`,
+//! Modules in reading order: `port_id`, `device_id`, `label`, `config`, `key`, `data_set`, `set_builder`,
 //! `parts`, `kept_entries`, `command`, `port_state`, `master_state`, `examples` (values worked out). What a configuration, a set,
 //! a command and a state are to a contract stands in `specs/Config.antt`, `specs/DataSet.antt`,
 //! `specs/Command.antt` and `specs/State.antt`.
@@ -20,6 +20,7 @@ mod device_id;
 pub mod examples;
 mod kept_entries;
 mod key;
+mod label;
 mod master_state;
 mod parts;
 mod port_id;
@@ -31,6 +32,7 @@ pub use config::{PortConfig, PortMode, Validation, keeps_set};
 pub use data_set::{DataSet, ENTRY_HEAD_OCTETS, MOST_ENTRY_OCTETS, MOST_SET_OCTETS};
 pub use device_id::{DEVICE_NUMBERS, DeviceId};
 pub use key::{DATA_STORAGE, DIRECT_PARAMETER_PAGE, Key, SYSTEM_COMMAND};
+pub use label::{Label, MOST_LABEL_OCTETS};
 pub use master_state::MasterState;
 pub use parts::PART_OCTETS;
 pub use port_id::{PORTS, PortId};

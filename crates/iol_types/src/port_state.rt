@@ -8,6 +8,7 @@ use crate::command::CommandFault;
 use crate::config::{PortConfig, PortMode, Validation, keeps_set};
 use crate::data_set::DataSet;
 use crate::device_id::DeviceId;
+use crate::label::Label;
 use std::alloc::AllocError;
 use std::marker::Model;
 use std::sync::Arc;
@@ -109,6 +110,7 @@ impl PortState {
                 validation: Validation::NoCheck,
                 vendor: 0,
                 device: DeviceId::new(0).unwrap(),
+                label: Label::empty(),
             },
             revision: 0,
             stored: None,

@@ -1,11 +1,15 @@
 -- The text of a map of a disk.
-use Rattle.std.specs.Prelude.{◌≡◌, ◌⊎◌, Result, ℕ, ◌+◌, ◌-◌, ◌==◌, nat_le, Bool, true, false, ◌&&◌, if◌then◌else◌, List, [], ◌++◌, codes}
-use Rattle.std.specs.Prelude.{string_bytes, Option, Some, None, Ok, Err}
+use Rattle.std.specs.Prelude.{◌≡◌, ◌⊎◌, Result, ℕ, ◌+◌, ◌-◌, ◌==◌, nat_le, Bool, true, false, ◌&&◌, if◌then◌else◌}
+use Rattle.std.specs.Prelude.{List, [], ◌++◌, codes, string_bytes, Option, Some, None, Ok, Err}
 use Rattle.std.specs.List.{flat_map}
 use Rattle.std.specs.Fmt.{decimal}
 use Rattle.iol_types.specs.State.{State}
+use Rattle.iol_record.specs.declared.version.Version.{Version}
+use Rattle.iol_record.specs.declared.version.Version.TheVariants.{One, Two}
 use Rattle.iol_disk.specs.Disk.{Disk, Shows}
-use Rattle.iol_journal.specs.Meaning.{meaning, standing_in, unformatted, damaged}
+use Rattle.iol_journal.specs.Geometry.{Geometry, IsGeometry}
+use Rattle.iol_journal.specs.Layout.{Layout, laid_out, layout_of}
+use Rattle.iol_journal.specs.Meaning.{meaning, standing_in, unformatted, too_small, damaged}
 use Rattle.iol_journal.specs.Area.{Area}
 use Rattle.iol_journal.specs.Area.TheVariants.{A, B}
 use Rattle.iol_journal.specs.Head.{Head}
@@ -18,6 +22,7 @@ use Rattle.iol_commands.specs.declared.fault.Fault.{Fault}
 use Rattle.iol_commands.specs.declared.fault.Fault.TheVariants as fault
 use Rattle.iol_view.specs.declared.map_front.Standing.{Standing}
 use Rattle.iol_view.specs.declared.map_front.Standing.TheVariants as stands
+use Rattle.iol_view.specs.declared.map_layouts.Layouts.{Layouts}
 use Rattle.iol_view.specs.declared.map_lines.Line.{Line}
 use Rattle.iol_view.specs.declared.map_lines.Part.{Part}
 use Rattle.iol_view.specs.declared.map_lines.Part.TheVariants as part
@@ -33,6 +38,7 @@ abbrev pub TellsOutcome : Disk → Outcome → Type 0
 TellsOutcome disk (ending.Recovered number) =
     (state : State) × Shows disk (λ image. meaning disk.sectors image ≡ Ok (record { number = number; state = state }))
 TellsOutcome disk ending.NotFormatted = Shows disk (λ image. standing_in disk.sectors image ≡ Err unformatted)
+TellsOutcome disk ending.TooSmall = Shows disk (λ image. standing_in disk.sectors image ≡ Err too_small)
 TellsOutcome disk (ending.Damaged sector) = Shows disk (λ image. standing_in disk.sectors image ≡ Err (damaged sector))
 
 -- why a disk has no map: a call of it failed, or memory ran out, and never what is on it (format, Maps)
@@ -54,6 +60,7 @@ damaged_in other = None
 abbrev pub outcome_text : Outcome → List ℕ
 outcome_text (ending.Recovered number) = codes "recovered " ++ decimal number
 outcome_text ending.NotFormatted = codes "not recovered: the disk is not formatted"
+outcome_text ending.TooSmall = codes "not recovered: the disk is too small"
 outcome_text (ending.Damaged sector) = codes "not recovered: damaged at sector " ++ decimal sector
 
 -- a word with a number, or with the first and the last of several (format, Maps)
@@ -69,17 +76,20 @@ part_text part.AreaA numbers = codes "area A, "
 part_text part.AreaB numbers = codes "area B, "
 part_text part.Port numbers = codes "  " ++ (span_text (codes "port") numbers ++ codes ", ")
 part_text part.Slot numbers = codes "  " ++ (span_text (codes "slot") numbers ++ codes ", ")
+part_text part.Unused numbers = codes "  "
 
 -- what stands behind the line of the sectors at which a recovery ends (format, Maps)
 abbrev pub damage_text : Bool → List ℕ
 damage_text true = codes ", damaged: a recovery ends here"
 damage_text false = []
 
+-- the front of a line: what it is of, and its sectors (format, Maps)
+abbrev pub front_text : Line → List ℕ
+front_text line = part_text line.part line.numbers ++ (span_text (codes "sector") line.sectors ++ codes ": ")
+
 -- a line: what it is of, its sectors, and what it says of them (format, Maps)
 abbrev pub line_text : Line → List ℕ
-line_text line =
-    part_text line.part line.numbers
-    ++ (span_text (codes "sector") line.sectors ++ (codes ": " ++ (string_bytes line.text ++ damage_text line.damaged)))
+line_text line = front_text line ++ (string_bytes line.text ++ damage_text line.damaged)
 
 -- lines, each with its end (format, Maps)
 abbrev pub lines_text : List Line → List ℕ
@@ -102,6 +112,19 @@ IsSomeMap text = (sectors : ℕ) × (told : Outcome) × (lines : List Line) × (
 -- what a drawing prints: of how many sectors it is (format, Maps)
 abbrev pub mapped_text : ℕ → List ℕ
 mapped_text sectors = codes "mapped " ++ (decimal sectors ++ codes " sectors\n")
+
+-- the layouts of the areas of these numbers: in version 1, and in the newest version where an area keeps a slot in it (format, Maps)
+pub record AreLayoutsOf (g : Geometry) (layouts : Layouts) : Type 0 where
+  pub older : layouts.older ≡ laid_out One g
+  pub newest : IsGeometry g → layouts.newest ≡ layout_of g
+  pub no_slot : (IsGeometry g → ⊥) → layouts.newest ≡ laid_out One g
+
+-- the one of them by which an area is mapped: in the version that its header names, and in the newest where it names none
+-- (format, Maps)
+abbrev pub layout_in : Option Version → Layouts → Layout
+layout_in (Some One) layouts = layouts.older
+layout_in (Some Two) layouts = layouts.newest
+layout_in None layouts = layouts.newest
 
 -- how an open area stands beside the one that is in use (own)
 abbrev pub standing_beside : Area → Area → Standing
@@ -127,11 +150,17 @@ standing_text stands.Older = codes "not in use: older"
 standing_text stands.Undecided = codes "not in use: no area is"
 standing_text stands.Closed = codes "not in use: closed"
 
+-- the version that a header names, in words (format, Maps)
+abbrev pub version_text : Option Version → List ℕ
+version_text None = codes "no version"
+version_text (Some One) = codes "version 1"
+version_text (Some Two) = codes "version 2"
+
 -- what a map says of an area (format, Maps)
 abbrev pub area_text : Standing → Header → List ℕ
 area_text standing header =
     gate_text standing ++ (codes ", epoch " ++ (decimal header.epoch ++ (codes ", base " ++ (decimal header.base ++ (codes ", "
-    ++ standing_text standing)))))
+    ++ (version_text header.version ++ (codes ", " ++ standing_text standing)))))))
 
 -- how far a recovery comes at the first slot of an area that stands so (format, Maps)
 abbrev pub first_reach : Standing → Reach

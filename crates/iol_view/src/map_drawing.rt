@@ -3,14 +3,14 @@
 
 use crate::map_cells::{write_cells, write_frame};
 use crate::map_lines::{Cells, Gate, Line, Part};
-use crate::map_text::Map;
+use crate::map_text::{Map, damage_text, write_front};
 use std::fmt;
 
 // How far apart lines are, in units of the picture.
 const LINE_STEP: usize = 18;
 // How wide a letter is at most.
 const LETTER: usize = 8;
-// Where the texts of lines begin, behind a gate and 16 sectors.
+// Where the texts of lines begin, behind a gate and 17 sectors.
 const TEXT_LEFT: usize = 230;
 // How many letters a line has at most beside what it says.
 const FRONT_LETTERS: usize = 76;
@@ -114,5 +114,20 @@ fn write_line<W: fmt::Write>(f: &mut fmt::Formatter<W>, top: usize, line: &Line)
     if line.damaged {
         write_frame(f, line.cells.used.saturating_add(line.cells.unused))?;
     }
-    writeln!(f, "<text x='{TEXT_LEFT}' y='10'>{line}</text></g>")
+    write!(f, "<text x='{TEXT_LEFT}' y='10'>")?;
+    write_front(f, line)?;
+    write_escaped(f, line.text.as_str())?;
+    writeln!(f, "{}</text></g>", damage_text(line.damaged))
+}
+
+// A text as XML has it. A label may have what XML reads as its own.
+fn write_escaped<W: fmt::Write>(f: &mut fmt::Formatter<W>, text: &str) -> fmt::Result {
+    for character in text.chars() {
+        match character {
+            '&' => f.write_str("&amp;")?,
+            '<' => f.write_str("&lt;")?,
+            _ => f.write_char(character)?,
+        }
+    }
+    Ok(())
 }

@@ -1,6 +1,8 @@
 //! Lines of a map, worked out by the check: a text that is wrong in a definition and in the code alike is refused here.
 ghost use Rattle.std.specs.Prelude.{◌≡◌, ℕ, [], ◌∷◌, ◌++◌, map, codes, Some, None};
+ghost use Rattle.iol_record.specs.declared.version.Version.TheVariants.{One, Two};
 ghost use Rattle.iol_journal.specs.Area.TheVariants.{A, B};
+ghost use Rattle.iol_journal.specs.Examples.{header_with};
 ghost use Rattle.iol_view.specs.Map.{first_reach, next_reach};
 ghost use Rattle.iol_view.specs.Map.{area_text, map_text, mapped_text, outcome_text, part_text, slot_text, span_text, standing_of};
 ghost use Rattle.iol_view.specs.declared.map_front.Standing.TheVariants as stands;
@@ -16,9 +18,9 @@ pub fn spans()
 
 /// What a recovery comes to.
 pub fn outcomes()
-    ensures { map outcome_text (ending.Recovered 3 ∷ ending.NotFormatted ∷ ending.Damaged 39 ∷ [])
-        ≡ codes "recovered 3" ∷ codes "not recovered: the disk is not formatted" ∷ codes "not recovered: damaged at sector 39"
-        ∷ [] }
+    ensures { map outcome_text (ending.Recovered 3 ∷ ending.NotFormatted ∷ ending.TooSmall ∷ ending.Damaged 39 ∷ [])
+        ≡ codes "recovered 3" ∷ codes "not recovered: the disk is not formatted" ∷ codes "not recovered: the disk is too small"
+        ∷ codes "not recovered: damaged at sector 39" ∷ [] }
 {}
 
 /// What a line is of.
@@ -27,18 +29,19 @@ pub fn parts()
         ≡ [] ∷ codes "area A, " ∷ codes "area B, " ∷ [] }
     ensures ports { part_text part.Port (record { first = 2; last = 32 }) ≡ codes "  ports 2 to 32, " }
     ensures slot { part_text part.Slot (record { first = 1; last = 1 }) ≡ codes "  slot 1, " }
+    ensures unused { part_text part.Unused (record { first = 0; last = 0 }) ≡ codes "  " }
 {}
 
 /// An area that is in use, one that is older, one beside which none is in use, and one that is closed.
 pub fn areas()
-    ensures in_use { area_text stands.InUse (record { epoch = 2; base = 4 })
-        ≡ codes "gate open, epoch 2, base 4, in use: open, greatest epoch" }
-    ensures older { area_text stands.Older (record { epoch = 1; base = 0 }) ≡ codes "gate open, epoch 1, base 0, not in use: older" }
-    ensures undecided { area_text stands.Undecided (record { epoch = 0; base = 9 })
-        ≡ codes "gate open, epoch 0, base 9, not in use: no area is" }
-    ensures closed { area_text stands.Closed (record { epoch = 0; base = 0 }) ≡ codes "gate closed, epoch 0, base 0, not in use: closed" }
-    ensures chosen { standing_of B (Some (record { area = B; header = record { epoch = 2; base = 4 } })) ≡ stands.InUse }
-    ensures other { standing_of A (Some (record { area = B; header = record { epoch = 2; base = 4 } })) ≡ stands.Older }
+    ensures in_use { area_text stands.InUse (header_with Two 2 4)
+        ≡ codes "gate open, epoch 2, base 4, version 2, in use: open, greatest epoch" }
+    ensures older { area_text stands.Older (header_with One 1 0) ≡ codes "gate open, epoch 1, base 0, version 1, not in use: older" }
+    ensures undecided { area_text stands.Undecided (record { epoch = 0; base = 9; version = None })
+        ≡ codes "gate open, epoch 0, base 9, no version, not in use: no area is" }
+    ensures closed { area_text stands.Closed (header_with Two 0 0) ≡ codes "gate closed, epoch 0, base 0, version 2, not in use: closed" }
+    ensures chosen { standing_of B (Some (record { area = B; header = header_with Two 2 4 })) ≡ stands.InUse }
+    ensures other { standing_of A (Some (record { area = B; header = header_with Two 2 4 })) ≡ stands.Older }
     ensures none { standing_of A None ≡ stands.Undecided }
 {}
 

@@ -2,12 +2,13 @@
 ghost use Rattle.std.specs.Prelude.{◌≡◌, ◌≤◌, IfOk, string_bytes};
 ghost use Rattle.iol_disk.specs.Disk.{Same};
 ghost use Rattle.iol_journal.specs.Layout.{total};
-ghost use Rattle.iol_view.specs.Map.{area_text, gate_text, standing_of, standing_text};
+ghost use Rattle.iol_view.specs.Map.{area_text, gate_text, standing_of, standing_text, version_text};
 
 use crate::map_lines::{Cells, Gate, Line, Part, Span};
 use iol_disk::{DiskFault, SectorDisk};
 use iol_journal::survey::{Layout, read_header};
 use iol_journal::{Area, Header, InUse};
+use iol_record::Version;
 use std::alloc::{AllocError, Global};
 use std::fmt;
 
@@ -120,8 +121,16 @@ impl fmt::Display for Front {
     fn fmt<W: fmt::Write>(&self, f: &mut fmt::Formatter<W>) -> fmt::Result {
         let gate = gate_text(self.standing);
         let standing = standing_text(self.standing);
-        let Header { epoch, base } = self.header;
-        write!(f, "{gate}, epoch {epoch}, base {base}, {standing}")
+        let Header {
+            epoch,
+            base,
+            version,
+        } = self.header;
+        let version = version_text(version);
+        write!(
+            f,
+            "{gate}, epoch {epoch}, base {base}, {version}, {standing}"
+        )
     }
 }
 
@@ -132,6 +141,17 @@ fn gate_text(standing: Standing) -> &'static str
     match standing {
         Standing::Closed => "gate closed",
         Standing::InUse | Standing::Older | Standing::Undecided => "gate open",
+    }
+}
+
+// The version that a header names.
+fn version_text(version: Option<Version>) -> &'static str
+    ensures { result.now ≡ version_text version }
+{
+    match version {
+        Some(Version::One) => "version 1",
+        Some(Version::Two) => "version 2",
+        None => "no version",
     }
 }
 

@@ -12,6 +12,8 @@ pub(crate) enum Part {
     AreaB,
     Port,
     Slot,
+    // Sectors of an area that are in no slot.
+    Unused,
 }
 
 // A number, or the first and the last of several.

@@ -16,6 +16,8 @@ pub(crate) enum Outcome {
     Recovered { number: u64 },
     // The disk is not formatted.
     NotFormatted,
+    // Its areas keep no slot in version 2 of the layout.
+    TooSmall,
     // The first sector that is damaged, in the order of reading.
     Damaged { sector: usize },
 }
@@ -27,7 +29,7 @@ impl Outcome {
     {
         match self {
             Outcome::Damaged { sector } => Some(sector),
-            Outcome::Recovered { .. } | Outcome::NotFormatted => None,
+            Outcome::Recovered { .. } | Outcome::NotFormatted | Outcome::TooSmall => None,
         }
     }
 }
@@ -57,6 +59,10 @@ pub(crate) fn look<D: SectorDisk>(alloc: Global, disk: D) -> Looked<D>
         },
         Err(Fault::NotFormatted) => Looked {
             outcome: Ok(Outcome::NotFormatted),
+            disk,
+        },
+        Err(Fault::TooSmall) => Looked {
+            outcome: Ok(Outcome::TooSmall),
             disk,
         },
         Err(Fault::Damaged { sector }) => Looked {

@@ -121,7 +121,7 @@ impl fmt::Display for RecordText {
     }
 }
 
-// A configuration, each number behind its name.
+// A configuration, each number behind its name, and its label, if it has one.
 #[derive(Drop)]
 struct ConfigText(PortConfig);
 
@@ -133,7 +133,11 @@ impl fmt::Display for ConfigText {
         let vendor = config.vendor;
         let device = config.device.number();
         write!(f, "mode {mode}, validation {validation}, ")?;
-        write!(f, "vendor {vendor:04X}, device {device:06X}")
+        write!(f, "vendor {vendor:04X}, device {device:06X}")?;
+        if !config.label.is_empty() {
+            write!(f, ", label \"{}\"", config.label)?;
+        }
+        Ok(())
     }
 }
 

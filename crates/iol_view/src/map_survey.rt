@@ -3,10 +3,11 @@ ghost use Rattle.std.specs.Prelude.{◌≡◌, ◌≤◌, IfOk};
 ghost use Rattle.iol_disk.specs.Disk.{Same};
 
 use crate::map_areas::add_areas;
+use crate::map_layouts::Layouts;
 use crate::map_lines::{Cells, Gate, Line, Lines, Part, Span};
 use iol_disk::{SECTOR_OCTETS, SectorDisk};
+use iol_journal::RecoverCause;
 use iol_journal::survey::{DISK_GATE, GEOMETRY, is_formatted, read_sector};
-use iol_journal::{Geometry, RecoverCause};
 use std::alloc::{AllocError, Global};
 use std::fmt;
 
@@ -22,19 +23,19 @@ pub(crate) fn lines_of<D: SectorDisk>(
     ensures { Same (D.disk disk.old) (D.disk disk.new) }
 {
     let mut lines = Lines::new(alloc, damaged);
-    let geometry = add_geometry(alloc, disk, &mut lines)?;
+    let layouts = add_geometry(alloc, disk, &mut lines)?;
     add_disk_gate(alloc, disk, &mut lines)?;
-    let mapped = add_journal(alloc, disk, geometry, &mut lines)?;
+    let mapped = add_journal(alloc, disk, &layouts, &mut lines)?;
     add_rest(alloc, disk.sectors(), mapped, &mut lines)?;
     Ok(lines.lines)
 }
 
-// Adds the line of the geometry's sector, where that is there, and tells the geometry that it says.
+// Adds the line of the geometry's sector, where that is there, and tells the layouts of what it says.
 fn add_geometry<D: SectorDisk>(
     alloc: Global,
     disk: &mut D,
     lines: &mut Lines,
-) -> Result<Option<Geometry>, RecoverCause>
+) -> Result<Option<Layouts>, RecoverCause>
     ensures { Same (D.disk disk.old) (D.disk disk.new) }
 {
     let sectors = disk.sectors();
@@ -42,10 +43,10 @@ fn add_geometry<D: SectorDisk>(
         return Ok(None);
     }
     let octets = read_sector(disk, GEOMETRY)?;
-    let geometry = Geometry::read(&octets);
-    let text = geometry_text(alloc, &octets, &geometry, sectors)?;
+    let layouts = Layouts::read(&octets);
+    let text = geometry_text(alloc, &octets, &layouts, sectors)?;
     lines.add(alone(GEOMETRY, None, text))?;
-    Ok(geometry)
+    Ok(layouts)
 }
 
 // Adds the line of the gate of the disk, where that is there.
@@ -78,16 +79,16 @@ fn disk_gate_text(gate: Gate) -> &'static str {
 fn add_journal<D: SectorDisk>(
     alloc: Global,
     disk: &mut D,
-    geometry: Option<Geometry>,
+    layouts: &Option<Layouts>,
     lines: &mut Lines,
 ) -> Result<usize, RecoverCause>
     ensures { Same (D.disk disk.old) (D.disk disk.new) }
 {
     let sectors = disk.sectors();
-    match geometry {
-        Some(geometry) if geometry.sectors() <= sectors => {
-            add_areas(alloc, disk, geometry.layout(), lines)?;
-            Ok(geometry.sectors())
+    match layouts {
+        Some(layouts) if layouts.older.sectors() <= sectors => {
+            add_areas(alloc, disk, layouts, lines)?;
+            Ok(layouts.older.sectors())
         }
         _ => Ok(DISK_GATE + 1),
     }
@@ -143,14 +144,14 @@ fn alone(sector: usize, gate: Option<Gate>, text: String) -> Line {
 fn geometry_text(
     alloc: Global,
     octets: &[u8; SECTOR_OCTETS],
-    geometry: &Option<Geometry>,
+    layouts: &Option<Layouts>,
     there: usize,
 ) -> Result<String, AllocError> {
-    let Some(geometry) = geometry else {
+    let Some(layouts) = layouts else {
         return Octets(&octets[..GEOMETRY_OCTETS]).to_string(alloc);
     };
-    let (ports, slots) = (geometry.ports(), geometry.slots());
-    let sectors = geometry.sectors();
+    let older = layouts.older;
+    let (ports, slots, sectors) = (older.ports(), older.slots(), older.sectors());
     let lack = if there < sectors {
         ", more than there are"
     } else {

@@ -1,7 +1,7 @@
 //! A map as text (docs/FORMATS.md, "Maps").
 ghost use Rattle.std.specs.Prelude.{◌≡◌};
 ghost use Rattle.std.specs.Fmt.{WritesOnOk};
-ghost use Rattle.iol_view.specs.Map.{damage_text, lines_text};
+ghost use Rattle.iol_view.specs.Map.{damage_text, front_text, lines_text};
 
 use crate::map_lines::{Line, Part, Span};
 use crate::map_outcome::Outcome;
@@ -48,6 +48,7 @@ impl fmt::Display for Outcome {
         match self {
             Outcome::Recovered { number } => write!(f, "recovered {number}"),
             Outcome::NotFormatted => f.write_str("not recovered: the disk is not formatted"),
+            Outcome::TooSmall => f.write_str("not recovered: the disk is too small"),
             Outcome::Damaged { sector } => {
                 write!(f, "not recovered: damaged at sector {sector}")
             }
@@ -63,22 +64,30 @@ impl fmt::Display for Line {
     ghost output = { λ line. Some (line_text line) };
 
     fn fmt<W: fmt::Write>(&self, f: &mut fmt::Formatter<W>) -> fmt::Result {
-        let part = PartText {
-            part: self.part,
-            numbers: self.numbers,
-        };
-        let sectors = SpanText {
-            word: "sector",
-            span: self.sectors,
-        };
+        write_front(f, self)?;
         let text = self.text.as_str();
         let damage = damage_text(self.damaged);
-        write!(f, "{part}{sectors}: {text}{damage}")
+        write!(f, "{text}{damage}")
     }
 }
 
+// What a line is of, and its sectors.
+pub(crate) fn write_front<W: fmt::Write>(f: &mut fmt::Formatter<W>, line: &Line) -> fmt::Result
+    ensures { WritesOnOk W.write_str_gives f.old result (front_text line.now) f.new }
+{
+    let part = PartText {
+        part: line.part,
+        numbers: line.numbers,
+    };
+    let sectors = SpanText {
+        word: "sector",
+        span: line.sectors,
+    };
+    write!(f, "{part}{sectors}: ")
+}
+
 // What stands behind the line of the sectors at which a recovery ends.
-fn damage_text(damaged: bool) -> &'static str
+pub(crate) fn damage_text(damaged: bool) -> &'static str
     ensures { result.now ≡ damage_text damaged }
 {
     if damaged {
@@ -109,6 +118,7 @@ impl fmt::Display for PartText {
             Part::AreaB => f.write_str("area B, "),
             Part::Port => write!(f, "  {}, ", SpanText { word: "port", span }),
             Part::Slot => write!(f, "  {}, ", SpanText { word: "slot", span }),
+            Part::Unused => f.write_str("  "),
         }
     }
 }

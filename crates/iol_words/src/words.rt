@@ -251,7 +251,11 @@ fn format<'a>(alloc: Global) -> Result<Command<'a>, AllocError> {
     let words = [
         image(alloc),
         count(alloc, "ports", "How many ports the master has, 1 to 32"),
-        count(alloc, "slots", "How many batches each area holds, 1 to 256"),
+        count(
+            alloc,
+            "slots",
+            "How many slots each area has, 2 to 256; 17 at least for 32 ports",
+        ),
         flag(alloc, "force", "Erases a journal that is there"),
     ];
     let words = Vec::from_array(alloc, words)?;

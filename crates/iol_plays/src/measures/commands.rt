@@ -2,7 +2,7 @@
 
 use anyhow::Context;
 use iol_types::{
-    Command, DataSet, DeviceId, Key, PortConfig, PortId, PortMode, SetBuilder, Validation,
+    Command, DataSet, DeviceId, Key, Label, PortConfig, PortId, PortMode, SetBuilder, Validation,
 };
 use std::alloc::Global;
 
@@ -13,6 +13,7 @@ pub(crate) fn config() -> anyhow::Result<PortConfig> {
         validation: Validation::BackupAndRestore,
         vendor: 500,
         device: DeviceId::new(43981).context("no device number")?,
+        label: Label::empty(),
     })
 }
 

@@ -12,7 +12,8 @@ use std::time::Instant;
 
 const PORTS: u16 = 8;
 
-const SLOTS: u16 = 16;
+// Of which an area of 8 ports keeps 16.
+const SLOTS: u16 = 20;
 // A round: 16 commits and a checkpoint, ten times.
 const COMMITS: usize = 160;
 

@@ -7,7 +7,7 @@ use Rattle.iol_area.proofs.records.record_sectors.Given as goal
 -- what was pushed, and the records of the ports behind it, are those of all
 abbrev pub invariant-loop-place : goal.invariant-loop-place
 invariant-loop-place l = record {
-  are : ArePorts (take l.place l.fn.state);
+  are : ArePorts l.fn.layout.version (take l.place l.fn.state);
   so_far : map write_of l.records.items ++ port_writes l.fn.layout l.fn.area l.place (drop l.place l.fn.state)
       ≡ port_writes l.fn.layout l.fn.area 0 l.fn.state;
 }

@@ -4,4 +4,4 @@ use Rattle.iol_checkpoint.proofs.examples.a_checkpoint.Goals as goal
 
 pub returns : goal.returns
 unfolding padded
-returns c = record { older = refl; closed = refl; thirteen = refl }
+returns c = record { older = refl; closed = refl; migration = refl; twelve = refl }

@@ -10,7 +10,7 @@ use Rattle.iol_checkpoint.proofs.BegunCalls.{IsFirst, front_is, first_is, same_c
 use Rattle.iol_checkpoint.proofs.stage_calls.carry.Given
 use Rattle.iol_checkpoint.proofs.stage_calls.carry.Goals as goal
 
-first : (g : Given.Over) (c : goal.After-place-3-1 g) (number : ℕ) (state : State)
+first : (g : Given.Over) (c : goal.After-place-2-1 g) (number : ℕ) (state : State)
     → (is : IsBegun (g.D.SectorDisk.disk c.args.disk.now) (standing_at c.args.place.now number state) c.args.begun.now)
     → IsFirst (g.D.SectorDisk.disk c.args.disk.now) (standing_at c.args.place.now number state) c.args.begun.now is c.args.phase
     c.in-Some.first.now
@@ -42,7 +42,7 @@ returns g c number state is =
     let body : c.in-Some.first.now.body.octets.items ≡ body_for t (first_of (commands_owed b.owed.items)) =
     o.encoded.octets ∙ ap (body_for t) (sym o.is_first) in
     let there : Standing = record {
-      layout = s.layout;
+      layout = c.renewed.result;
       area = c.other.result;
       epoch = s.epoch;
       used = b.used;
@@ -51,5 +51,5 @@ returns g c number state is =
     } in
     subst (λ (call : Call). Makes (call ∷ []) (d c.args.disk.now) (d c.make.new.disk) c.make.result)
     (ap (λ (os : List ℕ). call_of there os c.args.phase) body
-    ∙ same_call there t (body_for t (first_of (commands_owed b.owed.items))) c.args.phase refl c.other.ensures refl)
+    ∙ same_call there t (body_for t (first_of (commands_owed b.owed.items))) c.args.phase c.renewed.ensures c.other.ensures refl)
     (c.make.ensures.makes number state)

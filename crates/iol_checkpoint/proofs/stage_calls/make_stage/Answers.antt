@@ -5,7 +5,7 @@ use Rattle.iol_checkpoint.specs.BegunParts.{log_of, commands_owed}
 use Rattle.iol_checkpoint.specs.Checkpoints.{target}
 use Rattle.iol_layout.specs.Header.{header_octets}
 use Rattle.iol_layout.specs.Standings.{standing_at}
-use Rattle.iol_layout.specs.Layout.{other, gate_at, header_at}
+use Rattle.iol_layout.specs.Layout.{other, renewed, gate_at, header_at}
 use Rattle.iol_checkpoint.proofs.BegunCalls.{plan_of, record_below, row_of}
 use Rattle.iol_area.proofs.Plans.{found-there, sector-inside}
 use Rattle.iol_checkpoint.proofs.CheckpointSteps.{record-call}
@@ -16,17 +16,20 @@ pub returns-in-ClearHeader : goal.returns-in-ClearHeader
 returns-in-ClearHeader g c number state is =
     let e = c.write.ensures in
     let place = c.args.place.now in
+    let layout = renewed place.layout in
     rw c.in-ClearHeader.is
-    (makes_write c.write.result (header_at place.layout (other place.area)) (header_octets 0 0) _ _
-    (c.header.ensures.at ∙ ap (header_at place.layout) c.other-area.ensures) c.octets.ensures e.wrote e.wrote_some e.fault)
+    (makes_write c.write.result (header_at layout (other place.area)) (header_octets layout.version 0 0) _ _
+    (rw (c.renewed-layout.ensures, c.other-area.ensures) at c.header.ensures.at)
+    (rw (c.version.ensures, c.renewed-layout.ensures) at c.octets-header.ensures) e.wrote e.wrote_some e.fault)
 
 pub returns-in-CloseGate : goal.returns-in-CloseGate
 returns-in-CloseGate g c number state is =
     let e = c.close_gate.ensures in
     let place = c.args.place.now in
+    let layout = renewed place.layout in
     rw c.in-CloseGate.is
-    (makes_write c.close_gate.result (gate_at place.layout (other place.area)) closed_gate _ _
-    (c.gate-area_gate.ensures ∙ c.gate.ensures.at ∙ ap (gate_at place.layout) c.other-area.ensures) refl e.wrote e.wrote_some e.fault)
+    (makes_write c.close_gate.result (gate_at layout (other place.area)) closed_gate _ _
+    (c.gate-area_gate.ensures ∙ rw (c.renewed-layout.ensures, c.other-area.ensures) at c.gate.ensures.at) refl e.wrote e.wrote_some e.fault)
 
 pub returns-in-CloseSlot : goal.returns-in-CloseSlot
 returns-in-CloseSlot g c number state is =
@@ -56,9 +59,10 @@ pub returns-in-OpenGate : goal.returns-in-OpenGate
 returns-in-OpenGate g c number state is =
     let e = c.open_gate.ensures in
     let place = c.args.place.now in
+    let layout = renewed place.layout in
     rw c.in-OpenGate.is
-    (makes_write c.open_gate.result (gate_at place.layout (other place.area)) open_gate _ _
-    (c.gate-area_gate.ensures ∙ c.gate.ensures.at ∙ ap (gate_at place.layout) c.other-area.ensures) refl e.wrote e.wrote_some e.fault)
+    (makes_write c.open_gate.result (gate_at layout (other place.area)) open_gate _ _
+    (c.gate-area_gate.ensures ∙ rw (c.renewed-layout.ensures, c.other-area.ensures) at c.gate.ensures.at) refl e.wrote e.wrote_some e.fault)
 
 pub returns-in-SyncHeader : goal.returns-in-SyncHeader
 returns-in-SyncHeader g c number state is =

@@ -10,3 +10,7 @@ returns-clause-set c = refl
 pub returns-clause-no_set : goal.returns-clause-no_set
 unfolding digits hex_digits
 returns-clause-no_set c = refl
+
+pub returns-clause-label : goal.returns-clause-label
+unfolding digits hex_digits
+returns-clause-label c = refl

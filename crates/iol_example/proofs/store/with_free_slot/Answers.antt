@@ -2,6 +2,7 @@ use Rattle.std.proofs.Common.{List, length, refl, sym, ap, ◌∙◌, subst, ari
 use Rattle.iol_disk.specs.Calls.{Call, Made, FailedIn}
 use Rattle.iol_journal.specs.CheckpointViews.{CheckpointingView}
 use Rattle.iol_journal.specs.Journals.{JournalView}
+use Rattle.iol_journal.specs.Running.{IsRunAtRest}
 use Rattle.iol_example.proofs.CallLaws.{none_yet, one_more, all_made, one_failed, same_end, same_calls, none_free, full_slot}
 use Rattle.iol_example.proofs.StoreLaws.{from_rest, none_paused, checkpoint_goes_on}
 use Rattle.iol_example.proofs.store.with_free_slot.Goals as goal
@@ -13,6 +14,10 @@ pub returns-in-Err-clause-any_moment : goal.returns-in-Err-clause-any_moment
 returns-in-Err-clause-any_moment g c = λ rests.
     from_rest _ _ c.args.journal.standing c.args.journal.idle
     (ap (λ (j : JournalView g.row.D.Denot). g.D.SectorDisk.disk j.disk) c.in-Err.ensures.back) rests.0
+
+pub returns-in-Err-clause-run : goal.returns-in-Err-clause-run
+returns-in-Err-clause-run g c = λ r run.
+    subst (λ (j : JournalView g.row.D.Denot). IsRunAtRest g.D.SectorDisk.disk r j) (sym c.in-Err.ensures.back) run
 
 pub loop-next-init : goal.loop-next-init
 loop-next-init g c =

@@ -10,3 +10,7 @@ returns-clause-area_a c = refl
 pub returns-clause-area_b : goal.returns-clause-area_b
 unfolding digits hex_digits
 returns-clause-area_b c = refl
+
+pub returns-clause-older : goal.returns-clause-older
+unfolding digits hex_digits
+returns-clause-older c = refl

@@ -1,6 +1,21 @@
+use Rattle.std.proofs.Common.{ap, arith}
+use Rattle.iol_journal.specs.Layout.{renewed}
+use Rattle.iol_journal.specs.Meaning.{Standing}
+use Rattle.iol_flush.specs.Stages.{most_checkpoint_calls}
+use Rattle.iol_flush.proofs.Turns.{one_less}
 use Rattle.iol_flush.proofs.Keeping.{then_keeps, comes_to_rest, not_gone_on, rests_behind}
 use Rattle.iol_flush.proofs.Steps.{set_aside_step, ended_step}
 use Rattle.iol_flush.proofs.disk_call.advance.Goals as goal
+
+pub set_aside-requires : goal.set_aside-requires
+set_aside-requires g c = record {
+  few = omega (
+    arith,
+    c.requires.few,
+    one_less _ _ _ _ c.in-More.ensures.call,
+    ap (λ (s : Standing). most_checkpoint_calls (renewed s.layout)) c.in-More.ensures.more.standing,
+  );
+}
 
 pub returns-in-More-clause-step : goal.returns-in-More-clause-step
 returns-in-More-clause-step g c =

@@ -1,4 +1,5 @@
-use Rattle.std.proofs.Common.{[], ◌∷◌}
+use Rattle.std.proofs.Common.{[], ◌∷◌, ◌∙◌, ap}
+use Rattle.iol_record.specs.declared.version.Version.{Version}
 use Rattle.iol_area.specs.AreaWrites.{header_write}
 use Rattle.iol_layout.specs.Header.{header_octets}
 use Rattle.iol_layout.specs.Layout.{header_at}
@@ -19,5 +20,5 @@ returns g c =
     let e = c.write.ensures in
     makes_then (header_write plan.layout plan.area plan.header.epoch plan.header.base ∷ []) (header_write plan.layout B 0 0 ∷ []) _ _
     c.in_ok-write_header.ensures
-    (makes_write c.write.result (header_at plan.layout B) (header_octets 0 0) _ _ c.header.ensures.at c.octets.ensures e.wrote e.wrote_some
-    e.fault)
+    (makes_write c.write.result (header_at plan.layout B) (header_octets plan.layout.version 0 0) _ _ c.header.ensures.at
+    (c.octets-unused.ensures ∙ ap (λ (v : Version). header_octets v 0 0) c.version.ensures) e.wrote e.wrote_some e.fault)

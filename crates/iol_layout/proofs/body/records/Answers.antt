@@ -2,12 +2,16 @@ use Rattle.std.proofs.Common.{◌≡◌, ℕ, List, ◌++◌, length, take, ◌�
 use Rattle.std.proofs.Math.Seq.{take-length}
 use Rattle.std.proofs.lemmas.List.{length-map}
 use Rattle.iol_types.specs.Command.{value_of}
+use Rattle.iol_record.proofs.RecordLaws.{spells-command}
 use Rattle.iol_layout.specs.Body.{records_of, values}
 use Rattle.iol_layout.proofs.Bodies.{encodes-none, encodes-more, encodes-all, records-more, values-more}
 use Rattle.iol_layout.proofs.body.records.Goals as goal
 
 pub loop-command-init : goal.loop-command-init
 loop-command-init c = rw c.new-octets.ensures.items (record { spelled = refl; encodes = encodes-none })
+
+pub encode_command-requires : goal.encode_command-requires
+encode_command-requires c = rw c.newest.ensures (spells-command (value_of c.command-item.result))
 
 pub loop-command-preserved : goal.loop-command-preserved
 loop-command-preserved c =

@@ -1,4 +1,3 @@
-use Rattle.std.proofs.Common.{inl}
 use Rattle.iol_master.proofs.Since.{since_withdrawn}
 use Rattle.iol_master.proofs.WaitsForMemory.{ends_withdrawn}
 use Rattle.iol_master.proofs.flushing.wait.Goals as goal
@@ -11,5 +10,5 @@ returns-clause-since g c =
 
 pub returns-clause-ended : goal.returns-clause-ended
 returns-clause-ended g c =
-    inl (ends_withdrawn c.args.flusher.now.stage c.withdraw-unwritten.new.self.stage c.withdraw-unwritten.result c.requires
-    c.withdraw-unwritten.ensures.withdrawn)
+    ends_withdrawn c.args.flusher.now.stage c.withdraw-unwritten.new.self.stage c.withdraw-unwritten.result c.requires
+    c.withdraw-unwritten.ensures.withdrawn

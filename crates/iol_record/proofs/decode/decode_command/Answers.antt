@@ -17,7 +17,8 @@ returns-in_err-command-clause-only c = λ front rest command is_record parts.
       | inl memory ↦ inl (ap (λ fault. Err fault) memory)
       | inr fails ↦
           absurd (no_fault_at (command_at c.args.version) octets command rest _
-          (only_front (command_reads c.args.version) octets front command rest is_record.spelling is_record.in_range parts)
+          (only_front (command_reads c.args.version) octets front command rest is_record.spelling
+          (is_record.in_range, is_record.spelled) parts)
           (ap (command_at c.args.version) (sym c.new-reader.ensures) ∙ fails))
     ])
 
@@ -39,7 +40,8 @@ returns c =
     let d = decodes (command_reads c.args.version) c.args.octets.now (value_of c.in_ok-command.command) c.command.new.self _ (λ i.
     omega (arith, c.type_inv.octets i)) reads count in
     record {
-      found = (d.within, record { spelling = d.front; in_range = d.in_range });
-      only = λ front rest command is_record parts. inr (d.only front rest command is_record.spelling is_record.in_range parts);
+      found = (d.within, record { spelling = d.front; in_range = d.in_range.0; spelled = d.in_range.1 });
+      only = λ front rest command is_record parts.
+          inr (d.only front rest command is_record.spelling (is_record.in_range, is_record.spelled) parts);
       exact = d.exact;
     }

@@ -16,7 +16,8 @@ returns-in_err-port-clause-only c = λ front rest port is_record parts.
       | inl memory ↦ inl (ap (λ fault. Err fault) memory)
       | inr fails ↦
           absurd (no_fault_at (port_record_at c.args.version) octets port rest _
-          (only_front (port_record_reads c.args.version) octets front port rest is_record.spelling is_record.in_range parts)
+          (only_front (port_record_reads c.args.version) octets front port rest is_record.spelling
+          (is_record.in_range, is_record.spelled) parts)
           (ap (port_record_at c.args.version) (sym c.new-reader.ensures) ∙ fails))
     ])
 
@@ -40,7 +41,8 @@ returns c =
     (λ i. omega (arith, c.type_inv.octets i))
     reads count in
     record {
-      found = (d.within, record { spelling = d.front; in_range = d.in_range });
-      only = λ front rest port is_record parts. inr (d.only front rest port is_record.spelling is_record.in_range parts);
+      found = (d.within, record { spelling = d.front; in_range = d.in_range.0; spelled = d.in_range.1 });
+      only = λ front rest port is_record parts.
+          inr (d.only front rest port is_record.spelling (is_record.in_range, is_record.spelled) parts);
       exact = d.exact;
     }

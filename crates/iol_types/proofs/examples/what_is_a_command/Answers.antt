@@ -4,8 +4,9 @@ use Rattle.iol_types.proofs.examples.what_is_a_command.Goals as goal
 
 pub returns-clause-port : goal.returns-clause-port
 returns-clause-port c = record {
-  config = record { vendor = omega arith; device = omega arith };
+  config = record { vendor = omega arith; device = omega arith; label = refl };
   revision = omega arith;
   set = example_is_set;
+  recorded = record { vendor = omega arith; device = omega arith; label = refl };
   stored = refl;
 }

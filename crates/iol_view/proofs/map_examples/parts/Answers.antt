@@ -4,4 +4,4 @@ use Rattle.iol_view.proofs.map_examples.parts.Goals as goal
 
 pub returns : goal.returns
 unfolding digits
-returns c = record { areas = refl; ports = refl; slot = refl }
+returns c = record { areas = refl; ports = refl; slot = refl; unused = refl }

@@ -1,10 +1,10 @@
 use Rattle.std.proofs.Common.{◌≡◌, true, ◌∙◌, sym, ap, subst}
-use Rattle.iol_checkpoint.specs.Drafts.{can_pause}
+use Rattle.iol_checkpoint.specs.Drafts.{can_pause, may_pause}
 use Rattle.iol_journal.specs.CheckpointViews.{CheckpointingView, IsCheckpointUnderway}
 use Rattle.iol_checkpoint.specs.BegunParts.{log_of, commands_owed}
 use Rattle.iol_checkpoint.specs.Checkpoints.{target}
 use Rattle.iol_batch.specs.Parts.{stands}
-use Rattle.iol_checkpoint.proofs.DraftLaws.{holds_parts}
+use Rattle.iol_checkpoint.proofs.DraftLaws.{pauses, holds_parts}
 use Rattle.iol_journal.proofs.RunSteps.{run_of_same_disk}
 use Rattle.iol_journal.proofs.checkpointing.Checkpointing.pause.Goals as goal
 
@@ -15,7 +15,7 @@ returns-clause-rest g c u =
     let s = stands w.parts in
     let under = subst (λ (v : CheckpointingView g.row.D.Denot). IsCheckpointUnderway d v) (sym c.self.view_is) u in
     let may : can_pause w.begun.stage ≡ true =
-    ap (λ (v : CheckpointingView g.row.D.Denot). can_pause v.begun.stage) c.self.view_is ∙ c.requires in
+    pauses s w.begun.stage (ap (λ (v : CheckpointingView g.row.D.Denot). may_pause v.standing v.begun.stage) c.self.view_is ∙ c.requires) in
     rw (c.at_rest.ensures.disk, c.at_rest.ensures.standing, c.at_rest.ensures.idle, c.at_rest.ensures.begun, c.idle-parts.ensures) (
       λ h. (holds_parts (d w.disk).sectors s (target s (log_of w.begun)) (commands_owed w.begun.owed.items) w.begun.stage
           (d w.disk).content may (under h)).0,

@@ -5,6 +5,7 @@ use Rattle.iol_checkpoint.specs.Checkpoints.{target, with_batches}
 use Rattle.iol_journal.specs.CheckpointViews.{CheckpointingView, end_of, stages_left, IsCheckpointUnderway}
 use Rattle.iol_checkpoint.specs.Pauses.{calls_of, IsDrawnUp, IsPaused}
 use Rattle.iol_checkpoint.specs.Drafts.{begun_behind, stage_behind}
+use Rattle.iol_layout.specs.Layout.{Layout, renewed}
 use Rattle.iol_layout.specs.Standings.{IsResting}
 use Rattle.iol_batch.specs.Parts.{stands}
 use Rattle.iol_layout.specs.Meaning.{Standing}
@@ -53,13 +54,23 @@ returns-in-Err-clause-run g c r run =
 
 pub next_stage-requires-clause-begun : goal.next_stage-requires-clause-begun
 next_stage-requires-clause-begun g c =
-    let w = c.self.inside in
-    (g.D.SectorDisk.disk w.disk, stands w.parts, c.self.invariant.1, c.slots-slots.ensures.value)
+    let w = c.self.inside in (
+      g.D.SectorDisk.disk w.disk,
+      stands w.parts,
+      c.self.invariant.1,
+      c.slots-slots.ensures.value ∙ ap (λ
+          (l : Layout). l.slots) c.renewed_layout-layout.ensures,
+    )
 
 pub moved_to-requires-clause-begun : goal.moved_to-requires-clause-begun
 moved_to-requires-clause-begun g c =
-    let w = c.self.inside in
-    (g.D.SectorDisk.disk w.disk, stands w.parts, c.self.invariant.1, c.slots-slots.ensures.value)
+    let w = c.self.inside in (
+      g.D.SectorDisk.disk w.disk,
+      stands w.parts,
+      c.self.invariant.1,
+      c.slots-slots.ensures.value ∙ ap (λ
+          (l : Layout). l.slots) c.renewed_layout-layout.ensures,
+    )
 
 -- the stage that comes next
 next_told : (g : Given.Over) (c : goal.After-moved_to g)
@@ -68,7 +79,7 @@ next_told : (g : Given.Over) (c : goal.After-moved_to g)
 next_told g c =
     let w = c.self.inside in
     sym (c.next_stage.ensures (g.D.SectorDisk.disk w.disk) (stands w.parts) c.self.invariant.1
-    c.slots-slots.ensures.value) ∙ c.in-Some.is
+    (c.slots-slots.ensures.value ∙ ap (λ (l : Layout). l.slots) c.renewed_layout-layout.ensures)) ∙ c.in-Some.is
 
 -- what contracts see of the checkpoint then
 view_told : (g : Given.Over) (c : goal.After-moved_to g) → view_of c.moved_to.result ≡ moved_view c.self.inside.begun c.in-Some.stage
@@ -156,9 +167,11 @@ at_rest-requires-clause-resting g c =
     let w = c.self.inside in
     let s = stands w.parts in
     let is = c.self.invariant.1 in
-    let none = sym (c.next_stage.ensures (d w.disk) s is c.slots-slots.ensures.value) ∙ c.in-None.is in
+    let none = sym (c.next_stage.ensures (d w.disk) s is (c.slots-slots.ensures.value
+    ∙ ap (λ (l : Layout). l.slots) c.renewed_layout-layout.ensures)) ∙ c.in-None.is in
     subst (IsResting (d c.make_stage.new.disk))
-    (sym (stands_there (d w.disk) s w.begun is none c.other-parts.result c.other-parts.ensures))
+    (sym (stands_there (d w.disk) s w.begun is none c.renewed_layout-layout.result c.other.result c.renewed_layout-layout.ensures
+    c.other.ensures))
     (resting s (log_of w.begun) (commands_owed w.begun.owed.items) w.begun.stage _ _ is.drafted
     (c.in_default.ensures w.parts.number w.parts.state is))
 
@@ -168,7 +181,8 @@ returns-in-None-clause-call g c =
     let w = c.self.inside in
     let s = stands w.parts in
     let is = c.self.invariant.1 in
-    let none = sym (c.next_stage.ensures (d w.disk) s is c.slots-slots.ensures.value) ∙ c.in-None.is in
+    let none = sym (c.next_stage.ensures (d w.disk) s is (c.slots-slots.ensures.value
+    ∙ ap (λ (l : Layout). l.slots) c.renewed_layout-layout.ensures)) ∙ c.in-None.is in
     rw c.at_rest.ensures.disk
     (subst (λ (v : CheckpointingView g.row.D.Denot). MakesFirst (stages_left v) [] (d v.disk) (d c.make_stage.new.disk) (Ok tt))
     c.self.view_is
@@ -190,8 +204,11 @@ stands_in_other g c =
     let s = stands w.parts in
     let is = c.self.invariant.1 in
     let d = g.D.SectorDisk.disk w.disk in
-    let none = sym (c.next_stage.ensures d s is c.slots-slots.ensures.value) ∙ c.in-None.is in
-    c.at_rest.ensures.standing ∙ stands_there d s w.begun is none c.other-parts.result c.other-parts.ensures
+    let none = sym (c.next_stage.ensures d s is (c.slots-slots.ensures.value
+    ∙ ap (λ (l : Layout). l.slots) c.renewed_layout-layout.ensures)) ∙ c.in-None.is in
+    c.at_rest.ensures.standing
+    ∙ stands_there d s w.begun is none c.renewed_layout-layout.result c.other.result c.renewed_layout-layout.ensures
+    c.other.ensures
 
 -- where no batch is owed
 stands_at_end : (g : Given.Over) (c : goal.After-drop-begun-in-None-2 g) → c.at_rest.result.standing
@@ -202,7 +219,8 @@ stands_at_end g c =
     let s = stands w.parts in
     let is = c.self.invariant.1 in
     let d = g.D.SectorDisk.disk w.disk in
-    let none = sym (c.next_stage.ensures d s is c.slots-slots.ensures.value) ∙ c.in-None.is in
+    let none = sym (c.next_stage.ensures d s is (c.slots-slots.ensures.value
+    ∙ ap (λ (l : Layout). l.slots) c.renewed_layout-layout.ensures)) ∙ c.in-None.is in
     stands_in_other g c ∙ sym (ends_there d s w.begun is none)
 
 pub returns-in-None-clause-done : goal.returns-in-None-clause-done
@@ -215,8 +233,8 @@ returns-in-None-clause-done g c = record {
       ∙ ap (λ (v : CheckpointingView g.row.D.Denot). v.standing.number) c.self.view_is;
   state = ap (λ (t : Standing). t.state) c.at_rest.ensures.standing
       ∙ ap (λ (v : CheckpointingView g.row.D.Denot). v.standing.state) c.self.view_is;
-  layout = ap (λ (t : Standing). t.layout) c.at_rest.ensures.standing
-      ∙ ap (λ (v : CheckpointingView g.row.D.Denot). v.standing.layout) c.self.view_is;
+  layout = ap (λ (t : Standing). t.layout) c.at_rest.ensures.standing ∙ c.renewed_layout-layout.ensures
+      ∙ ap (λ (v : CheckpointingView g.row.D.Denot). renewed v.standing.layout) c.self.view_is;
 }
 
 pub returns-in-None-clause-durable : goal.returns-in-None-clause-durable
@@ -225,7 +243,8 @@ returns-in-None-clause-durable g c u =
     let w = c.self.inside in
     let s = stands w.parts in
     let is = c.self.invariant.1 in
-    let none = sym (c.next_stage.ensures (d w.disk) s is c.slots-slots.ensures.value) ∙ c.in-None.is in
+    let none = sym (c.next_stage.ensures (d w.disk) s is (c.slots-slots.ensures.value
+    ∙ ap (λ (l : Layout). l.slots) c.renewed_layout-layout.ensures)) ∙ c.in-None.is in
     let under = subst (λ (v : CheckpointingView g.row.D.Denot). IsCheckpointUnderway d v) (sym c.self.view_is) u in
     let rests : IsAtRest (d c.make_stage.new.disk) (target s (log_of w.begun)) Older =
     durable s (log_of w.begun) (commands_owed w.begun.owed.items) w.begun.stage _ _ is.drafted none

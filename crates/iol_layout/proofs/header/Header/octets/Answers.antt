@@ -8,4 +8,5 @@ returns c = rw (
   c.to_be_bytes.ensures,
   c.copy_from_slice-2.ensures.after,
   c.to_be_bytes-2.ensures,
+  c.name_of.ensures,
 ) refl
