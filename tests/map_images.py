@@ -44,10 +44,9 @@ def label_of(label, version):
     return bytes([len(label)]) + label if version == WRITTEN else b""
 
 
-def port(its_config, revision, recorded=None, its_set=b"", version=WRITTEN, label=b""):
-    named = label_of(label, version)
-    flag = b"\0" if recorded is None else b"\1" + recorded + named + its_set
-    return its_config + named + struct.pack(">Q", revision) + flag + SPARE[version]
+def port(its_config, revision, recorded=None, its_set=b"", version=WRITTEN, label=b"", recorded_label=b""):
+    flag = b"\0" if recorded is None else b"\1" + recorded + label_of(recorded_label, version) + its_set
+    return its_config + label_of(label, version) + struct.pack(">Q", revision) + flag + SPARE[version]
 
 
 def configure(number, its_config, version=WRITTEN, label=b""):
@@ -167,8 +166,8 @@ def with_large_sets(version=WRITTEN):
 
 def with_labels():
     image = Image(3, 5)
-    ports = [port(IN_USE, 1, label=b"A\\B & <C> D"), port(IN_USE, 1, IN_USE, SMALL_SET, label=b"Pump 3"), blank_port()]
-    image.area("A", True, 1, 0, ports)
+    ports = [port(IN_USE, 1, label=b"A\\B & <C> D"), port(IN_USE, 2, IN_USE, SMALL_SET, label=b"Pump 4", recorded_label=b"Pump 3")]
+    image.area("A", True, 1, 0, [*ports, blank_port()])
     image.batch("A", 0, 1, 1, [configure(3, IN_USE, label=b"~" * 32)])
     return image
 

@@ -320,7 +320,7 @@ class Mutant(made.Image):
         recorded = self.chance.choice((None, made.IN_USE, its[:1] + b"\3" + its[2:]))
         numbers = (recorded or its)[2:]
         parameters = self.a_set(int.from_bytes(numbers[:2], "big"), int.from_bytes(numbers[2:], "big"))
-        octets = made.port(its, self.chance.choice((0, 1, 7, 2**64 - 1)), recorded, parameters, self.version(area), self.a_label())
+        octets = made.port(its, self.chance.choice((0, 1, 7, 2**64 - 1)), recorded, parameters, self.version(area), self.a_label(), self.a_label())
         self.put(self.port(area, place), octets)
         return f"the record of port {place + 1} of area {area} becomes {octets[:48].hex().upper()} .. of {len(octets)} octets"
 

@@ -1,5 +1,5 @@
 -- Which batches a journal takes, from what it tests.
-use Rattle.std.proofs.Common.{◌≡◌, ◌≤◌, ◌+◌, nat_lt, true, false, ℕ, List, length, Some, None, refl, arith}
+use Rattle.std.proofs.Common.{◌≡◌, ◌≤◌, ◌+◌, true, false, ℕ, List, length, Some, None, refl, arith}
 use Rattle.std.proofs.lemmas.Bool.Decides.{nat_tests}
 use Rattle.iol_types.specs.Command.{CommandValue}
 use Rattle.iol_types.specs.State.{legal}

@@ -1,5 +1,5 @@
 -- The laws of journals, for proofs of other crates.
-use Rattle.std.proofs.Common.{◌≡◌, ◌<◌, ◌⊎◌, ◌+◌, ◌-◌, nat_lt, Bool, true, false, if◌then◌else◌, IsTrue, ℕ, List, Some, None, inl, inr}
+use Rattle.std.proofs.Common.{◌≡◌, ◌<◌, ◌⊎◌, ◌-◌, nat_lt, Bool, true, false, if◌then◌else◌, IsTrue, ℕ, List, Some, None, inl, inr}
 use Rattle.std.proofs.Common.{refl, sym, ◌∙◌, ap, arith}
 use Rattle.std.proofs.lemmas.Bool.Decides.{nat_tests}
 use Rattle.iol_types.specs.Command.{CommandValue}

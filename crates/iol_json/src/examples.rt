@@ -3,9 +3,9 @@
 ghost use Rattle.std.specs.Prelude.{◌≡◌, [], ◌∷◌, ◌++◌, codes, Some};
 ghost use Rattle.serde_json.specs.Data.{string, object, member, no_members};
 ghost use Rattle.serde_json.specs.Read.{read};
-ghost use Rattle.iol_types.specs.Examples.{example_config, example_port, port_of};
+ghost use Rattle.iol_types.specs.Examples.{example_config, example_port, example_stored, port_of};
 ghost use Rattle.iol_types.specs.declared.port_state.TheConstants.{LAST_REVISION};
-ghost use Rattle.iol_json.specs.Json.{whole, entry_data, state_data};
+ghost use Rattle.iol_json.specs.Json.{whole, entry_data, port_data, state_data};
 
 /// A text that reads as a state of two ports: one with a stored set, and one without.
 pub fn a_state()
@@ -19,6 +19,20 @@ pub fn a_state()
         ++ codes "\"configuration\": {\"mode\": 1, \"validation\": 3, \"vendor\": 500, \"device\": 43981, \"label\": \"\"}, "
         ++ codes "\"set\": null}]}")
         ≡ Some (state_data 4 (example_port ∷ port_of example_config 7 ∷ [])) }
+{}
+
+/// A port whose set was taken under another label than it has now, and a reverse solidus, which JSON writes as two.
+pub fn labels()
+    ensures { read (codes "{\"port\": 1, \"revision\": 1, "
+        ++ codes "\"configuration\": {\"mode\": 1, \"validation\": 3, \"vendor\": 500, \"device\": 43981, \"label\": \"A\\\\B & <C>\"}, "
+        ++ codes "\"set\": {\"checksum\": 591, \"octets\": 11, "
+        ++ codes "\"under\": {\"mode\": 1, \"validation\": 3, \"vendor\": 500, \"device\": 43981, \"label\": \"Pump 3\"}, "
+        ++ codes "\"entries\": [{\"index\": 64, \"subindex\": 0, \"data\": \"0A64\"}, "
+        ++ codes "{\"index\": 65, \"subindex\": 1, \"data\": \"7F\"}]}}")
+        ≡ Some (port_data 1 (record example_port {
+          config = record example_config { label = codes "A\\B & <C>" };
+          stored = Some (record example_stored { recorded = record example_config { label = codes "Pump 3" } });
+        })) }
 {}
 
 /// A parameter without octets has an empty text, and the last revision stands whole.

@@ -1,21 +1,19 @@
 -- Writes in the area that is not in use. They change no meaning while it is harmless; once it is written whole, its open
 -- gate puts it in use.
-use Rattle.std.proofs.Common.{◌≡◌, ◌≤◌, ◌<◌, ◌⊎◌, inl, inr, ℕ, zero, suc, ◌+◌, ◌==◌, nat_lt, Bool, true, false, if◌then◌else◌, Option, Some}
-use Rattle.std.proofs.Common.{None, Ok, Err, refl, sym, ◌∙◌, ap, subst, arith}
-use Rattle.std.proofs.lemmas.Bool.Decides.{nat_tests}
+use Rattle.std.proofs.Common.{◌≡◌, ◌≤◌, ◌<◌, ◌⊎◌, inl, inr, ℕ, zero, suc, ◌+◌, Bool, true, false, if◌then◌else◌, Option, Some}
+use Rattle.std.proofs.Common.{None, Ok, refl, ◌∙◌, ap, arith}
 use Rattle.iol_types.specs.State.{State}
 use Rattle.iol_disk.specs.Content.{Image}
 use Rattle.iol_slots.specs.Gate.{is_open}
 use Rattle.iol_layout.specs.Header.{header_of, is_sound}
 use Rattle.iol_layout.specs.Layout.{Layout, other, area_sectors, gate_at, header_at, slot_at}
 use Rattle.iol_record.specs.declared.version.Version.{Version}
-use Rattle.iol_layout.specs.Meaning.{geometry_in, header_in, in_use_in, ports_from, log_from, Standing}
+use Rattle.iol_layout.specs.Meaning.{geometry_in, header_in, ports_from, log_from, Standing}
 use Rattle.iol_layout.specs.Kept.{IsIdle, IsKeptAs}
 use Rattle.iol_layout.specs.declared.area.Area.{Area}
 use Rattle.iol_layout.specs.declared.area.Area.TheVariants.{A, B}
 use Rattle.iol_layout.specs.declared.header.Header.{Header}
 use Rattle.iol_layout.specs.declared.geometry.TheConstants.{GEOMETRY, DISK_GATE}
-use Rattle.iol_layout.specs.declared.in_use.InUse.{InUse}
 use Rattle.iol_layout.specs.declared.idle.Idle.{Idle}
 use Rattle.iol_layout.specs.declared.idle.Idle.TheVariants.{Older, Closed}
 use Rattle.iol_layout.proofs.AreasInUse.{IsBefore, in_use_header, put_in_use}

@@ -1,12 +1,12 @@
 -- A whole standing, as it is read, taken apart and put together.
-use Rattle.std.proofs.Common.{◌≡◌, ℕ, Option, Some, Ok, Result, refl, sym, ◌∙◌, ap, subst}
+use Rattle.std.proofs.Common.{◌≡◌, ℕ, Option, Some, Ok, refl, sym, ◌∙◌, ap, subst}
 use Rattle.iol_types.specs.State.{State}
 use Rattle.iol_record.specs.declared.version.Version.{Version}
 use Rattle.iol_disk.specs.Content.{Image}
 use Rattle.iol_layout.specs.Geometry.{Geometry}
 use Rattle.iol_layout.specs.Header.{version_in}
 use Rattle.iol_layout.specs.Layout.{Layout, laid_out, layout_of}
-use Rattle.iol_layout.specs.Meaning.{Cause, Standing, Log, geometry_in, in_use_in, ports_from, log_from, layout_used, standing_in}
+use Rattle.iol_layout.specs.Meaning.{Standing, Log, geometry_in, in_use_in, ports_from, log_from, layout_used, standing_in}
 use Rattle.iol_layout.specs.declared.header.Header.{Header}
 use Rattle.iol_layout.specs.declared.in_use.InUse.{InUse}
 use Rattle.iol_layout.proofs.AreasInUse.{in_use_header}

@@ -155,6 +155,8 @@ pub fn first_causes()
     ensures no_area { greatest (layout_of two_by_four) None None ≡ Err (damaged 2) }
     ensures one_epoch { greatest (layout_of two_by_four) (Some (header_with Two 1 0)) (Some (header_with Two 1 5))
         ≡ Err (damaged 91) }
+    ensures one_epoch_unsound { greatest (layout_of two_by_four) (Some (record { epoch = 1; base = 0; version = None }))
+        (Some (header_with Two 1 5)) ≡ Err (damaged 91) }
     ensures newer_b { greatest (layout_of two_by_four) (Some (header_with One 1 0)) (Some (header_with Two 2 1))
         ≡ Ok (record { area = Area.B; header = header_with Two 2 1 }) }
     ensures unsound_a { greatest (layout_of two_by_four) (Some (header_with Two 3 0)) (Some (header_with Two 2 1))

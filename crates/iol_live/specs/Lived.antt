@@ -1,5 +1,5 @@
 -- What is printed of a running master, and why nothing is.
-use Rattle.std.specs.Prelude.{◌≡◌, ◌⊎◌, Some, None, ℕ, ◌+◌, nat_le, Bool, true, false, List, ◌++◌, length, codes, Ok}
+use Rattle.std.specs.Prelude.{◌≡◌, ◌⊎◌, Some, None, ℕ, ◌+◌, nat_le, Bool, false, List, ◌++◌, length, codes, Ok}
 use Rattle.std.specs.Fmt.{decimal}
 use Rattle.std.specs.List.{list_all}
 use Rattle.iol_types.specs.Command.{CommandValue}

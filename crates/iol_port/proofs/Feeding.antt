@@ -1,5 +1,5 @@
 -- A machine that is fed, also where memory runs out.
-use Rattle.std.proofs.Common.{◌≡◌, ℕ, sym, subst, inl, inr}
+use Rattle.std.proofs.Common.{ℕ, sym, subst, inl, inr}
 use Rattle.arrayvec.specs.ArrayVec.{ArrayVec}
 use Rattle.iol_isdu.specs.Reading.{answer_of}
 use Rattle.iol_port.specs.Answers.{RunsOut}

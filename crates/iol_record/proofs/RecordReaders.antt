@@ -1,12 +1,10 @@
 -- Records read back: a record is read, whatever follows it, and what is read is a record.
-use Rattle.std.proofs.Common.{◌≡◌, ℕ, ◌<◌, ◌≤◌, ◌^◌, Bool, true, false, List, [], ◌∷◌, ◌++◌, length, Option, Some, None, Ok, Err, refl, ap}
-use Rattle.std.proofs.Common.{◌∙◌, subst, arith, length-append, ◌+◌, zero, suc, replicate}
+use Rattle.std.proofs.Common.{◌≡◌, ℕ, ◌<◌, ◌≤◌, Bool, true, false, List, [], ◌∷◌, ◌++◌, length, Option, Some, None, Ok, Err, refl, ap}
+use Rattle.std.proofs.Common.{◌∙◌, arith, length-append, ◌+◌, zero, suc, replicate}
 use Rattle.std.specs.Prelude.{IfSome}
 use Rattle.std.proofs.lemmas.Bool.{and_parts, leb-true}
 use Rattle.std.specs.Int.{w64, to_be_bytes}
 use Rattle.iol_types.specs.declared.config.PortConfig.{PortConfig}
-use Rattle.iol_types.specs.declared.config.PortMode.{PortMode}
-use Rattle.iol_types.specs.declared.config.Validation.{Validation}
 use Rattle.iol_types.specs.declared.port_state.TheConstants.{LAST_REVISION}
 use Rattle.iol_types.specs.Numbers.{IsPortNumber}
 use Rattle.iol_types.specs.Config.{IsConfig}

@@ -285,6 +285,8 @@ pub fn octets_kept_for_later()
 pub fn labels_of_records()
     ensures written { LABELLED_RECORD ≡ command_octets Two (Configure 1 (record example_config { label = codes "Pump 3" })) }
     ensures read { command_at Two LABELLED_RECORD ≡ Ok (Configure 1 (record example_config { label = codes "Pump 3" }), []) }
+    ensures one_octet { command_at Two (CONFIGURE_RECORD ++ (1 ∷ 0x50 ∷ []))
+        ≡ Ok (Configure 1 (record example_config { label = codes "P" }), []) }
     ensures longest { command_at Two (CONFIGURE_RECORD ++ (32 ∷ replicate 32 0x7E))
         ≡ Ok (Configure 1 (record example_config { label = replicate 32 0x7E }), []) }
     ensures too_long { command_at Two (CONFIGURE_RECORD ++ (33 ∷ replicate 33 0x7E)) ≡ Err RecordFault.BadField }

@@ -15,7 +15,7 @@ use Rattle.iol_core.specs.Core.{CoreView}
 use Rattle.iol_flush.proofs.RunLaws.{gives, publishes}
 use Rattle.iol_flush.specs.Flushing.{FitsBatch, GoesOn, IsFlushing}
 use Rattle.iol_flush.specs.Stages as flush
-use Rattle.iol_flush.specs.Stages.{FlusherView, StandsBehind, FitsArea}
+use Rattle.iol_flush.specs.Stages.{FlusherView, FitsArea}
 use Rattle.iol_flush.specs.Steps.{HasTaken, HasPublished}
 use Rattle.iol_flush.specs.declared.stage.FlushStage.{FlushStage}
 use Rattle.iol_flush.specs.declared.stage.FlushStage.TheVariants.{Resting, Opening, Given, Checkpointing, Writing, Publishing, Failed}

@@ -14,7 +14,6 @@ use Rattle.iol_journal.specs.Journals.{JournalView}
 use Rattle.iol_journal.specs.Kept.{IsKept}
 use Rattle.iol_journal.specs.Meaning.{Standing, Meaning, Cause, standing_in, meaning}
 use Rattle.iol_record.specs.Reading.{◌>>=◌}
-use Rattle.iol_journal.specs.Runs.{Mark, HasPrefix}
 use Rattle.iol_journal.specs.Runs as journal
 use Rattle.iol_journal.specs.Running.{IsRunAtRest}
 use Rattle.iol_trace.proofs.CrashPrefix.{crash_prefix}

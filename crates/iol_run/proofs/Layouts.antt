@@ -1,6 +1,6 @@
 -- The layout of the journal that a disk shows: turns enough for a full queue are within 128 for each of its sectors, whatever
 -- version it has.
-use Rattle.std.proofs.Common.{◌≡◌, ◌≤◌, ℕ, ◌+◌, ◌*◌, true, List, Ok, refl, ap, sym, ◌∙◌, subst, arith}
+use Rattle.std.proofs.Common.{◌≡◌, ◌≤◌, ℕ, ◌*◌, true, List, Ok, refl, ap, sym, ◌∙◌, subst, arith}
 use Rattle.iol_record.specs.Record.{newest, is_newest}
 use Rattle.iol_record.specs.declared.version.Version.{Version}
 use Rattle.iol_record.specs.declared.version.Version.TheVariants.{One, Two}

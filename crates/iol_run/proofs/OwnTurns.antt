@@ -1,5 +1,5 @@
 -- The turns of the batch with the flusher behind each disk call, and those of a checkpoint for which no batch waits.
-use Rattle.std.proofs.Common.{◌≡◌, refl, ◌≤◌, inl, inr, ℕ, suc, ◌+◌, ◌&&◌, nat_lt, Bool, true, false, if◌then◌else◌, length, None, Some}
+use Rattle.std.proofs.Common.{◌≡◌, refl, ◌≤◌, inl, inr, ℕ, ◌+◌, ◌&&◌, nat_lt, Bool, true, false, if◌then◌else◌, length, None, Some}
 use Rattle.std.proofs.Common.{ap, ◌∙◌, subst, arith, rules}
 use Rattle.std.proofs.lemmas.Bool.Decides.{nat_tests}
 use Rattle.iol_flush.specs.Stages.{HasFewCalls, calls_owed, most_checkpoint_calls, need_of}

@@ -2,7 +2,6 @@
 use Rattle.std.proofs.Common.{◌≡◌, refl, ◌≤◌, ◌⊎◌, inl, inr, ℕ, zero, suc, ◌+◌, ◌-◌, ◌*◌, ◌&&◌, ◌||◌, nat_eq, nat_lt, nat_le, not, Bool}
 use Rattle.std.proofs.Common.{true, false, if◌then◌else◌, is_some, List, [], Ok}
 use Rattle.std.proofs.Common.{◌∷◌, length, Option, Some, None, ap, sym, ◌∙◌, subst, arith, rules, length-drop}
-use Rattle.std.proofs.lemmas.Bool.Decides.{nat_tests}
 use Rattle.std.proofs.Math.Nat.{mul-le-mul_right, mul-zero, one-mul}
 use Rattle.iol_disk.specs.Disk.{Disk}
 use Rattle.iol_core.specs.Batches.{has_batch}

@@ -2,11 +2,12 @@
 //! here.
 
 ghost use Rattle.std.specs.Prelude.{◌≡◌, pos, negsuc, true, false, [], ◌∷◌, map, replicate, codes, Some, None};
-ghost use Rattle.toml.specs.Data.{integer};
+ghost use Rattle.toml.specs.Data.{integer, string, member, no_members};
 ghost use Rattle.iol_disk.specs.declared.fault.DiskFault.TheVariants as disk_call;
 ghost use Rattle.iol_disk.specs.declared.pick.Pick.TheVariants as pick;
 ghost use Rattle.iol_script.specs.Number.{octet_of, calls_of, times_of, port_in, vendor_in, device_in};
 ghost use Rattle.iol_script.specs.Parameter.{key_of, octets_in};
+ghost use Rattle.iol_script.specs.Step.{clear_in, label_or_none};
 ghost use Rattle.iol_script.specs.Parameters.{of_device};
 ghost use Rattle.iol_script.specs.Fail.{kind_of, call_in};
 ghost use Rattle.iol_script.specs.Stop.{keep_of};
@@ -120,6 +121,17 @@ pub fn ports()
     ensures script { fits_ports example_script ≡ true }
     ensures fewer { fits_ports (record example_script { ports = pos 0 }) ≡ false }
     ensures steps { fits_ports (record example_script { ports = pos 0; devices = [] }) ≡ false }
+{}
+
+/// A label is a text of 0 to 32 octets that print, without a quotation mark; where it is missing it is empty, and nothing else is one.
+pub fn labels()
+    ensures texts { map (λ text. label_or_none (Some (string text))) ([] ∷ codes "Pump 3" ∷ replicate 32 65 ∷ [])
+        ≡ Some [] ∷ Some (codes "Pump 3") ∷ Some (replicate 32 65) ∷ [] }
+    ensures refused { map (λ text. label_or_none (Some (string text))) (replicate 33 65 ∷ codes "\"" ∷ (31 ∷ []) ∷ (127 ∷ []) ∷ [])
+        ≡ None ∷ None ∷ None ∷ None ∷ [] }
+    ensures missing { label_or_none None ≡ Some [] }
+    ensures no_text { label_or_none (Some (integer (pos 7))) ≡ None }
+    ensures of_a_clear { clear_in (member (codes "label") (string []) (member (codes "port") (integer (pos 1)) no_members)) ≡ None }
 {}
 
 /// A whole script, with a device and steps of its port and of the flusher.

@@ -169,6 +169,9 @@ pub fn unknown_ports()
 pub fn ports_configured()
     ensures kept { apply (example_port ∷ []) (Configure 1 (record example_config { validation = Validation.Restore }))
         ≡ record (port_of (record example_config { validation = Validation.Restore }) 2) { stored = Some example_stored } ∷ [] }
+    // The set keeps the label under which it was taken.
+    ensures called { apply (example_port ∷ []) (Configure 1 (record example_config { label = codes "Pump 3" }))
+        ≡ record (port_of (record example_config { label = codes "Pump 3" }) 2) { stored = Some example_stored } ∷ [] }
     ensures deleted { apply (example_port ∷ []) (Configure 1 (record example_config { vendor = 501 }))
         ≡ one_port (record example_config { vendor = 501 }) 2 }
     ensures one_of_two { apply (example_port ∷ example_port ∷ []) (Configure 2 (record example_config { device = 1 }))

@@ -1,4 +1,4 @@
-use Rattle.std.proofs.Common.{◌∷◌, [], refl, ◌∙◌, ap, subst}
+use Rattle.std.proofs.Common.{◌∷◌, [], refl, ◌∙◌, subst}
 use Rattle.iol_disk.specs.Calls.{Call, Makes}
 use Rattle.iol_slots.specs.Gate.{open_gate, closed_gate}
 use Rattle.iol_checkpoint.specs.BegunParts.{log_of, commands_owed}

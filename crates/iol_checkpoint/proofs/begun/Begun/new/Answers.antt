@@ -1,10 +1,8 @@
-use Rattle.std.proofs.Common.{◌≤◌, List, [], length, ap, subst, arith}
+use Rattle.std.proofs.Common.{List, [], length, ap, arith}
 use Rattle.iol_record.proofs.RecordLaws.{spells-state}
-use Rattle.iol_area.specs.AreaPlans.{AreRecords}
 use Rattle.iol_layout.proofs.Layouts.{renewed-version}
 use Rattle.iol_batch.specs.Parts.{stands}
 use Rattle.iol_disk.specs.Calls.{Call}
-use Rattle.iol_layout.specs.declared.area.Area.{Area}
 use Rattle.iol_checkpoint.specs.Checkpoints.{checkpointed}
 use Rattle.iol_checkpoint.proofs.CheckpointSizes.{at_most}
 use Rattle.iol_checkpoint.proofs.StageCalls.{all_calls}

@@ -1,4 +1,4 @@
-use Rattle.std.proofs.Common.{◌≤◌, ◌+◌, ◌*◌, length, subst, arith}
+use Rattle.std.proofs.Common.{◌≤◌, ◌+◌, ◌*◌, length, subst}
 use Rattle.iol_checkpoint.specs.BegunParts.{view_of, IsSetAside}
 use Rattle.iol_checkpoint.specs.Pauses.{calls_of}
 use Rattle.iol_journal.specs.Journals.{JournalView}
