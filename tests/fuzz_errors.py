@@ -13,6 +13,7 @@ LABEL = r"[ !#-~]{0,32}"
 STEP_KEYS = {
     "configure": CONFIG_KEYS,
     "clear": {"port": (1, 32)},
+    "rollback": {"port": (1, 32)},
     "port": {"port": (1, 32), "times": (1, 10_000)},
     "flush": {"times": (1, 10_000)},
     "drain": {},

@@ -20,7 +20,7 @@ STATUSES = (
 )
 LINES = {
     "accepted": re.compile(r"accepted (\d+)"),
-    "refused": re.compile(r"refused (Stopped|UnknownPort|RevisionSpent|QueueFull|Exhausted)"),
+    "refused": re.compile(r"refused (Stopped|UnknownPort|RevisionSpent|NoPrevious|QueueFull|Exhausted)"),
     "page": re.compile(rf"port (\d+) page{OCTETS}"),
     "sent": re.compile(rf"port (\d+) >{OCTETS}"),
     "heard": re.compile(rf"port (\d+) <{OCTETS}"),
@@ -164,6 +164,8 @@ class Judge:
             return "Stopped"
         if command.port > self.script["ports"]:
             return "UnknownPort"
+        if command.is_rollback and not self.live(command.port).previous:
+            return "NoPrevious"
         return "QueueFull" if len(self.commands) - self.acknowledged >= words.MOST_WAITING else "accepted"
 
     def hear_refused(self, cause, before, behind):

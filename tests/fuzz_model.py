@@ -39,6 +39,8 @@ class Core:
             return "Stopped"
         if command.port > len(self.states[0]):
             return "UnknownPort"
+        if command.is_rollback and not self.live(command.port).previous:
+            return "NoPrevious"
         return "QueueFull" if len(self.commands) - self.acknowledged == words.MOST_WAITING else None
 
     def submit(self, command):

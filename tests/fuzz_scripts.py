@@ -161,7 +161,7 @@ class Maker:
         for _ in range(self.number(60, 72)):
             # (mostly of another port than 1, whose upload goes on beside the queue)
             port = self.random.choice(self.ports[1:] or self.ports) if self.is_so(95) else 1
-            self.draw(5, self.configure, 1, self.clear)(port)
+            self.draw(10, self.configure, 2, self.clear, 1, self.rollback)(port)
         self.step_port(1, self.number(1, 20))
         for _ in range(self.number(2, 10)):
             self.do_something()
@@ -182,7 +182,7 @@ class Maker:
         self.put_devices(1)
         self.begin([1])
         for _ in range(self.number(4, 12) + slots // 2):
-            self.draw(4, self.configure, 1, self.clear)(self.number(1, self.ports[-1]))
+            self.draw(8, self.configure, 2, self.clear, 1, self.rollback)(self.number(1, self.ports[-1]))
             self.draw(2, self.drain, 3, self.flush)()
             if self.is_so(30):
                 self.step_port(1)
@@ -289,24 +289,26 @@ class Maker:
     def do_something(self, ports=None, longest=30):
         """One step of some kind, or several that go side by side."""
         port = self.random.choice(ports or self.ports)
-        kind = self.draw(3, "configure", 1, "clear", 10, "port", 4, "flush", 5, "drain", 3, "beside", 4, "between", 1, "nowhere")
-        if kind in ("configure", "clear"):
+        kind = self.draw(
+            3, "configure", 1, "clear", 2, "rollback", 10, "port", 4, "flush", 5, "drain", 3, "beside", 4, "between", 1, "nowhere"
+        )
+        if kind in ("configure", "clear", "rollback"):
             getattr(self, kind)(port)
         elif kind == "port":
             self.step_port(port, self.draw(3, self.number(1, 4), 5, self.number(5, 16), 2, self.number(17, longest)))
         elif kind in ("beside", "between"):
             getattr(self, f"go_{kind}")(port)
         elif kind == "nowhere":
-            self.draw(1, self.configure, 1, self.clear)(self.draw(1, min(32, self.script["ports"] + 1), 1, 32))
+            self.draw(1, self.configure, 1, self.clear, 1, self.rollback)(self.draw(1, min(32, self.script["ports"] + 1), 1, 32))
         else:
             getattr(self, kind)()
 
     def go_beside(self, port):
         """Steps of a port, of the flusher and of clients in turns."""
         for _ in range(self.number(3, 12)):
-            kind = self.draw(6, self.step_port, 6, self.flush, 1, self.configure)
-            if kind == self.configure:
-                self.configure(port)
+            kind = self.draw(12, self.step_port, 12, self.flush, 2, self.configure, 1, self.rollback)
+            if kind in (self.configure, self.rollback):
+                kind(port)
             else:
                 kind(*([port] if kind == self.step_port else []), times=self.number(1, 2))
 
@@ -315,8 +317,8 @@ class Maker:
         if self.is_so(50):
             self.configure(port, usual=95)
         self.step_port(port, self.draw(6, 5, 1, 6, 2, self.number(1, 16)))
-        if self.is_so(20):
-            self.clear(port)
+        if self.is_so(30):
+            self.draw(2, self.clear, 1, self.rollback)(port)
         else:
             self.configure(port, usual=100)
             stranger = {"device": self.random.choice(DEVICES)}
@@ -338,6 +340,9 @@ class Maker:
 
     def clear(self, port):
         self.steps.append({"do": "clear", "port": port})
+
+    def rollback(self, port):
+        self.steps.append({"do": "rollback", "port": port})
 
     def step_port(self, port, times=None):
         self.steps.append({"do": "port", "port": port, "times": times or self.number(1, 16)})

@@ -59,6 +59,16 @@ def keeps_a_set_over_a_configure(lines, read):
     return None if state == read.states[number] else behind_stop(lines, words.recovered_lines(number, state))
 
 
+def copies_the_previous_set_over_the_present_one(lines, read):
+    number, state = recovered_number(lines), read.states[0]
+    for command in read.commands[:number]:
+        state = words.state_after(state, command)
+        held = state[command.port - 1]
+        if command.is_rollback:
+            state = (*state[: command.port - 1], held._replace(previous=held.stored()), *state[command.port :])
+    return None if state == read.states[number] else behind_stop(lines, words.recovered_lines(number, state))
+
+
 def recovers_less_than_was_acknowledged(lines, read):
     number = read.acknowledged - 1
     return behind_stop(lines, words.recovered_lines(number, read.states[number])) if number >= 0 else None
@@ -221,6 +231,7 @@ OF_LINES = {
     "acknowledges one command more, which is lost": (acknowledges_what_is_lost, "recovery"),
     "opens a gate before the sync of what stands behind it": (opens_a_gate_before_the_sync, "durability"),
     "keeps a set over a Configure that deletes it": (keeps_a_set_over_a_configure, "states"),
+    "copies the previous set over the present one": (copies_the_previous_set_over_the_present_one, "states"),
     "recovers a command less than was acknowledged": (recovers_less_than_was_acknowledged, "recovery"),
     "recovers a command that was never accepted": (recovers_what_was_never_accepted, "recovery"),
     "recovers a batch whose gate is not written": (recovers_a_batch_that_is_not_written, "recovery"),

@@ -41,21 +41,28 @@ class ParameterSet(typing.NamedTuple):
 
 
 class Port(typing.NamedTuple):
-    """The state of a port: `recorded` is the configuration that its set was taken under."""
+    """The state of a port: `recorded` is the configuration that its set was taken under, and `previous` what it had stored
+    before, a set and such a configuration."""
 
     config: Config = Config(0, 0, 0, 0)
     revision: int = 0
     parameters: typing.Optional[ParameterSet] = None
     recorded: typing.Optional[Config] = None
+    previous: typing.Optional[tuple] = None
+
+    def stored(self):
+        """The set and its configuration, if there is one."""
+        return (self.parameters, self.recorded) if self.parameters else None
 
 
 @dataclasses.dataclass(frozen=True)
 class Command:
-    """A Configure has a configuration, a Store a set, and a Clear neither."""
+    """A Configure has a configuration, a Store a set, and a Clear or a Rollback neither."""
 
     port: int
     config: typing.Optional[Config] = None
     parameters: typing.Optional[ParameterSet] = None
+    is_rollback: bool = False
 
     def record_octets(self):
         """How many octets its record has."""
@@ -68,7 +75,7 @@ def client_command(step):
     """The command that a client's step asks for; none where the step is no client's."""
     if step["do"] == "configure":
         return Command(step["port"], Config(step["mode"], step["validation"], step["vendor"], step["device"], step.get("label", "")))
-    return Command(step["port"]) if step["do"] == "clear" else None
+    return Command(step["port"], is_rollback=step["do"] == "rollback") if step["do"] in ("clear", "rollback") else None
 
 
 def may_keep(config):
@@ -83,11 +90,13 @@ def keeps_set(old, new):
 def port_after(port, command):
     """The state of a command's port behind the command."""
     if command.parameters:
-        return port._replace(parameters=command.parameters, recorded=port.config)
+        return port._replace(parameters=command.parameters, recorded=port.config, previous=port.stored())
+    if command.is_rollback:
+        return port._replace(parameters=port.previous[0], recorded=port.previous[1], previous=port.stored())
     if not command.config:
-        return port._replace(parameters=None, recorded=None)
+        return port._replace(parameters=None, recorded=None, previous=None)
     kept = port if keeps_set(port.config, command.config) else Port()
-    return Port(command.config, port.revision + 1, kept.parameters, kept.recorded)
+    return Port(command.config, port.revision + 1, *kept[2:])
 
 
 def state_after(state, command):
@@ -98,8 +107,8 @@ def state_after(state, command):
 
 def port_record_octets(port):
     """How many octets the record of a port has."""
-    labels = len(port.config.label) + (len(port.recorded.label) if port.recorded else 0)
-    return labels + (40 + port.parameters.octets() if port.parameters else 19)
+    sets = [stored for stored in (port.stored(), port.previous) if stored]
+    return 19 + len(port.config.label) + sum(21 + len(recorded.label) + parameters.octets() for parameters, recorded in sets)
 
 
 def given_up(ports):
@@ -113,9 +122,13 @@ def port_lines(number, port):
     line = f"port {number} revision {port.revision} mode {config.mode} validation {config.validation}"
     label = f' label "{config.label}"' if config.label else ""
     line += f" vendor {config.vendor:04X} device {config.device:06X}{label} set"
-    if not held:
-        return [f"{line} none"]
-    under = "{} {} {:04X} {:06X}".format(*port.recorded[:4])
+    lines = set_lines(line, held, port.recorded) if held else [f"{line} none"]
+    return lines + (set_lines("previous", *port.previous) if port.previous else [])
+
+
+def set_lines(line, held, recorded):
+    """The lines of a set of a port, of which the first begins so."""
+    under = "{} {} {:04X} {:06X}".format(*recorded[:4])
     line += f" {len(held.entries)} entries {held.octets()} octets checksum {held.checksum:08X} under {under}"
     entries = [f"entry {index:04X}.{subindex:02X} {octets.hex().upper()}".rstrip() for (index, subindex), octets in held.entries]
     return [line, *entries]

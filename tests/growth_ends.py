@@ -30,6 +30,7 @@ def turns(times):
 
 TURNS = turns(32)
 CLEAR = '[[step]]\ndo = "clear"\nport = 1\n'
+ROLLBACK = '[[step]]\ndo = "rollback"\nport = 1\n'
 
 
 def configured(validation=3):
@@ -70,6 +71,11 @@ SCHEDULES = {
     # Configured again and again, under validations that keep the set and one that does not, and cleared.
     "changes": sensor(["0A64", "7F"], KEYS, "flag = true\n")
     + backed_up(13) + configured() + configured(4) + TURNS + configured(2) + CLEAR + TURNS,
+    # A second set, and the first one again; of the largest sets too, which a checkpoint writes.
+    "rollback": sensor(["0A64", "7F"], KEYS, "flag = true\nanswers = 10\n") + sensor(["0A64", "80"], KEYS, "flag = true\n")
+    + backed_up(13) + stepped(16) + TURNS + stepped(2) + ROLLBACK + TURNS,
+    "largest rollback": sensor(largest("A7"), LARGEST_KEYS, "flag = true\nanswers = 26\n")
+    + sensor(largest("00"), LARGEST_KEYS, "flag = true\n") + backed_up(29) + stepped(32) + TURNS + stepped(2) + ROLLBACK + turns(96),
     # More batches than slots.
     "checkpoints": 10 * (configured() + TURNS),
     # A batch between two calls of a checkpoint, which carries it. A batch has a turn to spare, so that one that finds no memory is

@@ -6,7 +6,6 @@ SECTOR = 512
 # The versions of an area, by the octet of its header.
 FIRST, WRITTEN = 0, 2
 PORT_SECTORS = {FIRST: 9, WRITTEN: 17}
-SPARE = {FIRST: b"", WRITTEN: b"\0"}
 BODY_SECTORS = 16
 MARK = bytes.fromhex("494F4C5301")
 OPEN = bytes.fromhex("A55A" * 4)
@@ -44,9 +43,14 @@ def label_of(label, version):
     return bytes([len(label)]) + label if version == WRITTEN else b""
 
 
-def port(its_config, revision, recorded=None, its_set=b"", version=WRITTEN, label=b"", recorded_label=b""):
-    flag = b"\0" if recorded is None else b"\1" + recorded + label_of(recorded_label, version) + its_set
-    return its_config + label_of(label, version) + struct.pack(">Q", revision) + flag + SPARE[version]
+def stored(recorded, its_set, version, label=b""):
+    """A set of a port with the configuration that it was taken under, if that is given, behind its flag."""
+    return b"\0" if recorded is None else b"\1" + recorded + label_of(label, version) + its_set
+
+
+def port(its_config, revision, recorded=None, its_set=b"", version=WRITTEN, label=b"", recorded_label=b"", previous=b"\0"):
+    sets = stored(recorded, its_set, version, recorded_label) + (previous if version == WRITTEN else b"")
+    return its_config + label_of(label, version) + struct.pack(">Q", revision) + sets
 
 
 def configure(number, its_config, version=WRITTEN, label=b""):
@@ -55,6 +59,10 @@ def configure(number, its_config, version=WRITTEN, label=b""):
 
 def store(number, revision, its_set):
     return bytes([3, number]) + struct.pack(">Q", revision) + its_set
+
+
+def rollback(number):
+    return bytes([4, number])
 
 
 class Image:
@@ -172,6 +180,18 @@ def with_labels():
     return image
 
 
+def with_previous_sets():
+    """A small previous set, the largest record of a port, and a port without sets; Rollbacks of them, of which two are one behind
+    the other, and one is behind the Store that makes it pass."""
+    image = Image(3, 6)
+    ports = [port(IN_USE, 1, IN_USE, LARGE_SET, previous=stored(IN_USE, SMALL_SET, WRITTEN, b"Pump 3"))]
+    ports += [port(IN_USE, 2, IN_USE, LARGE_SET, WRITTEN, b"~" * 32, b"~" * 32, stored(IN_USE, LARGE_SET, WRITTEN, b"~" * 32))]
+    image.area("A", True, 1, 0, [*ports, port(IN_USE, 1)])
+    image.batch("A", 0, 1, 1, [rollback(1), rollback(2), rollback(2)])
+    image.batch("A", 1, 1, 4, [store(3, 1, SMALL_SET), store(3, 1, LARGE_SET), rollback(3)])
+    return image
+
+
 def largest():
     image = Image(32, 256, 3 * SECTOR + 100)
     for place in range(image.kept("A")):
@@ -189,6 +209,7 @@ IMAGES = {
     "all slots": over_all_slots,
     "17 slots": over_17_slots,
     "large sets": with_large_sets,
+    "previous sets": with_previous_sets,
     "the largest": largest,
     "empty, of version 1": lambda: Image(2, 4, version=FIRST),
     "batches of version 1": lambda: with_batches(FIRST),

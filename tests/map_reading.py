@@ -5,7 +5,7 @@ from __future__ import annotations
 import dataclasses
 import struct
 
-from map_images import BODY_SECTORS, FIRST, MARK, OPEN, PORT_SECTORS, SECTOR, SPARE, WRITTEN, area_sectors, kept_slots
+from map_images import BODY_SECTORS, FIRST, MARK, OPEN, PORT_SECTORS, SECTOR, WRITTEN, area_sectors, kept_slots
 
 LAST_NUMBER = 2**62
 EPOCHS_AHEAD = {FIRST: 1, WRITTEN: 2}
@@ -186,9 +186,12 @@ class Fields:
             raise ValueError
         return octets.decode()
 
-    def spare(self):
-        for octet in SPARE[self.version]:
-            self.number(1, octet)
+    def stored(self):
+        """A set with the configuration that it was taken under, if there is one."""
+        return (self.config(), self.set()) if self.number(1, 1) else None
+
+    def previous(self):
+        return None if self.version == FIRST else self.stored()
 
     def set(self):
         vendor, device, checksum, count = self.number(2), self.number(4, 0xFFFFFF), self.number(4), self.number(2)
@@ -213,20 +216,26 @@ def keeps(old, new):
     return all(its[0] == 1 and its[1] in (3, 4) for its in (old, new)) and old[2:4] == new[2:4]
 
 
+def may_have(its, stored):
+    recorded, its_set = stored
+    return recorded[:2] == (1, 3) and recorded[2:4] == its_set[:2] and keeps(recorded, its)
+
+
+def said_of(stored):
+    _, _, checksum, count, total = stored[1]
+    return f"set of {count} entries, {total} octets, checksum {checksum:08X}"
+
+
 def read_port(octets, version):
     """What a record says, '' where it is none, and None where it is not whole."""
     fields = Fields(octets, version)
     try:
         its = fields.config()
-        revision, flag = fields.number(8), fields.number(1, 1)
-        said = "no set"
-        if flag:
-            recorded, its_set = fields.config(), fields.set()
-        fields.spare()
-        if flag:
-            if recorded[:2] != (1, 3) or recorded[2:4] != its_set[:2] or not keeps(recorded, its):
-                return ""
-            said = f"set of {its_set[3]} entries, {its_set[4]} octets, checksum {its_set[2]:08X}"
+        revision, stored, previous = fields.number(8), fields.stored(), fields.previous()
+        if previous and not stored or not all(may_have(its, kept) for kept in (stored, previous) if kept):
+            return ""
+        said = said_of(stored) if stored else "no set"
+        said += f", previous {said_of(previous)}" if previous else ""
     except Short:
         return None
     except ValueError:

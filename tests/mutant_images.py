@@ -28,8 +28,9 @@ BOUNDS = {
     "ports": (2, 31, 32, 33), "slots": (2, 4, 256, 257), "body sectors": (15, 17), "base": (2**62, 2**62 + 1),
     "mode": (3, 4, 5), "validation": (3, 4, 5), "vendor": (500,),
     "device": (43981, 0x00FFFFFF, 0x01000000), "device of a set": (43981, 0x00FFFFFF, 0x01000000),
-    "count": (2, 64, 65), "octets": (10, 8170, 8171, 16362, 16363, 2**32 - 22), "tag": (2, 3, 4), "port": (2, 32, 33),
-    "version": (0, 1, 2, 3), "spare": (1,), "length of a label": (1, 32, 33), "count of entries": (2, 1024, 1025), "Index": (2, 3, 4, 64), "length": (231, 232, 233),
+    "count": (2, 64, 65), "octets": (10, 8170, 8171, 16362, 16363, 2**32 - 22), "tag": (2, 3, 4, 5), "port": (2, 32, 33),
+    "version": (0, 1, 2, 3), "flag of a previous set": (1, 2), "length of a label": (1, 32, 33), "count of entries": (2, 1024, 1025),
+    "Index": (2, 3, 4, 64), "length": (231, 232, 233),
 }  # fmt: skip
 # The kinds of sectors, and how often one is taken beside the others.
 KINDS = {"geometry": 1, "gate of the disk": 1, "gate of an area": 3, "header": 4, "record": 4, "gate of a slot": 4, "body": 6}
@@ -63,7 +64,7 @@ def clients_of(name):
     """A script of examples/ for `live`: its devices, and those of its steps that are a client's."""
     with open(f"{TOP}/examples/{name}.toml", encoding="utf-8") as file:
         head, *steps = file.read().split("[[step]]")
-    return "[[step]]".join([head, *(step for step in steps if re.search(r'^do = "(configure|clear)"', step, re.M))])
+    return "[[step]]".join([head, *(step for step in steps if re.search(r'^do = "(configure|clear|rollback)"', step, re.M))])
 
 
 def take_one_processor():
@@ -280,7 +281,9 @@ class Mutant(made.Image):
         """A record of a command that mostly passes its check."""
         place = self.chance.randrange(len(reader.ports))
         port = reader.ports[place]
-        kind = self.chance.choice(("configure", "clear", "store", "store", "store"))
+        kind = self.chance.choice(("configure", "clear", "rollback", "store", "store", "store"))
+        if kind == "rollback" and (port.previous or self.chance.random() < 0.1):
+            return made.rollback(place + 1)
         if kind == "clear":
             return bytes([2, place + 1 + self.chance.choice((0, 0, 0, len(reader.ports)))])
         if kind == "store" and (port.configuration[:2] == (1, 3) or self.chance.random() < 0.1):
@@ -320,7 +323,12 @@ class Mutant(made.Image):
         recorded = self.chance.choice((None, made.IN_USE, its[:1] + b"\3" + its[2:]))
         numbers = (recorded or its)[2:]
         parameters = self.a_set(int.from_bytes(numbers[:2], "big"), int.from_bytes(numbers[2:], "big"))
-        octets = made.port(its, self.chance.choice((0, 1, 7, 2**64 - 1)), recorded, parameters, self.version(area), self.a_label(), self.a_label())
+        previous = b"\0"
+        if recorded and self.chance.random() < 0.5 or self.chance.random() < 0.05:
+            before = self.a_set(int.from_bytes(numbers[:2], "big"), int.from_bytes(numbers[2:], "big"))
+            previous = made.stored(recorded or made.IN_USE, before, self.version(area), self.a_label())
+        labels = self.a_label(), self.a_label()
+        octets = made.port(its, self.chance.choice((0, 1, 7, 2**64 - 1)), recorded, parameters, self.version(area), *labels, previous)
         self.put(self.port(area, place), octets)
         return f"the record of port {place + 1} of area {area} becomes {octets[:48].hex().upper()} .. of {len(octets)} octets"
 

@@ -30,7 +30,8 @@ LAST_NUMBER = 2**62
 # (Records)
 Configuration = namedtuple("Configuration", "mode validation vendor device label")
 ParameterSet = namedtuple("ParameterSet", "vendor device checksum entries")
-Port = namedtuple("Port", "configuration revision recorded parameters", defaults=(None, None))
+StoredSet = namedtuple("StoredSet", "recorded parameters")
+Port = namedtuple("Port", "configuration revision stored previous", defaults=(None, None))
 # What is printed on standard output and on standard error, and the status (Texts).
 Answer = namedtuple("Answer", "out err status")
 
@@ -157,11 +158,10 @@ class Reader:
         fields = Fields(self, range(first, first + self.port_sectors))
         try:
             port = Port(self.configuration(fields), fields.number("revision of a port", 8))
-            if fields.number("flag", 1, (0, 1)):
-                port = port._replace(recorded=self.configuration(fields), parameters=self.parameters(fields))
-            self.spare(fields)
-            if port.recorded:
-                self.check_set_of(port)
+            port = port._replace(stored=self.stored_set(fields, "flag"))
+            if self.version == WRITTEN_VERSION:
+                port = port._replace(previous=self.stored_set(fields, "flag of a previous set"))
+            self.check_sets_of(port)
         except Wrong as wrong:
             raise Cause(f"port: {wrong}", first) from wrong
         return port
@@ -181,10 +181,9 @@ class Reader:
             raise Wrong("a label has an octet that may not stand in it")
         return label
 
-    def spare(self, fields):
-        """(Records, `spare`)"""
-        if self.version == WRITTEN_VERSION:
-            fields.number("spare", 1, [0])
+    def stored_set(self, fields, flag):
+        """A set of a port, if it has one (Records, `sets`)"""
+        return StoredSet(self.configuration(fields), self.parameters(fields)) if fields.number(flag, 1, (0, 1)) else None
 
     def parameters(self, fields):
         """(Records, `set` and `entry`)"""
@@ -204,14 +203,17 @@ class Reader:
             entries[key] = fields.take("octets of an entry", length)
         return ParameterSet(vendor, device, checksum, tuple(entries.items()))
 
-    def check_set_of(self, port):
-        """Whether a port may have its set, at the end of its record (Records, `BadField`)."""
-        if port.parameters[:2] != port.recorded[2:4]:
-            raise Wrong("the numbers of the set are not those of its configuration")
-        if port.recorded[:2] != (IOL_MANUAL, BACKUP_AND_RESTORE):
-            raise Wrong("the set was taken under another configuration")
-        if not self.stays(port.recorded, port.configuration):
-            raise Wrong("the set does not stay")
+    def check_sets_of(self, port):
+        """Whether a port may have its sets, at the end of its record (Records, `BadField`)."""
+        if port.previous and not port.stored:
+            raise Wrong("a previous set stands alone")
+        for recorded, parameters in filter(None, (port.stored, port.previous)):
+            if parameters[:2] != recorded[2:4]:
+                raise Wrong("the numbers of the set are not those of its configuration")
+            if recorded[:2] != (IOL_MANUAL, BACKUP_AND_RESTORE):
+                raise Wrong("the set was taken under another configuration")
+            if not self.stays(recorded, port.configuration):
+                raise Wrong("the set does not stay")
 
     def stays(self, old, new):
         """Whether a set stays where a port is configured (What is done with a device's parameters)."""
@@ -260,7 +262,7 @@ class Reader:
 
     def record(self, fields):
         """Applies the command of one record, where it passes its check (Records; Texts, `refused`)."""
-        tag = fields.number("tag", 1, (1, 2, 3))
+        tag = fields.number("tag", 1, (1, 2, 3) if self.version == FIRST_VERSION else (1, 2, 3, 4))
         place = fields.number("port", 1, range(1, 33)) - 1
         if place >= self.port_count:
             raise Wrong("the port is unknown")
@@ -268,19 +270,25 @@ class Reader:
         if tag == 1:
             port = self.configured(port, self.configuration(fields))
         elif tag == 2:
-            port = port._replace(recorded=None, parameters=None)
-        else:
+            port = port._replace(stored=None, previous=None)
+        elif tag == 3:
             port = self.stored(port, fields.number("revision of a set", 8), self.parameters(fields))
+        else:
+            port = self.rolled_back(port)
         self.ports[place] = port
 
     def configured(self, port, configuration):
         """A port behind a Configure (What is done with a device's parameters; Texts, `RevisionSpent`)."""
         if port.revision == LAST_REVISION:
             raise Wrong("the revision is spent")
-        port = port._replace(configuration=configuration, revision=port.revision + 1)
-        if port.recorded and not self.stays(port.recorded, configuration):
-            port = port._replace(recorded=None, parameters=None)
-        return port
+        kept = port if self.stays(port.configuration, configuration) else Port(None, None)
+        return Port(configuration, port.revision + 1, kept.stored, kept.previous)
+
+    def rolled_back(self, port):
+        """A port behind a Rollback (What is done with a device's parameters; Texts, `NoPrevious`)."""
+        if not port.previous:
+            raise Wrong("there is no previous set")
+        return port._replace(stored=port.previous, previous=port.stored)
 
     def stored(self, port, revision, parameters):
         """A port behind a Store (What is done with a device's parameters; Explained runs, `refused`)."""
@@ -290,7 +298,7 @@ class Reader:
             raise Wrong("the revision is stale")
         if port.configuration[2:4] != parameters[:2]:
             raise Wrong("the set is of another device")
-        return port._replace(recorded=port.configuration, parameters=parameters)
+        return port._replace(stored=StoredSet(port.configuration, parameters), previous=port.stored)
 
     def answer(self):
         """What is printed (Texts)."""
@@ -309,14 +317,18 @@ def lines_of(place, port):
     """The lines of a port (Texts)."""
     mode, validation, vendor, device, label = port.configuration
     line = f"port {place} revision {port.revision} mode {mode} validation {validation} vendor {vendor:04X} device {device:06X} "
-    line += f'label "{label.decode()}" set ' if label else "set "
-    if port.parameters is None:
-        return [f"{line}none"]
-    mode, validation, vendor, device, _ = port.recorded
-    entries = port.parameters.entries
+    line += f'label "{label.decode()}" set' if label else "set"
+    lines = lines_of_set(line, port.stored) if port.stored else [f"{line} none"]
+    return lines + (lines_of_set("previous", port.previous) if port.previous else [])
+
+
+def lines_of_set(line, stored):
+    """The lines of a set of a port, of which the first begins so (Texts)."""
+    mode, validation, vendor, device, _ = stored.recorded
+    entries = stored.parameters.entries
     counted = sum(4 + len(octets) for _, octets in entries)
-    line += f"{len(entries)} entries {counted} octets checksum {port.parameters.checksum:08X} "
-    line += f"under {mode} {validation} {vendor:04X} {device:06X}"
+    line += f" {len(entries)} entries {counted} octets checksum {stored.parameters.checksum:08X}"
+    line += f" under {mode} {validation} {vendor:04X} {device:06X}"
     return [line, *(f"entry {index:04X}.{subindex:02X} {octets.hex().upper()}".rstrip() for (index, subindex), octets in entries)]
 
 

@@ -5,8 +5,7 @@ use Rattle.std.proofs.lemmas.List.{length-replicate}
 use Rattle.std.proofs.lemmas.List.FromFn.{length-map-range_with_len}
 use Rattle.iol_types.specs.State.{Port, State, IsPort}
 use Rattle.iol_record.specs.Reading.{port_record_at}
-use Rattle.iol_record.specs.Record.{port_octets}
-use Rattle.iol_record.specs.declared.encode.TheConstants.{LARGEST_PORT_RECORD}
+use Rattle.iol_record.specs.Record.{port_octets, largest_port_record}
 use Rattle.iol_record.proofs.RecordLaws.{IsPortIn, length-port_octets, port_record_at-record}
 use Rattle.iol_record.specs.declared.version.Version.{Version}
 use Rattle.iol_disk.specs.Content.{Image}
@@ -49,13 +48,13 @@ read-padded version port rest is =
     ap (λ (all : List ℕ). port_of (port_record_at version all)) (append_assoc octets zeros rest)
     ∙ ap port_of (port_record_at-record version octets (zeros ++ rest) port (record { spelling = refl; in_range = is.0; spelled = is.1 }))
 
--- a record reaches nine sectors at most
-reaches : (version : Version) (port : Port) (sectors : ℕ) → IsPort port → LARGEST_PORT_RECORD ≤ SECTOR_OCTETS * sectors
+-- a record reaches the sectors that have room for the largest, at most
+reaches : (version : Version) (port : Port) (sectors : ℕ) → IsPort port → largest_port_record version ≤ SECTOR_OCTETS * sectors
     → sectors_reached (length (port_octets version port)) ≤ sectors
 reaches version port sectors is room = let long = length-port_octets version port is in omega (arith, long.1, room)
 
 port-read : (version : Version) (image : Image) (first sectors : ℕ) (port : Port) → IsPortIn version port
-    → LARGEST_PORT_RECORD ≤ SECTOR_OCTETS * sectors
+    → largest_port_record version ≤ SECTOR_OCTETS * sectors
     → HasWrites (record_writes first (port_octets version port)) image → port_in version image first sectors ≡ Ok port
 port-read version image first sectors port is room has =
     read_at (octets_at-in_slot image (padded octets) first reached sectors there (length-padded octets)
@@ -76,7 +75,7 @@ port-read version image first sectors port is room has =
         ap (λ (all : List ℕ). port_of (port_record_at version all)) at ∙ read-padded version port rest is in
         rw found refl
 
-record-row : (version : Version) (first sectors : ℕ) (port : Port) → IsPort port → LARGEST_PORT_RECORD ≤ SECTOR_OCTETS * sectors
+record-row : (version : Version) (first sectors : ℕ) (port : Port) → IsPort port → largest_port_record version ≤ SECTOR_OCTETS * sectors
     → IsRow first (first + sectors) (record_writes first (port_octets version port))
 record-row version first sectors port is room =
     row-map (λ j. first + j) (λ j. sector_of (padded (port_octets version port)) j) first (first + sectors) 0
@@ -85,7 +84,7 @@ record-row version first sectors port is room =
 
 -- ---- the records of all ports
 
-module _ (layout : Layout) (a : Area) (room : LARGEST_PORT_RECORD ≤ SECTOR_OCTETS * layout.port_sectors) where
+module _ (layout : Layout) (a : Area) (room : largest_port_record layout.version ≤ SECTOR_OCTETS * layout.port_sectors) where
   pub records-row : (p : ℕ) (ports : State) → ArePorts layout.version ports
       → IsRow (port_at layout a p) (port_at layout a (p + length ports)) (port_writes layout a p ports)
   records-row p [] are = omega arith

@@ -8,10 +8,10 @@ use Rattle.std.proofs.lemmas.List.FromFn.{map-range_with_len_more}
 use Rattle.std.proofs.lemmas.Option.{slice_get_within, get_or_from_slice_get, slice_get-get_or}
 use Rattle.std.specs.Option.{option_copied, IsSome}
 use Rattle.iol_types.specs.State.{Port, State, IsPort, port_numbered, blank}
-use Rattle.iol_record.specs.Record.{port_octets, SpellsPort, SpellsState}
-use Rattle.iol_record.specs.declared.encode.TheConstants.{LARGEST_PORT_RECORD}
+use Rattle.iol_record.specs.Record.{port_octets, largest_port_record, SpellsPort, SpellsState}
 use Rattle.iol_record.proofs.RecordLaws.{IsPortIn, length-port_octets}
 use Rattle.iol_record.specs.declared.version.Version.{Version}
+use Rattle.iol_record.specs.declared.version.Version.TheVariants.{One, Two}
 use Rattle.iol_disk.specs.Calls.{Call, write}
 use Rattle.iol_disk.specs.declared.disk.TheConstants.{SECTOR_OCTETS}
 use Rattle.iol_area.specs.AreaPlans.{AreRecords, write_of}
@@ -107,14 +107,24 @@ spelled-at version (other ∷ state) zero port spells there =
     subst (SpellsPort version) same spells.0
 spelled-at version (other ∷ state) (suc place) port spells there = spelled-at version state place port spells.1 there
 
--- a padded record reaches nine sectors at most
-pub record-short : (version : Version) (port : Port) (octets : List ℕ) → octets ≡ padded (port_octets version port) → IsPort port
-    → length octets ≤ 4608
-record-short version port octets spelled is =
-    omega (arith, ap (λ (os : List ℕ). length os) spelled, length-padded (port_octets version port), (length-port_octets version port is).1)
+largest-port : (version : Version) → largest_port_record version ≤ 8349
+largest-port One = omega arith
+largest-port Two = omega arith
 
-pub are-records : (layout : Layout) (a : Area) (state : State) → LARGEST_PORT_RECORD ≤ SECTOR_OCTETS * layout.port_sectors → length state
-    ≡ layout.ports → ArePorts layout.version state
+-- a padded record reaches seventeen sectors at most
+pub record-short : (version : Version) (port : Port) (octets : List ℕ) → octets ≡ padded (port_octets version port) → IsPort port
+    → length octets ≤ 8704
+record-short version port octets spelled is =
+    omega (
+      arith,
+      ap (λ (os : List ℕ). length os) spelled,
+      length-padded (port_octets version port),
+      (length-port_octets version port is).1,
+      largest-port version,
+    )
+
+pub are-records : (layout : Layout) (a : Area) (state : State)
+    → largest_port_record layout.version ≤ SECTOR_OCTETS * layout.port_sectors → length state ≡ layout.ports → ArePorts layout.version state
     → AreRecords layout a state
 are-records layout a state room count are = record {
   row =

@@ -54,7 +54,7 @@ fn push_record(
     octets: &[u8],
 ) -> Result<(), AllocError>
     requires bound { first < 10000 }
-    requires small { length octets.now ≤ SECTOR_OCTETS * 9 }
+    requires small { length octets.now ≤ SECTOR_OCTETS * 17 }
     ensures { OnOk result (map write_of records.new.items
         ≡ map write_of records.old.items
         ++ map (λ j. write (first + j) (sector_of octets.now j)) (range_with_len 0 (length octets.now / SECTOR_OCTETS))) }

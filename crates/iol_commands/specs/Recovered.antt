@@ -42,7 +42,7 @@ config_numbers config =
     decimal (mode_octet config.mode) ++ (codes " " ++ (decimal (validation_octet config.validation) ++ (codes " "
     ++ (hex_digits 4 config.vendor ++ (codes " " ++ hex_digits 6 config.device)))))
 
--- what the line of a port says of its parameter set: how many entries it has, what they count, its checksum, and the
+-- what is said of a parameter set of a port: how many entries it has, what they count, its checksum, and the
 -- configuration that it was taken under (format, Texts)
 abbrev pub set_text : Option Stored → List ℕ
 set_text None = codes "none"
@@ -56,9 +56,15 @@ port_line number port =
     codes "port " ++ (decimal number ++ (codes " revision " ++ (decimal port.revision ++ (codes " " ++ (config_text port.config
     ++ (label_text port.config.label ++ (codes " set " ++ (set_text port.stored ++ codes "\n"))))))))
 
--- the lines of the port with this number: its own, and behind it one for each parameter of its set (format, Texts)
+-- the lines of the previous set of a port: its own, and one for each of its parameters (format, Texts)
+abbrev pub previous_lines : Stored → List ℕ
+previous_lines previous = codes "previous " ++ (set_text (Some previous) ++ (codes "\n" ++ entry_lines previous))
+
+-- the lines of the port with this number: its own, one for each parameter of its set, and those of its previous set
+-- (format, Texts)
 abbrev pub port_text : ℕ → Port → List ℕ
-port_text number port = port_line number port ++ option_map_or entry_lines port.stored []
+port_text number port =
+    port_line number port ++ (option_map_or entry_lines port.stored [] ++ option_map_or previous_lines port.previous [])
 
 -- the lines of ports, of which the first has this number (format, Texts)
 abbrev pub port_lines : ℕ → List Port → List ℕ

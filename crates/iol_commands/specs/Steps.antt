@@ -10,6 +10,7 @@ use Rattle.iol_script.specs.declared.step.Step.TheVariants as said
 abbrev pub task_of : script.Step → Task
 task_of (said.Configure port config) = Client (change.Configure port config)
 task_of (said.Clear port) = Client (change.Clear port)
+task_of (said.Rollback port) = Client (change.Rollback port)
 task_of (said.Port port times) = Port port times
 task_of (said.Flush times) = Flush times
 task_of said.Drain = Drain

@@ -23,6 +23,7 @@ command_name fault.RevisionSpent = codes "RevisionSpent"
 command_name fault.NotAllowed = codes "NotAllowed"
 command_name fault.StaleRevision = codes "StaleRevision"
 command_name fault.WrongDevice = codes "WrongDevice"
+command_name fault.NoPrevious = codes "NoPrevious"
 
 -- the name of why a command is refused (format, Texts)
 abbrev pub refusal_name : trace.Refusal → List ℕ

@@ -4,12 +4,12 @@ ghost use Rattle.std.specs.Prelude.{◌≡◌, [], ◌∷◌, ◌++◌, map, cod
 ghost use Rattle.iol_types.specs.declared.command.CommandFault.TheVariants as fault;
 ghost use Rattle.iol_ident.specs.declared.validation.IdentFault.TheVariants as ident;
 ghost use Rattle.iol_types.specs.Command.{Clear};
-ghost use Rattle.iol_types.specs.Examples.{example_config, example_port, port_of};
+ghost use Rattle.iol_types.specs.Examples.{example_config, example_port, renewed_port, port_of};
 ghost use Rattle.iol_trace.specs.Events as event;
 ghost use Rattle.iol_trace.specs.Statuses as trace;
 ghost use Rattle.iol_commands.specs.Fault.{fault_line};
 ghost use Rattle.iol_commands.specs.Lines.{event_text, lines_of, report_text};
-ghost use Rattle.iol_commands.specs.Recovered.{entry_line, port_line, recovered_text};
+ghost use Rattle.iol_commands.specs.Recovered.{entry_line, port_line, port_text, recovered_text};
 ghost use Rattle.iol_commands.specs.declared.fault.Fault.TheVariants.{NotFormatted, AlreadyFormatted, TooSmall, Damaged, Disk};
 ghost use Rattle.iol_commands.specs.declared.fault.Fault.TheVariants.{Memory, Words, InUse, Thread, Call, Fit, Script, Geometry};
 ghost use Rattle.iol_commands.specs.Texts.{refusal_name, status_text};
@@ -48,8 +48,9 @@ pub fn statuses()
 /// Why a command is refused.
 pub fn refusals()
     ensures of_a_command { map (λ cause. refusal_name (trace.Command cause))
-        (fault.UnknownPort ∷ fault.RevisionSpent ∷ fault.NotAllowed ∷ fault.StaleRevision ∷ fault.WrongDevice ∷ [])
-        ≡ codes "UnknownPort" ∷ codes "RevisionSpent" ∷ codes "NotAllowed" ∷ codes "StaleRevision" ∷ codes "WrongDevice" ∷ [] }
+        (fault.UnknownPort ∷ fault.RevisionSpent ∷ fault.NotAllowed ∷ fault.StaleRevision ∷ fault.WrongDevice ∷ fault.NoPrevious ∷ [])
+        ≡ codes "UnknownPort" ∷ codes "RevisionSpent" ∷ codes "NotAllowed" ∷ codes "StaleRevision" ∷ codes "WrongDevice"
+        ∷ codes "NoPrevious" ∷ [] }
     ensures of_the_core { map refusal_name (trace.Stopped ∷ trace.QueueFull ∷ trace.Exhausted ∷ [])
         ≡ codes "Stopped" ∷ codes "QueueFull" ∷ codes "Exhausted" ∷ [] }
 {}
@@ -94,6 +95,13 @@ pub fn port_lines()
 pub fn states()
     ensures { recovered_text 10 (example_port ∷ port_of example_config 7 ∷ []) ≡ codes "recovered 10\n" ++ port_line 1 example_port
         ++ codes "entry 0040.00 0A64\nentry 0041.01 7F\n" ++ port_line 2 (port_of example_config 7) }
+{}
+
+/// The lines of a port with a previous set: that stands behind the parameters of the present one.
+pub fn previous_sets()
+    ensures { port_text 1 renewed_port ≡ codes "port 1 revision 1 mode 1 validation 3 vendor 01F4 device 00ABCD set "
+        ++ codes "2 entries 11 octets checksum 00000252 under 1 3 01F4 00ABCD\nentry 0040.00 0A64\nentry 0041.01 80\n"
+        ++ codes "previous 2 entries 11 octets checksum 0000024F under 1 3 01F4 00ABCD\nentry 0040.00 0A64\nentry 0041.01 7F\n" }
 {}
 
 /// What a run prints: its events, that the power stopped, and the state that was recovered.

@@ -32,6 +32,7 @@ fn command_name(cause: CommandFault) -> &'static str
         CommandFault::NotAllowed => "NotAllowed",
         CommandFault::StaleRevision => "StaleRevision",
         CommandFault::WrongDevice => "WrongDevice",
+        CommandFault::NoPrevious => "NoPrevious",
     }
 }
 

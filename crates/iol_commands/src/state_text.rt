@@ -4,7 +4,7 @@ ghost use Rattle.std.specs.Fmt.{WritesOnOk};
 ghost use Rattle.std.specs.Option.{option_map_or};
 ghost use Rattle.iol_types.specs.Numbers.{IsPortNumber};
 ghost use Rattle.iol_types.specs.State.{port_numbered};
-ghost use Rattle.iol_commands.specs.Recovered.{entry_lines, port_line, port_text, port_lines, recovered_text};
+ghost use Rattle.iol_commands.specs.Recovered.{entry_lines, previous_lines, port_line, port_text, port_lines, recovered_text};
 
 use crate::entry_text::write_entries;
 use iol_types::{Label, MasterState, PortConfig, PortId, PortState, StoredSet};
@@ -76,7 +76,8 @@ fn write_port<W: fmt::Write>(
     match state.port(number) {
         Some(port) => {
             write_port_line(f, number.number(), port)?;
-            write_stored(f, port)
+            write_stored(f, port)?;
+            write_previous(f, port)
         }
         None => Ok(()),
     }
@@ -102,6 +103,19 @@ fn write_stored<W: fmt::Write>(f: &mut fmt::Formatter<W>, port: &PortState) -> f
 {
     match port.stored() {
         Some(stored) => write_entries(f, &stored.set),
+        None => Ok(()),
+    }
+}
+
+// The lines of the previous set of a port, if it has one.
+fn write_previous<W: fmt::Write>(f: &mut fmt::Formatter<W>, port: &PortState) -> fmt::Result
+    ensures { WritesOnOk W.write_str_gives f.old result (option_map_or previous_lines port.now.previous []) f.new }
+{
+    match port.previous() {
+        Some(previous) => {
+            writeln!(f, "previous {}", SetText(Some(previous)))?;
+            write_entries(f, &previous.set)
+        }
         None => Ok(()),
     }
 }
@@ -145,7 +159,7 @@ impl fmt::Display for Called<'_> {
     }
 }
 
-// What the line of a port says of its parameter set.
+// What is said of a parameter set of a port.
 #[derive(Drop)]
 struct SetText<'a>(Option<&'a StoredSet>);
 

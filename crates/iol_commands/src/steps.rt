@@ -30,6 +30,7 @@ fn add_tasks(tasks: &mut Vec<Task>, steps: &[ScriptStep]) -> Result<(), AllocErr
                 config,
             }),
             ScriptStep::Clear { port } => Task::Client(Change::Clear { port }),
+            ScriptStep::Rollback { port } => Task::Client(Change::Rollback { port }),
             ScriptStep::Port { port, times } => Task::Port { port, times },
             ScriptStep::Flush { times } => Task::Flush { times },
             ScriptStep::Drain => Task::Drain,

@@ -2,11 +2,11 @@
 use Rattle.std.proofs.Common.{◌≡◌, ◌≢◌, ◌⊎◌, inl, inr, ⊎_elim, ◌<◌, ◌≤◌, ℕ, zero, suc, ◌-◌, ◌==◌, ◌&&◌, true, if◌then◌else◌, List}
 use Rattle.std.proofs.Common.{Option, Some, None, IsSomeAnd, slice_get, slice_set, refl, sym, ap, ◌∙◌, subst, arith}
 use Rattle.std.proofs.lemmas.Bool.{cases_eq, and_parts, and_from, eqb-true, eq-eqb, le-leb}
-use Rattle.iol_types.specs.Command.{CommandValue, Configure, Clear, Store}
+use Rattle.iol_types.specs.Command.{CommandValue, Configure, Clear, Store, Rollback}
 use Rattle.iol_types.specs.Config.{may_store_set}
 use Rattle.iol_types.specs.DataSet.{SetValue}
-use Rattle.iol_types.specs.State.{State, Port, port_numbered, changed_at, configured, cleared, with_set, with_port, apply, check, fault_at}
-use Rattle.iol_types.specs.State.{store_fault}
+use Rattle.iol_types.specs.State.{State, Port, port_numbered, changed_at, configured, cleared, with_set, exchanged, with_port, apply, check}
+use Rattle.iol_types.specs.State.{fault_at, store_fault}
 use Rattle.iol_types.specs.declared.config.PortConfig.{PortConfig}
 use Rattle.iol_core.specs.Core.{FitsPort, FitsAt, names_device, out_at}
 use Rattle.iol_core.specs.Permits.{same_grant}
@@ -78,6 +78,8 @@ fits_applied state (Store number revision set) port (Some (Upload grant)) one fi
   fits_changed grant state number port (λ p. with_set p set) (port_numbered state number) refl (λ p. inr (refl, refl)) one
       fits.1,
 )
+fits_applied state (Rollback number) port (Some (Upload grant)) one fits =
+    (fits.0, fits_changed grant state number port exchanged (port_numbered state number) refl (λ p. inr (refl, refl)) one fits.1)
 
 -- what is out still fits where one place was written
 pub fits_written : (state : State) (permits : List (Option Grant)) (port : ℕ) (permit : Option Grant) → 1 ≤ port → FitsAt state port permit

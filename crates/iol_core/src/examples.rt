@@ -1,13 +1,15 @@
 //! Facts of a core, with values, for its definitions to be checked against: each is proved by computing.
 
 ghost use Rattle.std.specs.Prelude.{◌≡◌, ◌-◌, ◌^◌, [], ◌∷◌, replicate, true, false, Some, None};
-ghost use Rattle.iol_types.specs.Command.{Configure, Clear};
-ghost use Rattle.iol_types.specs.Examples.{example_config, example_port, one_port};
-ghost use Rattle.iol_types.specs.declared.command.CommandFault.TheVariants.{UnknownPort};
+ghost use Rattle.std.specs.Option.{option_map};
+ghost use Rattle.iol_types.specs.Command.{Configure, Clear, Rollback};
+ghost use Rattle.iol_types.specs.Examples.{example_config, example_port, renewed_port, one_port};
+ghost use Rattle.iol_types.specs.State.{Stored, exchanged};
+ghost use Rattle.iol_types.specs.declared.command.CommandFault.TheVariants.{UnknownPort, NoPrevious};
 ghost use Rattle.iol_journal.specs.Numbers.{LAST_NUMBER};
 ghost use Rattle.iol_core.specs.Batches.{has_batch, acknowledged};
 ghost use Rattle.iol_core.specs.Core.{with_permit, live_number};
-ghost use Rattle.iol_core.specs.Downloads.{download_fault};
+ghost use Rattle.iol_core.specs.Downloads.{durable_set, download_fault};
 ghost use Rattle.iol_core.specs.Examples.{core_with, blank_core, core_with_set, configure_one, configure_with, grant_at};
 ghost use Rattle.iol_core.specs.Permits.{is_out};
 ghost use Rattle.iol_core.specs.Ports.{work_at, view_at};
@@ -44,6 +46,9 @@ pub fn a_submit_that_is_refused()
     ensures not_there { submit_fault (blank_core (replicate 64 (Clear 1))) (Clear 2) ≡ Some (Command UnknownPort) }
     ensures room { submit_fault (blank_core (replicate 63 (Clear 1))) (Clear 1) ≡ None }
     ensures full { submit_fault (blank_core (replicate 64 (Clear 1))) (Clear 1) ≡ Some QueueFull }
+    ensures no_previous { submit_fault (core_with_set []) (Rollback 1) ≡ Some (Command NoPrevious) }
+    ensures one_of_two { submit_fault (core_with (renewed_port ∷ []) (Clear 1 ∷ []) None) (Rollback 1) ≡ Some (Command NoPrevious) }
+    ensures previous { submit_fault (core_with (renewed_port ∷ []) (Rollback 1 ∷ []) None) (Rollback 1) ≡ None }
     ensures last { submit_fault (record (blank_core []) { number = 2 ^ 62 - 1 }) (Clear 1) ≡ None }
     ensures exhausted { submit_fault (record (blank_core []) { number = 2 ^ 62 }) (Clear 1) ≡ Some Exhausted }
 {}
@@ -114,4 +119,18 @@ pub fn a_permit_to_download()
     ensures restore { download_fault (core_with_set (configure_with Validation.Restore ∷ [])) 1 500 43981 590 ≡ None }
     ensures cleared { download_fault (core_with_set (Clear 1 ∷ [])) 1 500 43981 590 ≡ Some download.Empty }
     ensures blank { download_fault (blank_core []) 1 500 43981 590 ≡ Some download.NotAllowed }
+{}
+
+/// What is attended and downloaded is the present set, and a Rollback that waits does not change it: it does once it is
+/// acknowledged.
+pub fn the_present_set()
+    ensures attended { work_at (core_with (renewed_port ∷ []) (Rollback 1 ∷ []) None) 1
+        ≡ Some (record { revision = 1; config = example_config; checksum = Some 594 }) }
+    ensures same { download_fault (core_with (renewed_port ∷ []) (Rollback 1 ∷ []) None) 1 500 43981 594 ≡ Some download.Same }
+    ensures other { download_fault (core_with (renewed_port ∷ []) (Rollback 1 ∷ []) None) 1 500 43981 591 ≡ None }
+    ensures set { option_map (λ (stored : Stored). stored.set.checksum) (durable_set (core_with (renewed_port ∷ []) [] None) 1)
+        ≡ Some 594 }
+    ensures acknowledged { acknowledged (record (core_with (renewed_port ∷ []) (Rollback 1 ∷ []) None) { flight = 1 }) []
+        ≡ record (core_with (exchanged renewed_port ∷ []) [] None) { number = 8 } }
+    ensures same_then { download_fault (core_with (exchanged renewed_port ∷ []) [] None) 1 500 43981 591 ≡ Some download.Same }
 {}

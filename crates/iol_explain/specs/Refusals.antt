@@ -11,6 +11,7 @@ command_words fault.RevisionSpent = codes "the port has had its last revision: f
 command_words fault.NotAllowed = codes "the port is not IOL_MANUAL with validation 03: configure it so"
 command_words fault.StaleRevision = codes "the port was configured meanwhile: nothing is to be done, the port begins again"
 command_words fault.WrongDevice = codes "the port is configured for another device: configure it for this one"
+command_words fault.NoPrevious = codes "the port has no previous set: nothing is exchanged"
 
 -- why a command is refused, and what to do (format, Explained runs)
 abbrev pub refusal_words : trace.Refusal → List ℕ

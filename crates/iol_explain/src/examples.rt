@@ -193,12 +193,13 @@ pub fn pages()
 /// Why a command is refused, and what to do.
 pub fn refusals()
     ensures of_a_command { map (λ cause. refusal_words (trace.Command cause)) (fault.UnknownPort ∷ fault.RevisionSpent
-        ∷ fault.NotAllowed ∷ fault.StaleRevision ∷ fault.WrongDevice ∷ [])
+        ∷ fault.NotAllowed ∷ fault.StaleRevision ∷ fault.WrongDevice ∷ fault.NoPrevious ∷ [])
         ≡ codes "the master has no port of this number: name one that it has"
         ∷ codes "the port has had its last revision: format a new disk"
         ∷ codes "the port is not IOL_MANUAL with validation 03: configure it so"
         ∷ codes "the port was configured meanwhile: nothing is to be done, the port begins again"
-        ∷ codes "the port is configured for another device: configure it for this one" ∷ [] }
+        ∷ codes "the port is configured for another device: configure it for this one"
+        ∷ codes "the port has no previous set: nothing is exchanged" ∷ [] }
     ensures of_the_core { map (refusal_words) (trace.Stopped ∷ trace.QueueFull ∷ trace.Exhausted ∷ [])
         ≡ codes "a disk call has failed, and nothing more is taken: replace the disk, and start the master anew"
         ∷ codes "64 commands wait for the disk: ask again once some are acknowledged"

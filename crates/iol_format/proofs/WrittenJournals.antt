@@ -5,8 +5,7 @@ use Rattle.std.proofs.lemmas.List.{length-replicate}
 use Rattle.iol_types.specs.State.{blank, empty_state, IsPort}
 use Rattle.iol_record.specs.declared.version.Version.{Version}
 use Rattle.iol_record.specs.declared.version.Version.TheVariants.{One, Two}
-use Rattle.iol_record.specs.declared.encode.TheConstants.{LARGEST_PORT_RECORD}
-use Rattle.iol_record.specs.Record.{SpellsState}
+use Rattle.iol_record.specs.Record.{largest_port_record, SpellsState}
 use Rattle.iol_record.proofs.RecordLaws.{spells-blank}
 use Rattle.iol_disk.specs.declared.disk.TheConstants.{SECTOR_OCTETS}
 use Rattle.iol_disk.specs.Content.{Image, Content, reads, wrote}
@@ -37,9 +36,9 @@ blank-port : IsPort blank
 blank-port = record {
   config = record { vendor = omega arith; device = omega arith; label = refl };
   revision = omega arith;
-  set = tt;
-  recorded = tt;
   stored = tt;
+  previous = tt;
+  stands = refl;
 }
 
 -- of ports that a version spells, if each is one
@@ -47,7 +46,7 @@ are-blank : (version : Version) (n : ℕ) → SpellsState version (replicate n b
 are-blank version zero spelled = tt
 are-blank version (suc n) spelled = ((blank-port, spelled.0), are-blank version n spelled.1)
 
-record-room : (version : Version) → LARGEST_PORT_RECORD ≤ SECTOR_OCTETS * port_sectors_of version
+record-room : (version : Version) → largest_port_record version ≤ SECTOR_OCTETS * port_sectors_of version
 record-room One = omega arith
 record-room Two = omega arith
 

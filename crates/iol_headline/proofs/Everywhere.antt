@@ -1,12 +1,13 @@
 -- What a run tells is lawful.
 use Rattle.std.proofs.Common.{◌≡◌, ◌⊎◌, inl, inr, ◌<◌, ◌+◌, refl, ℕ, zero, suc, Bool, true, false, nat_lt, List, [], ◌∷◌, length}
-use Rattle.std.proofs.Common.{Some, slice_get, sym, ap, ◌∙◌, subst, arith}
+use Rattle.std.proofs.Common.{Some, slice_get, take, sym, ap, ◌∙◌, subst, arith}
 use Rattle.std.proofs.lemmas.Bool.Decides.{nat_tests}
-use Rattle.iol_types.specs.Command.{Configure, Clear, Store}
+use Rattle.iol_types.specs.Command.{Configure, Clear, Store, Rollback}
 use Rattle.iol_types.specs.State.{State, Port, port_numbered}
 use Rattle.iol_link.specs.Link.{LinkCall, LinkAnswer}
 use Rattle.iol_trace.specs.Events as trace
 use Rattle.iol_trace.specs.Events.{Event, Accepted, Refused, Page, Lost, Attended, Changed, Acknowledged, DiskFailed, Stamp}
+use Rattle.iol_trace.specs.Words.{accepted}
 use Rattle.iol_run.specs.Acknowledged.{AcksRise}
 use Rattle.iol_run.specs.PortRuns.{HasPortRun, ArePortRuns, steps_of}
 use Rattle.iol_run.specs.declared.step.Step.{Step}
@@ -14,6 +15,7 @@ use Rattle.iol_headline.proofs.Lawful.{IsLawfulAt, durable_ends, unsent_lawful}
 use Rattle.iol_headline.proofs.Places.{everywhere}
 use Rattle.iol_headline.proofs.Revisions.{at_place}
 use Rattle.iol_headline.proofs.Running.{OwnLaw, none_own, run_told}
+use Rattle.iol_headline.proofs.StoredSets.{sets_stored}
 use Rattle.iol_headline.proofs.Talks.{at_own}
 use Rattle.iol_headline.specs.Laws.{IsLawful}
 use Rattle.iol_headline.specs.Places.{Everywhere}
@@ -41,6 +43,8 @@ module _ (first : ℕ) (start : State) where
       unsent_lawful first start before (Accepted number (Configure port config)) (λ p c r sent. sent) tt tt tt tt
   owned before (Accepted number (Clear port)) law =
       unsent_lawful first start before (Accepted number (Clear port)) (λ p c r sent. sent) tt tt tt tt
+  owned before (Accepted number (Rollback port)) law =
+      unsent_lawful first start before (Accepted number (Rollback port)) (λ p c r sent. sent) tt tt tt tt
   owned before (Accepted number (Store port revision set)) law = law port (at_own port (Accepted number (Store port revision set)))
   owned before (Refused refusal) law = unsent_lawful first start before (Refused refusal) (λ p c r sent. sent) tt tt tt tt
   owned before (Page port connection octets) law = law port (at_own port (Page port connection octets))
@@ -88,6 +92,7 @@ module _ (first : ℕ) (start : State) where
         → ArePortRuns number steps first start made links events last → AcksRise first events → IsLawful first start events
     lawful made links events last count are rise = record {
       whole_sets = λ before behind e split. (each before behind e split).whole;
+      stored_sets = λ count. sets_stored (take count (accepted events)) start;
       durable_then_end = λ before behind e split.
           durable_ends first before (e ∷ behind) e.event (subst (λ (es : List Stamp). AcksRise first es) split rise)
           (each before behind e split).ends;

@@ -1,6 +1,7 @@
 pub mod Places
 pub mod Talks
 pub mod Revisions
+pub mod StoredSets
 pub mod Lawful
 pub mod Stages
 pub mod Going

@@ -2,8 +2,8 @@
 use Rattle.std.proofs.Common.{◌≡◌, ◌≢◌, ◌⊎◌, inl, inr, ⊎_elim, ◌<◌, ◌≤◌, ◌-◌, ℕ, zero, suc, if◌then◌else◌, List, [], ◌∷◌, Option, Some}
 use Rattle.std.proofs.Common.{None, slice_get, refl, sym, ap, ◌∙◌, subst, arith}
 use Rattle.std.proofs.lemmas.Bool.{cases_eq, le-leb}
-use Rattle.iol_types.specs.Command.{CommandValue, Configure, Clear, Store}
-use Rattle.iol_types.specs.State.{State, Port, port_numbered, changed_at, configured, cleared, with_set, with_port, apply, after}
+use Rattle.iol_types.specs.Command.{CommandValue, Configure, Clear, Store, Rollback}
+use Rattle.iol_types.specs.State.{State, Port, port_numbered, changed_at, configured, cleared, with_set, exchanged, with_port, apply, after}
 use Rattle.iol_core.proofs.Places.{get_written, get_other}
 use Rattle.iol_headline.specs.Works.{Unconfigured}
 
@@ -15,15 +15,15 @@ Evolves before later = (before.revision < later.revision) ⊎ ((later.config ≡
 pub at_place : (state : State) (number : ℕ) → 1 ≤ number → port_numbered state number ≡ slice_get state (number - 1)
 at_place state number h = ap (λ b. if b then slice_get state (number - 1) else None) (le-leb 1 number h)
 
-is_there : (state : State) (number : ℕ) (port : Port) → port_numbered state number ≡ Some port → 1 ≤ number
+pub is_there : (state : State) (number : ℕ) (port : Port) → port_numbered state number ≡ Some port → 1 ≤ number
 is_there state zero port e = absurd cc
 is_there state (suc n) port e = omega arith
 
 -- what is found is one
-some_is : {A : Type 0} (x y : A) → Some x ≡ Some y → x ≡ y
+pub some_is : {A : Type 0} (x y : A) → Some x ≡ Some y → x ≡ y
 some_is x y same = cc
 
-none_some : {A : Type 0} (x : A) → None ≡ Some x → ⊥
+pub none_some : {A : Type 0} (x : A) → None ≡ Some x → ⊥
 none_some x same = cc
 
 -- where one port may be changed: another stays, and this one is as it was changed
@@ -109,6 +109,13 @@ holds (Store number revision set ∷ commands) state port p q at later =
     (λ new. behind port p (with_set p set) q (Store number revision set) commands refl refl (λ rest. rest)
     (holds commands (apply state (Store number revision set)) port (with_set p set) q new.1 later))
     (changed state number port (λ r. with_set r set) (port_numbered state number) p refl at)
+holds (Rollback number ∷ commands) state port p q at later =
+    ⊎_elim
+    (λ same. behind port p p q (Rollback number) commands refl refl (λ rest. rest)
+    (holds commands (apply state (Rollback number)) port p q same.1 later))
+    (λ new. behind port p (exchanged p) q (Rollback number) commands refl refl (λ rest. rest)
+    (holds commands (apply state (Rollback number)) port (exchanged p) q new.1 later))
+    (changed state number port exchanged (port_numbered state number) p refl at)
 
 -- a port that is there stays there
 pub stays_there : (commands : List CommandValue) (state : State) (port : ℕ) (p : Port) → port_numbered state port ≡ Some p
@@ -126,3 +133,7 @@ stays_there (Store number revision set ∷ commands) state port p at =
     ⊎_elim (λ same. stays_there commands (apply state (Store number revision set)) port p same.1)
     (λ new. stays_there commands (apply state (Store number revision set)) port (with_set p set) new.1)
     (changed state number port (λ r. with_set r set) (port_numbered state number) p refl at)
+stays_there (Rollback number ∷ commands) state port p at =
+    ⊎_elim (λ same. stays_there commands (apply state (Rollback number)) port p same.1)
+    (λ new. stays_there commands (apply state (Rollback number)) port (exchanged p) new.1)
+    (changed state number port exchanged (port_numbered state number) p refl at)

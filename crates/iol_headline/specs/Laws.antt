@@ -1,12 +1,14 @@
 -- What holds of a whole trace.
-use Rattle.std.specs.Prelude.{ℕ, List}
+use Rattle.std.specs.Prelude.{ℕ, List, take}
 use Rattle.iol_types.specs.State.{State}
 use Rattle.iol_trace.specs.Events.{Stamp}
+use Rattle.iol_trace.specs.Words.{accepted}
 use Rattle.iol_headline.specs.Decisions.{DecidedFirst}
 use Rattle.iol_headline.specs.Downloads.{DownloadsOnly, CommandsOnly}
 use Rattle.iol_headline.specs.DurableEnds.{DurableThenEnd}
 use Rattle.iol_headline.specs.Places.{Everywhere}
 use Rattle.iol_headline.specs.Settled.{SettledRight}
+use Rattle.iol_headline.specs.StoredSets.{SetsWereStored}
 use Rattle.iol_headline.specs.WholeSets.{WholeSets}
 use Rattle.iol_headline.specs.Works.{TellsWork}
 
@@ -14,6 +16,9 @@ use Rattle.iol_headline.specs.Works.{TellsWork}
 pub record IsLawful (first : ℕ) (start : State) (events : List Stamp) : Type 0 where
   -- each set that is accepted is that of one whole upload, on one connection, and the port was not configured meanwhile
   pub whole_sets : Everywhere WholeSets events
+  -- each set that a port has after the first of the accepted commands, as its set or as the previous one, it had at the start,
+  -- or one of these commands stored it, and it is recorded under the configuration that the port then had
+  pub stored_sets : (count : ℕ) → SetsWereStored start (take count (accepted events))
   -- DS_UploadEnd is sent only once the set that was uploaded on that connection is acknowledged
   pub durable_then_end : Everywhere (DurableThenEnd first) events
   -- a parameter is written only by a download of the set that is durable for the port, to a device of that set

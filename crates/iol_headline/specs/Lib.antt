@@ -6,6 +6,7 @@ pub mod DurableEnds
 pub mod Downloads
 pub mod Decisions
 pub mod Settled
+pub mod StoredSets
 pub mod Laws
 pub mod Examples
 pub mod Headline

@@ -2,7 +2,8 @@
 //! of that trace, and of some wrong traces that it does not.
 
 ghost use Rattle.std.specs.Prelude.{[], ◌∷◌, Some, None};
-ghost use Rattle.iol_types.specs.Command.{Store};
+ghost use Rattle.iol_types.specs.Command.{Configure, Store};
+ghost use Rattle.iol_types.specs.Examples.{renewed_port, newer_stored, example_stored};
 ghost use Rattle.iol_types.specs.State.{empty_state};
 ghost use Rattle.iol_trace.specs.Events.{Accepted, Exchange, Attended, Changed, stamped};
 ghost use Rattle.iol_trace.specs.Statuses.{Uploading, Ready, Downloading};
@@ -24,6 +25,7 @@ ghost use Rattle.iol_headline.specs.Examples.{
   restored,
 };
 ghost use Rattle.iol_headline.specs.Settled.{SettledRight};
+ghost use Rattle.iol_headline.specs.StoredSets.{HasSet, HadSet, WasStored};
 ghost use Rattle.iol_headline.specs.WholeSets.{WholeSets};
 ghost use Rattle.iol_headline.specs.Works.{TellsWork};
 
@@ -36,6 +38,16 @@ pub fn a_backup_begins()
 /// The set that is accepted is the one that was uploaded.
 pub fn a_set_is_whole()
     ensures { WholeSets (stamped 7 uploaded) (Accepted 2 (Store 1 1 (example_set 0x7F))) }
+{}
+
+/// A port has its stored set, and the previous one. A set comes from a Store among the commands, and from nothing where a port was never
+/// configured.
+pub fn sets_of_a_port()
+    ensures present { HasSet renewed_port newer_stored }
+    ensures previous { HasSet renewed_port example_stored }
+    ensures stored { WasStored (empty_state 1)
+        (Configure 1 example_stored.recorded ∷ Store 1 1 example_stored.set ∷ Store 1 1 newer_stored.set ∷ []) 1 example_stored }
+    ensures not_there { ¬ HadSet (empty_state 1) 1 example_stored }
 {}
 
 /// The sensor is told the end of the upload once the set is acknowledged; then the port is ready.

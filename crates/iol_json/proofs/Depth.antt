@@ -24,7 +24,7 @@ set_shallow None = omega arith
 set_shallow (Some stored) = stored_shallow stored
 
 port_shallow : (number : ℕ) (port : Port) → depth (port_data number port) ≤ 4
-port_shallow number port = let set = set_shallow port.stored in grind arith
+port_shallow number port = let set = set_shallow port.stored in let previous = set_shallow port.previous in grind arith
 
 ports_shallow : (number : ℕ) (ports : List Port) → items_depth (items_of (ports_data number ports)) ≤ 4
 ports_shallow number [] = omega arith

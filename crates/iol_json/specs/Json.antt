@@ -35,16 +35,17 @@ stored_data stored =
     (member (codes "entries") (array (items_of (map entry_data stored.set.entries)))
     (member (codes "octets") (whole (octets_of stored.set.entries)) (member (codes "under") (config_data stored.recorded) no_members))))
 
--- the set of a port, or null where none is stored (format, JSON)
+-- a set of a port, or null where there is none (format, JSON)
 abbrev pub set_data : Option Stored → Data
 set_data None = null
 set_data (Some stored) = stored_data stored
 
--- the port with this number: its configuration, its number, its revision and its set (format, JSON)
+-- the port with this number: its configuration, its number, its previous set, its revision and its set (format, JSON)
 abbrev pub port_data : ℕ → Port → Data
 port_data number port =
     object (member (codes "configuration") (config_data port.config) (member (codes "port") (whole number)
-    (member (codes "revision") (whole port.revision) (member (codes "set") (set_data port.stored) no_members))))
+    (member (codes "previous") (set_data port.previous) (member (codes "revision") (whole port.revision)
+    (member (codes "set") (set_data port.stored) no_members)))))
 
 -- ports in order, of which the first has this number (format, JSON)
 abbrev pub ports_data : ℕ → List Port → List Data

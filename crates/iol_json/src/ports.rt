@@ -53,17 +53,18 @@ fn push_found(
     Ok(())
 }
 
-// A port: its number, its revision, its configuration, and the set that is stored for it.
+// A port: its number, its revision, its configuration, the set that is stored for it, and the one before that.
 fn port_of(alloc: Global, number: u8, port: &PortState) -> Result<Value, AllocError>
     ensures { IfOk result (λ value. view value ≡ port_data number port.now) }
 {
     let configuration = config_of(alloc, port.config())?;
     let set = set_or_null(alloc, port.stored())?;
+    let previous = set_or_null(alloc, port.previous())?;
     let revision = port.revision();
-    json!(in alloc; {"port": number, "revision": revision, "configuration": configuration, "set": set})
+    json!(in alloc; {"port": number, "revision": revision, "configuration": configuration, "set": set, "previous": previous})
 }
 
-// The set that is stored for a port, or null.
+// A set of a port, or null.
 fn set_or_null(alloc: Global, stored: Option<&StoredSet>) -> Result<Value, AllocError>
     ensures { IfOk result (λ value. view value ≡ set_data (option_map (λ set. stored_of set.now) stored.entry)) }
 {

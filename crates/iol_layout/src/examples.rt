@@ -1,9 +1,11 @@
 //! Facts with values of docs/FORMATS.md, worked out by the check: a number that is wrong in a definition and in the code
 //! alike is refused here.
 
-ghost use Rattle.std.specs.Prelude.{◌≡◌, ◌++◌, ◌==◌, if◌then◌else◌, [], ◌∷◌, drop, replicate, map, take, true, false};
+ghost use Rattle.std.specs.Prelude.{◌≡◌, ◌++◌, ◌==◌, if◌then◌else◌, [], ◌∷◌, drop, length, replicate, map, take, true, false};
 ghost use Rattle.iol_types.specs.Command.{Configure};
 ghost use Rattle.iol_types.specs.Examples.{example_config};
+ghost use Rattle.iol_record.specs.Examples.{full_port};
+ghost use Rattle.iol_record.specs.Record.{port_octets};
 ghost use Rattle.iol_record.specs.declared.version.Version.TheVariants.{One, Two};
 ghost use Rattle.iol_layout.specs.Body.{batch_of, body_octets, commands_of, fits, head_of, slots_of};
 ghost use Rattle.iol_layout.specs.Examples.{two_by_four, first_body, first_body_of_one, header_with};
@@ -11,6 +13,7 @@ ghost use Rattle.iol_layout.specs.Geometry.{IsGeometry, geometry_of, geometry_oc
 ghost use Rattle.iol_layout.specs.Header.{header_of, header_octets, is_sound, version_named};
 ghost use Rattle.iol_slots.specs.Gate.{open_gate, closed_gate};
 ghost use Rattle.iol_layout.specs.Meaning.{unformatted, too_small, damaged, geometry_in, greatest};
+ghost use Rattle.iol_layout.specs.Octets.{sectors_reached};
 ghost use Rattle.iol_layout.specs.Layout.{laid_out, layout_of, renewed, total, gate_at, header_at, port_at, slot_at, body_at};
 ghost use Rattle.iol_layout.specs.declared.body.TheConstants.{MOST_COMMANDS, MOST_RECORD_OCTETS, BODY_HEAD_OCTETS};
 ghost use Rattle.iol_layout.specs.declared.header.TheConstants.{LAST_NUMBER};
@@ -57,6 +60,8 @@ pub fn places_of_two()
     ensures slots { map (slot_at (layout_of two_by_four) Area.A) (0 ∷ 1 ∷ 2 ∷ []) ≡ 38 ∷ 55 ∷ 72 ∷ [] }
     ensures bodies { map (body_at (layout_of two_by_four) Area.A 1) (0 ∷ 15 ∷ 16 ∷ []) ≡ 56 ∷ 71 ∷ 73 ∷ [] }
     ensures kept { (layout_of (record { ports = 32; slots = 256 })).slots ≡ 240 }
+    // The largest record of a port, with two sets that count 4,096, reaches them all.
+    ensures full_record { sectors_reached (length (port_octets Two full_port)) ≡ 17 }
     ensures largest { total (layout_of (record { ports = 32; slots = 256 })) ≡ 9286 }
 {}
 
@@ -127,7 +132,7 @@ pub fn the_first_body()
 {}
 
 /// What is read of a body: its head, each number octet by octet, and its commands, whose records fill the octets exactly.
-#[tactic(auto, unfolding(crate::specs::Body::head_of, crate::specs::Body::batch_of, iol_record::specs::Reading::command_at, iol_record::specs::Reading::arguments_at, iol_record::specs::Reading::config_at, iol_record::specs::Reading::label_at, iol_record::specs::Reading::spare_at))]
+#[tactic(auto, unfolding(crate::specs::Body::head_of, crate::specs::Body::batch_of, iol_record::specs::Reading::command_at, iol_record::specs::Reading::arguments_at, iol_record::specs::Reading::config_at, iol_record::specs::Reading::label_at))]
 pub fn bodies_read()
     ensures head { head_of (0 ∷ 1 ∷ 2 ∷ 3 ∷ 4 ∷ 5 ∷ 6 ∷ 7 ∷ 8 ∷ 9 ∷ 10 ∷ 11 ∷ 12 ∷ 13 ∷ 14 ∷ 15 ∷ 16 ∷ 17 ∷ 18 ∷ 19 ∷ 20 ∷ 21 ∷ [])
         ≡ record { epoch = 283686952306183; first = 579005069656919567; count = 4113; octets = 303240213 } }

@@ -57,7 +57,7 @@ impl Layout {
     ghost use Rattle.std.specs.Option.{option_map};
     ghost use Rattle.iol_record.specs.declared.version.Version.TheVariants.{One};
     ghost use Rattle.iol_layout.specs.Geometry.{IsGeometry, geometry_of};
-    ghost use Rattle.iol_record.specs.declared.encode.TheConstants.{LARGEST_PORT_RECORD};
+    ghost use Rattle.iol_record.specs.Record.{largest_port_record};
     ghost use Rattle.iol_disk.specs.declared.disk.TheConstants.{SECTOR_OCTETS};
     ghost use Rattle.iol_layout.specs.Layout.{laid_out, geometry_for, renewed, is_renewed, total, area_sectors, gate_at, header_at};
     ghost use Rattle.iol_layout.specs.Layout.{port_at};
@@ -161,7 +161,7 @@ impl Layout {
         ensures some { 1 ≤ result }
         ensures bound { result ≤ 17 }
         // The largest record fits them.
-        ensures room { LARGEST_PORT_RECORD ≤ SECTOR_OCTETS * result }
+        ensures room { largest_port_record self.version ≤ SECTOR_OCTETS * result }
     {
         match self.version {
             Version::One => PORT_SECTORS,

@@ -1,7 +1,7 @@
 //! The clients of a script: one for each port that is asked for something, each in a thread of its own.
 ghost use Rattle.std.specs.Prelude.{◌≡◌, IfErr, IfOk};
 ghost use Rattle.iol_commands.specs.Fault.{status_of};
-ghost use Rattle.iol_live.specs.Asked.{changes_of, port_of};
+ghost use Rattle.iol_live.specs.Asked.{changes_of};
 ghost use Rattle.iol_live.specs.Lived.{IsRunCause};
 
 use crate::telling::{Telling, Told};
@@ -124,19 +124,11 @@ fn changes_of(alloc: Global, changes: &[Change], number: u8) -> Result<Vec<Chang
 {
     let mut asked = Vec::new(alloc);
     for change in changes {
-        if port_of(*change).number() == number {
+        if change.port().number() == number {
             asked.push(*change)?;
         }
     }
     Ok(asked)
-}
-
-fn port_of(change: Change) -> PortId
-    ensures { result ≡ port_of change }
-{
-    match change {
-        Change::Configure { port, .. } | Change::Clear { port } => port,
-    }
 }
 
 // Starts a client that asks for these changes.
@@ -208,7 +200,7 @@ fn ask<F: Name, R: Wait>(
 ) -> Result<(), CallFault> {
     for change in asked {
         match number_of(rt, &mut client, *change) {
-            Ok(number) => tell(rt, told, port_of(*change), number),
+            Ok(number) => tell(rt, told, change.port(), number),
             Err(fault) => return Err(fault),
         }
     }
@@ -229,6 +221,7 @@ fn number_of<F: Name, R: Wait>(
     let answer = match change {
         Change::Configure { port, config } => client.configure(rt, port, config),
         Change::Clear { port } => client.clear(rt, port),
+        Change::Rollback { port } => client.rollback(rt, port),
     };
     match answer {
         Ok(receipt) => Ok(receipt.number),

@@ -2,7 +2,7 @@
 //! refused here.
 ghost use Rattle.std.specs.Prelude.{◌≡◌, true, false, [], ◌∷◌, codes};
 ghost use Rattle.iol_commands.specs.Recovered.{recovered_text};
-ghost use Rattle.iol_types.specs.declared.command.Change.TheVariants.{Clear};
+ghost use Rattle.iol_types.specs.declared.command.Change.TheVariants.{Clear, Rollback};
 ghost use Rattle.iol_live.specs.Asked.{changes_of};
 ghost use Rattle.iol_live.specs.Lived.{fits, lived_text};
 ghost use Rattle.iol_script.specs.declared.device.Device.{Device};
@@ -20,5 +20,5 @@ pub fn last_ports()
 
 /// A port is asked for what is its own, in order.
 pub fn of_a_port()
-    ensures { changes_of 2 (Clear 2 ∷ Clear 1 ∷ Clear 2 ∷ []) ≡ Clear 2 ∷ Clear 2 ∷ [] }
+    ensures { changes_of 2 (Clear 2 ∷ Clear 1 ∷ Rollback 2 ∷ Rollback 1 ∷ []) ≡ Clear 2 ∷ Rollback 2 ∷ [] }
 {}

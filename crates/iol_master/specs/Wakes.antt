@@ -1,7 +1,5 @@
 -- How often each port was woken.
 use Rattle.std.specs.Prelude.{◌≡◌, ℕ, ◌+◌, ◌-◌, ◌%◌, ◌^◌, ◌<◌, List, length, slice_index, slice_set}
-use Rattle.iol_types.specs.declared.command.Change.{Change}
-use Rattle.iol_types.specs.declared.command.Change.TheVariants.{Configure, Clear}
 use Rattle.iol_master.specs.declared.guarded.Phase.{Phase}
 use Rattle.iol_master.specs.declared.guarded.Phase.TheVariants.{Running, Ending, Closed}
 
@@ -13,11 +11,6 @@ woken_again wakes = (wakes + 1) % 2 ^ 64
 abbrev pub AreWoken : List ℕ → List ℕ → Type 0
 AreWoken before after =
     (length after ≡ length before) × ((k : ℕ) → k < length before → slice_index after k ≡ woken_again (slice_index before k))
-
--- the port that a change is for (own)
-abbrev pub port_of : Change → ℕ
-port_of (Configure port config) = port
-port_of (Clear port) = port
 
 -- the wakes of ports behind one of the port with this number: it counts only while ports are served, and at a port that is
 -- there (own)

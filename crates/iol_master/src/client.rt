@@ -119,7 +119,7 @@ impl<F: Name> Client<F> {
         self.ask(rt, Change::Configure { port, config })
     }
 
-    /// Deletes the parameter set of a port, and waits until that is durable. The client has then seen it.
+    /// Deletes the parameter sets of a port, and waits until that is durable. The client has then seen it.
     ///
     /// # Errors
     /// As `configure`.
@@ -130,6 +130,19 @@ impl<F: Name> Client<F> {
             × IsCallFault F.front.start (F.front.start.number + length self.old) (command_of (Change.Clear port)) fault) }
     {
         self.ask(rt, Change::Clear { port })
+    }
+
+    /// Exchanges the parameter set of a port and its previous one, and waits until that is durable. The client has then seen it.
+    ///
+    /// # Errors
+    /// As `configure`.
+    pub fn rollback<R: Wait>(&mut self, rt: &R, port: PortId) -> Result<Receipt<F>, CallFault>
+        ensures kept { IsPrefix self.old self.new }
+        ensures receipt { IfOk result (IsReceiptFor F.front.start (Change.Rollback port) self.old self.new) }
+        ensures refused { IfErr result (λ fault. (self.new ≡ self.old)
+            × IsCallFault F.front.start (F.front.start.number + length self.old) (command_of (Change.Rollback port)) fault) }
+    {
+        self.ask(rt, Change::Rollback { port })
     }
 
     // Asks for a change, and waits until it is durable.

@@ -4,7 +4,7 @@ ghost use Rattle.std.specs.Prelude.{◌≡◌, ◌++◌, ◌≤◌, [], ◌∷�
 ghost use Rattle.std.specs.Prelude.{None, Some, IsSome, ◌-◌, slice_get, slice_index};
 ghost use Rattle.std.specs.VecDeque.{deque_capacity};
 ghost use mathlib.Core.List.{IsPrefix};
-ghost use Rattle.iol_types.specs.Command.{command_of};
+ghost use Rattle.iol_types.specs.Command.{command_of, port_asked};
 ghost use Rattle.iol_record.specs.declared.encode.TheConstants.{LARGEST_COMMAND_RECORD};
 ghost use Rattle.iol_core.specs.Batches.{IsInFlight, IsStranger, IsTake, acknowledged, has_batch};
 ghost use Rattle.iol_core.specs.Core.{IsCore, live_number};
@@ -16,7 +16,7 @@ ghost use Rattle.iol_core.specs.declared.stop.StopCause.TheVariants.{Closed, Dis
 ghost use Rattle.iol_port.specs.Calls.{IsReplyTo, MayBeMade, Replies, call_of};
 ghost use Rattle.iol_port.specs.Ending.{ended};
 ghost use Rattle.iol_master.specs.Callers.{AreCallersOf, asked, ends, given_up};
-ghost use Rattle.iol_master.specs.Wakes.{AreWoken, port_of, woken};
+ghost use Rattle.iol_master.specs.Wakes.{AreWoken, woken};
 ghost use Rattle.iol_master.specs.declared.guarded.Phase.TheVariants as phase;
 
 use crate::caller::{Caller, Notice};
@@ -98,12 +98,12 @@ impl<F: Name> Guarded<F> {
     pub(crate) fn submit(&mut self, caller: Caller<F>) -> Result<u64, SubmitFault>
         ensures submit { IsSubmit self.old.core (command_of caller.change) self.new.core result }
         ensures waits { IfOk result (λ _. self.new.callers ≡ self.old.callers ++ Some caller.change ∷ []) }
-        ensures woken { IfOk result (λ _. self.new.wakes ≡ woken self.old.phase (port_of caller.change) self.old.wakes) }
+        ensures woken { IfOk result (λ _. self.new.wakes ≡ woken self.old.phase (port_asked caller.change) self.old.wakes) }
         ensures refused { OnErr result (self.new ≡ self.old) }
         ensures phase { self.new.phase ≡ self.old.phase }
     {
         let ticket = self.core.submit(caller.change)?;
-        wake(self.phase, &mut self.wakes, port_of(&caller.change));
+        wake(self.phase, &mut self.wakes, caller.change.port());
         let Ok(()) = self.callers.push_back(Some(caller)) else {
             unreachable!()
         };
@@ -267,15 +267,6 @@ fn wake_all(wakes: &mut [u64])
 {
     for count in wakes.iter_mut() {
         *count = count.wrapping_add(1);
-    }
-}
-
-// The port that a change is for.
-fn port_of(change: &Change) -> PortId
-    ensures { result ≡ port_of change.now }
-{
-    match change {
-        Change::Configure { port, .. } | Change::Clear { port } => *port,
     }
 }
 

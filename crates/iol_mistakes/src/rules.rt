@@ -11,6 +11,7 @@ pub(crate) enum Kind {
     Device,
     Configure,
     Clear,
+    Rollback,
     Port,
     Flush,
     Drain,
@@ -41,6 +42,7 @@ impl Kind {
         match word {
             "configure" => Some(Kind::Configure),
             "clear" => Some(Kind::Clear),
+            "rollback" => Some(Kind::Rollback),
             "port" => Some(Kind::Port),
             "flush" => Some(Kind::Flush),
             "drain" => Some(Kind::Drain),
@@ -55,7 +57,8 @@ impl Kind {
             Kind::Script => of_script(key),
             Kind::Device => of_device(key),
             Kind::Configure => of_configure(key),
-            Kind::Clear => of_clear(key),
+            Kind::Clear => of_port_command(key, "\"clear\""),
+            Kind::Rollback => of_port_command(key, "\"rollback\""),
             Kind::Port => of_port_step(key),
             Kind::Flush => of_flush(key),
             Kind::Drain => of_drain(key),
@@ -81,7 +84,7 @@ impl Kind {
 
 // What may stand at `do`.
 pub(crate) const STEPS: &str =
-    "\"configure\", \"clear\", \"port\", \"flush\", \"drain\" or \"stop\"";
+    "\"configure\", \"clear\", \"rollback\", \"port\", \"flush\", \"drain\" or \"stop\"";
 
 const VENDOR: &str = "0 to 65,535";
 
@@ -132,9 +135,10 @@ fn of_configure(key: Key) -> Option<Rule> {
     }
 }
 
-fn of_clear(key: Key) -> Option<Rule> {
+// Of a command that names a port alone, with its word at `do`.
+fn of_port_command(key: Key, word: &'static str) -> Option<Rule> {
     match key {
-        Key::Do => needed("\"clear\"", STEPS),
+        Key::Do => needed(word, STEPS),
         Key::Port => needed("1", "1 to 32"),
         _ => None,
     }

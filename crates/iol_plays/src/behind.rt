@@ -33,9 +33,7 @@ impl<F: Name> Model for Granted<F> {
 impl<F: Name> Granted<F> {
     /// The port that was configured.
     pub(crate) fn port(&self) -> PortId {
-        match self.receipt.command {
-            Change::Configure { port, .. } | Change::Clear { port } => port,
-        }
+        self.receipt.command.port()
     }
 }
 

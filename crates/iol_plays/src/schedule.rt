@@ -50,6 +50,7 @@ fn tasks_of(alloc: Global, steps: &[Step]) -> Result<Vec<Task>, AllocError> {
         tasks.push(match *step {
             Step::Configure { port, config } => Task::Client(Change::Configure { port, config }),
             Step::Clear { port } => Task::Client(Change::Clear { port }),
+            Step::Rollback { port } => Task::Client(Change::Rollback { port }),
             Step::Port { port, times } => Task::Port { port, times },
             Step::Flush { times } => Task::Flush { times },
             Step::Drain => Task::Drain,

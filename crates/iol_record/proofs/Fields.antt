@@ -18,14 +18,14 @@ use Rattle.iol_types.specs.Numbers.{IsPortNumber, IsDeviceNumber}
 use Rattle.iol_types.specs.Config.{mode_octet, mode_of, validation_octet, validation_of}
 use Rattle.iol_record.specs.declared.fault.RecordFault.{RecordFault}
 use Rattle.iol_record.specs.declared.fault.RecordFault.TheVariants.{BadTag, BadField}
-use Rattle.iol_record.specs.declared.reader.TheConstants.{NO_SET, SET, SPARE}
+use Rattle.iol_record.specs.declared.reader.TheConstants.{NO_SET, SET}
 use Rattle.iol_types.specs.declared.key.Key.{Key}
 use Rattle.iol_types.specs.declared.data_set.TheConstants.{MOST_ENTRY_OCTETS, ENTRY_HEAD_OCTETS, MOST_SET_OCTETS}
 use Rattle.iol_types.specs.Key.{is_reserved}
 use Rattle.iol_types.specs.DataSet.{Entry, data_at, octets_of}
 use Rattle.iol_record.specs.declared.reader.Tag.{Tag}
-use Rattle.iol_record.specs.declared.reader.Tag.TheVariants as tag
-use Rattle.iol_record.specs.Reading.{from_to, tag_octet, tag_of, has_set, spare_of, spare_field, new_key, tag_field, port_field, mode_field}
+use Rattle.iol_record.specs.declared.version.Version.{Version}
+use Rattle.iol_record.specs.Reading.{from_to, tag_octet, tags, tag_of, has_set, new_key, tag_field, port_field, mode_field}
 use Rattle.iol_record.specs.Reading.{validation_field, label_length_field}
 use Rattle.iol_record.specs.Reading.{vendor_field, device_field, revision_field, checksum_field, count_field, flag_field, index_field}
 use Rattle.iol_record.specs.Reading.{subindex_field, length_field}
@@ -107,16 +107,17 @@ from_to_field fault least most =
     (λ n in_range. from_to-some least most n in_range.0 in_range.1)
     (λ n m e. let is = from_to-is least most n m e in (is.0, (omega (arith, is.0, is.1), omega (arith, is.0, is.2))))
 
-tag_of-octet : (t : Tag) → tag_of (tag_octet t) ≡ Some t
-tag_of-octet tag.Configure = refl
-tag_of-octet tag.Clear = refl
-tag_of-octet tag.Store = refl
+-- a tag that a version has
+abbrev pub HasTag : Version → Tag → Type 0
+HasTag version t = tag_of version (tag_octet t) ≡ Some t
 
-tag_octet-of : (n : ℕ) (t : Tag) → tag_of n ≡ Some t → n ≡ tag_octet t
-tag_octet-of n t e = sym (eqb-true _ _ (find-passes (λ other. eqb (tag_octet other) n) (tag.Configure ∷ tag.Clear ∷ tag.Store ∷ []) t e))
+tag_octet-of : (version : Version) (n : ℕ) (t : Tag) → tag_of version n ≡ Some t → n ≡ tag_octet t
+tag_octet-of version n t e = sym (eqb-true _ _ (find-passes (λ other. eqb (tag_octet other) n) (tags version) t e))
 
-pub tag_reads : IsField tag_field (λ t. tag_octet t ∷ []) (λ _. Unit {0})
-tag_reads = octet_field tag_of BadTag tag_octet (λ _. Unit {0}) (λ t _. tag_of-octet t) (λ n t e. (tag_octet-of n t e, tt))
+pub tag_reads : (version : Version) → IsField (tag_field version) (λ t. tag_octet t ∷ []) (HasTag version)
+tag_reads version =
+    octet_field (tag_of version) BadTag tag_octet (HasTag version) (λ t has. has)
+    (λ n t e. let is = tag_octet-of version n t e in (is, ap (tag_of version) (sym is) ∙ e))
 
 pub port_reads : IsField port_field (λ n. n ∷ []) IsPortNumber
 port_reads = from_to_field BadField 1 PORTS
@@ -142,16 +143,6 @@ flag_octet-of n flag e = by (eqb n NO_SET) (eqb n SET) refl refl e
 pub flag_reads : IsField flag_field (λ flag. flag_octet flag ∷ []) (λ _. Unit {0})
 flag_reads = octet_field has_set BadField flag_octet (λ _. Unit {0}) (λ flag _. has_set-octet flag) (λ n flag e.
     (flag_octet-of n flag e, tt))
-
-spare-is : (n : ℕ) (spare : Unit {0}) → spare_of n ≡ Some spare → n ≡ SPARE
-spare-is n spare e = by (eqb n SPARE) refl e
-  where
-    by : (same : Bool) → eqb n SPARE ≡ same → cond same (Some tt) None ≡ Some spare → n ≡ SPARE
-    by true is e = eqb-true n SPARE is
-    by false is e = absurd cc
-
-pub spare_reads : IsField spare_field (λ spare. SPARE ∷ []) (λ _. Unit {0})
-spare_reads = octet_field spare_of BadField (λ spare. SPARE) (λ _. Unit {0}) (λ spare _. refl) (λ n spare e. (spare-is n spare e, tt))
 
 pub mode_reads : IsField mode_field (λ mode. mode_octet mode ∷ []) (λ _. Unit {0})
 mode_reads = octet_field mode_of BadField mode_octet (λ _. Unit {0}) (λ mode _. mode_of-octet mode) (λ n mode e.

@@ -1,8 +1,13 @@
 pub mod Readers
+pub mod Decoders
 pub mod Spellings
 pub mod Fields
 pub mod Memories
 pub mod EntryReadings
 pub mod SetReaders
+pub mod ConfigReaders
+pub mod CommandReaders
+pub mod PortReaders
+pub mod SetsBegun
 pub mod RecordReaders
 pub mod RecordLaws

@@ -1,10 +1,10 @@
 -- What holds of each reader of a field or a record, and that readers put together keep it.
-use Rattle.std.proofs.Common.{◌≡◌, ℕ, Bool, true, false, ◌+◌, ◌-◌, ◌<◌, ◌≤◌, List, [], ◌++◌, length, get_or, take, drop, Option, Some, None}
+use Rattle.std.proofs.Common.{◌≡◌, ℕ, Bool, true, false, ◌+◌, ◌<◌, ◌≤◌, List, [], ◌++◌, length, get_or, take, drop, Option, Some, None}
 use Rattle.std.proofs.Common.{Result, Ok, Err, inl, inr, refl, sym, ap, subst, ◌∙◌, append_assoc, arith}
 use Rattle.std.specs.Option.{ok_or}
 use Rattle.std.specs.Int.{Width, byte_len, from_be_bytes}
 use Rattle.std.proofs.lemmas.Bool.{cases_lt, le-ltb, lt-ltb}
-use Rattle.std.proofs.lemmas.List.{append-nil, take_at, drop_at, take-append-drop, take-append-le, drop-append-le, length-append}
+use Rattle.std.proofs.lemmas.List.{take_at, drop_at, take-append-drop, take-append-le, drop-append-le, length-append}
 use Rattle.std.proofs.lemmas.List.{length-take, get_or-drop, get_or-take, get_or_past}
 use Rattle.iol_record.specs.declared.fault.RecordFault.{RecordFault}
 use Rattle.iol_record.specs.declared.fault.RecordFault.TheVariants.{Short, BadField}
@@ -49,10 +49,10 @@ pub record IsReader {A : Type 0} (reader : Reading A) (spelling : A → List ℕ
 
 -- ---- steps of a reading
 
-abbrev done : {A : Type 0} → A → Result A RecordFault
+abbrev pub done : {A : Type 0} → A → Result A RecordFault
 done x = Ok x
 
-ok_is : {A : Type 0} (x y : A) → done x ≡ done y → x ≡ y
+pub ok_is : {A : Type 0} (x y : A) → done x ≡ done y → x ≡ y
 ok_is x y e = cc
 
 bind_ok : {A B : Type 0} (r : Result A RecordFault) (next : A → Result B RecordFault) (y : B) → (r >>= next) ≡ Ok y → (x : A) × (r ≡ Ok x)
@@ -354,67 +354,3 @@ tested_reads test reader s P reads = record {
       ap (λ r. r >>= λ x. ok_or (if_so (test x.0) x) BadField) (reads.stays octets more (λ e. not_short (rw e refl)))
       ∙ bind_stays more (reader octets) (λ x. ok_or (if_so (test x.0) x) BadField) (λ x e. passed_more (test x.0) x more);
 }
-
--- ---- a spelling in front of some octets
-
--- what is read where a spelling stands in front
-pub only_front : {A : Type 0} {reader : Reading A} {spelling : A → List ℕ} {InRange : A → Type 0} → IsReader reader spelling InRange
-    → (octets front : List ℕ) (value : A) (rest : List ℕ) → front ≡ spelling value → InRange value → octets ≡ front ++ rest → reader octets
-    ≡ Ok (value, rest)
-only_front {A} {reader} reads octets front value rest spelled in_range whole =
-    ap reader (whole ∙ ap (λ f. f ++ rest) spelled) ∙ reads.again value rest in_range
-
--- a value is read from so many octets, which are its spelling, and no other value stands in front
-pub record Decodes {A : Type 0} (reader : Reading A) (spelling : A → List ℕ) (InRange : A → Type 0) (octets : List ℕ) (value : A)
-    (count : ℕ) : Type 0 where
-  pub within : count ≤ length octets
-  pub front : take count octets ≡ spelling value
-  pub in_range : InRange value
-  pub only : (front rest : List ℕ) (other : A) → front ≡ spelling other → InRange other → octets ≡ front ++ rest → (value ≡ other)
-      × (count ≡ length front)
-  pub exact : reader octets ≡ Ok (value, drop count octets)
-
-same_front : {A : Type 0} (reader : Reading A) (octets front : List ℕ) (value other : A) (rest behind : List ℕ)
-    → reader octets ≡ Ok (other, behind) → reader octets ≡ Ok (value, rest) → octets ≡ front ++ behind → (value ≡ other)
-    × (length octets - length rest ≡ length front)
-same_front reader octets front value other rest behind e f whole =
-    let is = ok_is (value, rest) (other, behind) (sym f ∙ e) in
-    let same : length rest ≡ length behind = ap (λ x. length x.1) is in
-    let long : length octets ≡ length front + length behind = ap length whole ∙ length-append front behind in
-    (ap (λ x. x.0) is, omega (arith, same, long))
-
-pub decodes : {A : Type 0} {reader : Reading A} {spelling : A → List ℕ} {InRange : A → Type 0} → IsReader reader spelling InRange
-    → (octets : List ℕ) (value : A) (rest : List ℕ) (count : ℕ) → AreOctets octets → reader octets ≡ Ok (value, rest)
-    → length octets - length rest ≡ count
-    → Decodes reader spelling InRange octets value count
-decodes {A} {reader} {spelling} reads octets value rest count are e is =
-    let taken = reads.takes octets value rest are e in
-    let parts : octets ≡ spelling value ++ rest = taken.0.parts in
-    let long : length octets ≡ length (spelling value) + length rest = ap length parts ∙ length-append (spelling value) rest in
-    let len : length (spelling value) ≡ count = omega (arith, long, is) in
-    let behind : rest ≡ drop count octets = sym (ap (drop count) parts ∙ drop_at (spelling value) rest count len) in
-    record {
-      within = omega (arith, is);
-      front = ap (take count) parts ∙ take_at (spelling value) rest count len;
-      in_range = taken.1;
-      only = λ front more other spelled in_range whole.
-          let same = same_front reader octets front value other rest more (only_front reads octets front other more spelled in_range whole)
-          e whole in
-          (same.0, sym is ∙ same.1);
-      exact = e ∙ ap (λ r. Ok (value, r)) behind;
-    }
-
--- a value is not read where a fault is
-pub no_fault_at : {A : Type 0} (reader : Reading A) (octets : List ℕ) (value : A) (rest : List ℕ) (fault : RecordFault) → reader octets
-    ≡ Ok (value, rest) → reader octets ≡ Err fault → ⊥
-no_fault_at {A} reader octets value rest fault e f = let is : done {A = A × List ℕ} (value, rest) ≡ Err fault = sym e ∙ f in cc
-
--- no spelling begins another
-pub begins_none : {A : Type 0} {reader : Reading A} {spelling : A → List ℕ} {InRange : A → Type 0} → IsReader reader spelling InRange
-    → (front rest : List ℕ) (one two : A) → front ≡ spelling one → InRange one → front ++ rest ≡ spelling two → InRange two → (one ≡ two)
-    × (rest ≡ [])
-begins_none {A} {reader} reads front rest one two is_one one_in_range is_two two_in_range =
-    let first = only_front reads (front ++ rest) front one rest is_one one_in_range refl in
-    let second = only_front reads (front ++ rest) (front ++ rest) two [] is_two two_in_range (sym (append-nil (front ++ rest))) in
-    let same = ok_is (one, rest) (two, []) (sym first ∙ second) in
-    (ap (λ x. x.0) same, ap (λ x. x.1) same)

@@ -1,7 +1,7 @@
 -- What is read from the front of any octets: a value and the octets behind it, or the fault that comes first.
 use Rattle.std.specs.Prelude.{◌≡◌, ◌+◌, ◌-◌, ℕ, zero, suc, nat_lt, nat_le, nat_eq, ◌&&◌, if◌then◌else◌, Bool, true, false, List, [], ◌∷◌}
 use Rattle.std.specs.Prelude.{◌++◌, length, take, drop, min, find, Option, Some, None, is_some, Result, Ok, Err, MatchResult, IsOk}
-use Rattle.std.specs.Option.{ok_or, option_map_or}
+use Rattle.std.specs.Option.{ok_or}
 use Rattle.std.specs.Int.{Width, w8, w16, w32, w64, byte_len, from_be_bytes}
 use Rattle.iol_types.specs.declared.config.PortConfig.{PortConfig}
 use Rattle.iol_types.specs.declared.config.PortMode.{PortMode}
@@ -15,14 +15,14 @@ use Rattle.iol_types.specs.Label.{is_label}
 use Rattle.iol_types.specs.declared.label.TheConstants.{MOST_LABEL_OCTETS}
 use Rattle.iol_types.specs.Key.{is_reserved}
 use Rattle.iol_types.specs.DataSet.{Entry, SetValue, data_at, octets_of}
-use Rattle.iol_types.specs.Command.{CommandValue, Configure, Clear, Store}
-use Rattle.iol_types.specs.State.{Stored, Port, may_have}
+use Rattle.iol_types.specs.Command.{CommandValue, Configure, Clear, Store, Rollback}
+use Rattle.iol_types.specs.State.{Stored, Port, may_stand}
 use Rattle.iol_record.specs.declared.fault.RecordFault.{RecordFault}
 use Rattle.iol_record.specs.declared.fault.RecordFault.TheVariants.{Short, BadTag, BadField, Memory}
 use Rattle.iol_record.specs.declared.reader.Tag.{Tag}
 use Rattle.iol_record.specs.declared.reader.Tag.TheVariants as tag
 use Rattle.iol_record.specs.declared.records.SetHead.{SetHead}
-use Rattle.iol_record.specs.declared.reader.TheConstants.{CONFIGURE, CLEAR, STORE, NO_SET, SET, SPARE}
+use Rattle.iol_record.specs.declared.reader.TheConstants.{CONFIGURE, CLEAR, STORE, ROLLBACK, NO_SET, SET}
 use Rattle.iol_record.specs.declared.version.Version.{Version}
 use Rattle.iol_record.specs.declared.version.Version.TheVariants.{One, Two}
 
@@ -56,14 +56,20 @@ abbrev pub tag_octet : Tag → ℕ
 tag_octet tag.Configure = CONFIGURE
 tag_octet tag.Clear = CLEAR
 tag_octet tag.Store = STORE
+tag_octet tag.Rollback = ROLLBACK
 
--- the tag that has this octet (format, Records)
-abbrev pub tag_of : ℕ → Option Tag
-tag_of octet = find (λ t. nat_eq (tag_octet t) octet) (tag.Configure ∷ tag.Clear ∷ tag.Store ∷ [])
+-- the tags of a version; version 1 has no Rollback (format, Records)
+abbrev pub tags : Version → List Tag
+tags One = tag.Configure ∷ tag.Clear ∷ tag.Store ∷ []
+tags Two = tag.Configure ∷ tag.Clear ∷ tag.Store ∷ tag.Rollback ∷ []
+
+-- the tag of a version that has this octet (format, Records)
+abbrev pub tag_of : Version → ℕ → Option Tag
+tag_of version octet = find (λ t. nat_eq (tag_octet t) octet) (tags version)
 
 -- the fields of commands and ports, each with its width and its numbers (format, Records)
-abbrev pub tag_field : Field Tag
-tag_field = record { width = w8; value = tag_of; fault = BadTag }
+abbrev pub tag_field : Version → Field Tag
+tag_field version = record { width = w8; value = tag_of version; fault = BadTag }
 
 abbrev pub port_field : Field ℕ
 port_field = record { width = w8; value = from_to 1 PORTS; fault = BadField }
@@ -92,19 +98,12 @@ checksum_field = record { width = w32; value = Some; fault = BadField }
 abbrev pub count_field : Field ℕ
 count_field = record { width = w16; value = Some; fault = BadField }
 
--- the flag of a port: whether a set follows (format, Records)
+-- the flag of a set of a port: whether it follows (format, Records)
 abbrev pub has_set : ℕ → Option Bool
 has_set octet = if nat_eq octet NO_SET then Some false else if_so (nat_eq octet SET) true
 
 abbrev pub flag_field : Field Bool
 flag_field = record { width = w8; value = has_set; fault = BadField }
-
--- what is kept for later use stands for nothing yet (format, Records)
-abbrev pub spare_of : ℕ → Option (Unit {0})
-spare_of octet = if_so (nat_eq octet SPARE) tt
-
-abbrev pub spare_field : Field (Unit {0})
-spare_field = record { width = w8; value = spare_of; fault = BadField }
 
 -- the fields of an entry behind others: an Index that is not reserved, a Subindex with which it is none of their keys,
 -- and a length with which it and they make no set that is too large (format, Records)
@@ -159,11 +158,6 @@ joined whole parts octets = parts octets >>= λ a. Ok (whole a.0, a.1)
 abbrev pub tested : {A : Type 0} → (A → Bool) → Reading A → Reading A
 tested test value octets = value octets >>= λ a. ok_or (if_so (test a.0) a) BadField
 
--- the reading of what version 2 keeps for later use at the end of a port: an octet 00 (format, Records)
-unfoldable pub spare_at : Version → Reading (Unit {0})
-spare_at One octets = Ok (tt, octets)
-spare_at Two octets = field_at spare_field octets
-
 -- the reading of a label, which version 1 has not: its length, and so many octets, which are a label (format, Records)
 unfoldable pub label_at : Version → Reading (List ℕ)
 label_at One octets = Ok ([], octets)
@@ -209,16 +203,17 @@ set_with head entries = record { entries = entries; vendor = head.vendor; device
 unfoldable pub set_at : Reading SetValue
 set_at = followed set_head_at (λ head. joined (set_with head) (entries_at head.count []))
 
--- the reading of what stands behind a tag: port and configuration; port; port, revision and set (format, Records)
+-- the reading of what stands behind a tag: port and configuration; port; port, revision and set; port (format, Records)
 unfoldable pub arguments_at : Version → Tag → Reading CommandValue
 arguments_at version tag.Configure = joined (λ (port, config). Configure port config) (both (field_at port_field) (config_at version))
 arguments_at version tag.Clear = joined Clear (field_at port_field)
 arguments_at version tag.Store =
     joined (λ (port, (revision, set)). Store port revision set) (both (field_at port_field) (both (field_at revision_field) set_at))
+arguments_at version tag.Rollback = joined Rollback (field_at port_field)
 
 -- the reading of a command: its tag, and what stands behind that (format, Records)
 unfoldable pub command_at : Version → Reading CommandValue
-command_at version = followed (field_at tag_field) (arguments_at version)
+command_at version = followed (field_at (tag_field version)) (arguments_at version)
 
 -- the reading of what a port has stored, by its flag: nothing, or configuration and set (format, Records)
 unfoldable pub stored_at : Version → Bool → Reading (Option Stored)
@@ -226,20 +221,33 @@ stored_at version false octets = Ok (None, octets)
 stored_at version true octets =
     joined (λ (recorded, set). Some (record { set = set; recorded = recorded })) (both (config_at version) set_at) octets
 
--- a port may have what is stored for it (own)
-abbrev pub may_stand : Port → Bool
-may_stand port = option_map_or (may_have port.config) port.stored true
+-- the reading of what a port has stored: a flag, and what stands behind it (format, Records)
+abbrev pub flagged_at : Version → Reading (Option Stored)
+flagged_at version = followed (field_at flag_field) (stored_at version)
 
--- the reading of a port: configuration, revision, flag, what is stored, and what is kept for later use (format, Records)
+-- the reading of what a port had stored before, which version 1 has not (format, Records)
+unfoldable pub previous_at : Version → Reading (Option Stored)
+previous_at One octets = Ok (None, octets)
+previous_at Two octets = flagged_at Two octets
+
+-- the sets of a port may stand at it (own)
+abbrev pub sets_may_stand : Port → Bool
+sets_may_stand port = may_stand port.config port.stored port.previous
+
+-- the reading of a port: configuration, revision, what it has stored, and what it had stored before (format, Records)
 unfoldable pub port_parts_at : Version → Reading Port
 port_parts_at version =
-    joined (λ (config, (revision, (stored, spare))). record { config = config; revision = revision; stored = stored })
-    (both (config_at version) (both (field_at revision_field)
-    (both (followed (field_at flag_field) (stored_at version)) (spare_at version))))
+    joined (λ (config, (revision, (stored, previous))). record {
+      config = config;
+      revision = revision;
+      stored = stored;
+      previous = previous;
+    })
+    (both (config_at version) (both (field_at revision_field) (both (flagged_at version) (previous_at version))))
 
--- the reading of a port that may have what is stored for it (format, Records)
+-- the reading of a port whose sets may stand at it (format, Records)
 unfoldable pub port_record_at : Version → Reading Port
-port_record_at version = tested may_stand (port_parts_at version)
+port_record_at version = tested sets_may_stand (port_parts_at version)
 
 -- the reading of the numbers of a set and of its first entry, if it has one (format, Records)
 unfoldable pub set_begun_at : Reading (List Entry)
@@ -251,17 +259,35 @@ begun_behind tag.Store octets =
     followed (field_at port_field) (λ port. followed (field_at revision_field) (λ revision. set_begun_at)) octets
 begun_behind other octets = Err BadTag
 
-unfoldable pub store_begun_at : Reading (List Entry)
-store_begun_at = followed (field_at tag_field) begun_behind
+unfoldable pub store_begun_at : Version → Reading (List Entry)
+store_begun_at version = followed (field_at (tag_field version)) begun_behind
 
--- the reading of a port as far as the first entry of its set, where it has a set (format, Records)
+-- the reading of a set of a port as far as its first entry, by its flag (format, Records)
 unfoldable pub stored_begun_at : Version → Bool → Reading (List Entry)
 stored_begun_at version true octets = followed (config_at version) (λ recorded. set_begun_at) octets
 stored_begun_at version false octets = Err BadField
 
+abbrev pub flagged_begun_at : Version → Reading (List Entry)
+flagged_begun_at version = followed (field_at flag_field) (stored_begun_at version)
+
+-- the reading of the previous set of a port as far as its first entry, where it has one (format, Records)
+unfoldable pub previous_begun_at : Version → Reading (List Entry)
+previous_begun_at One octets = Err BadField
+previous_begun_at Two octets = flagged_begun_at Two octets
+
+-- the reading of the first set of a port as far as its first entry: of the one that is stored, by its flag, or of the
+-- previous one where none is stored (format, Records)
+unfoldable pub first_begun_at : Version → Bool → Reading (List Entry)
+first_begun_at version true octets = stored_begun_at version true octets
+first_begun_at version false octets = previous_begun_at version octets
+
+abbrev pub sets_begun_at : Version → Reading (List Entry)
+sets_begun_at version = followed (field_at flag_field) (first_begun_at version)
+
+-- the reading of a port as far as the first entry of its first set, where it has a set (format, Records)
 unfoldable pub port_begun_at : Version → Reading (List Entry)
-port_begun_at version = followed (config_at version) (λ config.
-    followed (field_at revision_field) (λ revision. followed (field_at flag_field) (stored_begun_at version)))
+port_begun_at version =
+    followed (config_at version) (λ config. followed (field_at revision_field) (λ revision. sets_begun_at version))
 
 -- what a function answers is what is read: a value and the octets behind it, or the fault (own)
 abbrev pub Reads : {X A : Type 0} → (X → A × List ℕ) → Result X RecordFault → Result (A × List ℕ) RecordFault → Type 0

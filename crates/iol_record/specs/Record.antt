@@ -6,16 +6,12 @@ use Rattle.iol_types.specs.declared.config.PortConfig.{PortConfig}
 use Rattle.iol_types.specs.Config.{mode_octet, validation_octet}
 use Rattle.iol_types.specs.DataSet.{SetValue}
 use Rattle.iol_types.specs.Parts.{entry_octets}
-use Rattle.iol_types.specs.Command.{CommandValue, Configure, Clear, Store, IsCommand}
+use Rattle.iol_types.specs.Command.{CommandValue, Configure, Clear, Store, Rollback, IsCommand}
 use Rattle.iol_types.specs.State.{Stored, Port, State, IsPort}
-use Rattle.iol_record.specs.declared.reader.TheConstants.{CONFIGURE, CLEAR, STORE, NO_SET, SET, SPARE}
+use Rattle.iol_record.specs.declared.reader.TheConstants.{CONFIGURE, CLEAR, STORE, ROLLBACK, NO_SET, SET}
+use Rattle.iol_record.specs.declared.encode.TheConstants.{LARGEST_PORT_RECORD_OF_ONE, LARGEST_PORT_RECORD_OF_TWO}
 use Rattle.iol_record.specs.declared.version.Version.{Version}
 use Rattle.iol_record.specs.declared.version.Version.TheVariants.{One, Two}
-
--- what version 2 keeps for later use at the end of a port: an octet 00 (format, Records)
-abbrev pub spare_octets : Version → List ℕ
-spare_octets One = []
-spare_octets Two = SPARE ∷ []
 
 -- the version that is written (format, Records)
 abbrev pub newest : Version
@@ -51,12 +47,13 @@ set_octets set =
     to_be_bytes w16 set.vendor ++ to_be_bytes w32 set.device ++ to_be_bytes w32 set.checksum
     ++ to_be_bytes w16 (length set.entries) ++ flat_map entry_octets set.entries
 
--- the octets of a command; Configure: tag 1, port 1, configuration; Clear: tag 1, port 1; Store: tag 1, port 1,
--- revision 8, set (format, Records)
+-- the octets of a command; Configure: tag 1, port 1, configuration; Clear and Rollback: tag 1, port 1; Store: tag 1,
+-- port 1, revision 8, set (format, Records)
 abbrev pub command_octets : Version → CommandValue → List ℕ
 command_octets version (Configure port config) = CONFIGURE ∷ port ∷ config_octets version config
 command_octets version (Clear port) = CLEAR ∷ port ∷ []
 command_octets version (Store port revision set) = STORE ∷ port ∷ (to_be_bytes w64 revision ++ set_octets set)
+command_octets version (Rollback port) = ROLLBACK ∷ port ∷ []
 
 -- the octets of what a port has stored: a flag 1, and where there is a set, the configuration that it was taken under
 -- and the set (format, Records)
@@ -64,22 +61,46 @@ abbrev pub stored_octets : Version → Option Stored → List ℕ
 stored_octets version None = NO_SET ∷ []
 stored_octets version (Some stored) = SET ∷ (config_octets version stored.recorded ++ set_octets stored.set)
 
--- the octets of a port: configuration, revision 8, what it has stored, and what is kept for later use (format, Records)
+-- the octets of what a port had stored before, which version 1 has not: flag, configuration and set, as those of what
+-- it has stored (format, Records)
+abbrev pub previous_octets : Version → Option Stored → List ℕ
+previous_octets One previous = []
+previous_octets Two previous = stored_octets Two previous
+
+-- the octets of a port: configuration, revision 8, what it has stored, and what it had stored before (format, Records)
 abbrev pub port_octets : Version → Port → List ℕ
 port_octets version port =
     config_octets version port.config
-    ++ (to_be_bytes w64 port.revision ++ (stored_octets version port.stored ++ spare_octets version))
+    ++ (to_be_bytes w64 port.revision ++ (stored_octets version port.stored ++ previous_octets version port.previous))
 
--- a version spells a command: the label that it gives a port, if it gives one (format, Records)
+-- the most octets that a port has (format, Records)
+abbrev pub largest_port_record : Version → ℕ
+largest_port_record One = LARGEST_PORT_RECORD_OF_ONE
+largest_port_record Two = LARGEST_PORT_RECORD_OF_TWO
+
+-- version 1 has no Rollback (format, Records)
+abbrev pub SpellsRollback : Version → Type 0
+SpellsRollback One = ⊥
+SpellsRollback Two = Unit {0}
+
+-- a version spells a command: the label that it gives a port, if it gives one, or a Rollback (format, Records)
 abbrev pub SpellsCommand : Version → CommandValue → Type 0
 SpellsCommand version (Configure port config) = SpellsLabel version config.label
 SpellsCommand version (Clear port) = Unit {0}
 SpellsCommand version (Store port revision set) = Unit {0}
+SpellsCommand version (Rollback port) = SpellsRollback version
 
--- a version spells a port: its label, and the one under which its set was taken, if it has a set (format, Records)
+-- version 1 spells no previous set (format, Records)
+abbrev pub SpellsPrevious : Version → Option Stored → Type 0
+SpellsPrevious One previous = previous ≡ None
+SpellsPrevious Two previous = Unit {0}
+
+-- a version spells a port: its label, the one under which its set was taken, if it has a set, and its previous set, if
+-- it has one (format, Records)
 pub record SpellsPort (version : Version) (port : Port) : Type 0 where
   pub label : SpellsLabel version port.config.label
   pub recorded : IfSome port.stored (λ stored. SpellsLabel version stored.recorded.label)
+  pub previous : SpellsPrevious version port.previous
 
 -- a version spells each port of a state (format, Records)
 abbrev pub SpellsState : Version → State → Type 0

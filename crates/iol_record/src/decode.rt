@@ -17,11 +17,12 @@ use std::alloc::Global;
 /// A Configure record has 10 octets: `tag u8 = 01 | port u8 | mode u8 | validation u8 | vendor u16 |
 /// device u32`, and in version 2 its label, `length u8 | octets`. A Clear record has 2: `tag u8 = 02 |
 /// port u8`. A Store record has 22 and its entries: `tag u8 = 03 | port u8 | revision u64 | vendor
-/// u16 | device u32 | checksum u32 | count u16`, then so many entries `index u16 | subindex u8 | length u8 | data`.
+/// u16 | device u32 | checksum u32 | count u16`, then so many entries `index u16 | subindex u8 | length u8 | data`. A
+/// Rollback record, which version 1 has not, has 2: `tag u8 = 04 | port u8`.
 ///
 /// # Errors
 /// The first that comes, field by field: `Short` where the octets end within the field, `BadTag`
-/// where the tag is none of these, `BadField` where the port is 0 or over 32, the mode or the
+/// where the tag is none that the version has, `BadField` where the port is 0 or over 32, the mode or the
 /// validation is over 4, the device is 2^24 or more, a label has over 32 octets or one that may not stand in it, an Index is
 /// reserved, a key stands twice (at its Subindex), a length is over 232 or makes a set that is too large. `Memory` at an entry of a Store
 /// alone, and at the end of a Store.
@@ -38,7 +39,7 @@ pub fn decode_command(
         → IsCommandRecord version front command → octets.now ≡ front ++ rest
         → (result ≡ Err RecordFault.Memory) ⊎ IsOkAnd result (λ (found, count). (value_of found ≡ command) × (count ≡ length front)) }
     // A fault is the first one, or memory at a set that is whole and in range as far as its first entry.
-    ensures exact { ReadsOrMemory (λ (command, count). (value_of command, drop count octets.now)) (store_begun_at octets.now) result
+    ensures exact { ReadsOrMemory (λ (command, count). (value_of command, drop count octets.now)) (store_begun_at version octets.now) result
         (command_at version octets.now) }
 {
     let mut reader = Reader::new(octets);
@@ -52,14 +53,15 @@ pub fn decode_command(
 /// The record has 17 octets: `mode u8 | validation u8 | vendor u16 | device u32 | revision u64 | flag
 /// u8 = 00`. Where a set is stored it has 37 and the set's entries: the flag is 01, and behind it
 /// stand the configuration that the set was taken under, and the set as in a Store record. In version 2
-/// a label stands behind each configuration, and one octet 00 at the end.
+/// a label stands behind each configuration, and at the end the same again for the previous set: a flag, and
+/// where it is 01 the configuration and the set.
 ///
 /// # Errors
 /// The first that comes, field by field: `Short` where the octets end within the field, `BadField`
-/// where the mode or the validation is over 4, the device is 2^24 or more, the flag is neither 00 nor
-/// 01, a label is none, the last octet of version 2 is not 00, or a field of the set is as `decode_command`
-/// refuses it; at the end `BadField` where the port may not have the set (`PortState::new`). `Memory` at an
-/// entry of a set alone, and at its end.
+/// where the mode or the validation is over 4, the device is 2^24 or more, a flag is neither 00 nor
+/// 01, a label is none, or a field of a set is as `decode_command` refuses it; at the end `BadField` where
+/// the port may not have its sets, or a previous one stands alone (`PortState::new`). `Memory` at an entry of
+/// a set alone, and at its end.
 pub fn decode_port(
     alloc: Global,
     version: Version,
@@ -72,7 +74,7 @@ pub fn decode_port(
     ensures only { (front rest : List ℕ) (port : Port)
         → IsPortRecord version front port → octets.now ≡ front ++ rest
         → (result ≡ Err RecordFault.Memory) ⊎ IsOkAnd result (λ (found, count). (found ≡ port) × (count ≡ length front)) }
-    // A fault is the first one, or memory at a set that is whole and in range as far as its first entry.
+    // A fault is the first one, or memory where the first set is whole and in range as far as its first entry.
     ensures exact { ReadsOrMemory (λ (port, count). (port, drop count octets.now)) (port_begun_at version octets.now) result
         (port_record_at version octets.now) }
 {

@@ -1,19 +1,22 @@
 //! Records written.
-ghost use Rattle.std.specs.Prelude.{◌≡◌, ◌<◌, ◌≤◌, ◌^◌, ◌++◌, length, true, Some, OnOk, IfOk};
+ghost use Rattle.std.specs.Prelude.{◌≡◌, ◌<◌, ◌≤◌, ◌^◌, ◌∷◌, ◌++◌, [], length, true, Some, OnOk, IfOk, IfSome};
+ghost use Rattle.std.specs.Option.{option_map};
 ghost use Rattle.std.specs.List.{flat_map};
 ghost use Rattle.std.specs.Int.{w16, w32, to_be_bytes};
-ghost use Rattle.iol_types.specs.Numbers.{IsDeviceNumber};
+ghost use Rattle.iol_types.specs.Numbers.{IsPortNumber, IsDeviceNumber};
 ghost use Rattle.iol_types.specs.Label.{is_label};
 ghost use Rattle.iol_types.specs.Config.{IsConfig};
 ghost use Rattle.iol_types.specs.DataSet.{IsSet};
 ghost use Rattle.iol_types.specs.Parts.{entry_octets};
-ghost use Rattle.iol_types.specs.Command.{Configure, Clear, Store, value_of};
+ghost use Rattle.iol_types.specs.Command.{Configure, Store, value_of};
+ghost use Rattle.iol_types.specs.State.{IsStored};
 ghost use Rattle.iol_types.specs.Port.{stored_of};
 ghost use Rattle.iol_record.specs.declared.encode.TheConstants.{LARGEST_COMMAND_RECORD};
-ghost use Rattle.iol_record.specs.Record.{spare_octets, label_octets, numbers_octets, config_octets, command_octets, set_octets};
-ghost use Rattle.iol_record.specs.Record.{stored_octets, SpellsLabel, SpellsCommand, SpellsPort, IsCommandRecord, IsPortRecord};
+ghost use Rattle.iol_record.specs.Record.{label_octets, numbers_octets, config_octets, command_octets, set_octets};
+ghost use Rattle.iol_record.specs.Record.{stored_octets, previous_octets, SpellsLabel, SpellsCommand};
+ghost use Rattle.iol_record.specs.Record.{SpellsPrevious, SpellsPort, IsCommandRecord, IsPortRecord};
 
-use crate::reader::{CLEAR, CONFIGURE, NO_SET, SET, SPARE, STORE};
+use crate::reader::{CLEAR, CONFIGURE, NO_SET, ROLLBACK, SET, STORE};
 use crate::version::Version;
 use iol_types::{Command, DataSet, Label, PortConfig, PortId, PortState, StoredSet};
 use std::alloc::{AllocError, Global};
@@ -21,24 +24,27 @@ use std::alloc::{AllocError, Global};
 // The octets of a Configure record in front of its label.
 const CONFIGURE_OCTETS: usize = 10;
 
-// The octets of a Clear record.
-const CLEAR_OCTETS: usize = 2;
+// The octets of the record of a command that names a port alone: of a Clear, and of a Rollback.
+const PORT_COMMAND_OCTETS: usize = 2;
 
 // The octets of a Store record in front of its entries.
 const STORE_OCTETS: usize = 22;
 
-// The octets of the record of a port without a set, its label and what is kept for later use left out.
+// The octets of the record of a port without a set, its label and the flag of a previous set left out.
 const PORT_OCTETS: usize = 17;
 
 /// The most octets that the record of a command has: a Store of a set that counts 4,096.
 pub const LARGEST_COMMAND_RECORD: usize = 4118;
 
-/// The most octets that the record of a port has: in version 2, with a set that counts 4,096, and two labels of 32 octets.
-pub const LARGEST_PORT_RECORD: usize = 4200;
+/// The most octets that the record of a port has in version 1: with a set that counts 4,096.
+pub const LARGEST_PORT_RECORD_OF_ONE: usize = 4133;
 
-fn spare_octets(version: Version) -> usize
-    ensures count { result ≡ length (spare_octets version) }
-    ensures most { result ≤ 1 }
+/// The most octets that the record of a port has in version 2: with two sets that count 4,096 each, and three labels of 32 octets.
+pub const LARGEST_PORT_RECORD_OF_TWO: usize = 8349;
+
+// How many octets a previous set that a port has not takes in a version.
+fn no_previous_octets(version: Version) -> usize
+    ensures { result ≤ 1 }
 {
     match version {
         Version::One => 0,
@@ -69,15 +75,6 @@ fn push_label(octets: &mut Vec<u8>, version: Version, label: &Label) -> Result<(
             octets.extend_from_slice(own)
         }
     }
-}
-
-fn push_spare(octets: &mut Vec<u8>, version: Version) -> Result<(), AllocError>
-    ensures { OnOk result (octets.new.items ≡ octets.old.items ++ spare_octets version) }
-{
-    if let Version::Two = version {
-        octets.push(SPARE)?;
-    }
-    Ok(())
 }
 
 fn push_numbers(octets: &mut Vec<u8>, config: &PortConfig) -> Result<(), AllocError>
@@ -168,11 +165,12 @@ fn encode_configure(
     Ok(octets)
 }
 
-fn encode_clear(alloc: Global, port: PortId) -> Result<Vec<u8>, AllocError>
-    ensures { (version : Version) → IfOk result (λ octets. IsCommandRecord version octets.items (Clear port)) }
+// The record of a command that names a port alone.
+fn encode_port_command(alloc: Global, tag: u8, port: PortId) -> Result<Vec<u8>, AllocError>
+    ensures { IfOk result (λ octets. (octets.items ≡ tag ∷ port ∷ []) × IsPortNumber port) }
 {
-    let mut octets = Vec::with_capacity(alloc, CLEAR_OCTETS)?;
-    octets.push(CLEAR)?;
+    let mut octets = Vec::with_capacity(alloc, PORT_COMMAND_OCTETS)?;
+    octets.push(tag)?;
     octets.push(port.number())?;
     Ok(octets)
 }
@@ -201,7 +199,7 @@ pub fn command_record_octets(version: Version, command: &Command) -> usize
     match command {
         Command::Configure { config, .. } => CONFIGURE_OCTETS
             + label_octets(version, &config.label),
-        Command::Clear { .. } => CLEAR_OCTETS,
+        Command::Clear { .. } | Command::Rollback { .. } => PORT_COMMAND_OCTETS,
         Command::Store { set, .. } => STORE_OCTETS + set.octets(),
     }
 }
@@ -215,28 +213,66 @@ pub fn encode_command(
     version: Version,
     command: &Command,
 ) -> Result<Vec<u8>, AllocError>
-    // Version 1 has no labels.
+    // Version 1 has no labels, and no Rollback.
     requires { SpellsCommand version (value_of command.now) }
     ensures { IfOk result (λ octets. IsCommandRecord version octets.items (value_of command.now)) }
 {
     match command {
         Command::Configure { port, config } => encode_configure(alloc, version, *port, config),
-        Command::Clear { port } => encode_clear(alloc, *port),
+        Command::Clear { port } => encode_port_command(alloc, CLEAR, *port),
         Command::Store {
             port,
             revision,
             set,
         } => encode_store(alloc, *port, *revision, set),
+        Command::Rollback { port } => encode_port_command(alloc, ROLLBACK, *port),
     }
 }
 
-fn push_stored(octets: &mut Vec<u8>, version: Version, stored: &StoredSet) -> Result<(), AllocError>
+fn push_set_of_port(
+    octets: &mut Vec<u8>,
+    version: Version,
+    stored: &StoredSet,
+) -> Result<(), AllocError>
     ensures octets { OnOk result (octets.new.items ≡ octets.old.items ++ stored_octets version (Some (stored_of stored.now))) }
-    ensures in_range { OnOk result (IsConfig stored.now.recorded × IsSet stored.now.set.value) }
+    ensures in_range { OnOk result (IsStored (stored_of stored.now)) }
 {
     octets.push(SET)?;
     push_config(octets, version, &stored.recorded)?;
     push_set(octets, &stored.set)?;
+    Ok(())
+}
+
+fn push_stored(
+    octets: &mut Vec<u8>,
+    version: Version,
+    stored: Option<&StoredSet>,
+) -> Result<(), AllocError>
+    ensures octets { OnOk result (octets.new.items
+        ≡ octets.old.items ++ stored_octets version (option_map (λ stored. stored_of stored.now) stored.entry)) }
+    ensures in_range { OnOk result (IfSome (option_map (λ stored. stored_of stored.now) stored.entry) IsStored) }
+{
+    match stored {
+        None => octets.push(NO_SET)?,
+        Some(stored) => push_set_of_port(octets, version, stored)?,
+    }
+    Ok(())
+}
+
+// Version 1 has no previous sets.
+fn push_previous(
+    octets: &mut Vec<u8>,
+    version: Version,
+    previous: Option<&StoredSet>,
+) -> Result<(), AllocError>
+    requires { SpellsPrevious version (option_map (λ stored. stored_of stored.now) previous) }
+    ensures octets { OnOk result (octets.new.items
+        ≡ octets.old.items ++ previous_octets version (option_map (λ stored. stored_of stored.now) previous.entry)) }
+    ensures in_range { OnOk result (IfSome (option_map (λ stored. stored_of stored.now) previous.entry) IsStored) }
+{
+    if let Version::Two = version {
+        push_stored(octets, version, previous)?;
+    }
     Ok(())
 }
 
@@ -245,18 +281,15 @@ fn push_stored(octets: &mut Vec<u8>, version: Version, stored: &StoredSet) -> Re
 /// # Errors
 /// `AllocError` where it is out of memory.
 pub fn encode_port(alloc: Global, version: Version, port: &PortState) -> Result<Vec<u8>, AllocError>
-    // Version 1 has no labels.
+    // Version 1 has no labels, and no previous sets.
     requires { SpellsPort version port.now }
     ensures { IfOk result (λ octets. IsPortRecord version octets.items port.now) }
 {
     let label = label_octets(version, &port.config().label);
-    let mut octets = Vec::with_capacity(alloc, PORT_OCTETS + label + spare_octets(version))?;
+    let mut octets = Vec::with_capacity(alloc, PORT_OCTETS + label + no_previous_octets(version))?;
     push_config(&mut octets, version, &port.config())?;
     octets.extend_from_slice(&port.revision().to_be_bytes())?;
-    match port.stored() {
-        None => octets.push(NO_SET)?,
-        Some(stored) => push_stored(&mut octets, version, stored)?,
-    }
-    push_spare(&mut octets, version)?;
+    push_stored(&mut octets, version, port.stored())?;
+    push_previous(&mut octets, version, port.previous())?;
     Ok(octets)
 }

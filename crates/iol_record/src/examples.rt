@@ -2,12 +2,14 @@
 //! and in the code alike is refused here.
 
 ghost use Rattle.std.specs.Prelude.{◌≡◌, ◌++◌, [], ◌∷◌, false, true, Some, None, Ok, Err, IsOk, map, replicate, slice_set, take, drop};
-ghost use Rattle.std.specs.Prelude.{codes};
+ghost use Rattle.std.specs.Prelude.{codes, length};
 ghost use Rattle.std.specs.List.{range_with_len};
-ghost use Rattle.iol_types.specs.Command.{Configure, Clear, Store};
+ghost use Rattle.iol_types.specs.Command.{Configure, Clear, Store, Rollback};
 ghost use Rattle.iol_types.specs.State.{blank};
-ghost use Rattle.iol_types.specs.Examples.{example_config, example_set, nearly_full, example_stored, example_port};
-ghost use Rattle.iol_record.specs.declared.encode.TheConstants.{LARGEST_COMMAND_RECORD, LARGEST_PORT_RECORD};
+ghost use Rattle.iol_types.specs.Examples.{example_config, example_set, nearly_full, newer_stored, example_port, renewed_port, port_of};
+ghost use Rattle.iol_record.specs.declared.encode.TheConstants.{LARGEST_COMMAND_RECORD, LARGEST_PORT_RECORD_OF_ONE};
+ghost use Rattle.iol_record.specs.declared.encode.TheConstants.{LARGEST_PORT_RECORD_OF_TWO};
+ghost use Rattle.iol_record.specs.Examples.{full_port};
 ghost use Rattle.iol_record.specs.Record.{command_octets, port_octets, IsCommandRecord, IsPortRecord};
 ghost use Rattle.iol_record.specs.Reading.{command_at, port_record_at, store_begun_at, port_begun_at};
 ghost use Rattle.iol_record.specs.Reading.{field_at, tag_field, port_field, mode_field, validation_field, vendor_field, device_field};
@@ -71,6 +73,9 @@ pub const PORT_RECORD_OF_TWO: [u8; 19] = [
     0x01, 0x00, 0x00,
 ];
 
+/// The record of Rollback port 1, which version 1 has not.
+pub const ROLLBACK_RECORD: [u8; 2] = [0x04, 0x01];
+
 /// [`PORT_WITH_SET_RECORD`] in version 2.
 pub const PORT_WITH_SET_RECORD_OF_TWO: [u8; 51] = [
     0x01, 0x03, 0x01, 0xF4, 0x00, 0x00, 0xAB, 0xCD, 0x00, 0x00, 0x00, 0x00, 0x00, 0x00, 0x00, 0x00,
@@ -79,26 +84,37 @@ pub const PORT_WITH_SET_RECORD_OF_TWO: [u8; 51] = [
     0x01, 0x7F, 0x00,
 ];
 
+/// The record in version 2 of a port as in [`PORT_RECORD`], with a set in which 0041.01 is 80, and the set
+/// of [`STORE_RECORD`] as its previous one, both taken under the same configuration.
+pub const PORT_WITH_PREVIOUS_RECORD: [u8; 83] = [
+    0x01, 0x03, 0x01, 0xF4, 0x00, 0x00, 0xAB, 0xCD, 0x00, 0x00, 0x00, 0x00, 0x00, 0x00, 0x00, 0x00,
+    0x01, 0x01, 0x01, 0x03, 0x01, 0xF4, 0x00, 0x00, 0xAB, 0xCD, 0x00, 0x01, 0xF4, 0x00, 0x00, 0xAB,
+    0xCD, 0x00, 0x00, 0x02, 0x52, 0x00, 0x02, 0x00, 0x40, 0x00, 0x02, 0x0A, 0x64, 0x00, 0x41, 0x01,
+    0x01, 0x80, 0x01, 0x01, 0x03, 0x01, 0xF4, 0x00, 0x00, 0xAB, 0xCD, 0x00, 0x01, 0xF4, 0x00, 0x00,
+    0xAB, 0xCD, 0x00, 0x00, 0x02, 0x4F, 0x00, 0x02, 0x00, 0x40, 0x00, 0x02, 0x0A, 0x64, 0x00, 0x41,
+    0x01, 0x01, 0x7F,
+];
+
 /// [`CONFIGURE_RECORD`] is the record of its command, and is read as it.
-#[tactic(auto, unfolding(crate::specs::Reading::command_at, crate::specs::Reading::arguments_at, crate::specs::Reading::config_at, crate::specs::Reading::label_at, crate::specs::Reading::spare_at))]
+#[tactic(auto, unfolding(crate::specs::Reading::command_at, crate::specs::Reading::arguments_at, crate::specs::Reading::config_at, crate::specs::Reading::label_at))]
 pub fn a_configure_record()
     ensures written { IsCommandRecord One CONFIGURE_RECORD (Configure 1 example_config) }
     ensures read { command_at One CONFIGURE_RECORD ≡ Ok (Configure 1 example_config, []) }
 {}
 
 /// [`BLANK_RECORD`] and [`PORT_RECORD`] are the records of their ports, and are read as them.
-#[tactic(auto, unfolding(crate::specs::Reading::port_record_at, crate::specs::Reading::port_parts_at, crate::specs::Reading::stored_at, crate::specs::Reading::config_at, crate::specs::Reading::label_at, crate::specs::Reading::spare_at))]
+#[tactic(auto, unfolding(crate::specs::Reading::port_record_at, crate::specs::Reading::port_parts_at, crate::specs::Reading::stored_at, crate::specs::Reading::previous_at, crate::specs::Reading::config_at, crate::specs::Reading::label_at))]
 pub fn port_records()
     ensures blank_written { IsPortRecord One BLANK_RECORD blank }
     ensures blank_read { port_record_at One BLANK_RECORD ≡ Ok (blank, []) }
-    ensures written { IsPortRecord One PORT_RECORD (record { config = example_config; revision = 1; stored = None }) }
+    ensures written { IsPortRecord One PORT_RECORD (port_of example_config 1) }
     ensures read { port_record_at One PORT_RECORD
-        ≡ Ok (record { config = example_config; revision = 1; stored = None }, []) }
+        ≡ Ok (port_of example_config 1, []) }
 {}
 
 /// [`CONFIGURE_RECORD`] with one field out of its range: the tag is 04, the port 0 or 33, the mode 5,
 /// the validation 5, the device 01 00 AB CD.
-#[tactic(auto, unfolding(crate::specs::Reading::command_at, crate::specs::Reading::arguments_at, crate::specs::Reading::config_at, crate::specs::Reading::label_at, crate::specs::Reading::spare_at))]
+#[tactic(auto, unfolding(crate::specs::Reading::command_at, crate::specs::Reading::arguments_at, crate::specs::Reading::config_at, crate::specs::Reading::label_at))]
 pub fn commands_out_of_range()
     ensures tag { command_at One (slice_set CONFIGURE_RECORD 0 0x04) ≡ Err RecordFault.BadTag }
     ensures port_below { command_at One (slice_set CONFIGURE_RECORD 1 0) ≡ Err RecordFault.BadField }
@@ -109,14 +125,14 @@ pub fn commands_out_of_range()
 {}
 
 /// The flag 02 of a port is out of its range.
-#[tactic(auto, unfolding(crate::specs::Reading::port_record_at, crate::specs::Reading::port_parts_at, crate::specs::Reading::stored_at, crate::specs::Reading::config_at, crate::specs::Reading::label_at, crate::specs::Reading::spare_at))]
+#[tactic(auto, unfolding(crate::specs::Reading::port_record_at, crate::specs::Reading::port_parts_at, crate::specs::Reading::stored_at, crate::specs::Reading::previous_at, crate::specs::Reading::config_at, crate::specs::Reading::label_at))]
 pub fn a_flag_out_of_range()
     ensures { port_record_at One (slice_set PORT_RECORD 16 0x02) ≡ Err RecordFault.BadField }
 {}
 
 /// The first 0 to 9 octets of [`CONFIGURE_RECORD`], and the first 0 to 16 of [`PORT_RECORD`], are
 /// short.
-#[tactic(auto, unfolding(crate::specs::Reading::command_at, crate::specs::Reading::arguments_at, crate::specs::Reading::port_record_at, crate::specs::Reading::port_parts_at, crate::specs::Reading::stored_at, crate::specs::Reading::config_at, crate::specs::Reading::label_at, crate::specs::Reading::spare_at))]
+#[tactic(auto, unfolding(crate::specs::Reading::command_at, crate::specs::Reading::arguments_at, crate::specs::Reading::port_record_at, crate::specs::Reading::port_parts_at, crate::specs::Reading::stored_at, crate::specs::Reading::previous_at, crate::specs::Reading::config_at, crate::specs::Reading::label_at))]
 pub fn records_cut_off()
     ensures command { map (λ count. command_at One (take count CONFIGURE_RECORD)) (range_with_len 0 10)
         ≡ replicate 10 (Err RecordFault.Short) }
@@ -124,10 +140,15 @@ pub fn records_cut_off()
         ≡ replicate 17 (Err RecordFault.Short) }
 {}
 
-/// A command's record has at most 4,118 octets, a port's at most 4,200.
+/// A command's record has at most 4,118 octets. A port's has at most 4,133 in version 1, and 8,349 in version 2: that of
+/// two sets that count 4,096, with three labels of 32 octets. A Rollback record has 2.
 pub fn largest_records()
     ensures command { LARGEST_COMMAND_RECORD ≡ 4118 }
-    ensures port { LARGEST_PORT_RECORD ≡ 4200 }
+    ensures port_of_one { LARGEST_PORT_RECORD_OF_ONE ≡ 4133 }
+    ensures port_of_two { LARGEST_PORT_RECORD_OF_TWO ≡ 8349 }
+    ensures reached_in_one { length (port_octets One (record full_port { previous = None })) ≡ 4133 }
+    ensures reached { length (port_octets Two full_port) ≡ 8349 }
+    ensures rollback { length (command_octets Two (Rollback 32)) ≡ 2 }
 {}
 
 /// [`CLEAR_RECORD`] and [`STORE_RECORD`] are read as their commands, and are what these are written as.
@@ -140,7 +161,7 @@ pub fn clear_and_store_records()
 {}
 
 /// [`PORT_WITH_SET_RECORD`] is read as its port, and is what that is written as.
-#[tactic(auto, unfolding(crate::specs::Reading::port_record_at, crate::specs::Reading::port_parts_at, crate::specs::Reading::stored_at, crate::specs::Reading::config_at, crate::specs::Reading::label_at, crate::specs::Reading::spare_at, crate::specs::Reading::set_at, crate::specs::Reading::set_head_at, crate::specs::Reading::entry_at))]
+#[tactic(auto, unfolding(crate::specs::Reading::port_record_at, crate::specs::Reading::port_parts_at, crate::specs::Reading::stored_at, crate::specs::Reading::previous_at, crate::specs::Reading::config_at, crate::specs::Reading::label_at, crate::specs::Reading::set_at, crate::specs::Reading::set_head_at, crate::specs::Reading::entry_at))]
 pub fn a_port_with_a_set()
     ensures written { PORT_WITH_SET_RECORD ≡ port_octets One example_port }
     ensures read { port_record_at One PORT_WITH_SET_RECORD ≡ Ok (example_port, []) }
@@ -160,7 +181,7 @@ pub fn stores_out_of_range()
 /// [`PORT_WITH_SET_RECORD`] under a configuration that may not have the set: another vendor, device or
 /// mode, no check; a set taken under Restore or in another mode, a set of another vendor or device. Under
 /// Restore it may have it.
-#[tactic(auto, unfolding(crate::specs::Reading::port_record_at, crate::specs::Reading::port_parts_at, crate::specs::Reading::stored_at, crate::specs::Reading::config_at, crate::specs::Reading::label_at, crate::specs::Reading::spare_at, crate::specs::Reading::set_at, crate::specs::Reading::set_head_at, crate::specs::Reading::entry_at))]
+#[tactic(auto, unfolding(crate::specs::Reading::port_record_at, crate::specs::Reading::port_parts_at, crate::specs::Reading::stored_at, crate::specs::Reading::previous_at, crate::specs::Reading::config_at, crate::specs::Reading::label_at, crate::specs::Reading::set_at, crate::specs::Reading::set_head_at, crate::specs::Reading::entry_at))]
 pub fn ports_without_right_to_their_set()
     ensures vendor { port_record_at One (slice_set PORT_WITH_SET_RECORD 3 0xF5) ≡ Err RecordFault.BadField }
     ensures device_now { port_record_at One (slice_set PORT_WITH_SET_RECORD 7 0xCE) ≡ Err RecordFault.BadField }
@@ -172,15 +193,18 @@ pub fn ports_without_right_to_their_set()
     ensures device { port_record_at One (slice_set PORT_WITH_SET_RECORD 30 0xCE) ≡ Err RecordFault.BadField }
     ensures restore { port_record_at One (slice_set PORT_WITH_SET_RECORD 1 0x04)
         ≡ Ok (
-          record { config = record example_config { validation = Validation.Restore }; revision = 1; stored = Some example_stored },
+          record example_port { config = record example_config { validation = Validation.Restore } },
           [],
         ) }
 {}
 
 /// Each field, at its least and greatest number and at those beside them.
 pub fn borders_of_fields()
-    ensures tag { map (λ n. field_at tag_field (n ∷ [])) (0 ∷ 1 ∷ 2 ∷ 3 ∷ 4 ∷ [])
+    ensures tag { map (λ n. field_at (tag_field One) (n ∷ [])) (0 ∷ 1 ∷ 2 ∷ 3 ∷ 4 ∷ [])
         ≡ Err RecordFault.BadTag ∷ Ok (tag.Configure, []) ∷ Ok (tag.Clear, []) ∷ Ok (tag.Store, []) ∷ Err RecordFault.BadTag ∷ [] }
+    ensures tag_of_two { map (λ n. field_at (tag_field Two) (n ∷ [])) (0 ∷ 1 ∷ 2 ∷ 3 ∷ 4 ∷ 5 ∷ [])
+        ≡ Err RecordFault.BadTag ∷ Ok (tag.Configure, []) ∷ Ok (tag.Clear, []) ∷ Ok (tag.Store, []) ∷ Ok (tag.Rollback, [])
+        ∷ Err RecordFault.BadTag ∷ [] }
     ensures port { map (λ n. field_at port_field (n ∷ [])) (0 ∷ 1 ∷ 32 ∷ 33 ∷ [])
         ≡ Err RecordFault.BadField ∷ Ok (1, []) ∷ Ok (32, []) ∷ Err RecordFault.BadField ∷ [] }
     ensures mode { map (λ n. field_at mode_field (n ∷ [])) (0 ∷ 4 ∷ 5 ∷ [])
@@ -216,7 +240,7 @@ pub fn fields_of_entries()
 
 /// Fields are judged from left to right: a tag before the port behind it, and each field before what is
 /// missing behind it.
-#[tactic(auto, unfolding(crate::specs::Reading::command_at, crate::specs::Reading::arguments_at, crate::specs::Reading::port_record_at, crate::specs::Reading::port_parts_at, crate::specs::Reading::stored_at, crate::specs::Reading::config_at, crate::specs::Reading::label_at, crate::specs::Reading::spare_at, crate::specs::Reading::set_at, crate::specs::Reading::set_head_at))]
+#[tactic(auto, unfolding(crate::specs::Reading::command_at, crate::specs::Reading::arguments_at, crate::specs::Reading::port_record_at, crate::specs::Reading::port_parts_at, crate::specs::Reading::stored_at, crate::specs::Reading::previous_at, crate::specs::Reading::config_at, crate::specs::Reading::label_at, crate::specs::Reading::set_at, crate::specs::Reading::set_head_at))]
 pub fn faults_from_the_left()
     ensures tag { command_at One (0x04 ∷ 0x00 ∷ []) ≡ Err RecordFault.BadTag }
     ensures no_port { command_at One (0x02 ∷ []) ≡ Err RecordFault.Short }
@@ -230,51 +254,60 @@ pub fn faults_from_the_left()
 {}
 
 /// What follows a record is left unread.
-#[tactic(auto, unfolding(crate::specs::Reading::command_at, crate::specs::Reading::arguments_at, crate::specs::Reading::port_record_at, crate::specs::Reading::port_parts_at, crate::specs::Reading::stored_at, crate::specs::Reading::config_at, crate::specs::Reading::label_at, crate::specs::Reading::spare_at))]
+#[tactic(auto, unfolding(crate::specs::Reading::command_at, crate::specs::Reading::arguments_at, crate::specs::Reading::port_record_at, crate::specs::Reading::port_parts_at, crate::specs::Reading::stored_at, crate::specs::Reading::previous_at, crate::specs::Reading::config_at, crate::specs::Reading::label_at))]
 pub fn octets_behind_a_record()
     ensures clear { command_at One (CLEAR_RECORD ++ 0xFF ∷ []) ≡ Ok (Clear 1, 0xFF ∷ []) }
     ensures configure { command_at One (CONFIGURE_RECORD ++ 0xFF ∷ []) ≡ Ok (Configure 1 example_config, 0xFF ∷ []) }
     ensures port { port_record_at One (PORT_RECORD ++ 0xFF ∷ [])
-        ≡ Ok (record { config = example_config; revision = 1; stored = None }, 0xFF ∷ []) }
+        ≡ Ok (port_of example_config 1, 0xFF ∷ []) }
 {}
 
 /// Memory may run out in a Store and in a port's record from the whole of the first entry on, which ends
-/// at octets 28 and 43, and not before; without a set it does not.
-#[tactic(auto, unfolding(crate::specs::Reading::store_begun_at, crate::specs::Reading::begun_behind, crate::specs::Reading::port_begun_at, crate::specs::Reading::stored_begun_at, crate::specs::Reading::set_begun_at, crate::specs::Reading::config_at, crate::specs::Reading::label_at, crate::specs::Reading::spare_at, crate::specs::Reading::set_head_at, crate::specs::Reading::entry_at))]
+/// at octets 28 and 43, and not before; without a set it does not. In a port with a previous set alone that one is
+/// looked at.
+#[tactic(auto, unfolding(crate::specs::Reading::store_begun_at, crate::specs::Reading::begun_behind, crate::specs::Reading::port_begun_at, crate::specs::Reading::first_begun_at, crate::specs::Reading::previous_begun_at, crate::specs::Reading::stored_begun_at, crate::specs::Reading::set_begun_at, crate::specs::Reading::config_at, crate::specs::Reading::label_at, crate::specs::Reading::set_head_at, crate::specs::Reading::entry_at))]
 pub fn records_that_take_memory()
-    ensures store { IsOk (store_begun_at (take 28 STORE_RECORD)) }
-    ensures store_before { store_begun_at (take 27 STORE_RECORD) ≡ Err RecordFault.Short }
-    ensures no_entry { IsOk (store_begun_at (take 22 (slice_set STORE_RECORD 21 0))) }
-    ensures clear { store_begun_at CLEAR_RECORD ≡ Err RecordFault.BadTag }
+    ensures store { IsOk (store_begun_at One (take 28 STORE_RECORD)) }
+    ensures store_before { store_begun_at One (take 27 STORE_RECORD) ≡ Err RecordFault.Short }
+    ensures no_entry { IsOk (store_begun_at One (take 22 (slice_set STORE_RECORD 21 0))) }
+    ensures clear { store_begun_at One CLEAR_RECORD ≡ Err RecordFault.BadTag }
+    ensures rollback { store_begun_at Two ROLLBACK_RECORD ≡ Err RecordFault.BadTag }
     ensures port { IsOk (port_begun_at One (take 43 PORT_WITH_SET_RECORD)) }
     ensures port_before { port_begun_at One (take 42 PORT_WITH_SET_RECORD) ≡ Err RecordFault.Short }
     ensures no_set { port_begun_at One PORT_RECORD ≡ Err RecordFault.BadField }
+    ensures no_set_of_two { port_begun_at Two PORT_RECORD_OF_TWO ≡ Err RecordFault.BadField }
+    ensures present { IsOk (port_begun_at Two (take 45 PORT_WITH_PREVIOUS_RECORD)) }
+    ensures present_before { port_begun_at Two (take 44 PORT_WITH_PREVIOUS_RECORD) ≡ Err RecordFault.Short }
+    ensures previous { IsOk (port_begun_at Two (take 46 (take 17 PORT_WITH_PREVIOUS_RECORD ++ 0x00 ∷ drop 50 PORT_WITH_PREVIOUS_RECORD))) }
+    ensures previous_before { port_begun_at Two (take 45 (take 17 PORT_WITH_PREVIOUS_RECORD ++ 0x00 ∷ drop 50 PORT_WITH_PREVIOUS_RECORD))
+        ≡ Err RecordFault.Short }
 {}
 
-/// In version 2 a configuration has its label, here none, and a port one octet more; Clear and Store are as in version 1.
-#[tactic(auto, unfolding(crate::specs::Reading::command_at, crate::specs::Reading::arguments_at, crate::specs::Reading::port_record_at, crate::specs::Reading::port_parts_at, crate::specs::Reading::stored_at, crate::specs::Reading::config_at, crate::specs::Reading::label_at, crate::specs::Reading::spare_at, crate::specs::Reading::set_at, crate::specs::Reading::set_head_at, crate::specs::Reading::entry_at))]
+/// In version 2 a configuration has its label, here none, and a port the flag of its previous set, here none; Clear and Store are as in
+/// version 1.
+#[tactic(auto, unfolding(crate::specs::Reading::command_at, crate::specs::Reading::arguments_at, crate::specs::Reading::port_record_at, crate::specs::Reading::port_parts_at, crate::specs::Reading::stored_at, crate::specs::Reading::previous_at, crate::specs::Reading::config_at, crate::specs::Reading::label_at, crate::specs::Reading::set_at, crate::specs::Reading::set_head_at, crate::specs::Reading::entry_at))]
 pub fn records_of_two()
     ensures configure { CONFIGURE_RECORD_OF_TWO ≡ command_octets Two (Configure 1 example_config) }
     ensures configure_read { command_at Two CONFIGURE_RECORD_OF_TWO ≡ Ok (Configure 1 example_config, []) }
     ensures clear { CLEAR_RECORD ≡ command_octets Two (Clear 1) }
     ensures store { STORE_RECORD ≡ command_octets Two (Store 1 1 example_set) }
     ensures blank { BLANK_RECORD_OF_TWO ≡ port_octets Two blank }
-    ensures port { PORT_RECORD_OF_TWO ≡ port_octets Two (record { config = example_config; revision = 1; stored = None }) }
+    ensures port { PORT_RECORD_OF_TWO ≡ port_octets Two (port_of example_config 1) }
     ensures port_read { port_record_at Two PORT_RECORD_OF_TWO
-        ≡ Ok (record { config = example_config; revision = 1; stored = None }, []) }
+        ≡ Ok (port_of example_config 1, []) }
     ensures with_set { PORT_WITH_SET_RECORD_OF_TWO ≡ port_octets Two example_port }
     ensures with_set_read { port_record_at Two PORT_WITH_SET_RECORD_OF_TWO ≡ Ok (example_port, []) }
 {}
 
-/// The label of a configuration in version 2, and the octet 00 that ends a port, have to be there; a record of one version is none of
+/// The label of a configuration in version 2, and the flag of a previous set, have to be there; a record of one version is none of
 /// the other.
-#[tactic(auto, unfolding(crate::specs::Reading::command_at, crate::specs::Reading::arguments_at, crate::specs::Reading::port_record_at, crate::specs::Reading::port_parts_at, crate::specs::Reading::stored_at, crate::specs::Reading::config_at, crate::specs::Reading::label_at, crate::specs::Reading::spare_at, crate::specs::Reading::set_at, crate::specs::Reading::set_head_at, crate::specs::Reading::entry_at))]
-pub fn octets_kept_for_later()
+#[tactic(auto, unfolding(crate::specs::Reading::command_at, crate::specs::Reading::arguments_at, crate::specs::Reading::port_record_at, crate::specs::Reading::port_parts_at, crate::specs::Reading::stored_at, crate::specs::Reading::previous_at, crate::specs::Reading::config_at, crate::specs::Reading::label_at, crate::specs::Reading::set_at, crate::specs::Reading::set_head_at, crate::specs::Reading::entry_at))]
+pub fn versions_apart()
     ensures command { command_at Two (slice_set CONFIGURE_RECORD_OF_TWO 10 0x01) ≡ Err RecordFault.Short }
     ensures command_of_one { command_at Two CONFIGURE_RECORD ≡ Err RecordFault.Short }
     ensures config { port_record_at Two (slice_set PORT_WITH_SET_RECORD_OF_TWO 8 0x01) ≡ Err RecordFault.BadField }
     ensures recorded { port_record_at Two (slice_set PORT_WITH_SET_RECORD_OF_TWO 26 0x01) ≡ Err RecordFault.BadField }
-    ensures last { port_record_at Two (slice_set PORT_WITH_SET_RECORD_OF_TWO 50 0x01) ≡ Err RecordFault.BadField }
+    ensures last { port_record_at Two (slice_set PORT_WITH_SET_RECORD_OF_TWO 50 0x01) ≡ Err RecordFault.Short }
     ensures last_missing { port_record_at Two (take 50 PORT_WITH_SET_RECORD_OF_TWO) ≡ Err RecordFault.Short }
     ensures port_of_two { port_record_at One PORT_RECORD_OF_TWO ≡ Err RecordFault.Short }
 {}
@@ -295,4 +328,44 @@ pub fn labels_of_records()
     ensures cut_off { command_at Two (take 16 (slice_set LABELLED_RECORD 11 0x22)) ≡ Err RecordFault.Short }
     ensures of_one { command_at One LABELLED_RECORD ≡ Ok (Configure 1 example_config, drop 10 LABELLED_RECORD) }
     ensures not_in_one { ¬ IsCommandRecord One CONFIGURE_RECORD (Configure 1 (record example_config { label = codes "Pump 3" })) }
+{}
+
+/// [`ROLLBACK_RECORD`] is read as its command in version 2, and is what that is written as; in version 1 its tag is none.
+#[tactic(auto, unfolding(crate::specs::Reading::command_at, crate::specs::Reading::arguments_at))]
+pub fn a_rollback_record()
+    ensures written { IsCommandRecord Two ROLLBACK_RECORD (Rollback 1) }
+    ensures read { command_at Two ROLLBACK_RECORD ≡ Ok (Rollback 1, []) }
+    ensures behind { command_at Two (ROLLBACK_RECORD ++ 0xFF ∷ []) ≡ Ok (Rollback 1, 0xFF ∷ []) }
+    ensures port { map (λ port. command_at Two (0x04 ∷ port ∷ [])) (0 ∷ 32 ∷ 33 ∷ [])
+        ≡ Err RecordFault.BadField ∷ Ok (Rollback 32, []) ∷ Err RecordFault.BadField ∷ [] }
+    ensures cut_off { command_at Two (0x04 ∷ []) ≡ Err RecordFault.Short }
+    ensures another_tag { command_at Two (0x05 ∷ 0x01 ∷ []) ≡ Err RecordFault.BadTag }
+    ensures of_one { command_at One ROLLBACK_RECORD ≡ Err RecordFault.BadTag }
+    ensures not_in_one { ¬ IsCommandRecord One ROLLBACK_RECORD (Rollback 1) }
+{}
+
+/// [`PORT_WITH_PREVIOUS_RECORD`] is read as its port, and is what that is written as. Its last 33 octets are a flag, which is 00 or
+/// 01, a configuration and a set.
+#[tactic(auto, unfolding(crate::specs::Reading::port_record_at, crate::specs::Reading::port_parts_at, crate::specs::Reading::stored_at, crate::specs::Reading::previous_at, crate::specs::Reading::config_at, crate::specs::Reading::label_at, crate::specs::Reading::set_at, crate::specs::Reading::set_head_at, crate::specs::Reading::entry_at))]
+pub fn a_port_with_a_previous_set()
+    ensures written { PORT_WITH_PREVIOUS_RECORD ≡ port_octets Two renewed_port }
+    ensures read { port_record_at Two PORT_WITH_PREVIOUS_RECORD ≡ Ok (renewed_port, []) }
+    ensures behind { port_record_at Two (PORT_WITH_PREVIOUS_RECORD ++ 0xFF ∷ []) ≡ Ok (renewed_port, 0xFF ∷ []) }
+    ensures none { port_record_at Two (slice_set (take 51 PORT_WITH_PREVIOUS_RECORD) 50 0x00)
+        ≡ Ok (record example_port { stored = Some newer_stored }, []) }
+    ensures flag { port_record_at Two (slice_set (take 51 PORT_WITH_PREVIOUS_RECORD) 50 0x02) ≡ Err RecordFault.BadField }
+    ensures cut_off { map (λ count. port_record_at Two (take count PORT_WITH_PREVIOUS_RECORD)) (50 ∷ 51 ∷ 71 ∷ 82 ∷ [])
+        ≡ replicate 4 (Err RecordFault.Short) }
+{}
+
+/// [`PORT_WITH_PREVIOUS_RECORD`] with a previous set that may not stand there: alone; taken under Restore; of another vendor; of a
+/// device out of its range. And with such a present set before a good previous one.
+#[tactic(auto, unfolding(crate::specs::Reading::port_record_at, crate::specs::Reading::port_parts_at, crate::specs::Reading::stored_at, crate::specs::Reading::previous_at, crate::specs::Reading::config_at, crate::specs::Reading::label_at, crate::specs::Reading::set_at, crate::specs::Reading::set_head_at, crate::specs::Reading::entry_at))]
+pub fn previous_sets_without_right()
+    ensures alone { port_record_at Two (take 17 PORT_WITH_PREVIOUS_RECORD ++ 0x00 ∷ drop 50 PORT_WITH_PREVIOUS_RECORD)
+        ≡ Err RecordFault.BadField }
+    ensures recorded { port_record_at Two (slice_set PORT_WITH_PREVIOUS_RECORD 52 0x04) ≡ Err RecordFault.BadField }
+    ensures vendor { port_record_at Two (slice_set PORT_WITH_PREVIOUS_RECORD 61 0xF5) ≡ Err RecordFault.BadField }
+    ensures device { port_record_at Two (take 66 (slice_set PORT_WITH_PREVIOUS_RECORD 62 0x01)) ≡ Err RecordFault.BadField }
+    ensures present { port_record_at Two (slice_set PORT_WITH_PREVIOUS_RECORD 19 0x04) ≡ Err RecordFault.BadField }
 {}

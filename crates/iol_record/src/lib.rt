@@ -24,7 +24,8 @@ mod version;
 
 pub use decode::{decode_command, decode_port};
 pub use encode::{
-    LARGEST_COMMAND_RECORD, LARGEST_PORT_RECORD, command_record_octets, encode_command, encode_port,
+    LARGEST_COMMAND_RECORD, LARGEST_PORT_RECORD_OF_ONE, LARGEST_PORT_RECORD_OF_TWO,
+    command_record_octets, encode_command, encode_port,
 };
 pub use fault::RecordFault;
 pub use laws::no_record_begins_another;

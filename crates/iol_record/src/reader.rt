@@ -3,7 +3,7 @@ ghost use Rattle.std.specs.Prelude.{◌≡◌, ◌≤◌, ◌^◌, ◌<◌, List
 ghost use Rattle.std.specs.Int.{w8};
 ghost use Rattle.iol_record.specs.Reading.{Reads, next_number, octets_at, field_at, tag_field, port_field, mode_field, validation_field};
 ghost use Rattle.iol_record.specs.Reading.{vendor_field, device_field, revision_field, checksum_field, count_field, flag_field};
-ghost use Rattle.iol_record.specs.Reading.{label_length_field, index_field, subindex_field, length_field, spare_at, label_at, config_at};
+ghost use Rattle.iol_record.specs.Reading.{label_length_field, index_field, subindex_field, length_field, label_at, config_at};
 
 use crate::fault::RecordFault;
 use crate::version::Version;
@@ -22,14 +22,14 @@ pub(crate) const CLEAR: u8 = 2;
 // The tag of a Store record.
 pub(crate) const STORE: u8 = 3;
 
-// The flag of a port that has no parameter set, the last octet of its record.
+// The tag of a Rollback record.
+pub(crate) const ROLLBACK: u8 = 4;
+
+// The flag of a parameter set that a port has not.
 pub(crate) const NO_SET: u8 = 0;
 
-// The flag of a port that has a parameter set, which follows.
+// The flag of a parameter set that a port has, which follows.
 pub(crate) const SET: u8 = 1;
-
-// What version 2 keeps for later use, the last octet of a port.
-pub(crate) const SPARE: u8 = 0;
 
 // The kind of a command, as its tag says.
 #[derive(Clone, Copy)]
@@ -37,6 +37,7 @@ pub(crate) enum Tag {
     Configure,
     Clear,
     Store,
+    Rollback,
 }
 
 // The octets that are still to be read. A contract sees them as a list.
@@ -88,14 +89,15 @@ impl<'a> Reader<'a> {
         Ok(u8::from_be_bytes(self.front()?))
     }
 
-    // The tag of a command.
-    pub(crate) fn tag(&mut self) -> Result<Tag, RecordFault>
-        ensures { Reads (λ tag. (tag, self.new)) result (field_at tag_field self.old) }
+    // The tag of a command; version 1 has no Rollback.
+    pub(crate) fn tag(&mut self, version: Version) -> Result<Tag, RecordFault>
+        ensures { Reads (λ tag. (tag, self.new)) result (field_at (tag_field version) self.old) }
     {
-        match self.octet()? {
-            CONFIGURE => Ok(Tag::Configure),
-            CLEAR => Ok(Tag::Clear),
-            STORE => Ok(Tag::Store),
+        match (self.octet()?, version) {
+            (CONFIGURE, _) => Ok(Tag::Configure),
+            (CLEAR, _) => Ok(Tag::Clear),
+            (STORE, _) => Ok(Tag::Store),
+            (ROLLBACK, Version::Two) => Ok(Tag::Rollback),
             _ => Err(RecordFault::BadTag),
         }
     }
@@ -168,7 +170,7 @@ impl<'a> Reader<'a> {
         Ok(u16::from_be_bytes(self.front()?))
     }
 
-    // The flag of a port: whether a set follows.
+    // The flag of a set of a port: whether it follows.
     pub(crate) fn has_set(&mut self) -> Result<bool, RecordFault>
         ensures { Reads (λ flag. (flag, self.new)) result (field_at flag_field self.old) }
     {
@@ -241,21 +243,6 @@ impl<'a> Reader<'a> {
                 let count = self.label_length()?;
                 Label::new(self.octets(count)?).ok_or(RecordFault::BadField)
             }
-        }
-    }
-
-    // What version 2 keeps for later use at the end of a port.
-    #[tactic(auto, unfolding(crate::specs::Reading::spare_at))]
-    pub(crate) fn spare(&mut self, version: Version) -> Result<(), RecordFault>
-        ensures read { Reads (λ spare. (spare, self.new)) result (spare_at version self.old) }
-        ensures no_memory { IfErr result (λ fault. fault ≡ RecordFault.Memory → ⊥) }
-    {
-        match version {
-            Version::One => Ok(()),
-            Version::Two => match self.octet()? {
-                SPARE => Ok(()),
-                _ => Err(RecordFault::BadField),
-            },
         }
     }
 

@@ -1,12 +1,12 @@
 //! Sets, commands and ports, read from the front of the octets that are left.
-ghost use Rattle.std.specs.Prelude.{◌≡◌, ◌∷◌, ◌++◌, [], Ok, IfErr, OnOk, IsOk, min};
+ghost use Rattle.std.specs.Prelude.{◌≡◌, ◌∷◌, ◌++◌, [], Ok, IfErr, IfOk, OnOk, IfSome, IsOk, min};
 ghost use Rattle.std.specs.Option.{option_map};
 ghost use Rattle.iol_types.specs.Command.{value_of};
 ghost use Rattle.iol_types.specs.DataSet.{Entry};
 ghost use Rattle.iol_types.specs.Port.{stored_of};
-ghost use Rattle.iol_record.specs.Reading.{Reads, ReadsOrMemory, IsReadFault, field_at, flag_field, followed, entry_at, entries_at};
+ghost use Rattle.iol_record.specs.Reading.{Reads, ReadsOrMemory, IsReadFault, entry_at, entries_at, flagged_at, flagged_begun_at};
 ghost use Rattle.iol_record.specs.Reading.{set_head_at, set_at, set_begun_at, arguments_at, begun_behind, command_at, store_begun_at};
-ghost use Rattle.iol_record.specs.Reading.{stored_at, stored_begun_at, port_record_at, port_begun_at};
+ghost use Rattle.iol_record.specs.Reading.{previous_at, previous_begun_at, both, sets_begun_at, port_record_at, port_begun_at};
 ghost use Rattle.iol_record.specs.declared.reader.Tag.TheVariants as tag;
 ghost use Rattle.iol_record.specs.declared.version.Version.TheVariants.{One};
 
@@ -24,6 +24,13 @@ pub(crate) struct SetHead {
     pub device: DeviceId,
     pub checksum: u32,
     pub count: u16,
+}
+
+// The sets of a port, before it is known whether they may stand there.
+#[derive(Drop)]
+struct PortSets {
+    stored: Option<StoredSet>,
+    previous: Option<StoredSet>,
 }
 
 impl<'a> Reader<'a> {
@@ -73,7 +80,8 @@ impl<'a> Reader<'a> {
     // A set.
     #[tactic(auto, unfolding(crate::specs::Reading::set_at, crate::specs::Reading::set_begun_at, crate::specs::Reading::set_head_at))]
     fn set(&mut self, alloc: Global) -> Result<Arc<DataSet>, RecordFault>
-        ensures { ReadsOrMemory (λ set. (set.value, self.new)) (set_begun_at self.old) result (set_at self.old) }
+        ensures read { ReadsOrMemory (λ set. (set.value, self.new)) (set_begun_at self.old) result (set_at self.old) }
+        ensures begun { OnOk result (IsOk (set_begun_at self.old)) }
     {
         let head = self.set_head()?;
         let entries = self.entries(alloc, head.count)?;
@@ -107,25 +115,27 @@ impl<'a> Reader<'a> {
         alloc: Global,
         version: Version,
     ) -> Result<Command, RecordFault>
-        ensures { ReadsOrMemory (λ command. (value_of command, self.new)) (store_begun_at self.old) result
+        ensures { ReadsOrMemory (λ command. (value_of command, self.new)) (store_begun_at version self.old) result
             (command_at version self.old) }
     {
-        match self.tag()? {
+        match self.tag(version)? {
             Tag::Configure => Ok(Command::Configure {
                 port: self.port()?,
                 config: self.config(version)?,
             }),
             Tag::Clear => Ok(Command::Clear { port: self.port()? }),
             Tag::Store => self.store(alloc),
+            Tag::Rollback => Ok(Command::Rollback { port: self.port()? }),
         }
     }
 
     // What a port has stored, by its flag.
     #[tactic(auto, unfolding(crate::specs::Reading::stored_at, crate::specs::Reading::stored_begun_at, crate::specs::Reading::config_at))]
     fn stored(&mut self, alloc: Global, version: Version) -> Result<Option<StoredSet>, RecordFault>
-        ensures { ReadsOrMemory (λ stored. (option_map stored_of stored, self.new))
-            (followed (field_at flag_field) (stored_begun_at version) self.old) result
-            (followed (field_at flag_field) (stored_at version) self.old) }
+        ensures read { ReadsOrMemory (λ stored. (option_map stored_of stored, self.new))
+            (flagged_begun_at version self.old) result (flagged_at version self.old) }
+        ensures begun { IfOk result (λ stored.
+            IfSome (option_map stored_of stored) (λ _. IsOk (flagged_begun_at version self.old))) }
     {
         if !self.has_set()? {
             return Ok(None);
@@ -134,6 +144,29 @@ impl<'a> Reader<'a> {
             recorded: self.config(version)?,
             set: self.set(alloc)?,
         }))
+    }
+
+    // What a port had stored before, which version 1 has not.
+    #[tactic(auto, unfolding(crate::specs::Reading::previous_at, crate::specs::Reading::previous_begun_at))]
+    fn previous(&mut self, alloc: Global, version: Version) -> Result<Option<StoredSet>, RecordFault>
+        ensures { ReadsOrMemory (λ stored. (option_map stored_of stored, self.new)) (previous_begun_at version self.old) result
+            (previous_at version self.old) }
+    {
+        match version {
+            Version::One => Ok(None),
+            Version::Two => self.stored(alloc, version),
+        }
+    }
+
+    // What a port has stored, and what it had stored before.
+    fn sets(&mut self, alloc: Global, version: Version) -> Result<PortSets, RecordFault>
+        ensures { ReadsOrMemory (λ sets. ((option_map stored_of sets.stored, option_map stored_of sets.previous), self.new))
+            (sets_begun_at version self.old) result (both (flagged_at version) (previous_at version) self.old) }
+    {
+        Ok(PortSets {
+            stored: self.stored(alloc, version)?,
+            previous: self.previous(alloc, version)?,
+        })
     }
 
     // The record of a port.
@@ -148,8 +181,7 @@ impl<'a> Reader<'a> {
     {
         let config = self.config(version)?;
         let revision = self.revision()?;
-        let stored = self.stored(alloc, version)?;
-        self.spare(version)?;
-        PortState::new(config, revision, stored).ok_or(RecordFault::BadField)
+        let sets = self.sets(alloc, version)?;
+        PortState::new(config, revision, sets.stored, sets.previous).ok_or(RecordFault::BadField)
     }
 }

@@ -6,9 +6,10 @@ ghost use Rattle.iol_record.specs.Record.{newest, is_newest};
 /// The version of the layout that a record stands in (docs/FORMATS.md, "Records").
 #[derive(Clone, Copy)]
 pub enum Version {
-    /// A configuration is its numbers alone, without a label, and a port ends with what it has stored.
+    /// A configuration is its numbers alone, without a label, and a port ends with what it has stored; there is no Rollback.
     One,
-    /// Behind the numbers of each configuration stands its label, and at the end of a port an octet 00, which is kept for later use.
+    /// Behind the numbers of each configuration stands its label, a port ends with what it had stored before, and a command may be a
+    /// Rollback.
     Two,
 }
 

@@ -357,6 +357,8 @@ module _ (first : ℕ) (start : State) where
       )
       by (asked.Clear port) (Ok n) is =
           (_, [], refl, answered (command_of (asked.Clear port)) _ (accepted (command_of (asked.Clear port)) n is), refl)
+      by (asked.Rollback port) (Ok n) is =
+          (_, [], refl, answered (command_of (asked.Rollback port)) _ (accepted (command_of (asked.Rollback port)) n is), refl)
       by change (Err f) is = (_, [], refl, answered (command_of change) _ (refused (command_of change) f is), refl)
 
   module _ {D L : Type 0} (disk : D → Disk) (number : L → ℕ) (steps : L → LinkCall → LinkAnswer → L → Type 0) where

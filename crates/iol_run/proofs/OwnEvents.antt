@@ -41,6 +41,7 @@ module _ (q t : ℕ) where
   pub submit_own : (asked : Change) (answer : Result ℕ SubmitFault) → own q (stamped t (submit_told (command_of asked) answer)) ≡ []
   submit_own (change.Configure port config) (Ok n) = refl
   submit_own (change.Clear port) (Ok n) = refl
+  submit_own (change.Rollback port) (Ok n) = refl
   submit_own asked (Err f) = refl
 
   pub flusher_own : PassesOver (λ (es : List Event). own q (stamped t es))

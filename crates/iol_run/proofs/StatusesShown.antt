@@ -3,7 +3,7 @@ use Rattle.std.proofs.Common.{◌≡◌, refl, inl, inr, ℕ, nat_eq, Bool, true
 use Rattle.std.proofs.Common.{Result, Ok, Err, ap, sym, ◌∙◌}
 use Rattle.std.proofs.lemmas.Bool.{eq-eqb}
 use Rattle.std.proofs.lemmas.List.Sums.{fold-append}
-use Rattle.iol_types.specs.Command.{CommandValue, Configure, Clear, Store}
+use Rattle.iol_types.specs.Command.{CommandValue, Configure, Clear, Store, Rollback}
 use Rattle.iol_core.specs.Core.{CoreView}
 use Rattle.iol_core.specs.declared.port.Work.{Work}
 use Rattle.iol_core.specs.declared.upload.FinishFault.{FinishFault}
@@ -44,6 +44,7 @@ module _ (q t : ℕ) where
   accepted_kept : (was : Status) (n : ℕ) (command : CommandValue) → status_after was (own_in q (Accepted n command)) ≡ was
   accepted_kept was n (Configure p c) = refl
   accepted_kept was n (Clear p) = refl
+  accepted_kept was n (Rollback p) = refl
   accepted_kept was n (Store p r s) = kept (nat_eq p q) was (Accepted n (Store p r s)) refl
 
   filed_kept : (was : Status) (command : Option CommandValue) (answer : Result ℕ FinishFault)

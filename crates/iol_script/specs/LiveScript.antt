@@ -11,7 +11,7 @@ use Rattle.iol_script.specs.Step.{step_of}
 use Rattle.iol_script.specs.Table.{has_only_keys, values_at}
 use Rattle.iol_script.specs.declared.live_script.LiveScript.{LiveScript}
 use Rattle.iol_script.specs.declared.step.Step.{Step}
-use Rattle.iol_script.specs.declared.step.Step.TheVariants.{Configure, Clear, Port, Flush, Drain}
+use Rattle.iol_script.specs.declared.step.Step.TheVariants.{Configure, Clear, Rollback, Port, Flush, Drain}
 
 -- what such a script says: the devices, and what clients ask for (format, Scripts)
 pub record SaidLive : Type 0 where
@@ -22,6 +22,7 @@ pub record SaidLive : Type 0 where
 abbrev pub change_by : Step → Option Change
 change_by (Configure port config) = Some (change.Configure port config)
 change_by (Clear port) = Some (change.Clear port)
+change_by (Rollback port) = Some (change.Rollback port)
 change_by (Port port times) = None
 change_by (Flush times) = None
 change_by Drain = None

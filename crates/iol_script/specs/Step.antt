@@ -10,7 +10,7 @@ use Rattle.iol_types.specs.declared.config.Validation.{Validation}
 use Rattle.iol_script.specs.Number.{number_below, port_in, vendor_in, device_in, times_in}
 use Rattle.iol_script.specs.Table.{text_at, has_only_keys}
 use Rattle.iol_script.specs.declared.step.Step.{Step}
-use Rattle.iol_script.specs.declared.step.Step.TheVariants.{Configure, Clear, Port, Flush, Drain}
+use Rattle.iol_script.specs.declared.step.Step.TheVariants.{Configure, Clear, Rollback, Port, Flush, Drain}
 
 -- the mode and the validation of a port (format, Scripts)
 abbrev pub mode_in : Members → Option PortMode
@@ -49,6 +49,9 @@ configure_keys =
 abbrev pub clear_keys : List (List ℕ)
 clear_keys = codes "do" ∷ codes "port" ∷ []
 
+abbrev pub rollback_keys : List (List ℕ)
+rollback_keys = codes "do" ∷ codes "port" ∷ []
+
 abbrev pub port_keys : List (List ℕ)
 port_keys = codes "do" ∷ codes "port" ∷ codes "times" ∷ []
 
@@ -68,6 +71,9 @@ configure_in table =
 abbrev pub clear_in : Members → Option Step
 clear_in table = if has_only_keys clear_keys table then option_map Clear (port_in table) else None
 
+abbrev pub rollback_in : Members → Option Step
+rollback_in table = if has_only_keys rollback_keys table then option_map Rollback (port_in table) else None
+
 abbrev pub port_step_in : Members → Option Step
 port_step_in table =
     if has_only_keys port_keys table then
@@ -85,6 +91,7 @@ abbrev pub step_of_kind : List ℕ → Members → Option Step
 step_of_kind kind table =
     if bytes_eq kind (codes "configure") then configure_in table
     else if bytes_eq kind (codes "clear") then clear_in table
+    else if bytes_eq kind (codes "rollback") then rollback_in table
     else if bytes_eq kind (codes "port") then port_step_in table
     else if bytes_eq kind (codes "flush") then flush_in table
     else if bytes_eq kind (codes "drain") then drain_in table

@@ -89,6 +89,7 @@ fn change_by(step: Step) -> Option<Change>
     match step {
         Step::Configure { port, config } => Some(Change::Configure { port, config }),
         Step::Clear { port } => Some(Change::Clear { port }),
+        Step::Rollback { port } => Some(Change::Rollback { port }),
         _ => None,
     }
 }

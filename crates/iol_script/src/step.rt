@@ -1,8 +1,8 @@
 //! One step of a script.
 ghost use Rattle.std.specs.Prelude.{◌≡◌};
 ghost use Rattle.toml.specs.View.{table_view};
-ghost use Rattle.iol_script.specs.Step.{configure_in, clear_in, port_step_in, flush_in, drain_in, config_in, label_in, mode_in};
-ghost use Rattle.iol_script.specs.Step.{validation_in};
+ghost use Rattle.iol_script.specs.Step.{configure_in, clear_in, rollback_in, port_step_in, flush_in, drain_in, config_in, label_in};
+ghost use Rattle.iol_script.specs.Step.{mode_in, validation_in};
 
 use crate::number::{device_in, octet_at, port_in, times_in, vendor_in};
 use crate::table::{has_only_keys, text_at, value_at};
@@ -14,8 +14,10 @@ use toml::{Table, Value};
 pub enum Step {
     /// A client gives a port a configuration.
     Configure { port: PortId, config: PortConfig },
-    /// A client deletes the parameter set of a port.
+    /// A client deletes the parameter sets of a port.
     Clear { port: PortId },
+    /// A client exchanges the parameter set of a port and its previous one.
+    Rollback { port: PortId },
     /// A port makes this many steps, 1 to [`MOST_TIMES`](crate::MOST_TIMES).
     Port { port: PortId, times: u16 },
     /// The flusher makes this many steps, 1 to [`MOST_TIMES`](crate::MOST_TIMES).
@@ -29,9 +31,9 @@ impl Step {
     ghost use Rattle.toml.specs.View.{view};
     ghost use Rattle.iol_script.specs.Step.{step_of};
 
-    // The step that a value says: `{ do = "drain" }`, `{ do = "clear", .. }` with its port, `{ do = "configure", .. }`
-    // with its five whole numbers and perhaps a label, `{ do = "port", .. }` with its port, or `{ do = "flush" }`, the
-    // last two perhaps with how often they are made.
+    // The step that a value says: `{ do = "drain" }`, `{ do = "clear", .. }` or `{ do = "rollback", .. }` with its port,
+    // `{ do = "configure", .. }` with its five whole numbers and perhaps a label, `{ do = "port", .. }` with its port, or
+    // `{ do = "flush" }`, the last two perhaps with how often they are made.
     pub(crate) fn read(value: &Value) -> Option<Step>
         ensures { result ≡ step_of (view value.now) }
     {
@@ -39,6 +41,7 @@ impl Step {
         match text_at(table, "do")? {
             "configure" => configure_in(table),
             "clear" => clear_in(table),
+            "rollback" => rollback_in(table),
             "port" => port_step_in(table),
             "flush" => flush_in(table),
             "drain" => drain_in(table),
@@ -75,6 +78,17 @@ fn clear_in(table: &Table) -> Option<Step>
         return None;
     }
     Some(Step::Clear {
+        port: port_in(table)?,
+    })
+}
+
+fn rollback_in(table: &Table) -> Option<Step>
+    ensures { result ≡ rollback_in (table_view table.now) }
+{
+    if !has_only_keys(table, &["do", "port"]) {
+        return None;
+    }
+    Some(Step::Rollback {
         port: port_in(table)?,
     })
 }

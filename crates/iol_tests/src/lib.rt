@@ -6,7 +6,8 @@
 //! - `isdu`: the codec beside a plain reader of ISDUs. `link`: a link of which nothing is said.
 //! - `plain`: a recovery beside `plain_reading`, which is written from docs/FORMATS.md alone. `example_store`: the store of `iol_example`.
 //! - `paused`: a checkpoint that is paused while batches are written. `older_layout`: the one that renews a disk of an earlier release.
-//! - `largest`: the largest record of a command, and batches that do not follow behind others.
+//! - `largest`: the largest record of a command, and batches that do not follow behind others. `full_ports`: that of a port, and the
+//!   checkpoint of ports with the largest sets.
 //! - `front`, `core_reads`, `flush`: passes of two threads, a view of a port with a set, batches that do not fit.
 //! - `cut_file`: a file of which a read has failed. `no_link`: a run of a port without a link. `texts`: the texts of faults.
 //!
@@ -29,6 +30,8 @@ mod exchanges;
 mod flush;
 #[cfg(test)]
 mod front;
+#[cfg(test)]
+mod full_ports;
 #[cfg(test)]
 mod isdu;
 #[cfg(test)]

@@ -52,7 +52,7 @@ const OF_SETS: [(AddFault, &str); 5] = [
     (AddFault::Memory, "out of memory"),
 ];
 
-const OF_COMMANDS: [(CommandFault, &str); 5] = [
+const OF_COMMANDS: [(CommandFault, &str); 6] = [
     (CommandFault::UnknownPort, "no such port"),
     (
         CommandFault::RevisionSpent,
@@ -63,6 +63,10 @@ const OF_COMMANDS: [(CommandFault, &str); 5] = [
     (
         CommandFault::WrongDevice,
         "the parameter set of another device",
+    ),
+    (
+        CommandFault::NoPrevious,
+        "the port has no previous parameter set",
     ),
 ];
 

@@ -1,6 +1,6 @@
 -- A port's own events.
 use Rattle.std.specs.Prelude.{ℕ, nat_eq, if◌then◌else◌, List, [], ◌∷◌, ◌++◌, fold}
-use Rattle.iol_types.specs.Command.{CommandValue, Configure, Clear, Store}
+use Rattle.iol_types.specs.Command.{CommandValue, Configure, Clear, Store, Rollback}
 use Rattle.iol_trace.specs.Events.{Event, Accepted, Refused, Page, Exchange, Lost, Attended, Changed, Acknowledged, DiskFailed, Stamp}
 use Rattle.iol_trace.specs.Statuses.{Status, Off}
 
@@ -12,6 +12,7 @@ at_port port told it = if nat_eq told port then it ∷ [] else []
 abbrev pub own_command : ℕ → ℕ → CommandValue → List Event
 own_command port number (Configure told config) = []
 own_command port number (Clear told) = []
+own_command port number (Rollback told) = []
 own_command port number (Store told revision set) = at_port port told (Accepted number (Store told revision set))
 
 -- an event, where it is this port's own: the page of its device, an exchange with it or its loss, the work of the port, a set

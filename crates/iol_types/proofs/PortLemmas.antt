@@ -2,13 +2,14 @@
 use Rattle.std.proofs.Common.{◌≡◌, ◌<◌, ◌+◌, ◌-◌, ◌==◌, ◌&&◌, ℕ, Bool, true, false, not, if◌then◌else◌, nat_le, Some, None, refl}
 use Rattle.std.proofs.Common.{ap, sym, ◌∙◌, arith, slice_get, get_or, Vec}
 use Rattle.std.specs.declared.alloc.Global.{Global}
-use Rattle.std.specs.Prelude.{slice_set}
-use Rattle.std.proofs.lemmas.Bool.{and_parts, eqb-true, le-leb}
+use Rattle.std.specs.Prelude.{slice_set, Option, is_none}
+use Rattle.std.proofs.lemmas.Bool.{and_parts, and_from, eqb-true, eq-eqb, le-leb}
 use Rattle.std.proofs.lemmas.Option.{slice_get-get_or}
-use Rattle.iol_types.specs.Config.{may_store_set}
+use Rattle.iol_types.specs.declared.config.PortConfig.{PortConfig}
+use Rattle.iol_types.specs.Config.{may_store_set, may_keep_set, keeps_set}
 use Rattle.iol_types.specs.DataSet.{SetValue}
-use Rattle.iol_types.specs.State.{Port, State, port_numbered, changed_at, store_fault}
-use Rattle.iol_types.specs.declared.command.CommandFault.TheVariants.{NotAllowed, StaleRevision, WrongDevice}
+use Rattle.iol_types.specs.State.{Stored, Port, State, may_have, may_stand, port_numbered, changed_at, store_fault}
+use Rattle.iol_types.specs.declared.command.CommandFault.TheVariants.{NotAllowed, StaleRevision, WrongDevice, NoPrevious}
 
 -- what is lent of the ports stands at the place that was asked for
 pub lent : (ports : Vec Port Global) (place : ℕ) (port : Port) → place < ports.len → port ≡ get_or ports.items place port
@@ -47,3 +48,42 @@ same_device port revision set none =
     by true false names is none = absurd cc
     by true true false is none = absurd cc
     by true true true is none = eqb-true set.device port.config.device (and_parts _ _ is).1
+
+-- what stays from one configuration to the next, and from that to a third one, stays from the first to the third
+keeps_on : (first second third : PortConfig) → keeps_set first second ≡ true → keeps_set second third ≡ true
+    → keeps_set first third ≡ true
+keeps_on first second third one two =
+    let device = and_parts _ _ one in
+    let vendor = and_parts _ _ device.0 in
+    let may = and_parts (may_keep_set first) (may_keep_set second) vendor.0 in
+    let device_then = and_parts _ _ two in
+    let vendor_then = and_parts _ _ device_then.0 in
+    let may_then = and_parts (may_keep_set second) (may_keep_set third) vendor_then.0 in
+    and_from _ _ (and_from _ _ (and_from (may_keep_set first) (may_keep_set third) may.0 may_then.1)
+    (eq-eqb _ _ (eqb-true first.vendor second.vendor vendor.1 ∙ eqb-true second.vendor third.vendor vendor_then.1)))
+    (eq-eqb _ _ (eqb-true first.device second.device device.1 ∙ eqb-true second.device third.device device_then.1))
+
+has_still : (old new : PortConfig) (stored : Stored) → keeps_set old new ≡ true → may_have old stored ≡ true → may_have new stored ≡ true
+has_still old new stored keeps has =
+    let parts = and_parts _ (keeps_set stored.recorded old) has in
+    and_from _ (keeps_set stored.recorded new) parts.0 (keeps_on stored.recorded old new parts.1 keeps)
+
+-- sets that may stand at a port may do so under a configuration that keeps them
+pub still_stand : (old new : PortConfig) (stored previous : Option Stored) → keeps_set old new ≡ true → may_stand old stored previous ≡ true
+    → may_stand new stored previous ≡ true
+still_stand old new None None keeps may = refl
+still_stand old new None (Some previous) keeps may = let none = may in cc
+still_stand old new (Some stored) None keeps may = has_still old new stored keeps may
+still_stand old new (Some stored) (Some previous) keeps may =
+    let both = and_parts (may_have old stored) (may_have old previous) may in
+    and_from (may_have new stored) (may_have new previous) (has_still old new stored keeps both.0) (has_still old new previous keeps both.1)
+
+-- and may change places where there is a previous one
+pub stand_exchanged : (config : PortConfig) (stored previous : Option Stored)
+    → (if is_none previous then Some NoPrevious else None) ≡ None → may_stand config stored previous ≡ true
+    → may_stand config previous stored ≡ true
+stand_exchanged config stored None there may = absurd cc
+stand_exchanged config None (Some previous) there may = let none = may in cc
+stand_exchanged config (Some stored) (Some previous) there may =
+    let both = and_parts (may_have config stored) (may_have config previous) may in
+    and_from (may_have config previous) (may_have config stored) both.1 both.0

@@ -2,8 +2,9 @@
 use Rattle.std.proofs.Common.{◌≡◌, ℕ, ◌&&◌, List, [], ◌∷◌, ◌++◌, length, Option, Some, None, is_none, refl, sym, ap, ◌∙◌}
 use Rattle.std.proofs.Math.Bool.{and_assoc}
 use Rattle.std.proofs.lemmas.List.{length-set}
-use Rattle.iol_types.specs.Command.{CommandValue, Configure, Clear, Store}
-use Rattle.iol_types.specs.State.{Port, State, port_numbered, changed_at, configured, cleared, with_set, check, apply, after, legal}
+use Rattle.iol_types.specs.Command.{CommandValue, Configure, Clear, Store, Rollback}
+use Rattle.iol_types.specs.State.{Port, State, port_numbered, changed_at, configured, cleared, with_set, exchanged, check, apply, after}
+use Rattle.iol_types.specs.State.{legal}
 
 -- commands are legal in a row where the rest is legal in the state after the first
 pub legal-append : (state : State) (first rest : List CommandValue) → legal state (first ++ rest)
@@ -23,6 +24,7 @@ pub length-apply : (state : State) (command : CommandValue) → length (apply st
 length-apply state (Configure number config) = length-changed_at state number (λ port. configured port config) (port_numbered state number)
 length-apply state (Clear number) = length-changed_at state number cleared (port_numbered state number)
 length-apply state (Store number revision set) = length-changed_at state number (λ port. with_set port set) (port_numbered state number)
+length-apply state (Rollback number) = length-changed_at state number exchanged (port_numbered state number)
 
 pub length-after : (state : State) (commands : List CommandValue) → length (after state commands) ≡ length state
 length-after state [] = refl

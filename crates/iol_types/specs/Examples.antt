@@ -40,7 +40,7 @@ example_stored = record { set = example_set; recorded = example_config }
 
 -- for worked examples: a port with this configuration and revision, and no set (own)
 abbrev pub port_of : PortConfig → ℕ → Port
-port_of config revision = record { config = config; revision = revision; stored = None }
+port_of config revision = record { config = config; revision = revision; stored = None; previous = None }
 
 -- for worked examples: a master's one port, with this configuration and revision, and no set (own)
 abbrev pub one_port : PortConfig → ℕ → State
@@ -48,4 +48,18 @@ one_port config revision = port_of config revision ∷ []
 
 -- for worked examples: a port with this configuration, revision 1, and the set, taken under the same configuration (own)
 abbrev pub example_port : Port
-example_port = record { config = example_config; revision = 1; stored = Some example_stored }
+example_port = record { config = example_config; revision = 1; stored = Some example_stored; previous = None }
+
+-- for worked examples: the set with 80 in place of 7F, whose checksum is 594, taken under the configuration (own)
+abbrev pub newer_stored : Stored
+newer_stored = record {
+  set = record example_set {
+    entries = (record { index = 64; subindex = 0 }, 10 ∷ 100 ∷ []) ∷ (record { index = 65; subindex = 1 }, 128 ∷ []) ∷ [];
+    checksum = 594;
+  };
+  recorded = example_config;
+}
+
+-- for worked examples: that port once the newer set is stored, so that the first one is the previous one (own)
+abbrev pub renewed_port : Port
+renewed_port = record example_port { stored = Some newer_stored; previous = Some example_stored }

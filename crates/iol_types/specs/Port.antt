@@ -10,4 +10,9 @@ stored_of stored = record { set = stored.set.value; recorded = stored.recorded }
 
 -- what a port in memory says (own)
 abbrev pub port_of : Inside → Port
-port_of port = record { config = port.config; revision = port.revision; stored = option_map stored_of port.stored }
+port_of port = record {
+  config = port.config;
+  revision = port.revision;
+  stored = option_map stored_of port.stored;
+  previous = option_map stored_of port.previous;
+}

@@ -12,7 +12,7 @@ use Rattle.std.proofs.lemmas.Slice.Eq.{bytes_eq-Decides}
 use Rattle.iol_types.specs.Key.{same_key}
 use Rattle.iol_types.specs.Config.{mode_octet, mode_of, validation_octet, validation_of}
 use Rattle.iol_types.specs.DataSet.{Entry, SetValue}
-use Rattle.iol_types.specs.Command.{CommandValue, Configure, Clear, Store, value_of}
+use Rattle.iol_types.specs.Command.{CommandValue, Configure, Clear, Store, Rollback, value_of}
 use Rattle.iol_types.specs.declared.key.Key.{Key}
 use Rattle.iol_types.specs.declared.config.PortConfig.{PortConfig}
 use Rattle.iol_types.specs.declared.config.PortMode.{PortMode}
@@ -135,6 +135,7 @@ same_command (Configure port config) (Configure other_port other_config) = (port
 same_command (Clear port) (Clear other_port) = port == other_port
 same_command (Store port revision set) (Store other_port other_revision other_set) =
     (port == other_port) && ((revision == other_revision) && same_set set other_set)
+same_command (Rollback port) (Rollback other_port) = port == other_port
 same_command _ _ = false
 
 equal_if_same : (one two : CommandValue) → same_command one two ≡ true → one ≡ two
@@ -145,11 +146,14 @@ equal_if_same (Configure port config) (Configure other_port other_config) same =
     λ i. Configure (p i) (c i)
 equal_if_same (Configure port config) (Clear other_port) same = absurd (true≢false (sym same))
 equal_if_same (Configure port config) (Store other_port other_revision other_set) same = absurd (true≢false (sym same))
+equal_if_same (Configure port config) (Rollback other_port) same = absurd (true≢false (sym same))
 equal_if_same (Clear port) (Configure other_port other_config) same = absurd (true≢false (sym same))
 equal_if_same (Clear port) (Clear other_port) same = ap Clear (eqb-true _ _ same)
 equal_if_same (Clear port) (Store other_port other_revision other_set) same = absurd (true≢false (sym same))
+equal_if_same (Clear port) (Rollback other_port) same = absurd (true≢false (sym same))
 equal_if_same (Store port revision set) (Configure other_port other_config) same = absurd (true≢false (sym same))
 equal_if_same (Store port revision set) (Clear other_port) same = absurd (true≢false (sym same))
+equal_if_same (Store port revision set) (Rollback other_port) same = absurd (true≢false (sym same))
 equal_if_same (Store port revision set) (Store other_port other_revision other_set) same =
     let parts = and_parts _ _ same in
     let rest = and_parts _ _ parts.1 in
@@ -157,12 +161,17 @@ equal_if_same (Store port revision set) (Store other_port other_revision other_s
     let r : revision ≡ other_revision = eqb-true _ _ rest.0 in
     let s : set ≡ other_set = (same_set-Decides set other_set).0 rest.1 in
     λ i. Store (p i) (r i) (s i)
+equal_if_same (Rollback port) (Configure other_port other_config) same = absurd (true≢false (sym same))
+equal_if_same (Rollback port) (Clear other_port) same = absurd (true≢false (sym same))
+equal_if_same (Rollback port) (Store other_port other_revision other_set) same = absurd (true≢false (sym same))
+equal_if_same (Rollback port) (Rollback other_port) same = ap Rollback (eqb-true _ _ same)
 
 same_itself : (command : CommandValue) → same_command command command ≡ true
 same_itself (Configure port config) = and_from _ _ (eq-eqb port port refl) ((same_config-Decides config config).1 refl)
 same_itself (Clear port) = eq-eqb port port refl
 same_itself (Store port revision set) =
     and_from _ _ (eq-eqb port port refl) (and_from _ _ (eq-eqb revision revision refl) ((same_set-Decides set set).1 refl))
+same_itself (Rollback port) = eq-eqb port port refl
 
 pub same_command-Decides : (one two : CommandValue) → Decides (same_command one two) (one ≡ two)
 same_command-Decides one two = (equal_if_same one two, λ is. subst (λ other. same_command one other ≡ true) is (same_itself one))

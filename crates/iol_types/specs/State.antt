@@ -1,14 +1,15 @@
 -- The state of a master's ports, and what commands do to it.
 use Rattle.std.specs.Prelude.{◌≡◌, ℕ, ◌+◌, ◌-◌, ◌≤◌, ◌==◌, nat_lt, nat_le, ◌&&◌, not, if◌then◌else◌, Bool, true, List, [], ◌∷◌, Option}
-use Rattle.std.specs.Prelude.{Some, None, IfSome, is_none, fold, replicate, slice_get, slice_set}
+use Rattle.std.specs.Prelude.{false, Some, None, IfSome, is_none, fold, replicate, slice_get, slice_set}
 use Rattle.iol_types.specs.Config.{IsConfig, keeps_set, may_store_set}
 use Rattle.iol_types.specs.DataSet.{SetValue, IsSet}
-use Rattle.iol_types.specs.Command.{CommandValue, Configure, Clear, Store}
+use Rattle.iol_types.specs.Command.{CommandValue, Configure, Clear, Store, Rollback}
 use Rattle.iol_types.specs.declared.config.PortConfig.{PortConfig}
 use Rattle.iol_types.specs.declared.config.PortMode.TheVariants.{Deactivated}
 use Rattle.iol_types.specs.declared.config.Validation.TheVariants.{NoCheck}
 use Rattle.iol_types.specs.declared.command.CommandFault.{CommandFault}
-use Rattle.iol_types.specs.declared.command.CommandFault.TheVariants.{UnknownPort, RevisionSpent, NotAllowed, StaleRevision, WrongDevice}
+use Rattle.iol_types.specs.declared.command.CommandFault.TheVariants.{UnknownPort, RevisionSpent, NotAllowed, StaleRevision}
+use Rattle.iol_types.specs.declared.command.CommandFault.TheVariants.{WrongDevice, NoPrevious}
 use Rattle.iol_types.specs.declared.port_state.TheConstants.{LAST_REVISION}
 
 -- a stored set: a parameter set, and the configuration that it was taken under (own)
@@ -23,20 +24,34 @@ may_have config stored =
     may_store_set stored.recorded && (stored.set.vendor == stored.recorded.vendor) && (stored.set.device == stored.recorded.device)
     && keeps_set stored.recorded config
 
--- what a master keeps for a port: its configuration, how often it was configured, and the set that is stored for it,
--- if any (own)
+-- what may stand at a port under this configuration, as its stored set and as the previous one: nothing; a set that it
+-- may have; two of these. No set is the previous one of nothing (own)
+abbrev pub may_stand : PortConfig → Option Stored → Option Stored → Bool
+may_stand config None None = true
+may_stand config None (Some previous) = false
+may_stand config (Some stored) None = may_have config stored
+may_stand config (Some stored) (Some previous) = may_have config stored && may_have config previous
+
+-- what a master keeps for a port: its configuration, how often it was configured, the set that is stored for it, if
+-- any, and the set that was stored before that one, if any (own)
 pub record Port : Type 0 where
   pub config : PortConfig
   pub revision : ℕ
   pub stored : Option Stored
+  pub previous : Option Stored
 
--- the numbers of a port are in their ranges, and it may have what is stored for it (own)
+-- the numbers of a stored set, and of the configuration that it was taken under, are in their ranges (own)
+pub record IsStored (stored : Stored) : Type 0 where
+  pub set : IsSet stored.set
+  pub recorded : IsConfig stored.recorded
+
+-- the numbers of a port are in their ranges, and its sets may stand at it (own)
 pub record IsPort (port : Port) : Type 0 where
   pub config : IsConfig port.config
   pub revision : port.revision ≤ LAST_REVISION
-  pub set : IfSome port.stored (λ stored. IsSet stored.set)
-  pub recorded : IfSome port.stored (λ stored. IsConfig stored.recorded)
-  pub stored : IfSome port.stored (λ stored. may_have port.config stored ≡ true)
+  pub stored : IfSome port.stored IsStored
+  pub previous : IfSome port.previous IsStored
+  pub stands : may_stand port.config port.stored port.previous ≡ true
 
 -- the ports of a master in order, port 1 first (own)
 abbrev pub State : Type 0
@@ -48,6 +63,7 @@ blank = record {
   config = record { mode = Deactivated; validation = NoCheck; vendor = 0; device = 0; label = [] };
   revision = 0;
   stored = None;
+  previous = None;
 }
 
 -- so many ports that were never configured (own)
@@ -76,6 +92,10 @@ store_fault port revision set =
     else if not ((set.vendor == port.config.vendor) && (set.device == port.config.device)) then Some WrongDevice
     else None
 
+-- why the sets of a port are not exchanged: it has no previous one (own)
+abbrev pub rollback_fault : Port → Option CommandFault
+rollback_fault port = if is_none port.previous then Some NoPrevious else None
+
 -- why a command is refused at a port: the port is not there, or what the port says (own)
 abbrev pub fault_at : Option Port → (Port → Option CommandFault) → Option CommandFault
 fault_at None fault = Some UnknownPort
@@ -86,22 +106,28 @@ abbrev pub check : State → CommandValue → Option CommandFault
 check state (Configure number config) = fault_at (port_numbered state number) configure_fault
 check state (Clear number) = fault_at (port_numbered state number) (λ port. None)
 check state (Store number revision set) = fault_at (port_numbered state number) (λ port. store_fault port revision set)
+check state (Rollback number) = fault_at (port_numbered state number) rollback_fault
 
--- a port under its next configuration: what is stored for it stays where a set does (own)
+-- a port under its next configuration: its sets stay where a set does (own)
 abbrev pub configured : Port → PortConfig → Port
 configured port config = record {
   config = config;
   revision = port.revision + 1;
   stored = if keeps_set port.config config then port.stored else None;
+  previous = if keeps_set port.config config then port.previous else None;
 }
 
 -- a port without a set (own)
 abbrev pub cleared : Port → Port
-cleared port = record port { stored = None }
+cleared port = record port { stored = None; previous = None }
 
--- a port that has this set, taken under its present configuration (own)
+-- a port that has this set, taken under its present configuration; the one that it had is the previous one (own)
 abbrev pub with_set : Port → SetValue → Port
-with_set port set = record port { stored = Some (record { set = set; recorded = port.config }) }
+with_set port set = record port { stored = Some (record { set = set; recorded = port.config }); previous = port.stored }
+
+-- a port whose set and previous set are exchanged (own)
+abbrev pub exchanged : Port → Port
+exchanged port = record port { stored = port.previous; previous = port.stored }
 
 -- the state in which one port, if it is there, has changed (own)
 abbrev pub changed_at : State → ℕ → (Port → Port) → Option Port → State
@@ -113,6 +139,7 @@ abbrev pub apply : State → CommandValue → State
 apply state (Configure number config) = changed_at state number (λ port. configured port config) (port_numbered state number)
 apply state (Clear number) = changed_at state number cleared (port_numbered state number)
 apply state (Store number revision set) = changed_at state number (λ port. with_set port set) (port_numbered state number)
+apply state (Rollback number) = changed_at state number exchanged (port_numbered state number)
 
 -- the state after commands in order (own)
 abbrev pub after : State → List CommandValue → State

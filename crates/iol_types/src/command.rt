@@ -16,15 +16,19 @@ pub enum Command {
         port: PortId,
         config: PortConfig,
     },
-    /// Deletes the parameter set of a port.
+    /// Deletes the parameter sets of a port.
     Clear {
         port: PortId,
     },
-    /// Gives a port that is at this revision a parameter set, in place of any that it has.
+    /// Gives a port that is at this revision a parameter set; one that it has becomes its previous one.
     Store {
         port: PortId,
         revision: u64,
         set: Arc<DataSet>,
+    },
+    /// Exchanges the parameter set of a port and its previous one.
+    Rollback {
+        port: PortId,
     },
 }
 
@@ -55,6 +59,7 @@ impl Command {
                 revision: *revision,
                 set: Arc::try_clone(set)?,
             }),
+            Command::Rollback { port } => Ok(Command::Rollback { port: *port }),
         }
     }
 }
@@ -76,7 +81,7 @@ impl PartialEq for Command {
         ensures test { result ≡ same_command (value_of self.now) (value_of other.now) }
         ensures exactly { IsTrue result ↔ (value_of self.now ≡ value_of other.now) }
     {
-        use Command::{Clear, Configure, Store};
+        use Command::{Clear, Configure, Rollback, Store};
         match (self, other) {
             (
                 Configure { port, config },
@@ -98,6 +103,7 @@ impl PartialEq for Command {
                     set: other_set,
                 },
             ) => port == other_port && revision == other_revision && set == other_set,
+            (Rollback { port }, Rollback { port: other_port }) => port == other_port,
             _ => false,
         }
     }
@@ -115,13 +121,24 @@ impl Eq for Command {
 pub enum Change {
     /// Gives a port a configuration, and its next revision.
     Configure { port: PortId, config: PortConfig },
-    /// Deletes the parameter set of a port.
+    /// Deletes the parameter sets of a port.
     Clear { port: PortId },
+    /// Exchanges the parameter set of a port and its previous one.
+    Rollback { port: PortId },
 }
 
 impl Change {
     ghost use Rattle.std.specs.Prelude.{◌≡◌};
-    ghost use Rattle.iol_types.specs.Command.{value_of, command_of};
+    ghost use Rattle.iol_types.specs.Command.{value_of, command_of, port_asked};
+
+    /// The port that it is asked of.
+    pub fn port(self) -> PortId
+        ensures { result ≡ port_asked self }
+    {
+        match self {
+            Change::Configure { port, .. } | Change::Clear { port } | Change::Rollback { port } => port,
+        }
+    }
 
     /// The change as a command.
     pub fn command(self) -> Command
@@ -130,12 +147,14 @@ impl Change {
         match self {
             Change::Configure { port, config } => Command::Configure { port, config },
             Change::Clear { port } => Command::Clear { port },
+            Change::Rollback { port } => Command::Rollback { port },
         }
     }
 }
 
 /// Why a command is refused. The causes of a command are judged in this order: for Configure
-/// `UnknownPort` and `RevisionSpent`, for Clear `UnknownPort`, for Store all but `RevisionSpent`.
+/// `UnknownPort` and `RevisionSpent`; for Clear `UnknownPort`; for Store `UnknownPort`, `NotAllowed`, `StaleRevision` and
+/// `WrongDevice`; for Rollback `UnknownPort` and `NoPrevious`.
 #[derive(Clone, Copy, Debug, PartialEq, Eq, Error)]
 pub enum CommandFault {
     /// The master has no port with this number.
@@ -153,4 +172,7 @@ pub enum CommandFault {
     /// The set is of another device than the port's configuration names.
     #[error("the parameter set of another device")]
     WrongDevice,
+    /// The port has no previous parameter set.
+    #[error("the port has no previous parameter set")]
+    NoPrevious,
 }

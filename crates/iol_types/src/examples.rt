@@ -6,12 +6,12 @@ ghost use Rattle.iol_types.specs.Numbers.{IsPortNumber, IsDeviceNumber};
 ghost use Rattle.iol_types.specs.Config.{mode_octet, mode_of, validation_octet, validation_of, IsConfig};
 ghost use Rattle.iol_types.specs.Config.{may_store_set, may_keep_set, keeps_set};
 ghost use Rattle.iol_types.specs.Label.{is_label_octet, is_label};
-ghost use Rattle.iol_types.specs.Command.{Configure, Clear, Store, IsCommand, command_of, set_in};
+ghost use Rattle.iol_types.specs.Command.{Configure, Clear, Store, Rollback, IsCommand, command_of, port_asked, set_in};
 ghost use Rattle.iol_types.specs.DataSet.{IsEntry, AreEntries, IsSet, octets_of, data_at, add_fault};
 ghost use Rattle.iol_types.specs.Parts.{parts_of};
-ghost use Rattle.iol_types.specs.State.{IsPort, empty_state, port_numbered, may_have, check, apply, after, legal};
+ghost use Rattle.iol_types.specs.State.{IsPort, empty_state, port_numbered, may_have, may_stand, check, apply, after, legal};
 ghost use Rattle.iol_types.specs.Examples.{example_config, example_set, sevens, nearly_full, example_stored};
-ghost use Rattle.iol_types.specs.Examples.{example_port, port_of, one_port};
+ghost use Rattle.iol_types.specs.Examples.{example_port, newer_stored, renewed_port, port_of, one_port};
 ghost use Rattle.iol_types.specs.declared.config.PortConfig.{PortConfig};
 ghost use Rattle.iol_types.specs.Key.{IsKey, is_reserved};
 ghost use Rattle.iol_types.specs.declared.key.TheConstants.{DIRECT_PARAMETER_PAGE, SYSTEM_COMMAND, DATA_STORAGE};
@@ -144,6 +144,19 @@ pub fn rights_to_what_is_stored()
     ensures since { may_have (record example_config { vendor = 501 }) example_stored ≡ false }
 {}
 
+/// A port may have two sets, one or none, but no previous set alone; each is judged by itself.
+pub fn what_may_stand()
+    ensures counts { may_stand example_config None None ∷ may_stand example_config None (Some example_stored)
+        ∷ may_stand example_config (Some example_stored) None ∷ may_stand example_config (Some newer_stored) (Some example_stored) ∷ []
+        ≡ true ∷ false ∷ true ∷ true ∷ [] }
+    ensures present { may_stand (record example_config { vendor = 501 }) (Some example_stored) None ≡ false }
+    ensures previous { may_stand example_config (Some newer_stored)
+        (Some (record example_stored { recorded = record example_config { validation = Validation.Restore } })) ≡ false }
+    ensures before { may_stand example_config
+        (Some (record newer_stored { recorded = record example_config { validation = Validation.Restore } })) (Some example_stored)
+        ≡ false }
+{}
+
 /// A master begins with ports that are DEACTIVATED, and its ports are counted from 1.
 pub fn new_ports()
     ensures empty { empty_state 2 ≡ replicate 2
@@ -160,12 +173,13 @@ pub fn unknown_ports()
     ensures configure { check (example_port ∷ []) (Configure 2 example_config) ≡ Some CommandFault.UnknownPort }
     ensures clear { check (example_port ∷ []) (Clear 2) ≡ Some CommandFault.UnknownPort }
     ensures store { check (example_port ∷ []) (Store 2 1 example_set) ≡ Some CommandFault.UnknownPort }
+    ensures rollback { check (renewed_port ∷ []) (Rollback 2) ≡ Some CommandFault.UnknownPort }
     ensures cleared { check (example_port ∷ []) (Clear 1) ≡ None }
     ensures blank { check (empty_state 1) (Clear 1) ≡ None }
 {}
 
-/// Configure gives a port the configuration and the next revision. The set stays with the configuration
-/// that it was taken under where the port keeps it, and is gone else. The other port stays.
+/// Configure gives a port the configuration and the next revision. Its sets stay, each with the configuration
+/// that it was taken under, where the port keeps them, and are gone else. The other port stays.
 pub fn ports_configured()
     ensures kept { apply (example_port ∷ []) (Configure 1 (record example_config { validation = Validation.Restore }))
         ≡ record (port_of (record example_config { validation = Validation.Restore }) 2) { stored = Some example_stored } ∷ [] }
@@ -174,13 +188,18 @@ pub fn ports_configured()
         ≡ record (port_of (record example_config { label = codes "Pump 3" }) 2) { stored = Some example_stored } ∷ [] }
     ensures deleted { apply (example_port ∷ []) (Configure 1 (record example_config { vendor = 501 }))
         ≡ one_port (record example_config { vendor = 501 }) 2 }
+    ensures both_kept { apply (renewed_port ∷ []) (Configure 1 (record example_config { validation = Validation.Restore }))
+        ≡ record renewed_port { config = record example_config { validation = Validation.Restore }; revision = 2 } ∷ [] }
+    ensures both_deleted { apply (renewed_port ∷ []) (Configure 1 (record example_config { validation = Validation.NoCheck }))
+        ≡ one_port (record example_config { validation = Validation.NoCheck }) 2 }
     ensures one_of_two { apply (example_port ∷ example_port ∷ []) (Configure 2 (record example_config { device = 1 }))
         ≡ example_port ∷ one_port (record example_config { device = 1 }) 2 }
 {}
 
-/// Clear deletes the set of its port, and leaves its configuration, its revision and the other port.
+/// Clear deletes the sets of its port, and leaves its configuration, its revision and the other port.
 pub fn ports_cleared()
     ensures cleared { apply (example_port ∷ []) (Clear 1) ≡ one_port example_config 1 }
+    ensures both { apply (renewed_port ∷ []) (Clear 1) ≡ one_port example_config 1 }
     ensures none { apply (one_port example_config 7) (Clear 1) ≡ one_port example_config 7 }
     ensures one_of_two { apply (example_port ∷ example_port ∷ []) (Clear 2) ≡ example_port ∷ one_port example_config 1 }
 {}
@@ -201,15 +220,42 @@ pub fn sets_stored()
         ≡ Some CommandFault.WrongDevice }
 {}
 
-/// A set that is stored stands in place of any before, under the port's present configuration, and
-/// changes neither its revision nor the other port.
+/// A set that is stored stands under the port's present configuration, and what was stored before it is the
+/// previous one; the one before that is gone. It changes neither the port's revision nor the other port.
 pub fn sets_in_place()
     ensures first { apply (one_port example_config 1) (Store 1 1 example_set)
         ≡ record (port_of example_config 1) { stored = Some (record { set = example_set; recorded = example_config }) } ∷ [] }
-    ensures again { apply (example_port ∷ []) (Store 1 1 (record example_set { checksum = 592 }))
-        ≡ record example_port { stored = Some (record { set = record example_set { checksum = 592 }; recorded = example_config }) } ∷ [] }
+    ensures again { apply (example_port ∷ []) (Store 1 1 newer_stored.set) ≡ renewed_port ∷ [] }
+    ensures once_more { apply (renewed_port ∷ []) (Store 1 1 (record example_set { checksum = 592 }))
+        ≡ record example_port {
+          stored = Some (record { set = record example_set { checksum = 592 }; recorded = example_config });
+          previous = Some newer_stored;
+        } ∷ [] }
+    // A set keeps the label under which it was taken.
+    ensures called { apply (record example_port { config = record example_config { label = codes "Pump 3" } } ∷ [])
+        (Store 1 1 newer_stored.set)
+        ≡ record example_port {
+          config = record example_config { label = codes "Pump 3" };
+          stored = Some (record newer_stored { recorded = record example_config { label = codes "Pump 3" } });
+          previous = Some example_stored;
+        } ∷ [] }
     ensures one_of_two { apply (port_of example_config 1 ∷ port_of example_config 1 ∷ []) (Store 2 1 example_set)
         ≡ port_of example_config 1 ∷ example_port ∷ [] }
+{}
+
+/// Rollback exchanges the two sets of its port, and leaves its configuration, its revision and the other port;
+/// a second one makes what was before. Without a previous set it is refused.
+pub fn sets_exchanged()
+    ensures passes { check (renewed_port ∷ []) (Rollback 1) ≡ None }
+    ensures exchanged { apply (renewed_port ∷ []) (Rollback 1)
+        ≡ record example_port { stored = Some example_stored; previous = Some newer_stored } ∷ [] }
+    ensures twice { after (renewed_port ∷ []) (Rollback 1 ∷ Rollback 1 ∷ []) ≡ renewed_port ∷ [] }
+    ensures one_of_two { apply (renewed_port ∷ renewed_port ∷ []) (Rollback 2)
+        ≡ renewed_port ∷ record example_port { stored = Some example_stored; previous = Some newer_stored } ∷ [] }
+    ensures one_set { check (example_port ∷ []) (Rollback 1) ≡ Some CommandFault.NoPrevious }
+    ensures no_set { check (empty_state 1) (Rollback 1) ≡ Some CommandFault.NoPrevious }
+    ensures cleared { check (apply (renewed_port ∷ []) (Clear 1)) (Rollback 1) ≡ Some CommandFault.NoPrevious }
+    ensures last_revision { check (record renewed_port { revision = 18446744073709551615 } ∷ []) (Rollback 1) ≡ None }
 {}
 
 /// Each command is judged in the state that those before it make.
@@ -219,14 +265,21 @@ pub fn commands_in_a_row()
     ensures state { after (empty_state 1) (Configure 1 example_config ∷ Store 1 1 example_set ∷ []) ≡ example_port ∷ [] }
     ensures cleared { after (empty_state 1) (Configure 1 example_config ∷ Store 1 1 example_set ∷ Clear 1 ∷ [])
         ≡ one_port example_config 1 }
+    ensures stored_twice { after (empty_state 1) (Configure 1 example_config ∷ Store 1 1 example_set ∷ Store 1 1 newer_stored.set ∷ [])
+        ≡ renewed_port ∷ [] }
+    ensures rolled_back { legal (empty_state 1)
+        (Configure 1 example_config ∷ Store 1 1 example_set ∷ Store 1 1 newer_stored.set ∷ Rollback 1 ∷ []) ≡ true }
+    ensures one_store { legal (empty_state 1) (Configure 1 example_config ∷ Store 1 1 example_set ∷ Rollback 1 ∷ []) ≡ false }
 {}
 
 /// A change is the command of its words, and a Store alone carries a set.
 pub fn words_of_commands()
     ensures configure { (config : PortConfig) → command_of (Change.Configure 1 config) ≡ Configure 1 config }
     ensures clear { command_of (Change.Clear 1) ≡ Clear 1 }
-    ensures sets { map set_in (Configure 1 example_config ∷ Clear 1 ∷ Store 1 1 example_set ∷ [])
-        ≡ None ∷ None ∷ Some example_set ∷ [] }
+    ensures rollback { command_of (Change.Rollback 1) ≡ Rollback 1 }
+    ensures ports { map port_asked (Change.Configure 1 example_config ∷ Change.Clear 2 ∷ Change.Rollback 3 ∷ []) ≡ 1 ∷ 2 ∷ 3 ∷ [] }
+    ensures sets { map set_in (Configure 1 example_config ∷ Clear 1 ∷ Store 1 1 example_set ∷ Rollback 1 ∷ [])
+        ≡ None ∷ None ∷ Some example_set ∷ None ∷ [] }
 {}
 
 /// The set of the examples counts 11 octets, and what it refuses: a reserved Index before a length,
@@ -266,8 +319,11 @@ pub fn what_is_a_command()
     ensures configure { IsCommand (Configure 32 example_config) }
     ensures clear { ¬ IsCommand (Clear 33) }
     ensures store { ¬ IsCommand (Store 1 18446744073709551616 example_set) }
+    ensures rollback { IsCommand (Rollback 32) }
+    ensures no_rollback { ¬ IsCommand (Rollback 33) }
     ensures port { IsPort example_port }
     ensures without_right { ¬ IsPort (record example_port { config = record example_config { vendor = 501 } }) }
+    ensures previous_alone { ¬ IsPort (record example_port { stored = None; previous = Some example_stored }) }
 {}
 
 /// A key has the octets of its own entry: of its Index and its Subindex.

@@ -93,7 +93,8 @@ impl MasterState {
     /// The first cause, in the order of [`CommandFault`]: `UnknownPort` where the master has no such
     /// port; for Configure `RevisionSpent` where the port is at [`LAST_REVISION`]; for Store
     /// `NotAllowed` where the port is not IOL_MANUAL with Backup and Restore, `StaleRevision` where it
-    /// is at another revision, `WrongDevice` where its configuration names another device.
+    /// is at another revision, `WrongDevice` where its configuration names another device; for Rollback
+    /// `NoPrevious` where the port has no previous set.
     pub fn check(&self, command: &Command) -> Result<(), CommandFault>
         ensures passes { OnOk result (check self.now (value_of command.now) ≡ None) }
         ensures refused { IfErr result (λ fault. check self.now (value_of command.now) ≡ Some fault) }
@@ -116,6 +117,10 @@ impl MasterState {
                 None => Some(CommandFault::UnknownPort),
                 Some(state) => state.store_fault(*revision, set),
             },
+            Command::Rollback { port } => match self.port(*port) {
+                None => Some(CommandFault::UnknownPort),
+                Some(state) => state.rollback_fault(),
+            },
         };
         match fault {
             None => Ok(()),
@@ -124,9 +129,10 @@ impl MasterState {
     }
 
     /// Applies a command that passes [`check`](MasterState::check). Configure gives the port its
-    /// configuration and the next revision, and deletes its set unless
-    /// [`keeps_set`](crate::keeps_set) holds; Clear deletes its set; Store puts a set in place of any,
-    /// taken under the present configuration.
+    /// configuration and the next revision, and deletes its sets unless
+    /// [`keeps_set`](crate::keeps_set) holds; Clear deletes its sets; Store gives it a set, taken under
+    /// the present configuration, and the one that it had is the previous one from then on; Rollback
+    /// exchanges its set and the previous one.
     pub fn apply(&mut self, command: Command)
         requires { check self.old (value_of command) ≡ None }
         ensures { self.new ≡ apply self.old (value_of command) }
@@ -149,6 +155,11 @@ impl MasterState {
             } => {
                 if let Some(state) = self.ports.get_mut(port.place()) {
                     state.store(set);
+                }
+            }
+            Command::Rollback { port } => {
+                if let Some(state) = self.ports.get_mut(port.place()) {
+                    state.roll_back();
                 }
             }
         }

@@ -2,6 +2,7 @@
 ghost use Rattle.std.specs.Prelude.{◌≡◌, ◌<◌, ◌↔◌, None, true, IsSome, IfSome, IfOk, OnErr};
 ghost use Rattle.std.specs.Option.{option_map};
 ghost use Rattle.iol_types.specs.Config.{may_store_set};
+ghost use Rattle.iol_types.specs.Port.{stored_of};
 ghost use Rattle.iol_types.specs.declared.port_state.TheConstants.{LAST_REVISION};
 
 use crate::command::CommandFault;
@@ -11,6 +12,7 @@ use crate::device_id::DeviceId;
 use crate::label::Label;
 use std::alloc::AllocError;
 use std::marker::Model;
+use std::mem::swap;
 use std::sync::Arc;
 
 /// The last revision of a port: at this revision it takes no further configuration.
@@ -49,55 +51,90 @@ impl StoredSet {
     }
 }
 
-/// The configuration of a port, its revision, which counts the configurations so far, and the
-/// parameter set that is stored for it, if any. A contract sees the record `Port` of
-/// `specs/State.antt`.
+// An equal one, if it is there; the set is shared with it.
+fn copied(stored: &Option<StoredSet>) -> Result<Option<StoredSet>, AllocError>
+    ensures copy { IfOk result (λ copy. option_map stored_of copy ≡ option_map stored_of stored.now) }
+    ensures memory { OnErr result (IsSome (option_map stored_of stored.now)) }
+{
+    match stored {
+        Some(stored) => Ok(Some(stored.copy()?)),
+        None => Ok(None),
+    }
+}
+
+/// The configuration of a port, its revision, which counts the configurations so far, the parameter
+/// set that is stored for it, if any, and the one that was stored before that, if any. A contract sees
+/// the record `Port` of `specs/State.antt`.
 ///
-/// Where there is a set, the configuration that it was taken under is IOL_MANUAL with Backup and
+/// Of each of these sets, the configuration that it was taken under is IOL_MANUAL with Backup and
 /// Restore and names the set's device, and [`keeps_set`](crate::keeps_set) holds from it to the
-/// present one.
+/// present one. A previous set is there only where there is a present one.
 #[derive(Debug, Drop)]
 pub struct PortState {
     config: PortConfig,
     revision: u64,
     stored: Option<StoredSet>,
+    previous: Option<StoredSet>,
 }
 
 impl Model for PortState {
-    ghost use Rattle.std.specs.Prelude.{◌≡◌, true, IfSome};
-    ghost use Rattle.iol_types.specs.State.{Port, may_have};
+    ghost use Rattle.std.specs.Prelude.{◌≡◌, true};
+    ghost use Rattle.std.specs.Option.{option_map};
+    ghost use Rattle.iol_types.specs.State.{Port, may_stand};
 
     ghost Value = { Port };
 
-    ghost use Rattle.iol_types.specs.Port.{port_of};
+    ghost use Rattle.iol_types.specs.Port.{port_of, stored_of};
 
     ghost view = { port_of };
 
-    ghost invariant = { λ p. IfSome (port_of p).stored (λ stored. may_have p.config stored ≡ true) };
+    ghost invariant = { λ p.
+        may_stand p.config (option_map stored_of p.stored) (option_map stored_of p.previous) ≡ true };
 }
 
 impl PortState {
     ghost use Rattle.iol_types.specs.DataSet.{SetValue};
-    ghost use Rattle.iol_types.specs.State.{Port, may_have, blank, configured, cleared, with_set, store_fault};
+    ghost use Rattle.iol_types.specs.State.{Port, may_have, may_stand, blank, configured, cleared, with_set, exchanged};
+    ghost use Rattle.iol_types.specs.State.{store_fault, rollback_fault};
     ghost use Rattle.iol_types.specs.Port.{stored_of};
 
-    /// A port with this configuration at this revision, and what is stored for it; `None` where a
-    /// port with this configuration may not have that set.
-    pub fn new(config: PortConfig, revision: u64, stored: Option<StoredSet>) -> Option<PortState>
+    /// A port with this configuration at this revision, the set that is stored for it, and the previous
+    /// one; `None` where a port with this configuration may not have one of them, or where the previous
+    /// one stands alone.
+    pub fn new(
+        config: PortConfig,
+        revision: u64,
+        stored: Option<StoredSet>,
+        previous: Option<StoredSet>,
+    ) -> Option<PortState>
         ensures port { IfSome result (λ port. port
-            ≡ record { config = config; revision = revision; stored = option_map stored_of stored }) }
-        ensures exactly { IsSome result ↔ IfSome (option_map stored_of stored) (λ stored. may_have config stored ≡ true) }
+            ≡ record {
+              config = config;
+              revision = revision;
+              stored = option_map stored_of stored;
+              previous = option_map stored_of previous;
+            }) }
+        ensures exactly { IsSome result
+            ↔ (may_stand config (option_map stored_of stored) (option_map stored_of previous) ≡ true) }
     {
-        if let Some(stored) = &stored
-            && !stored.may_stay(&config)
-        {
-            return None;
+        let stand = match (&stored, &previous) {
+            (None, None) => true,
+            (None, Some(_)) => false,
+            (Some(stored), None) => stored.may_stay(&config),
+            (Some(stored), Some(previous)) => {
+                stored.may_stay(&config) && previous.may_stay(&config)
+            }
+        };
+        if stand {
+            Some(PortState {
+                config,
+                revision,
+                stored,
+                previous,
+            })
+        } else {
+            None
         }
-        Some(PortState {
-            config,
-            revision,
-            stored,
-        })
     }
 
     // A port that was never configured.
@@ -114,6 +151,7 @@ impl PortState {
             },
             revision: 0,
             stored: None,
+            previous: None,
         }
     }
 
@@ -139,7 +177,16 @@ impl PortState {
         self.stored.as_ref()
     }
 
-    /// An equal port; a set is shared with it.
+    /// The parameter set that was stored for the port before that one, if any.
+    pub fn previous(&self) -> Option<&StoredSet>
+        ensures previous { option_map (λ stored. stored_of stored.now) result ≡ self.now.previous }
+        ensures may_have { IfSome self.now.previous (λ stored. may_have self.now.config stored ≡ true) }
+        ensures stored { IfSome self.now.previous (λ _. IsSome self.now.stored) }
+    {
+        self.previous.as_ref()
+    }
+
+    /// An equal port; its sets are shared with it.
     ///
     /// # Errors
     /// `AllocError` where it is out of memory; a port without a set takes none.
@@ -147,14 +194,11 @@ impl PortState {
         ensures copy { IfOk result (λ port. port ≡ self.now) }
         ensures memory { OnErr result (IsSome self.now.stored) }
     {
-        let stored = match &self.stored {
-            Some(stored) => Some(stored.copy()?),
-            None => None,
-        };
         Ok(PortState {
             config: self.config,
             revision: self.revision,
-            stored,
+            stored: copied(&self.stored)?,
+            previous: copied(&self.previous)?,
         })
     }
 
@@ -173,33 +217,54 @@ impl PortState {
         }
     }
 
-    // Gives the port its next configuration; a set that may not stay is deleted.
+    // Why the sets of the port may not be exchanged.
+    pub(crate) fn rollback_fault(&self) -> Option<CommandFault>
+        ensures { result ≡ rollback_fault self.now }
+    {
+        if self.previous.is_none() {
+            Some(CommandFault::NoPrevious)
+        } else {
+            None
+        }
+    }
+
+    // Gives the port its next configuration; sets that may not stay are deleted.
     pub(crate) fn configure(&mut self, config: PortConfig)
         requires { self.old.revision < LAST_REVISION }
         ensures { self.new ≡ configured self.old config }
     {
         if !keeps_set(&self.config, &config) {
             self.stored = None;
+            self.previous = None;
         }
         self.config = config;
         self.revision += 1;
     }
 
-    // Deletes the set of the port.
+    // Deletes the sets of the port.
     pub(crate) fn clear(&mut self)
         ensures { self.new ≡ cleared self.old }
     {
         self.stored = None;
+        self.previous = None;
     }
 
-    // Stores a set for the port.
+    // Exchanges the sets of the port.
+    pub(crate) fn roll_back(&mut self)
+        requires { rollback_fault self.old ≡ None }
+        ensures { self.new ≡ exchanged self.old }
+    {
+        swap(&mut self.stored, &mut self.previous);
+    }
+
+    // Stores a set for the port; the one that it has becomes its previous one.
     pub(crate) fn store(&mut self, set: Arc<DataSet>)
         requires may_store { may_store_set self.old.config ≡ true }
         requires vendor { set.value.vendor ≡ self.old.config.vendor }
         requires device { set.value.device ≡ self.old.config.device }
         ensures { self.new ≡ with_set self.old set.value }
     {
-        self.stored = Some(StoredSet {
+        self.previous = self.stored.replace(StoredSet {
             set,
             recorded: self.config,
         });

@@ -114,7 +114,11 @@ impl fmt::Display for RecordText {
                     "{}, {}",
                     ConfigText(port.config()),
                     SetText(port.stored())
-                )
+                )?;
+                match port.previous() {
+                    Some(previous) => write!(f, ", previous {}", SetText(Some(previous))),
+                    None => Ok(()),
+                }
             }
             None => f.write_str("no record of a port"),
         }
@@ -141,7 +145,7 @@ impl fmt::Display for ConfigText {
     }
 }
 
-// What is said of the parameter set of a port.
+// What is said of a parameter set of a port.
 #[derive(Drop)]
 struct SetText<'a>(Option<&'a StoredSet>);
 

@@ -215,6 +215,7 @@ const EXAMPLES: &str = "\
 Examples, each with what it prints beside it:
   examples/first.toml                  a port is configured
   examples/sensor_replaced.toml        a new sensor gets the parameters of the old one
+  examples/rollback.toml               a client goes back to the parameters before a wrong teach-in
   examples/power_lost_in_a_backup.toml the power stops while parameters are stored
   examples/lost_in_an_upload.toml      a sensor is lost while its parameters are read
   examples/locked_device.toml          a sensor whose parameters are locked
@@ -265,7 +266,7 @@ fn format<'a>(alloc: Global) -> Result<Command<'a>, AllocError> {
 // What is told behind the options of `live`.
 const LIVE_NOTES: &str = "\
 The script's devices are at the ports, and each port that has steps has a client in a thread of its own.
-Its steps are those of clients alone: configure and clear.
+Its steps are those of clients alone: configure, clear and rollback.
 
 Ctrl-C and a kill are a power stop: nothing that has its receipt is lost. The image is locked meanwhile.
 

@@ -6,7 +6,7 @@ use Rattle.iol_headline.specs.Examples.{example_config}
 
 pub returns-clause-work : goal.returns-clause-work
 returns-clause-work c = record {
-  kept = record { config = example_config; revision = 1; stored = None };
+  kept = record { config = example_config; revision = 1; stored = None; previous = None };
   there = refl;
   config = refl;
   revision = refl;

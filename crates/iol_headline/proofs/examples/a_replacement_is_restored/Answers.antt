@@ -1,5 +1,5 @@
 use Rattle.std.proofs.Common.{refl, ℕ, subst}
-use Rattle.std.specs.Prelude.{Some}
+use Rattle.std.specs.Prelude.{Some, None}
 use Rattle.iol_types.specs.State.{empty_state}
 use Rattle.iol_isdu.specs.declared.messages.Request.{Request}
 use Rattle.iol_trace.specs.Events.{stamped}
@@ -12,7 +12,12 @@ use Rattle.iol_headline.specs.Examples.{example_config, example_set, restoring, 
 
 pub returns-clause-work : goal.returns-clause-work
 returns-clause-work c = record {
-  kept = record { config = example_config; revision = 1; stored = Some (record { set = example_set 0x7F; recorded = example_config }) };
+  kept = record {
+    config = example_config;
+    revision = 1;
+    stored = Some (record { set = example_set 0x7F; recorded = example_config });
+    previous = None;
+  };
   there = refl;
   config = refl;
   revision = refl;

@@ -4,15 +4,15 @@ use Rattle.iol_types.specs.Command.{value_of}
 use Rattle.iol_record.specs.Record.{command_octets}
 use Rattle.iol_record.specs.Reading.{command_at, store_begun_at}
 use Rattle.iol_record.proofs.Memories.{memory_or_read}
-use Rattle.iol_record.proofs.Readers.{only_front, decodes, no_fault_at}
-use Rattle.iol_record.proofs.RecordReaders.{command_reads}
+use Rattle.iol_record.proofs.Decoders.{only_front, decodes, no_fault_at}
+use Rattle.iol_record.proofs.CommandReaders.{command_reads}
 use Rattle.iol_record.proofs.decode.decode_command.Goals as goal
 
 pub returns-in_err-command-clause-only : goal.returns-in_err-command-clause-only
 returns-in_err-command-clause-only c = λ front rest command is_record parts.
     let octets = c.args.octets.now in
     let p = err_from_is_err_and c.from_residual.result c.from_residual.ensures.1 in
-    rw (p.1, p.2) (elim (memory_or_read (store_begun_at c.new-reader.result) _
+    rw (p.1, p.2) (elim (memory_or_read (store_begun_at c.args.version c.new-reader.result) _
     (command_at c.args.version c.new-reader.result) c.in_err-command.ensures) [
       | inl memory ↦ inl (ap (λ fault. Err fault) memory)
       | inr fails ↦

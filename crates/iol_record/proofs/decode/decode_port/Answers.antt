@@ -3,8 +3,8 @@ use Rattle.std.proofs.lemmas.Result.{err_from_is_err_and}
 use Rattle.iol_record.specs.Record.{port_octets}
 use Rattle.iol_record.specs.Reading.{port_record_at, port_begun_at}
 use Rattle.iol_record.proofs.Memories.{memory_or_read}
-use Rattle.iol_record.proofs.Readers.{only_front, decodes, no_fault_at}
-use Rattle.iol_record.proofs.RecordReaders.{port_record_reads}
+use Rattle.iol_record.proofs.Decoders.{only_front, decodes, no_fault_at}
+use Rattle.iol_record.proofs.PortReaders.{port_record_reads}
 use Rattle.iol_record.proofs.decode.decode_port.Goals as goal
 
 pub returns-in_err-port-clause-only : goal.returns-in_err-port-clause-only

@@ -1,5 +1,6 @@
-use Rattle.iol_record.proofs.Readers.{begins_none}
-use Rattle.iol_record.proofs.RecordReaders.{command_reads, port_record_reads}
+use Rattle.iol_record.proofs.Decoders.{begins_none}
+use Rattle.iol_record.proofs.CommandReaders.{command_reads}
+use Rattle.iol_record.proofs.PortReaders.{port_record_reads}
 use Rattle.iol_record.proofs.laws.no_record_begins_another.Goals as goal
 
 pub returns-clause-command : goal.returns-clause-command

@@ -6,7 +6,7 @@ pub returns-clause-port : goal.returns-clause-port
 returns-clause-port c = record {
   config = record { vendor = omega arith; device = omega arith; label = refl };
   revision = omega arith;
-  set = example_is_set;
-  recorded = record { vendor = omega arith; device = omega arith; label = refl };
-  stored = refl;
+  stored = record { set = example_is_set; recorded = record { vendor = omega arith; device = omega arith; label = refl } };
+  previous = tt;
+  stands = refl;
 }

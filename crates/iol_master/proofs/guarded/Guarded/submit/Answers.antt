@@ -5,7 +5,8 @@ use Rattle.iol_types.specs.declared.command.Change.{Change}
 use Rattle.iol_core.specs.Core.{CoreView, live_number}
 use Rattle.iol_core.specs.Submit.{queued, submit_fault}
 use Rattle.iol_master.specs.Callers.{AreCallersOf, GuardedView, asked}
-use Rattle.iol_master.specs.Wakes.{port_of, woken}
+use Rattle.iol_types.specs.Command.{port_asked}
+use Rattle.iol_master.specs.Wakes.{woken}
 use Rattle.iol_master.proofs.Waiting.{as_many, not_taken, submit_room, waits_more, woken_as_many, written_back}
 use Rattle.iol_master.proofs.guarded.Guarded.submit.Goals as goal
 
@@ -65,10 +66,10 @@ returns-clause-waits g c =
 pub returns-clause-woken : goal.returns-clause-woken
 returns-clause-woken g c =
     let i = c.self.inside in
-    let port = port_of c.args.caller.change in
+    let port = port_asked c.args.caller.change in
     let wakes : c.wake.new.wakes ≡ woken i.phase port i.wakes.items =
     c.wake.ensures
-    ∙ (ap (λ (p : ℕ). woken i.phase p c.deref_mut.result.now) c.port_of.ensures
+    ∙ (ap (λ (p : ℕ). woken i.phase p c.deref_mut.result.now) c.port.ensures
     ∙ ap (λ (ws : List ℕ). woken i.phase port ws) c.deref_mut.ensures.value) in
     let as_many_wakes = ap length wakes ∙ woken_as_many i.phase port i.wakes.items in
     written_back i.wakes.len c.wake.new.wakes i.wakes.items as_many_wakes (omega (arith, i.wakes.ok))

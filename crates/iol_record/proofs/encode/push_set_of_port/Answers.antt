@@ -3,7 +3,7 @@ use Rattle.iol_types.specs.DataSet.{SetValue}
 use Rattle.iol_record.specs.Record.{config_octets, set_octets}
 use Rattle.iol_record.specs.declared.reader.TheConstants.{SET}
 use Rattle.iol_record.proofs.Spellings.{three_behind}
-use Rattle.iol_record.proofs.encode.push_stored.Goals as goal
+use Rattle.iol_record.proofs.encode.push_set_of_port.Goals as goal
 
 pub returns-clause-octets : goal.returns-clause-octets
 returns-clause-octets c =
