@@ -33,7 +33,6 @@ fn command_words(cause: CommandFault) -> &'static str
             "the port was configured meanwhile: nothing is to be done, the port begins again",
         CommandFault::WrongDevice =>
             "the port is configured for another device: configure it for this one",
-        CommandFault::NoPrevious =>
-            "the port has no previous set: nothing is exchanged",
+        CommandFault::NoPrevious => "the port has no previous set: nothing is exchanged",
     }
 }

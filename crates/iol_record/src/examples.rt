@@ -364,8 +364,12 @@ pub fn a_port_with_a_previous_set()
 pub fn previous_sets_without_right()
     ensures alone { port_record_at Two (take 17 PORT_WITH_PREVIOUS_RECORD ++ 0x00 ∷ drop 50 PORT_WITH_PREVIOUS_RECORD)
         ≡ Err RecordFault.BadField }
+    // It is so at the end of the record alone.
+    ensures alone_cut_off { port_record_at Two (take 45 (take 17 PORT_WITH_PREVIOUS_RECORD ++ 0x00 ∷ drop 50 PORT_WITH_PREVIOUS_RECORD))
+        ≡ Err RecordFault.Short }
     ensures recorded { port_record_at Two (slice_set PORT_WITH_PREVIOUS_RECORD 52 0x04) ≡ Err RecordFault.BadField }
     ensures vendor { port_record_at Two (slice_set PORT_WITH_PREVIOUS_RECORD 61 0xF5) ≡ Err RecordFault.BadField }
     ensures device { port_record_at Two (take 66 (slice_set PORT_WITH_PREVIOUS_RECORD 62 0x01)) ≡ Err RecordFault.BadField }
     ensures present { port_record_at Two (slice_set PORT_WITH_PREVIOUS_RECORD 19 0x04) ≡ Err RecordFault.BadField }
+    ensures present_cut_off { port_record_at Two (take 82 (slice_set PORT_WITH_PREVIOUS_RECORD 19 0x04)) ≡ Err RecordFault.Short }
 {}

@@ -148,7 +148,11 @@ impl<'a> Reader<'a> {
 
     // What a port had stored before, which version 1 has not.
     #[tactic(auto, unfolding(crate::specs::Reading::previous_at, crate::specs::Reading::previous_begun_at))]
-    fn previous(&mut self, alloc: Global, version: Version) -> Result<Option<StoredSet>, RecordFault>
+    fn previous(
+        &mut self,
+        alloc: Global,
+        version: Version,
+    ) -> Result<Option<StoredSet>, RecordFault>
         ensures { ReadsOrMemory (λ stored. (option_map stored_of stored, self.new)) (previous_begun_at version self.old) result
             (previous_at version self.old) }
     {

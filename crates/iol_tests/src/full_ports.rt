@@ -9,7 +9,9 @@ use iol_disk::{MemoryDisk, Pick};
 use iol_example::{create, open};
 use iol_journal::{Batch, Checkpointing, Geometry, Journal};
 use iol_record::{LARGEST_PORT_RECORD_OF_TWO, Version, decode_port, encode_port};
-use iol_types::{Command, DataSet, Key, Label, MasterState, PortConfig, PortId, SetBuilder, StoredSet};
+use iol_types::{
+    Command, DataSet, Key, Label, MasterState, PortConfig, PortId, SetBuilder, StoredSet,
+};
 use std::alloc::Global;
 use std::process::Abort;
 use std::sync::Arc;
@@ -128,7 +130,10 @@ fn assert_kept<R: Abort>(
     let Ok((journal, state)) = open(alloc, left) else {
         panic!(rt; "a journal is found behind {calls}")
     };
-    assert!(rt; journal.number() == u64::from(COMMANDS) * u64::from(ports), "{calls}");
+    assert!(rt;
+        journal.number() == u64::from(COMMANDS) * u64::from(ports),
+        "{calls}"
+    );
     assert!(rt; has_all(rt, &state, ports, sets), "{calls}");
 }
 

@@ -136,7 +136,8 @@ impl Change {
         ensures { result ≡ port_asked self }
     {
         match self {
-            Change::Configure { port, .. } | Change::Clear { port } | Change::Rollback { port } => port,
+            Change::Configure { port, .. } | Change::Clear { port } | Change::Rollback { port } =>
+                port,
         }
     }
 

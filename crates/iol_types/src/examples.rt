@@ -190,6 +190,11 @@ pub fn ports_configured()
         ≡ one_port (record example_config { vendor = 501 }) 2 }
     ensures both_kept { apply (renewed_port ∷ []) (Configure 1 (record example_config { validation = Validation.Restore }))
         ≡ record renewed_port { config = record example_config { validation = Validation.Restore }; revision = 2 } ∷ [] }
+    ensures both_again { apply (renewed_port ∷ []) (Configure 1 example_config) ≡ record renewed_port { revision = 2 } ∷ [] }
+    ensures both_back { apply (record renewed_port { config = record example_config { validation = Validation.Restore } } ∷ [])
+        (Configure 1 example_config) ≡ record renewed_port { revision = 2 } ∷ [] }
+    ensures both_called { apply (renewed_port ∷ []) (Configure 1 (record example_config { label = codes "Pump 3" }))
+        ≡ record renewed_port { config = record example_config { label = codes "Pump 3" }; revision = 2 } ∷ [] }
     ensures both_deleted { apply (renewed_port ∷ []) (Configure 1 (record example_config { validation = Validation.NoCheck }))
         ≡ one_port (record example_config { validation = Validation.NoCheck }) 2 }
     ensures one_of_two { apply (example_port ∷ example_port ∷ []) (Configure 2 (record example_config { device = 1 }))
@@ -226,6 +231,8 @@ pub fn sets_in_place()
     ensures first { apply (one_port example_config 1) (Store 1 1 example_set)
         ≡ record (port_of example_config 1) { stored = Some (record { set = example_set; recorded = example_config }) } ∷ [] }
     ensures again { apply (example_port ∷ []) (Store 1 1 newer_stored.set) ≡ renewed_port ∷ [] }
+    ensures same_again { apply (renewed_port ∷ []) (Store 1 1 newer_stored.set)
+        ≡ record example_port { stored = Some newer_stored; previous = Some newer_stored } ∷ [] }
     ensures once_more { apply (renewed_port ∷ []) (Store 1 1 (record example_set { checksum = 592 }))
         ≡ record example_port {
           stored = Some (record { set = record example_set { checksum = 592 }; recorded = example_config });
@@ -256,6 +263,16 @@ pub fn sets_exchanged()
     ensures no_set { check (empty_state 1) (Rollback 1) ≡ Some CommandFault.NoPrevious }
     ensures cleared { check (apply (renewed_port ∷ []) (Clear 1)) (Rollback 1) ≡ Some CommandFault.NoPrevious }
     ensures last_revision { check (record renewed_port { revision = 18446744073709551615 } ∷ []) (Rollback 1) ≡ None }
+    ensures under_restore { check (record renewed_port { config = record example_config { validation = Validation.Restore } } ∷ [])
+        (Rollback 1) ≡ None }
+    // Each set goes with the configuration that it was taken under.
+    ensures with_labels { apply (record renewed_port {
+      stored = Some (record newer_stored { recorded = record example_config { label = codes "Pump 3" } });
+    } ∷ []) (Rollback 1)
+        ≡ record example_port {
+          stored = Some example_stored;
+          previous = Some (record newer_stored { recorded = record example_config { label = codes "Pump 3" } });
+        } ∷ [] }
 {}
 
 /// Each command is judged in the state that those before it make.
