@@ -7,10 +7,12 @@ sync fails, or to one of which a step is left out.
 
 import dataclasses
 import functools
+import json
 import os
 import re
 import subprocess
 import tempfile
+import tomllib
 
 SECONDS = 60
 MEMORY = ("", "error: out of memory\n", 1)
@@ -171,6 +173,11 @@ def has_known_ports(out, known):
     return all(line in lines for line in recovered(out).split("\n")[1:])
 
 
+def lines_of(table):
+    """A line for each key of a table."""
+    return "".join(f"{key} = {json.dumps(value)}\n" for key, value in table.items())
+
+
 class Script(Subject):
     """A run of `iolmaster run`."""
 
@@ -210,9 +217,16 @@ class Script(Subject):
         """What is said to another script, with all memory."""
         return dataclasses.replace(self, files={"script.toml": text.encode()}).whole_out
 
-    @property
+    @functools.cached_property
     def text(self):
-        return self.files["script.toml"].decode()
+        """The script, with a table of its own for each device and each step; as it is where it is of TOML 1.1."""
+        text = self.files["script.toml"].decode()
+        try:
+            said = tomllib.loads(text)
+        except tomllib.TOMLDecodeError:
+            return text
+        tables = [(name, table) for name in ("device", "step") for table in said.pop(name, [])]
+        return lines_of(said) + "".join(f"[[{name}]]\n{lines_of(table)}" for name, table in tables)
 
     @functools.cached_property
     def with_failing_sync(self):
