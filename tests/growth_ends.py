@@ -10,11 +10,14 @@ import functools
 import json
 import os
 import re
+import struct
 import subprocess
 import tempfile
 import tomllib
 
 SECONDS = 60
+# How a copy ended, as tests/refuse_memory.c writes it.
+ENDED = struct.Struct("5q")
 MEMORY = ("", "error: out of memory\n", 1)
 # The toolchain words want of memory in two ways.
 NO_MEMORY = ("Error: out of memory\n", "Error: memory allocation failed\n")
@@ -109,20 +112,21 @@ class Subject:
     shim: str = ""
     seconds: int = SECONDS
 
+    def lay_out(self, room):
+        """Writes the files into a folder."""
+        for name, octets in self.files.items():
+            with open(f"{room}/{name}", "wb") as file:
+                file.write(octets)
+
     def run(self, growth=0, all_behind=False):
         """What is said where this request for memory is refused, also with all behind it, or none."""
         with tempfile.TemporaryDirectory() as room:
-            for name, octets in self.files.items():
-                with open(f"{room}/{name}", "wb") as file:
-                    file.write(octets)
+            self.lay_out(room)
             refused = {"REFUSE_GROWTH": str(growth), "REFUSE_MET": f"{room}/met", "LD_PRELOAD": self.shim if growth else ""}
             if all_behind:
                 refused["REFUSE_ALL"] = "1"
             told = self.told_in(room, {**os.environ, **refused})
-            image = None
-            if os.path.exists(f"{room}/a.img"):
-                with open(f"{room}/a.img", "rb") as file:
-                    image = file.read()
+            image = octets_of(f"{room}/a.img") if os.path.exists(f"{room}/a.img") else None
             return Said(told, os.path.exists(f"{room}/met"), image)
 
     def told_in(self, room, environment):
@@ -131,7 +135,29 @@ class Subject:
             ran = subprocess.run(self.words, cwd=room, env=environment, capture_output=True, timeout=self.seconds)
         except subprocess.TimeoutExpired:
             return "", f"no end within {self.seconds} seconds", None
-        return ran.stdout.decode(errors="replace"), ran.stderr.decode(errors="replace"), ran.returncode
+        return self.told_of(ran.stdout, ran.stderr, ran.returncode)
+
+    def told_of(self, out, errors, status):
+        """The output, the errors and the status as they are looked at."""
+        return out.decode(errors="replace"), errors.decode(errors="replace"), status
+
+    def run_with_copies(self):
+        """What is said where the first request for memory is refused, alone and then with all behind it, where the second is, and
+        so on, and lastly where none is. All in one run of a program of one thread that writes no file: each request is refused in
+        copies that the program makes of itself there (tests/refuse_memory.c)."""
+        with tempfile.TemporaryDirectory() as room, tempfile.TemporaryDirectory() as copies:
+            self.lay_out(room)
+            environment = {**os.environ, "LD_PRELOAD": self.shim, "REFUSE_EACH": copies}
+            with open(f"{copies}/own_out", "wb") as out, open(f"{copies}/own_errors", "wb") as errors:
+                ran = subprocess.run(self.words, cwd=room, env=environment, stdout=out, stderr=errors)
+            names = ("own_out", "own_errors", "out", "errors", "ended")
+            own_out, own_errors, out, errors, ended = (octets_of(f"{copies}/{name}") for name in names)
+        out_begin = errors_begin = 0
+        for status, out_before, errors_before, out_end, errors_end in ENDED.iter_unpack(ended):
+            said = own_out[:out_before] + out[out_begin:out_end], own_errors[:errors_before] + errors[errors_begin:errors_end]
+            yield Said(self.told_of(*said, os.waitstatus_to_exitcode(status)), True, None)
+            out_begin, errors_begin = out_end, errors_end
+        yield Said(self.told_of(own_out, own_errors, ran.returncode), False, None)
 
     def end_of_all(self, said):
         """The end of a run that has no memory from the refused request on: it says all, if it had all that it needs by then, or
@@ -148,6 +174,11 @@ class Subject:
     @property
     def whole_out(self):
         return self.whole.told[0]
+
+
+def octets_of(path):
+    with open(path, "rb") as file:
+        return file.read()
 
 
 def last(word, text):
@@ -265,8 +296,8 @@ class Script(Subject):
 class Explained(Script):
     """A run of `iolmaster run --explain`, of which the lines of the run are looked at."""
 
-    def told_in(self, room, environment):
-        out, errors, status = super().told_in(room, environment)
+    def told_of(self, out, errors, status):
+        out, errors, status = super().told_of(out, errors, status)
         lines = [line.partition("  # ")[0] for line in out.splitlines() if not line.startswith(("disk write ", "disk sync"))]
         return "".join(f"{line}\n" for line in lines), errors, status
 
