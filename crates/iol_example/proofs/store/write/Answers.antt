@@ -1,4 +1,4 @@
-use Rattle.std.proofs.Common.{◌≡◌, List, ◌∷◌, [], ◌++◌, Err, ap, refl, ◌∙◌, subst}
+use Rattle.std.proofs.Common.{rules, ◌≡◌, List, ◌∷◌, [], ◌++◌, Err, ap, refl, ◌∙◌, subst}
 use Rattle.std.proofs.lemmas.Result.{err_from_is_err_and}
 use Rattle.iol_types.specs.Command.{CommandValue, value_of}
 use Rattle.iol_disk.specs.Calls.{Call}
@@ -144,6 +144,9 @@ returns-in-Err-clause-refused g c = λ rests.
     let same = c.in_ok-journal.ensures.same in
     rw c.in-Err.ensures.back.0
     (rests_at g.D.SectorDisk.disk _ _ c.in_ok-journal.journal (c.in_ok-journal.ensures.rests rests) same.0 same.1)
+
+pub returns-in-Err-clause-cause : goal.returns-in-Err-clause-cause
+returns-in-Err-clause-cause g c = search rules
 
 pub returns-in-Err-clause-run : goal.returns-in-Err-clause-run
 returns-in-Err-clause-run g c = λ r behind queued run. rw c.in-Err.ensures.back.0 (c.in_ok-journal.ensures.run r run)

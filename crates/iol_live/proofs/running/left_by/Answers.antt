@@ -1,4 +1,4 @@
-use Rattle.std.proofs.Common.{subst}
+use Rattle.std.proofs.Common.{rules, subst}
 use Rattle.iol_master.specs.Endings.{IsEnding}
 use Rattle.iol_live.proofs.running.left_by.Goals as goal
 
@@ -9,3 +9,6 @@ returns-in-Closed-clause-left g c = λ start first ends. (
   subst (λ ending. IsEnding g.D.SectorDisk.disk start first ending) c.in-Closed.is ends,
   c.disk.ensures,
 )
+
+pub returns-clause-left : goal.returns-clause-left
+returns-clause-left g c = search rules

@@ -64,3 +64,10 @@ returns-in-Ok-new-clause-run g c =
     trace_of d l.number l.steps c.carry_out.result c.args.disk c.args.links.items c.args.schedule.now journal recovered
     c.carry_out.ensures.run
     (trace_tells c.carry_out.result d (d c.args.disk) (d journal.disk) c.in-Ok.ensures.makes c.carry_out.ensures.failures)
+
+-- the journal that was found has another count of ports
+pub returns-then-len-from-clause-cause : goal.returns-then-len-from-clause-cause
+returns-then-len-from-clause-cause g c = search rules
+
+pub returns-in-Err-clause-cause : goal.returns-in-Err-clause-cause
+returns-in-Err-clause-cause g c = search rules

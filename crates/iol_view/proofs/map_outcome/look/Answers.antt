@@ -6,3 +6,6 @@ returns-in-Ok-clause-told g c = (c.in-Ok.found.state, rw c.in-Ok.is at c.show_di
 
 pub returns-in-Err-Damaged-clause-told : goal.returns-in-Err-Damaged-clause-told
 returns-in-Err-Damaged-clause-told g c = search rules
+
+pub returns-in-Err-Damaged-clause-cause : goal.returns-in-Err-Damaged-clause-cause
+returns-in-Err-Damaged-clause-cause g c = search rules
