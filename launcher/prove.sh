@@ -129,7 +129,8 @@ build_crate() {
     set -- $(words_of "$crate" "$2")
     (make_room "$crate" && cd "$(room_of "$crate")/crates/$crate" && exec "$top/launcher/quick_rt.py" "$@") </dev/null >"$out/build.$crate.log" 2>&1 &
     child=$!
-    trap 'kill "$child" 2>/dev/null; wait "$child"; give_back "$crate"; exit 1' HUP INT TERM
+    # (the shell says `Terminated` where it is not yet waiting for the child)
+    trap 'kill "$child" 2>/dev/null; wait "$child" 2>/dev/null; give_back "$crate"; exit 1' HUP INT TERM
     wait "$child"
     status=$?
     give_back "$crate"
