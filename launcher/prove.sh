@@ -114,12 +114,11 @@ give_back() {
     rm -rf "$room"
 }
 
-# The words for `rt` that prove and build a crate with so many jobs. What other crates load of it are its statements alone, which are
-# read sooner than its proofs.
+# The words for `rt` that prove and build a crate with so many jobs.
 words_of() {
     case " $main $also " in
         *" $1 "*) if [ -e "$top/crates/$1/src/main.rt" ]; then echo "run -- --help"; else echo test; fi ;;
-        *) echo "lib --jobs $2 --statements" ;;
+        *) echo "lib --jobs $2" ;;
     esac
 }
 
