@@ -2,6 +2,7 @@ pub mod BegunCalls
 pub mod StageCalls
 pub mod DraftLaws
 pub mod Carrying
+pub mod DraftWrites
 pub mod Stages
 pub mod StageMeanings
 pub mod CheckpointSteps

@@ -1,15 +1,11 @@
 -- The revision of a port rises where it is configured, and nowhere else does its configuration change.
-use Rattle.std.proofs.Common.{◌≡◌, ◌≢◌, ◌⊎◌, inl, inr, ⊎_elim, ◌<◌, ◌≤◌, ◌-◌, ℕ, zero, suc, if◌then◌else◌, List, [], ◌∷◌, Option, Some}
+use Rattle.std.proofs.Common.{◌≡◌, ◌≢◌, ◌⊎◌, inl, inr, ⊎_elim, ◌≤◌, ◌-◌, ℕ, zero, suc, if◌then◌else◌, List, [], ◌∷◌, Option, Some}
 use Rattle.std.proofs.Common.{None, slice_get, refl, sym, ap, ◌∙◌, subst, arith}
 use Rattle.std.proofs.lemmas.Bool.{cases_eq, le-leb}
 use Rattle.iol_types.specs.Command.{CommandValue, Configure, Clear, Store, Rollback}
 use Rattle.iol_types.specs.State.{State, Port, port_numbered, changed_at, configured, cleared, with_set, exchanged, with_port, apply, after}
 use Rattle.iol_core.proofs.Places.{get_written, get_other}
 use Rattle.iol_headline.specs.Works.{Unconfigured}
-
--- a port after a command: at a later revision, or as it was configured
-abbrev Evolves : Port → Port → Type 0
-Evolves before later = (before.revision < later.revision) ⊎ ((later.config ≡ before.config) × (later.revision ≡ before.revision))
 
 -- a port by its place
 pub at_place : (state : State) (number : ℕ) → 1 ≤ number → port_numbered state number ≡ slice_get state (number - 1)
@@ -55,6 +51,31 @@ changed state number port change (Some own) p at found =
     ))
     (cases_eq port number)
 
+-- the port that a command is for
+abbrev addressee : CommandValue → ℕ
+addressee (Configure number config) = number
+addressee (Clear number) = number
+addressee (Store number revision set) = number
+addressee (Rollback number) = number
+
+-- what a command makes of that port
+abbrev made_by : CommandValue → Port → Port
+made_by (Configure number config) port = configured port config
+made_by (Clear number) port = cleared port
+made_by (Store number revision set) port = with_set port set
+made_by (Rollback number) port = exchanged port
+
+-- a command changes the port that it is for, and leaves each other one
+after_one : (command : CommandValue) (state : State) (port : ℕ) (p : Port) → port_numbered state port ≡ Some p
+    → ((port ≢ addressee command) × (port_numbered (apply state command) port ≡ Some p))
+    ⊎ ((port ≡ addressee command) × (port_numbered (apply state command) port ≡ Some (made_by command p)))
+after_one (Configure number config) state port p at =
+    changed state number port (λ r. configured r config) (port_numbered state number) p refl at
+after_one (Clear number) state port p at = changed state number port cleared (port_numbered state number) p refl at
+after_one (Store number revision set) state port p at =
+    changed state number port (λ r. with_set r set) (port_numbered state number) p refl at
+after_one (Rollback number) state port p at = changed state number port exchanged (port_numbered state number) p refl at
+
 -- what commands leave of a port: its revision has not fallen, and where it is the same none has configured it
 pub record Holds (port : ℕ) (p q : Port) (commands : List CommandValue) : Type 0 where
   pub rises : p.revision ≤ q.revision
@@ -70,6 +91,29 @@ behind port p r q command commands config revision more is = record {
   undisturbed = λ same. more (is.undisturbed (same ∙ sym revision));
 }
 
+-- a command for another port does not configure this one
+spared : (command : CommandValue) (port : ℕ) (commands : List CommandValue) → port ≢ addressee command → Unconfigured port commands
+    → Unconfigured port (command ∷ commands)
+spared (Configure number config) port commands apart more = ((λ e. apart (sym e)), more)
+spared (Clear number) port commands apart more = more
+spared (Store number revision set) port commands apart more = more
+spared (Rollback number) port commands apart more = more
+
+-- one command for the port, and more
+for_port : (command : CommandValue) (port : ℕ) (p q : Port) (commands : List CommandValue) → Holds port (made_by command p) q commands
+    → Holds port p q (command ∷ commands)
+for_port (Configure number config) port p q commands is =
+    let rises = is.rises in
+    record {
+      rises = omega (arith, rises);
+      config = λ same. absurd (omega (arith, rises, same));
+      undisturbed = λ same. absurd (omega (arith, rises, same));
+    }
+for_port (Clear number) port p q commands is = behind port p (cleared p) q (Clear number) commands refl refl (λ more. more) is
+for_port (Store number revision set) port p q commands is =
+    behind port p (with_set p set) q (Store number revision set) commands refl refl (λ more. more) is
+for_port (Rollback number) port p q commands is = behind port p (exchanged p) q (Rollback number) commands refl refl (λ more. more) is
+
 -- what holds behind commands
 pub holds : (commands : List CommandValue) (state : State) (port : ℕ) (p q : Port) → port_numbered state port ≡ Some p
     → port_numbered (after state commands) port ≡ Some q → Holds port p q commands
@@ -80,60 +124,18 @@ holds [] state port p q at later =
       config = λ e. ap (λ (r : Port). r.config) (sym same);
       undisturbed = λ e. tt;
     }
-holds (Configure number config ∷ commands) state port p q at later =
+holds (command ∷ commands) state port p q at later =
     ⊎_elim
-    (λ same. behind port p p q (Configure number config) commands refl refl (λ rest. ((λ e. same.0 (sym e)), rest))
-    (holds commands (apply state (Configure number config)) port p q same.1 later))
-    (λ new. risen (holds commands (apply state (Configure number config)) port (configured p config) q new.1 later))
-    (changed state number port (λ r. configured r config) (port_numbered state number) p refl at)
-  where
-    risen : Holds port (configured p config) q commands → Holds port p q (Configure number config ∷ commands)
-    risen is =
-        let rises = is.rises in
-        record {
-          rises = omega (arith, rises);
-          config = λ same. absurd (omega (arith, rises, same));
-          undisturbed = λ same. absurd (omega (arith, rises, same));
-        }
-holds (Clear number ∷ commands) state port p q at later =
-    ⊎_elim
-    (λ same. behind port p p q (Clear number) commands refl refl (λ rest. rest)
-    (holds commands (apply state (Clear number)) port p q same.1 later))
-    (λ new. behind port p (cleared p) q (Clear number) commands refl refl (λ rest. rest)
-    (holds commands (apply state (Clear number)) port (cleared p) q new.1 later))
-    (changed state number port cleared (port_numbered state number) p refl at)
-holds (Store number revision set ∷ commands) state port p q at later =
-    ⊎_elim
-    (λ same. behind port p p q (Store number revision set) commands refl refl (λ rest. rest)
-    (holds commands (apply state (Store number revision set)) port p q same.1 later))
-    (λ new. behind port p (with_set p set) q (Store number revision set) commands refl refl (λ rest. rest)
-    (holds commands (apply state (Store number revision set)) port (with_set p set) q new.1 later))
-    (changed state number port (λ r. with_set r set) (port_numbered state number) p refl at)
-holds (Rollback number ∷ commands) state port p q at later =
-    ⊎_elim
-    (λ same. behind port p p q (Rollback number) commands refl refl (λ rest. rest)
-    (holds commands (apply state (Rollback number)) port p q same.1 later))
-    (λ new. behind port p (exchanged p) q (Rollback number) commands refl refl (λ rest. rest)
-    (holds commands (apply state (Rollback number)) port (exchanged p) q new.1 later))
-    (changed state number port exchanged (port_numbered state number) p refl at)
+    (λ apart. behind port p p q command commands refl refl (spared command port commands apart.0)
+    (holds commands (apply state command) port p q apart.1 later))
+    (λ new. for_port command port p q commands (holds commands (apply state command) port (made_by command p) q new.1 later))
+    (after_one command state port p at)
 
 -- a port that is there stays there
 pub stays_there : (commands : List CommandValue) (state : State) (port : ℕ) (p : Port) → port_numbered state port ≡ Some p
     → (q : Port) × (port_numbered (after state commands) port ≡ Some q)
 stays_there [] state port p at = (p, at)
-stays_there (Configure number config ∷ commands) state port p at =
-    ⊎_elim (λ same. stays_there commands (apply state (Configure number config)) port p same.1)
-    (λ new. stays_there commands (apply state (Configure number config)) port (configured p config) new.1)
-    (changed state number port (λ r. configured r config) (port_numbered state number) p refl at)
-stays_there (Clear number ∷ commands) state port p at =
-    ⊎_elim (λ same. stays_there commands (apply state (Clear number)) port p same.1)
-    (λ new. stays_there commands (apply state (Clear number)) port (cleared p) new.1)
-    (changed state number port cleared (port_numbered state number) p refl at)
-stays_there (Store number revision set ∷ commands) state port p at =
-    ⊎_elim (λ same. stays_there commands (apply state (Store number revision set)) port p same.1)
-    (λ new. stays_there commands (apply state (Store number revision set)) port (with_set p set) new.1)
-    (changed state number port (λ r. with_set r set) (port_numbered state number) p refl at)
-stays_there (Rollback number ∷ commands) state port p at =
-    ⊎_elim (λ same. stays_there commands (apply state (Rollback number)) port p same.1)
-    (λ new. stays_there commands (apply state (Rollback number)) port (exchanged p) new.1)
-    (changed state number port exchanged (port_numbered state number) p refl at)
+stays_there (command ∷ commands) state port p at =
+    ⊎_elim (λ apart. stays_there commands (apply state command) port p apart.1)
+    (λ new. stays_there commands (apply state command) port (made_by command p) new.1)
+    (after_one command state port p at)

@@ -6,7 +6,7 @@ use Rattle.iol_types.specs.Command.{CommandValue, Configure, Clear, Store, Rollb
 use Rattle.iol_types.specs.Config.{keeps_set}
 use Rattle.iol_types.specs.DataSet.{SetValue}
 use Rattle.iol_types.specs.State.{State, Port, Stored, port_numbered, changed_at, configured, cleared, with_set, exchanged, with_port}
-use Rattle.iol_types.specs.State.{apply, after}
+use Rattle.iol_types.specs.State.{apply}
 use Rattle.iol_types.specs.declared.config.PortConfig.{PortConfig}
 use Rattle.iol_core.proofs.Places.{get_written, get_other}
 use Rattle.iol_headline.proofs.Revisions.{at_place, is_there, some_is, none_some}

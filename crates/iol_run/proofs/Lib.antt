@@ -32,6 +32,7 @@ pub mod Histories
 pub mod StatusesShown
 pub mod PortRuns
 pub mod Acknowledging
+pub mod Unanswered
 pub mod Answering
 pub mod Traces
 pub mod AllSteps
