@@ -1,4 +1,4 @@
-use Rattle.std.proofs.Common.{◌≤◌, List, length, sym, ap, subst}
+use Rattle.std.proofs.Common.{rules, ◌≤◌, List, length, sym, ap, subst}
 use Rattle.iol_types.specs.Command.{CommandValue}
 use Rattle.iol_journal.specs.Journals.{WritingView, calls_left}
 use Rattle.iol_flush.specs.Stages.{most_batch_calls}
@@ -62,3 +62,6 @@ write-requires g c = record {
   few = subst (λ (commands : List CommandValue). length (calls_left c.in-Ok.writing) ≤ most_batch_calls commands)
       (sym (ap (λ (w : WritingView g.row.D.Denot). w.commands) c.in-Ok.ensures.begun)) c.in-Ok.ensures.few;
 }
+
+pub returns-in-TooLarge-clause-step : goal.returns-in-TooLarge-clause-step
+returns-in-TooLarge-clause-step g c = search rules

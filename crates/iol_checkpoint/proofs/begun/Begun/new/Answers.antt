@@ -1,4 +1,4 @@
-use Rattle.std.proofs.Common.{List, [], length, ap, arith}
+use Rattle.std.proofs.Common.{rules, List, [], length, ap, arith}
 use Rattle.iol_record.proofs.RecordLaws.{spells-state}
 use Rattle.iol_layout.proofs.Layouts.{renewed-version}
 use Rattle.iol_batch.specs.Parts.{stands}
@@ -25,3 +25,6 @@ returns-clause-at_most c =
       all,
       at_most (checkpointed s) [] idle records,
     ))
+
+pub returns-clause-begun : goal.returns-clause-begun
+returns-clause-begun c = search rules

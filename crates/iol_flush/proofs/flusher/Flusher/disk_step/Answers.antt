@@ -1,3 +1,4 @@
+use Rattle.std.proofs.Common.{rules}
 use Rattle.iol_flush.proofs.Steps.{stays_in_step}
 use Rattle.iol_flush.proofs.flusher.Flusher.disk_step.Goals as goal
 
@@ -8,3 +9,6 @@ invariant_of-self g c = (
       c.replace_with.ensures.0 c.self.invariant.0,
   c.replace_with.ensures.1.0,
 )
+
+pub returns-clause-step : goal.returns-clause-step
+returns-clause-step g c = search rules

@@ -1,3 +1,4 @@
+use Rattle.std.proofs.lemmas.Grind.{common_steps}
 use Rattle.std.proofs.Common.{◌≡◌, ◌+◌, ◌++◌, take, length, ap, sym, ◌∙◌, arith, length-append}
 use Rattle.iol_sim.specs.Parameters.{weighted, all_octets}
 use Rattle.iol_sim.proofs.TallyLemmas.{octets-one_more, weighted-append}
@@ -24,3 +25,6 @@ loop-place-preserved c =
       small = omega (arith, loop.invariant.small, c.weighted-sum.ensures.bound);
       short = omega (arith, loop.invariant.short, c.at.ensures.short);
     }
+
+pub returns : goal.returns
+returns c = grind (arith, common_steps)
