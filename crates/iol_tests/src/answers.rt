@@ -4,7 +4,7 @@ use crate::exchanges::{
     BREAK, CHECKSUM, Exchange, FLAGGED, INDEX_LIST, LIST_1200, NO_DATA, NO_LIST, PAGE, READ, Row,
     SIZE, STARTED, TOO_LARGE, UPLOADING, VALUE,
 };
-use crate::rows::ROWS;
+use crate::rows::{END_ROWS, FAULT_ROWS, LIST_ROWS, REQUEST_ROWS};
 use arrayvec::ArrayVec;
 use iol_disk::MemoryDisk;
 use iol_dsindex::examples::{
@@ -58,13 +58,18 @@ fn nothing_said(alloc: Global) -> Said {
     }
 }
 
-fn assert_row(rt: &impl Abort, alloc: Global, row: &Row<'_>) {
-    let (count, parts, statuses, last) = *row;
+// All that is said in these parts.
+fn all_said(rt: &impl Abort, alloc: Global, parts: &[&[Exchange<'_>]]) -> Said {
     let mut said = nothing_said(alloc);
     for part in parts {
         say(rt, &mut said, part);
     }
-    assert_run(rt, alloc, count, said, statuses, last);
+    said
+}
+
+fn assert_row(rt: &impl Abort, alloc: Global, row: &Row<'_>) {
+    let (count, parts, statuses, last) = *row;
+    assert_run(rt, alloc, count, all_said(rt, alloc, parts), statuses, last);
 }
 
 // Port 1 is configured, reads its device and tells it so; it is configured again, and writes the set to the device. At each
@@ -154,63 +159,116 @@ fn listed(octets: &[u8]) -> [Exchange<'_>; 3] {
     [STARTED, SIZE, (1, INDEX_LIST, octets)]
 }
 
-// A device that answers a list, and is asked this behind it, leads to this status.
+// What is said to a device that answers a list of these octets, and is asked this behind it.
+fn said_of_list(rt: &impl Abort, alloc: Global, octets: &[u8], behind: &[Exchange<'_>]) -> Said {
+    let list = read(rt, octets);
+    let mut said = nothing_said(alloc);
+    say(rt, &mut said, &FLAGGED);
+    say(rt, &mut said, &listed(&list));
+    say(rt, &mut said, behind);
+    said
+}
+
+// A device that answers a list of these octets, and is asked this behind it, leads to this status.
 fn assert_list(
     rt: &impl Abort,
     alloc: Global,
-    listed: &[Exchange<'_>],
+    octets: &[u8],
     behind: &[Exchange<'_>],
     last: PortStatus,
 ) {
-    let mut said = nothing_said(alloc);
-    say(rt, &mut said, &FLAGGED);
-    say(rt, &mut said, listed);
-    say(rt, &mut said, behind);
+    let said = said_of_list(rt, alloc, octets, behind);
     assert_run(rt, alloc, READ, said, &UPLOADING, last);
 }
 
-#[test]
-fn each_answer_leads_to_its_end(rt: HostRuntime) {
-    for row in &ROWS {
-        assert_row(&rt, rt.alloc(), row);
+fn assert_rows(rt: &impl Abort, alloc: Global, rows: &[Row<'_>]) {
+    for row in rows {
+        assert_row(rt, alloc, row);
     }
-    for list in [
+}
+
+// Answers to the requests of an upload.
+fn assert_requests(rt: &impl Abort, alloc: Global) {
+    assert_rows(rt, alloc, &REQUEST_ROWS);
+}
+
+// Answers that cannot be read, or that do not come.
+fn assert_faults(rt: &impl Abort, alloc: Global) {
+    assert_rows(rt, alloc, &FAULT_ROWS);
+}
+
+// Lists that follow others, and a list that cannot be followed.
+fn assert_further_lists(rt: &impl Abort, alloc: Global) {
+    assert_rows(rt, alloc, &LIST_ROWS);
+}
+
+// Answers at the end of an upload and in a download, and ones that come late.
+fn assert_ends(rt: &impl Abort, alloc: Global) {
+    assert_rows(rt, alloc, &END_ROWS);
+}
+
+// Lists that cannot be followed.
+fn assert_broken_lists(rt: &impl Abort, alloc: Global) {
+    let lists = [
         [0x00].as_slice(),
         &BROKEN_OFF,
         &RESERVED_ENTRY,
         &RESERVED_NEXT,
-    ] {
-        let list = read(&rt, list);
-        assert_list(&rt, rt.alloc(), &listed(&list), &[BREAK], NO_LIST);
+    ];
+    for list in lists {
+        assert_list(rt, alloc, list, &[BREAK], NO_LIST);
     }
+}
+
+// Lists of one key, also where more stands behind it or it is named twice.
+fn assert_lists_of_one(rt: &impl Abort, alloc: Global) {
     for list in [ONE_KEY.as_slice(), &ONE_KEY_AND_MORE, &NAMED_TWICE] {
-        let list = read(&rt, list);
         let behind = [VALUE, CHECKSUM];
-        assert_list(
-            &rt,
-            rt.alloc(),
-            &listed(&list),
-            &behind,
-            PortStatus::Storing,
-        );
+        assert_list(rt, alloc, list, &behind, PortStatus::Storing);
     }
-    let list = read(&rt, &[]);
-    assert_list(
-        &rt,
-        rt.alloc(),
-        &listed(&list),
-        &[CHECKSUM],
-        PortStatus::Storing,
-    );
-    let list = read(&rt, &FURTHER_LIST);
+}
+
+// An empty list, and one that names a further list.
+fn assert_other_lists(rt: &impl Abort, alloc: Global) {
+    assert_list(rt, alloc, &[], &[CHECKSUM], PortStatus::Storing);
     let behind = [(1, LIST_1200, NO_DATA), VALUE, CHECKSUM];
-    assert_list(
-        &rt,
-        rt.alloc(),
-        &listed(&list),
-        &behind,
-        PortStatus::Storing,
-    );
+    assert_list(rt, alloc, &FURTHER_LIST, &behind, PortStatus::Storing);
+}
+
+#[test]
+fn each_answer_leads_to_its_end(rt: HostRuntime) {
+    assert_requests(&rt, rt.alloc());
+    assert_faults(&rt, rt.alloc());
+    assert_further_lists(&rt, rt.alloc());
+    assert_ends(&rt, rt.alloc());
+    assert_broken_lists(&rt, rt.alloc());
+    assert_lists_of_one(&rt, rt.alloc());
+    assert_other_lists(&rt, rt.alloc());
+}
+
+// A list of 76 keys names a further one, of so many of these keys.
+fn assert_further(rt: &impl Abort, alloc: Global, list: &[u8], keys: &[u8], count: u8) {
+    let count = usize::from(count);
+    let further = read(rt, keys.get(..3 * count).expect(rt, "77 keys"));
+    let behind = [
+        (1, LIST_1200, further.as_slice()),
+        (76 + count, [].as_slice(), NO_DATA),
+        CHECKSUM,
+    ];
+    assert_list(rt, alloc, list, &behind, PortStatus::Storing);
+}
+
+// Seventeen keys of 232 octets count 4,012, and 84 are left: fewer than a last key with so many octets.
+fn assert_too_large(rt: &impl Abort, alloc: Global, keys: &[u8], octets: usize) {
+    let value = read(rt, &[0x55; 232]);
+    let last = read(rt, keys.get(..octets).expect(rt, "232 octets"));
+    let behind = [
+        (17, [].as_slice(), value.as_slice()),
+        (1, &[], last.as_slice()),
+        BREAK,
+    ];
+    let list = keys.get(..54).expect(rt, "18 keys");
+    assert_list(rt, alloc, list, &behind, TOO_LARGE);
 }
 
 // The longest lists: one of 76 keys that names a further one, and that one, of up to 77, which ends with its octets. And
@@ -228,33 +286,10 @@ fn the_longest_lists_and_values_are_read(rt: HostRuntime) {
         keys[3 * usize::from(place)] = 0x02;
         keys[3 * usize::from(place) + 1] = place;
     }
-    for count in [0_u8, 1, 76, 77] {
-        let count = usize::from(count);
-        let further = read(&rt, keys.get(..3 * count).expect(&rt, "77 keys"));
-        let behind = [
-            (1, LIST_1200, further.as_slice()),
-            (76 + count, [].as_slice(), NO_DATA),
-            CHECKSUM,
-        ];
-        let list = read(&rt, &most);
-        assert_list(
-            &rt,
-            rt.alloc(),
-            &listed(&list),
-            &behind,
-            PortStatus::Storing,
-        );
+    for count in [0, 1, 76, 77] {
+        assert_further(&rt, rt.alloc(), &most, &keys, count);
     }
-    // seventeen keys of 232 octets count 4,012, and 84 are left
-    let value = read(&rt, &[0x55; 232]);
     for octets in [81, 232] {
-        let last = read(&rt, keys.get(..octets).expect(&rt, "232 octets"));
-        let behind = [
-            (17, [].as_slice(), value.as_slice()),
-            (1, &[], last.as_slice()),
-            BREAK,
-        ];
-        let list = read(&rt, keys.get(..54).expect(&rt, "18 keys"));
-        assert_list(&rt, rt.alloc(), &listed(&list), &behind, TOO_LARGE);
+        assert_too_large(&rt, rt.alloc(), &keys, octets);
     }
 }

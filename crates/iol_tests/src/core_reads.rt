@@ -14,13 +14,18 @@ use std::process::Abort;
 // All commands wait that may, so that the pass is made late.
 #[test]
 fn a_port_with_a_set_is_viewed_through_a_pass_of_the_core(rt: HostRuntime) {
-    let mut state = MasterState::new(rt.alloc(), 1).expect(&rt, "memory");
-    let (port, _) = decode_port(rt.alloc(), Version::One, &PORT_WITH_SET_RECORD).expect(
-        &rt, "memory",
-    );
-    state.set_port(PortId::new(1).unwrap(), port);
+    let state = state_with_set(&rt, rt.alloc());
     let front = Front::new(rt.alloc(), 0, &state).expect(&rt, "memory");
     view::<Brand, _>(&rt, rt.alloc(), front, state);
+}
+
+// The state of one port, which has a set.
+fn state_with_set<R: Abort>(rt: &R, alloc: Global) -> MasterState {
+    let mut state = MasterState::new(alloc, 1).expect(rt, "memory");
+    let read = decode_port(alloc, Version::One, &PORT_WITH_SET_RECORD);
+    let (port, _) = read.expect(rt, "memory");
+    state.set_port(PortId::new(1).unwrap(), port);
+    state
 }
 
 fn view<F: Name, R: Abort>(rt: &R, alloc: Global, front: Front, state: MasterState)

@@ -3,8 +3,8 @@
 use crate::blank::{blank, config};
 use iol_disk::{DiskFault, FaultDisk, MemoryDisk, Pick, SECTOR_OCTETS, SectorDisk};
 use iol_example::{WriteFault, create, open, write};
-use iol_journal::{BeginCause, Geometry, Journal};
-use iol_types::{Command, PortId};
+use iol_journal::{Batch, BeginCause, Geometry, Journal};
+use iol_types::{Command, MasterState, PortId};
 use std::alloc::Global;
 use std::process::Abort;
 
@@ -31,10 +31,35 @@ pub fn store_of<R: Abort>(rt: &R, alloc: Global, configures: usize) -> Journal<M
     journal
 }
 
+/// The journal and the state that are found on a disk.
+pub fn opened<R: Abort>(
+    rt: &R,
+    alloc: Global,
+    disk: MemoryDisk,
+) -> (Journal<MemoryDisk>, MasterState) {
+    match open(alloc, disk) {
+        Ok(found) => found,
+        Err(_) => panic!(rt; "a journal is found"),
+    }
+}
+
 /// How many commands are found on a disk, and how many configured port 1.
 pub fn found(alloc: Global, disk: MemoryDisk) -> Option<(u64, u64)> {
     let (journal, state) = open(alloc, disk).ok()?;
-    Some((journal.number(), state.port(PortId::new(1)?)?.revision()))
+    with_revision(journal.number(), &state)
+}
+
+// This number, and how many commands configured port 1.
+fn with_revision(number: u64, state: &MasterState) -> Option<(u64, u64)> {
+    Some((number, state.port(PortId::new(1)?)?.revision()))
+}
+
+/// Why a journal does not take a batch.
+pub fn refusal<R: Abort>(rt: &R, journal: Journal<MemoryDisk>, batch: Batch) -> BeginCause {
+    match journal.begin(batch) {
+        Ok(_) => panic!(rt; "a batch is refused"),
+        Err(fault) => fault.cause,
+    }
 }
 
 // The disk that a write of one Configure more leaves, whose nth write to the disk fails; that with none fails for the 0th.
@@ -79,6 +104,19 @@ fn a_write_is_found_after_a_stop_and_one_that_fails_leaves_the_command_or_does_n
     }
 }
 
+// How many commands the store has that comes back where a command is refused, and why it is.
+fn refused<R: Abort>(
+    rt: &R,
+    alloc: Global,
+    journal: Journal<MemoryDisk>,
+    command: Command,
+) -> (u64, BeginCause) {
+    match write(alloc, journal, command) {
+        Err(WriteFault::Refused(journal, cause)) => (journal.number(), cause),
+        _ => panic!(rt; "a command is refused"),
+    }
+}
+
 // Whether a Configure of this port is refused as a misfit, and the store with so many commands comes back.
 fn is_misfit<R: Abort>(
     rt: &R,
@@ -87,10 +125,7 @@ fn is_misfit<R: Abort>(
     port: u8,
     number: u64,
 ) -> bool {
-    match write(alloc, journal, configure(rt, port)) {
-        Err(WriteFault::Refused(journal, BeginCause::Misfit)) => journal.number() == number,
-        _ => false,
-    }
+    refused(rt, alloc, journal, configure(rt, port)) == (number, BeginCause::Misfit)
 }
 
 #[test]
@@ -103,8 +138,6 @@ fn a_command_that_does_not_fit_is_refused(rt: HostRuntime) {
     header[16] = 2;
     let mut disk = store_of(&rt, rt.alloc(), 0).disk();
     assert!(rt; 3 < disk.sectors() && disk.write(3, &header).is_ok());
-    let Ok((journal, _)) = open(rt.alloc(), disk) else {
-        panic!(rt; "an empty store")
-    };
+    let (journal, _) = opened(&rt, rt.alloc(), disk);
     assert!(rt; is_misfit(&rt, rt.alloc(), journal, 1, 1 << 62));
 }

@@ -2,7 +2,7 @@
 
 ghost use Rattle.std.specs.Prelude.{◌≡◌, ◌+◌, length};
 
-use crate::scene::{clear, empty_journal, finish};
+use crate::scene::{begun, clear, empty_journal, finish};
 use iol_disk::MemoryDisk;
 use iol_front::{Committed, Front, Name, Publisher};
 use iol_journal::{Batch, Journal};
@@ -23,13 +23,17 @@ fn publish_clear<F: Name, R: Abort>(
     requires { journal.standing.number ≡ F.front.start.number + length publisher.old }
     ensures { result.0.standing.number ≡ F.front.start.number + length publisher.new }
 {
-    let first = journal.number() + 1;
-    let commands = Vec::from_array(alloc, [clear()]).expect(rt, "commands");
-    let Ok(writing) = journal.begin(Batch { first, commands }) else {
-        panic!(rt; "a batch that fits")
-    };
-    let (journal, written) = finish(rt, writing);
+    let batch = clear_batch(rt, alloc, journal.number() + 1);
+    let (journal, written) = finish(rt, begun(rt, journal, batch));
     (journal, publisher.publish(written))
+}
+
+// The batch of a Clear, under this number.
+fn clear_batch<R: Abort>(rt: &R, alloc: Global, first: u64) -> Batch
+    ensures { (result.first ≡ first) × (length result.commands.items ≡ 1) }
+{
+    let commands = Vec::from_array(alloc, [clear()]).expect(rt, "commands");
+    Batch { first, commands }
 }
 
 #[test]

@@ -2,15 +2,15 @@
 //! call.
 
 use crate::blank::{blank, config};
-use crate::example_store::found;
+use crate::example_store::{found, opened};
 use crate::paused::stepped;
-use crate::scene::finish;
+use crate::scene::{begun, finish};
 use iol_disk::{MemoryDisk, Pick};
 use iol_example::{create, open};
 use iol_journal::{Batch, Checkpointing, Geometry, Journal};
 use iol_record::{LARGEST_PORT_RECORD_OF_TWO, Version, decode_port, encode_port};
 use iol_types::{
-    Command, DataSet, Key, Label, MasterState, PortConfig, PortId, SetBuilder, StoredSet,
+    Command, DataSet, Key, Label, MasterState, PortConfig, PortId, PortState, SetBuilder, StoredSet,
 };
 use std::alloc::Global;
 use std::process::Abort;
@@ -50,6 +50,39 @@ fn store<R: Abort>(rt: &R, port: PortId, set: &Arc<DataSet>) -> Command {
     }
 }
 
+// A journal of no commands, with the slots of a batch for each of so many ports.
+fn empty_journal<R: Abort>(rt: &R, alloc: Global, ports: u8) -> Journal<MemoryDisk> {
+    // In version 2 an area gives up a slot for two ports.
+    let slots = (SLOTS * u16::from(ports)).saturating_add(u16::from(ports) / 2 + 1);
+    let geometry = Geometry::new(u16::from(ports), slots).expect(rt, "a geometry");
+    match create(alloc, blank(rt, alloc, geometry.sectors()), geometry) {
+        Ok(journal) => journal,
+        Err(_) => panic!(rt; "a disk is formatted and recovered"),
+    }
+}
+
+// The commands of a port: a Configure, and a Store of each set.
+fn commands<R: Abort>(rt: &R, alloc: Global, number: u8, sets: &[Arc<DataSet>; 2]) -> Vec<Command> {
+    let port = PortId::new(number).expect(rt, "a port");
+    let config = labelled(rt);
+    let configure = Command::Configure { port, config };
+    let [first, second] = sets;
+    let stores = [configure, store(rt, port, first), store(rt, port, second)];
+    Vec::from_array(alloc, stores).expect(rt, "memory")
+}
+
+// The journal behind a batch of these commands.
+fn with_batch<R: Abort>(
+    rt: &R,
+    journal: Journal<MemoryDisk>,
+    commands: Vec<Command>,
+) -> Journal<MemoryDisk> {
+    let first = journal.number().saturating_add(1);
+    let (journal, written) = finish(rt, begun(rt, journal, Batch { first, commands }));
+    let _batch = written.into_batch();
+    journal
+}
+
 // A journal of so many ports that each have the second set, and the first one as their previous set.
 fn journal<R: Abort>(
     rt: &R,
@@ -57,26 +90,9 @@ fn journal<R: Abort>(
     ports: u8,
     sets: &[Arc<DataSet>; 2],
 ) -> Journal<MemoryDisk> {
-    // In version 2 an area gives up a slot for two ports.
-    let slots = (SLOTS * u16::from(ports)).saturating_add(u16::from(ports) / 2 + 1);
-    let geometry = Geometry::new(u16::from(ports), slots).expect(rt, "a geometry");
-    let Ok(mut journal) = create(alloc, blank(rt, alloc, geometry.sectors()), geometry) else {
-        panic!(rt; "a disk is formatted and recovered")
-    };
+    let mut journal = empty_journal(rt, alloc, ports);
     for number in 1..=ports {
-        let port = PortId::new(number).expect(rt, "a port");
-        let config = labelled(rt);
-        let configure = Command::Configure { port, config };
-        let [first, second] = sets;
-        let stores = [configure, store(rt, port, first), store(rt, port, second)];
-        let commands = Vec::from_array(alloc, stores).expect(rt, "memory");
-        let first = journal.number().saturating_add(1);
-        let Ok(writing) = journal.begin(Batch { first, commands }) else {
-            panic!(rt; "slots are free")
-        };
-        let (next, written) = finish(rt, writing);
-        let _batch = written.into_batch();
-        journal = next;
+        journal = with_batch(rt, journal, commands(rt, alloc, number, sets));
     }
     journal
 }
@@ -116,6 +132,18 @@ fn has_all<R: Abort>(rt: &R, state: &MasterState, ports: u8, sets: &[Arc<DataSet
     true
 }
 
+// How many commands are found on a disk, and whether each port has both sets.
+fn found_with_sets<R: Abort>(
+    rt: &R,
+    alloc: Global,
+    disk: MemoryDisk,
+    ports: u8,
+    sets: &[Arc<DataSet>; 2],
+) -> Option<(u64, bool)> {
+    let (journal, state) = open(alloc, disk).ok()?;
+    Some((journal.number(), has_all(rt, &state, ports, sets)))
+}
+
 // A stop behind so many disk calls of the checkpoint, whose sectors are kept as this pick says, leaves all sets.
 fn assert_kept<R: Abort>(
     rt: &R,
@@ -127,14 +155,11 @@ fn assert_kept<R: Abort>(
 ) {
     let begun = checkpoint(rt, journal(rt, alloc, ports, sets));
     let left = stepped(rt, begun, calls).disk().stop(pick);
-    let Ok((journal, state)) = open(alloc, left) else {
+    let Some((number, has_all)) = found_with_sets(rt, alloc, left, ports, sets) else {
         panic!(rt; "a journal is found behind {calls}")
     };
-    assert!(rt;
-        journal.number() == u64::from(COMMANDS) * u64::from(ports),
-        "{calls}"
-    );
-    assert!(rt; has_all(rt, &state, ports, sets), "{calls}");
+    assert!(rt; number == u64::from(COMMANDS) * u64::from(ports), "{calls}");
+    assert!(rt; has_all, "{calls}");
 }
 
 #[test]
@@ -169,18 +194,29 @@ fn the_checkpoint_of_32_full_ports_has_so_many_calls(rt: HostRuntime) {
     }
 }
 
+// The record of a port with both sets, as a disk has it.
+fn record_of_two<R: Abort>(rt: &R, alloc: Global) -> Vec<u8> {
+    let sets = [full_set(rt, alloc, 1), full_set(rt, alloc, 2)];
+    let (_, state) = opened(rt, alloc, journal(rt, alloc, 1, &sets).disk());
+    let port = state.port(PortId::new(1).unwrap()).expect(rt, "a port");
+    record_of(rt, alloc, port)
+}
+
+fn record_of<R: Abort>(rt: &R, alloc: Global, port: &PortState) -> Vec<u8> {
+    encode_port(alloc, Version::newest(), port).expect(rt, "memory")
+}
+
+// How many octets of a record are read, and the record of what is read.
+fn read_again<R: Abort>(rt: &R, alloc: Global, record: &[u8]) -> (usize, Vec<u8>) {
+    let (port, octets) = decode_port(alloc, Version::newest(), record).expect(rt, "a port");
+    (octets, record_of(rt, alloc, &port))
+}
+
 #[test]
 fn the_largest_record_of_a_port_is_read_and_written(rt: HostRuntime) {
-    let sets = [full_set(&rt, rt.alloc(), 1), full_set(&rt, rt.alloc(), 2)];
-    let Ok((_, state)) = open(rt.alloc(), journal(&rt, rt.alloc(), 1, &sets).disk()) else {
-        panic!(rt; "a journal is found")
-    };
-    let port = state.port(PortId::new(1).unwrap()).expect(&rt, "a port");
-    let record = encode_port(rt.alloc(), Version::newest(), port).expect(&rt, "memory");
+    let record = record_of_two(&rt, rt.alloc());
     assert!(rt; record.len() == LARGEST_PORT_RECORD_OF_TWO);
-    let read = decode_port(rt.alloc(), Version::newest(), &record);
-    let (found, octets) = read.expect(&rt, "a port");
+    let (octets, again) = read_again(&rt, rt.alloc(), &record);
     assert!(rt; octets == record.len());
-    let again = encode_port(rt.alloc(), Version::newest(), &found).expect(&rt, "memory");
     assert!(rt; again.as_slice() == record.as_slice());
 }

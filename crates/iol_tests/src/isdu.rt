@@ -2,7 +2,7 @@
 //! crate's own.
 
 use arrayvec::ArrayVec;
-use iol_isdu::{IsduFault, read_answer, read_request, write_answer, write_request};
+use iol_isdu::{ISDU_OCTETS, IsduFault, read_answer, read_request, write_answer, write_request};
 use std::process::Abort;
 
 const REQUEST: u8 = 1;
@@ -79,20 +79,33 @@ fn plain_fault(octets: &[u8], expected: u8) -> Option<IsduFault> {
     }
 }
 
+// What is written of the request that is read of octets.
+fn request_again(octets: &[u8]) -> Result<ArrayVec<u8, ISDU_OCTETS>, IsduFault> {
+    Ok(write_request(&read_request(octets)?))
+}
+
+// What is written of the answer that is read of octets.
+fn answer_again(octets: &[u8]) -> Result<ArrayVec<u8, ISDU_OCTETS>, IsduFault> {
+    Ok(write_answer(&read_answer(octets)?))
+}
+
+// Whether octets have the fault that the plain reader finds, or it finds none and they are written as they stand.
+fn is_plain(
+    octets: &[u8],
+    expected: u8,
+    again: &Result<ArrayVec<u8, ISDU_OCTETS>, IsduFault>,
+) -> bool {
+    let plain = plain_fault(octets, expected);
+    match again {
+        Ok(written) => plain.is_none() && written.as_slice() == octets,
+        Err(fault) => plain == Some(*fault),
+    }
+}
+
 // Octets have the fault that the plain reader finds, or what is read of them is written as they stand.
 fn assert_plain(rt: &impl Abort, octets: &[u8]) {
-    let asked = match read_request(octets) {
-        Ok(request) => {
-            plain_fault(octets, REQUEST).is_none() && write_request(&request).as_slice() == octets
-        }
-        Err(fault) => plain_fault(octets, REQUEST) == Some(fault),
-    };
-    let answered = match read_answer(octets) {
-        Ok(answer) => {
-            plain_fault(octets, ANSWER).is_none() && write_answer(&answer).as_slice() == octets
-        }
-        Err(fault) => plain_fault(octets, ANSWER) == Some(fault),
-    };
+    let asked = is_plain(octets, REQUEST, &request_again(octets));
+    let answered = is_plain(octets, ANSWER, &answer_again(octets));
     assert!(rt; asked && answered, "{octets:?}");
 }
 

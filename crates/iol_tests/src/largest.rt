@@ -1,6 +1,6 @@
 //! What takes memory at its largest, and is made by no command of the program.
 
-use crate::example_store::store_of;
+use crate::example_store::{refusal, store_of};
 use iol_journal::{Batch, BeginCause};
 use iol_record::examples::STORE_RECORD;
 use iol_record::{LARGEST_COMMAND_RECORD, Version, decode_command, encode_command};
@@ -8,28 +8,35 @@ use iol_types::{Command, PortId};
 use std::alloc::Global;
 use std::process::Abort;
 
+fn add<R: Abort>(rt: &R, record: &mut Vec<u8>, octets: &[u8]) {
+    record.extend_from_slice(octets).expect(rt, "memory");
+}
+
+// The record of a Store of 1,024 parameters that have no octets.
+fn largest_record<R: Abort>(rt: &R, alloc: Global) -> Vec<u8> {
+    let mut record = Vec::new(alloc);
+    add(rt, &mut record, &STORE_RECORD[..20]);
+    add(rt, &mut record, &[0x04, 0x00]);
+    for index in 0x0100_u16..0x0500 {
+        add(rt, &mut record, &index.to_be_bytes());
+        add(rt, &mut record, &[0x00, 0x00]);
+    }
+    record
+}
+
+// How many octets of a record are read, and the record of the command that is read.
+fn read_again<R: Abort>(rt: &R, alloc: Global, record: &[u8]) -> (usize, Vec<u8>) {
+    let version = Version::newest();
+    let (command, octets) = decode_command(alloc, version, record).expect(rt, "memory");
+    let written = encode_command(alloc, version, &command).expect(rt, "memory");
+    (octets, written)
+}
+
 #[test]
 fn a_store_of_1024_parameters_is_read_and_written(rt: HostRuntime) {
-    let mut record = Vec::new(rt.alloc());
-    record
-        .extend_from_slice(&STORE_RECORD[..20])
-        .expect(&rt, "memory");
-    record
-        .extend_from_slice(&[0x04, 0x00])
-        .expect(&rt, "memory");
-    for index in 0x0100_u16..0x0500 {
-        record
-            .extend_from_slice(&index.to_be_bytes())
-            .expect(&rt, "memory");
-        record
-            .extend_from_slice(&[0x00, 0x00])
-            .expect(&rt, "memory");
-    }
-    let (command, octets) = decode_command(rt.alloc(), Version::newest(), &record).expect(
-        &rt, "memory",
-    );
+    let record = largest_record(&rt, rt.alloc());
+    let (octets, written) = read_again(&rt, rt.alloc(), &record);
     assert!(rt; octets == LARGEST_COMMAND_RECORD);
-    let written = encode_command(rt.alloc(), Version::newest(), &command).expect(&rt, "memory");
     assert!(rt; written.as_slice() == record.as_slice());
 }
 
@@ -59,10 +66,7 @@ const MISFITS: [(u64, usize, Option<u8>); 4] = [
 fn a_batch_that_does_not_follow_behind_another_is_a_misfit(rt: HostRuntime) {
     for (first, clears, last) in MISFITS {
         let batch = batch(&rt, rt.alloc(), first, clears, last);
-        let cause = match store_of(&rt, rt.alloc(), 1).begin(batch) {
-            Ok(_) => None,
-            Err(fault) => Some(fault.cause),
-        };
-        assert!(rt; cause == Some(BeginCause::Misfit), "{clears} from {first}");
+        let cause = refusal(&rt, store_of(&rt, rt.alloc(), 1), batch);
+        assert!(rt; cause == BeginCause::Misfit, "{clears} from {first}");
     }
 }

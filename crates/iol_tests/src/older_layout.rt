@@ -1,11 +1,11 @@
 //! A disk of an earlier release: one Configure in version 1 of the layout. A checkpoint renews it, with a stop behind each disk call.
 
 use crate::blank::{blank, config};
-use crate::example_store::{configure, found};
-use crate::paused::{done, stepped};
+use crate::example_store::{found, opened, refusal};
+use crate::paused::{batch, done, stepped};
 use iol_disk::{MemoryDisk, Pick, SECTOR_OCTETS, SectorDisk};
-use iol_example::{open, write};
-use iol_journal::{Batch, BeginCause, Checkpointing, Geometry, Journal, format_one};
+use iol_example::write;
+use iol_journal::{BeginCause, Checkpointing, Geometry, Journal, format_one};
 use iol_types::{Command, Label, PortConfig, PortId};
 use std::alloc::Global;
 use std::process::Abort;
@@ -47,10 +47,8 @@ fn older_disk<R: Abort>(rt: &R, alloc: Global) -> MemoryDisk {
 }
 
 fn older_journal<R: Abort>(rt: &R, alloc: Global) -> Journal<MemoryDisk> {
-    match open(alloc, older_disk(rt, alloc)) {
-        Ok((journal, _)) => journal,
-        Err(_) => panic!(rt; "a journal is found"),
-    }
+    let (journal, _) = opened(rt, alloc, older_disk(rt, alloc));
+    journal
 }
 
 // The checkpoint that renews it.
@@ -66,11 +64,9 @@ fn renewal<R: Abort>(rt: &R, alloc: Global) -> Checkpointing<MemoryDisk> {
 #[test]
 fn it_is_found_as_it_stands_and_takes_no_batch(rt: HostRuntime) {
     assert!(rt; found(rt.alloc(), older_disk(&rt, rt.alloc())) == Some((1, 1)));
-    let commands = Vec::from_array(rt.alloc(), [configure(&rt, 1)]).expect(&rt, "memory");
-    match older_journal(&rt, rt.alloc()).begin(Batch { first: 2, commands }) {
-        Ok(_) => panic!(rt; "no slot is free"),
-        Err(fault) => assert!(rt; fault.cause == BeginCause::NeedsCheckpoint),
-    }
+    let batch = batch(&rt, rt.alloc(), 2);
+    let cause = refusal(&rt, older_journal(&rt, rt.alloc()), batch);
+    assert!(rt; cause == BeginCause::NeedsCheckpoint);
 }
 
 #[test]
@@ -85,19 +81,32 @@ fn a_stop_at_any_call_of_its_renewal_changes_nothing(rt: HostRuntime) {
     }
 }
 
+// What a stop leaves once a command was written behind the renewal.
+fn renewed_with<R: Abort>(rt: &R, alloc: Global, command: Command) -> MemoryDisk {
+    let journal = done(rt, renewal(rt, alloc), CHECKPOINT_CALLS);
+    match write(alloc, journal, command) {
+        Ok(journal) => journal.disk().stop(Pick::Old),
+        Err(_) => panic!(rt; "a command is written"),
+    }
+}
+
+// How many commands are found on a disk, and the revision and the label of a port.
+fn found_label<R: Abort>(
+    rt: &R,
+    alloc: Global,
+    disk: MemoryDisk,
+    port: PortId,
+) -> (u64, u64, Label) {
+    let (journal, state) = opened(rt, alloc, disk);
+    let port = state.port(port).expect(rt, "a port");
+    (journal.number(), port.revision(), port.config().label)
+}
+
 #[test]
 fn behind_its_renewal_its_port_is_given_a_label(rt: HostRuntime) {
-    let journal = done(&rt, renewal(&rt, rt.alloc()), CHECKPOINT_CALLS);
     let port = PortId::new(1).expect(&rt, "a port");
     let label = Label::new(b"Pump 3").expect(&rt, "a label");
     let config = PortConfig { label, ..config() };
-    let left = match write(rt.alloc(), journal, Command::Configure { port, config }) {
-        Ok(journal) => journal.disk().stop(Pick::Old),
-        Err(_) => panic!(rt; "a command is written"),
-    };
-    let Ok((journal, state)) = open(rt.alloc(), left) else {
-        panic!(rt; "a journal is found")
-    };
-    let found = state.port(port).expect(&rt, "a port");
-    assert!(rt; journal.number() == 2 && found.revision() == 2 && found.config().label == label);
+    let left = renewed_with(&rt, rt.alloc(), Command::Configure { port, config });
+    assert!(rt; found_label(&rt, rt.alloc(), left, port) == (2, 2, label));
 }

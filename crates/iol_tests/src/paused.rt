@@ -1,8 +1,9 @@
 //! A checkpoint of two ports and four slots an area that is paused while batches are written, with a stop behind each disk call.
 
-use crate::example_store::{configure, found, store_of};
+use crate::example_store::{configure, found, opened, store_of};
+use crate::scene::begun;
 use iol_disk::{MemoryDisk, Pick};
-use iol_example::{open, write};
+use iol_example::write;
 use iol_journal::{Batch, CheckpointProgress, Checkpointing, Journal, Progress, Writing};
 use std::alloc::Global;
 use std::process::Abort;
@@ -56,6 +57,12 @@ fn paused<R: Abort>(rt: &R, checkpointing: Checkpointing<MemoryDisk>) -> Journal
     checkpointing.pause()
 }
 
+/// One Configure, under this number.
+pub fn batch<R: Abort>(rt: &R, alloc: Global, first: u64) -> Batch {
+    let commands = Vec::from_array(alloc, [configure(rt, 1)]).expect(rt, "memory");
+    Batch { first, commands }
+}
+
 // A batch of one Configure, behind so many disk calls.
 fn written<R: Abort>(
     rt: &R,
@@ -63,11 +70,8 @@ fn written<R: Abort>(
     journal: Journal<MemoryDisk>,
     calls: usize,
 ) -> Writing<MemoryDisk> {
-    let first = journal.number() + 1;
-    let commands = Vec::from_array(alloc, [configure(rt, 1)]).expect(rt, "memory");
-    let Ok(mut writing) = journal.begin(Batch { first, commands }) else {
-        panic!(rt; "a slot is free")
-    };
+    let batch = batch(rt, alloc, journal.number() + 1);
+    let mut writing = begun(rt, journal, batch);
     for _ in 0..calls {
         writing = match writing.step() {
             Progress::More(next) => next,
@@ -124,9 +128,7 @@ fn expected(before: usize, calls: usize, pick: Pick) -> u64 {
 
 // How many commands are found once five more were written, a checkpoint among them.
 fn found_behind_five<R: Abort>(rt: &R, alloc: Global, disk: MemoryDisk) -> Option<(u64, u64)> {
-    let Ok((mut journal, _)) = open(alloc, disk) else {
-        panic!(rt; "a store is found")
-    };
+    let (mut journal, _) = opened(rt, alloc, disk);
     for _ in 0..5 {
         journal = match write(alloc, journal, configure(rt, 1)) {
             Ok(journal) => journal,
@@ -136,17 +138,22 @@ fn found_behind_five<R: Abort>(rt: &R, alloc: Global, disk: MemoryDisk) -> Optio
     found(alloc, journal.disk())
 }
 
+// A stop behind so many disk calls leaves what is expected.
+fn assert_left<R: Abort>(rt: &R, alloc: Global, before: usize, calls: usize, pick: Pick) {
+    let number = expected(before, calls, pick);
+    let left = disk_behind(rt, alloc, before, calls).stop(pick);
+    assert!(rt;
+        found(alloc, left) == Some((number, number)),
+        "{before} {calls}"
+    );
+}
+
 #[test]
 fn a_stop_beside_a_paused_checkpoint_leaves_what_its_batch_says(rt: HostRuntime) {
     for before in 0..LAST_PAUSE + 1 {
         for calls in 0..CHECKPOINT_CALLS + 2 * BATCH_CALLS + 1 {
             for pick in [Pick::Old, Pick::New, Pick::Zero, Pick::Pattern] {
-                let number = expected(before, calls, pick);
-                let left = disk_behind(&rt, rt.alloc(), before, calls).stop(pick);
-                assert!(rt;
-                    found(rt.alloc(), left) == Some((number, number)),
-                    "{before} {calls}"
-                );
+                assert_left(&rt, rt.alloc(), before, calls, pick);
             }
         }
     }

@@ -6,7 +6,7 @@ ghost use Rattle.std.specs.Prelude.{◌<◌, ◌≤◌, ◌^◌};
 use iol_disk::SECTOR_OCTETS;
 use iol_journal::RecoverCause;
 use iol_record::{Version, decode_command, decode_port};
-use iol_types::{MasterState, PortId};
+use iol_types::{MasterState, PortId, PortState};
 use std::alloc::Global;
 
 const OPEN: [u8; 8] = [0xA5, 0x5A, 0xA5, 0x5A, 0xA5, 0x5A, 0xA5, 0x5A];
@@ -30,6 +30,14 @@ struct Used {
     port_sectors: usize,
     slots: usize,
     ghost wide: { port_sectors ≤ 17 },
+}
+
+impl Used {
+    // The first sector of a port's record.
+    fn port_at(self, place: u8) -> usize {
+        self.begin
+            .saturating_add(2 + self.port_sectors * usize::from(place))
+    }
 }
 
 // An image, with the ports and slots that its first sector says.
@@ -167,22 +175,36 @@ impl<'a> Plain<'a> {
         })
     }
 
+    // The port whose record begins at a sector.
+    fn port(self, alloc: Global, used: Used, first: usize) -> Result<PortState, RecoverCause> {
+        let octets = gathered(alloc, self.image, first, used.port_sectors, false)?;
+        match decode_port(alloc, used.version, &octets) {
+            Ok((port, _)) => Ok(port),
+            Err(_) => Err(damaged(first)),
+        }
+    }
+
+    // Puts the port at a place of an area into a state.
+    fn put_port(
+        self,
+        alloc: Global,
+        used: Used,
+        place: u8,
+        state: &mut MasterState,
+    ) -> Result<(), RecoverCause> {
+        let first = used.port_at(place);
+        let port = PortId::new(place.saturating_add(1)).ok_or(damaged(first))?;
+        let read = self.port(alloc, used, first)?;
+        if state.port(port).is_some() {
+            state.set_port(port, read);
+        }
+        Ok(())
+    }
+
     fn state(self, alloc: Global, used: Used) -> Result<MasterState, RecoverCause> {
         let mut state = MasterState::new(alloc, self.ports)?;
         for place in 0..self.ports {
-            let first = used
-                .begin
-                .saturating_add(2 + used.port_sectors * usize::from(place));
-            let octets = gathered(alloc, self.image, first, used.port_sectors, false)?;
-            let (Some(port), Ok((read, _))) = (
-                PortId::new(place.saturating_add(1)),
-                decode_port(alloc, used.version, &octets),
-            ) else {
-                return Err(damaged(first));
-            };
-            if state.port(port).is_some() {
-                state.set_port(port, read);
-            }
+            self.put_port(alloc, used, place, &mut state)?;
         }
         Ok(state)
     }
@@ -207,11 +229,24 @@ impl<'a> Plain<'a> {
             if used.slots - slot < span {
                 return Err(damaged(body));
             }
-            let octets = gathered(alloc, self.image, body, 16 * span, true)?;
-            number = batch(alloc, &octets, used, number, state).ok_or(damaged(body))?;
+            number = self.batch_at(alloc, used, body, 16 * span, number, state)?;
             slot += span;
         }
         Ok(number)
+    }
+
+    // The number of the last command of a body of so many sectors, gates left out, whose commands are applied.
+    fn batch_at(
+        self,
+        alloc: Global,
+        used: Used,
+        body: usize,
+        sectors: usize,
+        number: u64,
+        state: &mut MasterState,
+    ) -> Result<u64, RecoverCause> {
+        let octets = gathered(alloc, self.image, body, sectors, true)?;
+        batch(alloc, &octets, used, number, state).ok_or(damaged(body))
     }
 
     // The gate of a slot of an area.
@@ -223,6 +258,29 @@ impl<'a> Plain<'a> {
     }
 }
 
+// The number of the last command of a body of so many commands, if its header says that it follows behind this number.
+fn last_of(body: &[u8], used: Used, number: u64, count: u64) -> Option<u64> {
+    let last = number.checked_add(count)?;
+    let is_fit = number_at(body, 0, 8) == used.epoch
+        && number.checked_add(1) == Some(number_at(body, 8, 8))
+        && (1..=64).contains(&count)
+        && last <= 1 << 62;
+    if is_fit { Some(last) } else { None }
+}
+
+// How many octets the record of the first command takes, which is applied.
+fn applied(
+    alloc: Global,
+    version: Version,
+    octets: &[u8],
+    state: &mut MasterState,
+) -> Option<usize> {
+    let (command, read) = decode_command(alloc, version, octets).ok()?;
+    state.check(&command).ok()?;
+    state.apply(command);
+    Some(read)
+}
+
 // The number of the last command of a body, whose commands are applied.
 fn batch(
     alloc: Global,
@@ -231,26 +289,15 @@ fn batch(
     number: u64,
     state: &mut MasterState,
 ) -> Option<u64> {
-    let first = number_at(body, 8, 8);
     let count = number_at(body, 16, 2);
-    let last = number.checked_add(count)?;
-    let is_fit = number_at(body, 0, 8) == used.epoch
-        && number.checked_add(1) == Some(first)
-        && (1..=64).contains(&count)
-        && last <= 1 << 62;
+    let last = last_of(body, used, number, count)?;
     let end = (number_at(body, 18, 4) as usize).checked_add(22)?;
     let mut rest = body.get(22..end)?;
     for _ in 0..count {
-        let (command, read) = decode_command(alloc, used.version, rest).ok()?;
-        state.check(&command).ok()?;
-        state.apply(command);
+        let read = applied(alloc, used.version, rest, state)?;
         rest = rest.get(read..)?;
     }
-    if is_fit && rest.is_empty() {
-        Some(last)
-    } else {
-        None
-    }
+    if rest.is_empty() { Some(last) } else { None }
 }
 
 /// The number of the last command that an image means, or the first cause why it means nothing.

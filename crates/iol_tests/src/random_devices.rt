@@ -1,14 +1,14 @@
 //! Ports whose devices answer random octets, 10,000 steps of each of 32. What is told of a port is what its link has answered,
 //! its statuses follow one another as its stages do, and what is stored is what was read.
 
-use crate::blank::{blank, config};
+use crate::blank::{config, formatted};
 use crate::random_link::{Chance, RandomLink};
 use crate::random_told::{Told, link_of, port, told_in};
 use arrayvec::ArrayVec;
 use iol_disk::{MemoryDisk, Pick};
 use iol_dsindex::{DATA_STORAGE, INDEX_LIST, PARAMETER_CHECKSUM};
 use iol_isdu::{Answer, DATA_OCTETS, Request, read_answer, read_request};
-use iol_journal::{Geometry, Journal, format};
+use iol_journal::{Geometry, Journal};
 use iol_port::{PortFault, PortStatus};
 use iol_record::{Version, encode_port};
 use iol_run::{Ended, Event, Stamped, Task, Trace, run_schedule};
@@ -129,6 +129,13 @@ fn answered(request: &[u8], answer: &[u8], key: Key) -> Option<ArrayVec<u8, DATA
     }
 }
 
+// Adds a key that is not there yet.
+fn add_key<R: Abort>(rt: &R, keys: &mut Vec<Key>, key: Key) {
+    if !keys.as_slice().contains(&key) {
+        keys.push(key).expect(rt, "memory");
+    }
+}
+
 // Adds the keys of a list that are not there yet; the Index of the next list, if it names one.
 fn add_listed<R: Abort>(rt: &R, keys: &mut Vec<Key>, list: &[u8]) -> Option<u16> {
     for entry in list.chunks(3) {
@@ -140,9 +147,7 @@ fn add_listed<R: Abort>(rt: &R, keys: &mut Vec<Key>, list: &[u8]) -> Option<u16>
                     index: u16::from_be_bytes([*high, *low]),
                     subindex: *subindex,
                 };
-                if !keys.as_slice().contains(&key) {
-                    keys.push(key).expect(rt, "memory");
-                }
+                add_key(rt, keys, key);
             }
             _ => {}
         }
@@ -177,6 +182,28 @@ fn object(subindex: u8) -> Key {
     }
 }
 
+// Whether this entry of a set is a key with its value, where that was at this place of the trace.
+fn is_entry(
+    events: &[Stamped],
+    place: Option<&usize>,
+    set: &DataSet,
+    entry: usize,
+    key: Key,
+) -> bool {
+    match read_at(events, place, key) {
+        Some(value) => set.entry(entry) == Some((key, value.as_slice())),
+        None => false,
+    }
+}
+
+// Whether a set has the checksum that was at this place of the trace.
+fn is_checksum(events: &[Stamped], place: Option<&usize>, set: &DataSet) -> bool {
+    match read_at(events, place, object(PARAMETER_CHECKSUM)) {
+        Some(octets) => octets.as_slice() == set.checksum().to_be_bytes().as_slice(),
+        None => false,
+    }
+}
+
 // A set is what was read behind its size and its lists: each key that was listed, with its value, and then the checksum.
 fn assert_filed<R: Abort>(
     rt: &R,
@@ -189,16 +216,10 @@ fn assert_filed<R: Abort>(
     let last = lists.saturating_add(keys.len()).saturating_add(1);
     assert!(rt; set.len() == keys.len() && filed.len() == last.saturating_add(1));
     for (place, key) in keys.iter().enumerate() {
-        let at = lists.saturating_add(1).saturating_add(place);
-        let value = read_at(events, filed.get(at), *key).expect(rt, "a value");
-        assert!(rt;
-            set.entry(place) == Some((*key, value.as_slice())),
-            "{key:?}"
-        );
+        let at = filed.get(lists.saturating_add(1).saturating_add(place));
+        assert!(rt; is_entry(events, at, set, place, *key), "{key:?}");
     }
-    let checksum = read_at(events, filed.get(last), object(PARAMETER_CHECKSUM));
-    let octets = checksum.expect(rt, "a checksum");
-    assert!(rt; octets.as_slice() == set.checksum().to_be_bytes().as_slice());
+    assert!(rt; is_checksum(events, filed.get(last), set));
 }
 
 // Each port has the set that it filed last, if it filed one.
@@ -275,6 +296,26 @@ fn record<R: Abort>(rt: &R, alloc: Global, state: &MasterState, number: u8) -> V
     encode_port(alloc, Version::newest(), port).expect(rt, "memory")
 }
 
+// Whether a port is the same in both states.
+fn is_same<R: Abort>(
+    rt: &R,
+    alloc: Global,
+    found: &MasterState,
+    state: &MasterState,
+    number: u8,
+) -> bool {
+    let found = record(rt, alloc, found, number);
+    found.as_slice() == record(rt, alloc, state, number).as_slice()
+}
+
+// How many commands are found on a disk, and the state.
+fn recovered<R: Abort>(rt: &R, alloc: Global, disk: MemoryDisk) -> (u64, MasterState) {
+    match Journal::recover(alloc, disk) {
+        Ok((journal, state)) => (journal.number(), state),
+        Err(_) => panic!(rt; "a recovery"),
+    }
+}
+
 // So many commands are found on a disk, and this state.
 fn assert_found<R: Abort>(
     rt: &R,
@@ -283,40 +324,45 @@ fn assert_found<R: Abort>(
     number: u64,
     state: &MasterState,
 ) {
-    let Ok((journal, found)) = Journal::recover(alloc, disk) else {
-        panic!(rt; "a recovery")
-    };
-    assert!(rt; journal.number() == number);
+    let (found_number, found) = recovered(rt, alloc, disk);
+    assert!(rt; found_number == number);
     for number in 1..=PORTS {
-        let is_same = record(rt, alloc, &found, number).as_slice()
-            == record(rt, alloc, state, number).as_slice();
-        assert!(rt; is_same, "port {number}");
+        assert!(rt; is_same(rt, alloc, &found, state, number), "port {number}");
     }
+}
+
+// What the schedule of a seed does, run over a new disk.
+fn run_of<R: Abort>(rt: &R, alloc: Global, seed: u64) -> Trace<MemoryDisk, RandomLink> {
+    let geometry = Geometry::new(u16::from(PORTS), SLOTS).expect(rt, "a geometry");
+    let disk = formatted(rt, alloc, geometry);
+    let tasks = schedule(rt, alloc, seed);
+    match run_schedule(alloc, disk, links(rt, alloc, seed), &tasks) {
+        Ok(trace) => trace,
+        Err(_) => panic!(rt; "a run"),
+    }
+}
+
+// A run is whole, and tells what its links have answered and what is stored; how many commands were acknowledged in it.
+fn assert_told<R: Abort>(
+    rt: &R,
+    alloc: Global,
+    seed: u64,
+    trace: &Trace<MemoryDisk, RandomLink>,
+) -> u64 {
+    assert!(rt; trace.ended == Ended::Whole && trace.waits == 0);
+    let events = trace.events.as_slice();
+    let (all, acknowledged) = told_in(rt, alloc, seed, events);
+    assert_links(rt, &all, &trace.links);
+    assert_deep(rt, events);
+    assert_sets(rt, alloc, events, &all, &trace.state);
+    acknowledged
 }
 
 // A run of a seed, and what is found behind a stop.
 fn assert_run<R: Abort>(rt: &R, alloc: Global, seed: u64, pick: Pick) {
-    let geometry = Geometry::new(u16::from(PORTS), SLOTS).expect(rt, "a geometry");
-    let mut disk = blank(rt, alloc, geometry.sectors());
-    format(alloc, &mut disk, geometry).expect(rt, "a format");
-    let tasks = schedule(rt, alloc, seed);
-    let Ok(trace) = run_schedule(alloc, disk, links(rt, alloc, seed), &tasks) else {
-        panic!(rt; "a run")
-    };
-    let Trace {
-        events,
-        begun: _,
-        waits,
-        ended,
-        state,
-        links,
-        disk,
-    } = trace;
-    assert!(rt; ended == Ended::Whole && waits == 0);
-    let (all, acknowledged) = told_in(rt, alloc, seed, &events);
-    assert_links(rt, &all, &links);
-    assert_deep(rt, &events);
-    assert_sets(rt, alloc, &events, &all, &state);
+    let trace = run_of(rt, alloc, seed);
+    let acknowledged = assert_told(rt, alloc, seed, &trace);
+    let Trace { state, disk, .. } = trace;
     assert_found(rt, alloc, disk.stop(pick), acknowledged, &state);
 }
 

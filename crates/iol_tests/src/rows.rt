@@ -10,7 +10,8 @@ use crate::exchanges::{
 };
 use iol_port::{PortFault, PortStatus};
 
-pub(crate) const ROWS: [Row<'static>; 26] = [
+// Answers to the requests of an upload.
+pub(crate) const REQUEST_ROWS: [Row<'static>; 9] = [
     // the device refuses what it is asked, or answers something else
     (
         READ,
@@ -88,6 +89,10 @@ pub(crate) const ROWS: [Row<'static>; 26] = [
         &UPLOADING,
         UNEXPECTED,
     ),
+];
+
+// Answers that cannot be read, or that do not come.
+pub(crate) const FAULT_ROWS: [Row<'static>; 7] = [
     // answers that are no ISDU; a break that is not answered well changes nothing
     (
         READ,
@@ -135,6 +140,10 @@ pub(crate) const ROWS: [Row<'static>; 26] = [
         &UPLOADING,
         STAYS_BUSY,
     ),
+];
+
+// Lists that follow others, and a list that cannot be followed.
+pub(crate) const LIST_ROWS: [Row<'static>; 4] = [
     // sixteen lists are read, and no more; a key of two lists is read once
     (
         READ,
@@ -202,6 +211,10 @@ pub(crate) const ROWS: [Row<'static>; 26] = [
         &UPLOADING,
         NO_LIST,
     ),
+];
+
+// Answers at the end of an upload and in a download, and ones that come late.
+pub(crate) const END_ROWS: [Row<'static>; 6] = [
     // at the end of an upload no break is sent
     (
         TOLD,

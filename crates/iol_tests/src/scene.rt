@@ -1,10 +1,10 @@
 //! An empty journal, and the disk calls of a batch behind it.
 
-ghost use Rattle.std.specs.Prelude.{◌≡◌, ◌+◌, []};
+ghost use Rattle.std.specs.Prelude.{◌≡◌, ◌+◌, [], length};
 ghost use Rattle.iol_journal.specs.Standings.{with_batch};
 
 use iol_disk::MemoryDisk;
-use iol_journal::{Geometry, Journal, Progress, Writing, Written, format};
+use iol_journal::{Batch, Geometry, Journal, Progress, Writing, Written, format};
 use iol_types::{Command, MasterState, PortId};
 use std::alloc::Global;
 use std::process::Abort;
@@ -27,6 +27,16 @@ pub fn empty_journal<R: Abort>(rt: &R, alloc: Global) -> (Journal<MemoryDisk>, M
         panic!(rt; "a recovery")
     };
     found
+}
+
+/// A batch that fits behind a journal.
+pub fn begun<R: Abort>(rt: &R, journal: Journal<MemoryDisk>, batch: Batch) -> Writing<MemoryDisk>
+    ensures { (result.standing ≡ journal.standing) × (length result.commands ≡ length batch.commands.items) }
+{
+    match journal.begin(batch) {
+        Ok(writing) => writing,
+        Err(_) => panic!(rt; "a batch that fits"),
+    }
 }
 
 /// Makes the disk calls of a batch.
