@@ -3,12 +3,13 @@
 //! In comes a state, and after how many commands it stands; out comes one object, or its text, whose members are those of
 //! docs/FORMATS.md, "JSON". Read as JSON, the text is the state (`specs/Json.antt`).
 //!
-//! Modules in reading order: `entries` has the parameters of a set, `ports` the ports of a state, `state` the state and its
-//! text, and `examples` states worked out.
+//! Modules in reading order: `members` adds a member to an object, `entries` has the parameters of a set, `ports` the ports of a
+//! state, `state` the state and its text, and `examples` states worked out.
 #![tactic(auto)]
 
 mod entries;
 pub mod examples;
+mod members;
 mod ports;
 mod state;
 

@@ -1,15 +1,16 @@
 //! The ports of a state as JSON.
 ghost use Rattle.std.specs.Prelude.{◌≡◌, IfOk, OnOk, map, ◌++◌};
 ghost use Rattle.std.specs.Option.{option_map};
-ghost use Rattle.serde_json.specs.Data.{array};
-ghost use Rattle.serde_json.specs.View.{view, items_of};
+ghost use Rattle.serde_json.specs.Data.{array, put as with_member};
+ghost use Rattle.serde_json.specs.View.{view, items_of, members_view};
 ghost use Rattle.iol_types.specs.Numbers.{IsPortNumber};
 ghost use Rattle.iol_types.specs.Port.{stored_of};
 ghost use Rattle.iol_json.specs.Json.{config_data, stored_data, set_data, port_data, ports_data, port_at};
 
 use crate::entries::entries_of;
+use crate::members::with;
 use iol_types::{MasterState, PortConfig, PortId, PortState, StoredSet};
-use serde_json::{Value, json};
+use serde_json::{Map, Value};
 use std::alloc::{AllocError, Global};
 
 // The ports of a state, port 1 first.
@@ -57,11 +58,39 @@ fn push_found(
 fn port_of(alloc: Global, number: u8, port: &PortState) -> Result<Value, AllocError>
     ensures { IfOk result (λ value. view value ≡ port_data number port.now) }
 {
-    let configuration = config_of(alloc, port.config())?;
-    let set = set_or_null(alloc, port.stored())?;
-    let previous = set_or_null(alloc, port.previous())?;
-    let revision = port.revision();
-    json!(in alloc; {"port": number, "revision": revision, "configuration": configuration, "set": set, "previous": previous})
+    let members = with(alloc, Map::new(alloc), "port", Value::from(number))?;
+    let members = with(alloc, members, "revision", Value::from(port.revision()))?;
+    let members = with_config(alloc, members, "configuration", port.config())?;
+    let members = with_set(alloc, members, "set", port.stored())?;
+    let members = with_set(alloc, members, "previous", port.previous())?;
+    Ok(Value::Object(members))
+}
+
+// These members, and a configuration with this name.
+fn with_config(
+    alloc: Global,
+    members: Map<String, Value>,
+    name: &str,
+    config: PortConfig,
+) -> Result<Map<String, Value>, AllocError>
+    ensures { IfOk result (λ with. members_view with.entries ≡ with_member name.now (config_data config) (members_view members.entries)) }
+{
+    let config = config_of(alloc, config)?;
+    with(alloc, members, name, config)
+}
+
+// These members, and a set of a port with this name.
+fn with_set(
+    alloc: Global,
+    members: Map<String, Value>,
+    name: &str,
+    stored: Option<&StoredSet>,
+) -> Result<Map<String, Value>, AllocError>
+    ensures { IfOk result (λ with. members_view with.entries
+        ≡ with_member name.now (set_data (option_map (λ set. stored_of set.now) stored.entry)) (members_view members.entries)) }
+{
+    let set = set_or_null(alloc, stored)?;
+    with(alloc, members, name, set)
 }
 
 // A set of a port, or null.
@@ -78,11 +107,14 @@ fn set_or_null(alloc: Global, stored: Option<&StoredSet>) -> Result<Value, Alloc
 fn set_of(alloc: Global, stored: &StoredSet) -> Result<Value, AllocError>
     ensures { IfOk result (λ value. view value ≡ stored_data (stored_of stored.now)) }
 {
-    let entries = entries_of(alloc, &stored.set)?;
     let octets = stored.set.octets();
     let checksum = stored.set.checksum();
-    let under = config_of(alloc, stored.recorded)?;
-    json!(in alloc; {"checksum": checksum, "octets": octets, "under": under, "entries": entries})
+    let entries = entries_of(alloc, &stored.set)?;
+    let members = with(alloc, Map::new(alloc), "entries", entries)?;
+    let members = with(alloc, members, "octets", Value::from(octets))?;
+    let members = with(alloc, members, "checksum", Value::from(checksum))?;
+    let members = with_config(alloc, members, "under", stored.recorded)?;
+    Ok(Value::Object(members))
 }
 
 // A configuration, each number and the label by its name.
@@ -92,6 +124,11 @@ fn config_of(alloc: Global, config: PortConfig) -> Result<Value, AllocError>
     let mode = config.mode.to_octet();
     let validation = config.validation.to_octet();
     let device = config.device.number();
-    let (vendor, label) = (config.vendor, config.label.as_str());
-    json!(in alloc; {"mode": mode, "validation": validation, "vendor": vendor, "device": device, "label": label})
+    let label = Value::try_from_str(alloc, config.label.as_str())?;
+    let members = with(alloc, Map::new(alloc), "label", label)?;
+    let members = with(alloc, members, "mode", Value::from(mode))?;
+    let members = with(alloc, members, "validation", Value::from(validation))?;
+    let members = with(alloc, members, "vendor", Value::from(config.vendor))?;
+    let members = with(alloc, members, "device", Value::from(device))?;
+    Ok(Value::Object(members))
 }
