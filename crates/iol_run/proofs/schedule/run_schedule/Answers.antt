@@ -67,7 +67,11 @@ returns-in-Ok-new-clause-run g c =
 
 -- the journal that was found has another count of ports
 pub returns-then-len-from-clause-cause : goal.returns-then-len-from-clause-cause
-returns-then-len-from-clause-cause g c = search rules
+returns-then-len-from-clause-cause g c = λ h. (c.in-Ok.journal.standing, c.in-Ok.ensures.found h, search rules)
 
 pub returns-in-Err-clause-cause : goal.returns-in-Err-clause-cause
-returns-in-Err-clause-cause g c = search rules
+returns-in-Err-clause-cause g c = record {
+  says = c.in-Err.ensures.cause;
+  makes = c.in-Err.ensures.makes;
+  memory = c.in-Err.ensures.memory;
+}
