@@ -11,18 +11,19 @@ use Rattle.iol_layout.specs.Octets.{sectors_reached, sector_of}
 use Rattle.iol_batch.specs.declared.phase.Phase.{Phase}
 use Rattle.iol_batch.specs.declared.phase.Phase.TheVariants.{Body, SyncBody, Gate, SyncGate}
 
--- the body of a batch behind a journal that stands so, and how many sectors it has (format, Orders of disk calls)
+-- the body of a batch behind a journal that stands so: under its epoch, with the next number (format, Slots)
 abbrev pub body_for : Standing → List CommandValue → List ℕ
 body_for s commands = body_octets s.epoch (s.number + 1) commands
 
+-- how many sectors the body of that batch reaches (format, Slots)
 abbrev pub sectors_for : Standing → List CommandValue → ℕ
 sectors_for s commands = sectors_reached (length (body_for s commands))
 
--- the write of a sector of the body, from the first free slot on, and that of the slot's open gate (format, Orders of
--- disk calls)
+-- the write of a sector of the body, from the first free slot on (format, Orders of disk calls)
 abbrev pub body_write : Standing → List ℕ → ℕ → Call
 body_write s body j = write (body_at s.layout s.area s.used j) (sector_of body j)
 
+-- the write of the open gate of that slot (format, Orders of disk calls)
 abbrev pub gate_write : Standing → Call
 gate_write s = write (slot_at s.layout s.area s.used) open_gate
 

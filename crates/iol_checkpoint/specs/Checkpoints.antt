@@ -47,11 +47,12 @@ checkpointed s = target s (fresh_log s)
 abbrev pub log_with : Log → List CommandValue → Log
 log_with log batch = record { used = log.used + slots_for batch; number = log.number + length batch; state = after log.state batch }
 
--- the first of the batches that are owed, and those behind it (own)
+-- the first of the batches that are owed; no command where none is (own)
 abbrev pub first_of : List (List CommandValue) → List CommandValue
 first_of [] = []
 first_of (batch ∷ batches) = batch
 
+-- the batches that are owed behind the first; none where none is (own)
 abbrev pub behind_first : {A : Type 0} → List A → List A
 behind_first [] = []
 behind_first (batch ∷ batches) = batches
@@ -81,10 +82,11 @@ abbrev pub clearing_calls : Standing → Idle → List Call
 clearing_calls t Older = []
 clearing_calls t Closed = header_write t.layout t.area 0 0 ∷ sync ∷ []
 
--- the writes of the gate of the area (format, Orders of disk calls)
+-- the write that closes the gate of the area (format, Orders of disk calls)
 abbrev pub close_write : Standing → Call
 close_write t = write (gate_at t.layout t.area) closed_gate
 
+-- the write that opens the gate of the area (format, Orders of disk calls)
 abbrev pub open_write : Standing → Call
 open_write t = write (gate_at t.layout t.area) open_gate
 

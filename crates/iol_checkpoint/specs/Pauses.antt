@@ -24,7 +24,8 @@ IsDrawnUp d s b = IsTrue d.honest → StageHolds d.sectors s (target s b.log) b.
 abbrev pub IsPaused : Disk → Standing → Option BegunView → Type 0
 IsPaused d s begun = IfSome begun (IsDrawnUp d s)
 
--- beside a batch on its way a checkpoint may be paused: what is read of the area that it writes is as its stage says (own)
+-- beside a batch on its way a checkpoint may be paused: what is read of the area that it writes is as its stage says, of an honest
+-- disk (own)
 abbrev pub IsBeside : Disk → Standing → Option BegunView → Type 0
 IsBeside d s begun =
     IfSome begun (λ b. IsTrue d.honest → AreaHolds d.sectors (target s b.log) b.owed b.stage d.content)

@@ -20,7 +20,8 @@ abbrev pub content_after_all : List Call → Content → Content
 content_after_all [] c = c
 content_after_all (call ∷ calls) c = content_after_all calls (content_after call c)
 
--- the calls were made in their order, and each succeeded (own)
+-- what these calls leave in their order, where each succeeds: of an honest disk their content, of any disk its size, and no failure
+-- more (own)
 pub record Made (calls : List Call) (old new : Disk) : Type 0 where
   pub after : After (content_after_all calls) old new
   pub no_failure : new.failures ≡ old.failures
@@ -35,8 +36,8 @@ abbrev pub LeftBy : Call → Disk → Disk → Type 0
 LeftBy (write sector octets) = WroteSome sector
 LeftBy sync = Same
 
--- the calls were made in their order up to one that failed, with this fault, which is of its kind, and the failure was counted
--- (own)
+-- what these calls leave in their order up to one that failed: what those before it left, and then what a failed call does. The
+-- fault is of its kind, and the failure was counted (own)
 pub record FailedIn (calls : List Call) (fault : DiskFault) (old new : Disk) : Type 0 where
   pub place : ℕ
   pub call : Call

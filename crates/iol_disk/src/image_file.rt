@@ -30,7 +30,7 @@ impl<F: FileExt + OpenFile + LockFile + Drop> ImageFile<F> {
     ghost use Rattle.iol_disk.specs.Disk.{Same, FailsOnlyAs};
     ghost use Rattle.iol_disk.specs.declared.disk.TheConstants.{SECTOR_OCTETS};
     ghost use Rattle.iol_disk.specs.declared.image_fault.ImageFault.TheVariants.{Open};
-    ghost use Rattle.iol_disk.specs.ImageFile.{file_disk, IsUnknown, IsCreateFault, IsOpenFault};
+    ghost use Rattle.iol_disk.specs.ImageFile.{file_disk, HasTold, IsUnknown, IsCreateFault, IsOpenFault};
 
     /// Makes the file at `path`, of so many sectors of zeros, and settles it, so that a later sync has no more than
     /// octets to make durable. A file that is there is left alone.
@@ -74,6 +74,8 @@ impl<F: FileExt + OpenFile + LockFile + Drop> ImageFile<F> {
     /// `Open` where it cannot be opened, as where there is none, or `Memory`; `InUse` where it is open already, here or in
     /// another process; `Disk` of `Read` where its length cannot be read.
     pub fn open<R: Files<File = F>>(rt: &R, path: &str) -> Result<ImageFile<F>, ImageFault>
+        // Its sectors are the whole ones of a length that the file told.
+        ensures told { IfOk result (λ opened. HasTold F.tells opened) }
         ensures unknown { IfOk result (λ opened. IsUnknown (file_disk opened)) }
         ensures fault { IfErr result IsOpenFault }
     {
@@ -82,9 +84,8 @@ impl<F: FileExt + OpenFile + LockFile + Drop> ImageFile<F> {
             Err(error) => return Err(unopened(error)),
         };
         file.try_lock().map_err(unlocked)?;
-        let octets = match file.metadata() {
-            Ok(metadata) => metadata.len(),
-            Err(_) => return Err(ImageFault::Disk(DiskFault::Read)),
+        let Ok(octets) = file.length() else {
+            return Err(ImageFault::Disk(DiskFault::Read));
         };
         Ok(ImageFile {
             file,

@@ -1,9 +1,10 @@
 //! Files that are locked for as long as they are open.
 
+use crate::file_length::FileLength;
 use std::fs::{File, TryLockError};
 
 /// A file that can be locked against every other open of it, also in another process.
-pub trait LockFile {
+pub trait LockFile: FileLength {
     /// Locks the file until it is closed, or its process ends.
     ///
     /// # Errors

@@ -22,8 +22,8 @@ MakesErasureOf gate old new (Ok done) = Made (erase_calls gate) old new
 MakesErasureOf gate old new (Err Read) = After (content_after_all (sync ∷ [])) old new × HasFailed old new
 MakesErasureOf gate old new (Err fault) = FailedIn (erase_calls gate) fault old new
 
--- the gate of the disk was read as open or closed, and the calls of that were made; a disk without that sector counts
--- as closed (format, Orders of disk calls)
+-- the gate of the disk was taken for open or closed, of an honest disk as it reads, and the calls of that were made; a disk without
+-- that sector counts as closed (format, Orders of disk calls)
 pub record MakesErasure (old new : Disk) (result : Result Unit DiskFault) : Type 0 where
   pub gate : Bool
   pub reads_so : IsTrue old.honest → gate ≡ is_formatted old.sectors (reads old.content)

@@ -34,8 +34,8 @@ EachIsEmptyJournal d g = IsTrue d.honest → EachImage d.content (IsEmptyJournal
 abbrev pub IsEmptyOrUnformatted : Geometry → ℕ → Image → Type 0
 IsEmptyOrUnformatted g sectors image = (meaning sectors image ≡ Err unformatted) ⊎ IsEmptyJournalOf g sectors image
 
--- each image since the first sync of a format, which puts the clock on by one, is not formatted or an empty journal
--- (own)
+-- each image of an honest disk since the first sync of a format, which puts the clock on by one, is not formatted or an empty
+-- journal (own)
 abbrev pub LeavesFormat : Geometry → Disk → Disk → Type 0
 LeavesFormat g old new =
     IsTrue old.honest → clock old.content < clock new.content

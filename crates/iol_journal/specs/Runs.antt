@@ -41,8 +41,8 @@ pub record HasPrefix (sectors first : ℕ) (start : State) (commands : List Comm
   pub reaches : least ≤ first + count
   pub means : KeptMeans sectors (first + count) (after start (take count commands)) image
 
--- each image since a moment of a run has all that was acknowledged by then, and behind it none but the next commands
--- that the run has accepted, in their order (own)
+-- each image of an honest disk since a moment of a run has all that was acknowledged by then, and behind it none but the next
+-- commands that the run has accepted, in their order (own)
 pub record IsMarked (d : Disk) (r : Run) (mark : Mark) : Type 0 where
   pub written : mark.acknowledged ≤ number_of r
   pub passed : IsTrue d.honest → mark.clock ≤ clock d.content

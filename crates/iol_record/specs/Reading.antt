@@ -105,8 +105,7 @@ has_set octet = if nat_eq octet NO_SET then Some false else if_so (nat_eq octet 
 abbrev pub flag_field : Field Bool
 flag_field = record { width = w8; value = has_set; fault = BadField }
 
--- the fields of an entry behind others: an Index that is not reserved, a Subindex with which it is none of their keys,
--- and a length with which it and they make no set that is too large (format, Records)
+-- the Index of an entry: one that is not reserved (format, Records)
 abbrev pub index_field : Field ℕ
 index_field = record {
   width = w16;
@@ -114,14 +113,17 @@ index_field = record {
   fault = BadField;
 }
 
+-- the key of this Index and Subindex, where none of the entries before has it (format, Records)
 abbrev pub new_key : List Entry → ℕ → ℕ → Option Key
 new_key others index subindex =
     if is_some (data_at others (record { index = index; subindex = subindex })) then None else Some
     (record { index = index; subindex = subindex })
 
+-- the Subindex of an entry behind others: one with which its key is none of theirs (format, Records)
 abbrev pub subindex_field : List Entry → ℕ → Field Key
 subindex_field others index = record { width = w8; value = new_key others index; fault = BadField }
 
+-- the length of an entry behind others: at most 232, and one with which it and they make no set that is too large (format, Records)
 abbrev pub length_field : List Entry → Field ℕ
 length_field others = record {
   width = w8;

@@ -17,7 +17,7 @@ use Rattle.iol_record.specs.declared.version.Version.TheVariants.{One, Two}
 abbrev pub newest : Version
 newest = Two
 
--- whether it is a version (format, Records)
+-- whether a version is the one that is written (format, Records)
 abbrev pub is_newest : Version → Bool
 is_newest One = false
 is_newest Two = true

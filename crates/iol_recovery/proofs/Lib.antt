@@ -5,3 +5,4 @@ pub mod Recovered
 pub mod Replays
 pub mod SlotLogs
 pub mod Snapshots
+pub mod Wants

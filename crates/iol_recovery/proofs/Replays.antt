@@ -1,15 +1,17 @@
 -- Commands that are read from octets and applied, one after another.
-use Rattle.std.proofs.Common.{◌≡◌, ℕ, suc, ◌+◌, Bool, false, if◌then◌else◌, List, [], ◌∷◌, length, Option, Some, None, is_none, Ok, Err}
+use Rattle.std.proofs.Common.{◌≡◌, ℕ, suc, ◌+◌, Bool, false, if◌then◌else◌, List, [], ◌∷◌}
+use Rattle.std.proofs.Common.{length, Option, Some, None, is_none, Ok, Err, IsOk, inl, inr}
 use Rattle.std.proofs.Common.{refl, sym, ◌∙◌, ap, arith, add-one, add-zero, nat_eq}
 use Rattle.std.proofs.lemmas.Bool.Decides.{nat_tests}
 use Rattle.iol_types.specs.Command.{CommandValue}
 use Rattle.iol_types.specs.State.{State, check, apply}
-use Rattle.iol_record.specs.Reading.{command_at}
+use Rattle.iol_record.specs.Reading.{command_at, store_begun_at}
 use Rattle.iol_record.specs.declared.fault.RecordFault.{RecordFault}
 use Rattle.iol_record.specs.declared.version.Version.{Version}
 use Rattle.iol_layout.specs.Body.{prepended, commands_of}
 use Rattle.iol_layout.specs.Meaning.{Meaning}
 use Rattle.iol_recovery.specs.Replay.{reached}
+use Rattle.iol_recovery.specs.Wants.{CommandsWant}
 
 reached-refused : (number : ℕ) (s : State) (command : CommandValue) (others : Option (List CommandValue))
     → is_none (check s command) ≡ false → reached number s (prepended command others) ≡ None
@@ -56,3 +58,14 @@ replay-ended version number left s [] empty none is = rw (none, is, add-zero) re
 replay-ended version number left s (octet ∷ octets) empty none is =
     let some : empty ≡ false = grind (arith, nat_tests) in
     rw (none, some) refl
+
+-- the command in front passes, and memory is wanted behind it
+pub wants-behind : (version : Version) (left : ℕ) (s : State) (octets rest : List ℕ) (command : CommandValue)
+    → command_at version octets ≡ Ok (command, rest) → check s command ≡ None → CommandsWant version left (apply s command) rest
+    → CommandsWant version (left + 1) s octets
+wants-behind version left s octets rest command is passed wants = rw add-one (inr (command, rest, is, passed, wants))
+
+-- memory is wanted for the command in front
+pub wants-first : (version : Version) (left : ℕ) (s : State) (octets : List ℕ) → IsOk (store_begun_at version octets)
+    → CommandsWant version (left + 1) s octets
+wants-first version left s octets begun = rw add-one (inl begun)

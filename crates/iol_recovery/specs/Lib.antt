@@ -3,3 +3,4 @@ pub mod Finding
 pub mod Reading
 pub mod Replay
 pub mod Survey
+pub mod Wants

@@ -1,11 +1,12 @@
 //! The state that an area's port records say.
 
-ghost use Rattle.std.specs.Prelude.{◌≡◌, ◌<◌, ◌≤◌, ◌+◌, length, IfOk};
-ghost use Rattle.iol_disk.specs.Disk.{Same};
+ghost use Rattle.std.specs.Prelude.{◌≡◌, ◌<◌, ◌≤◌, ◌+◌, ◌*◌, length, vec_capacity, IfOk, Err};
+ghost use Rattle.iol_disk.specs.Disk.{Same, Shows};
 ghost use Rattle.iol_recovery.specs.Faults.{Counted};
 ghost use Rattle.iol_layout.specs.Layout.{total};
 ghost use Rattle.iol_layout.specs.Meaning.{port_in, ports_from};
 ghost use Rattle.iol_recovery.specs.Reading.{Finds};
+ghost use Rattle.iol_recovery.specs.Wants.{PortWants, PortsWant};
 
 use crate::cause::RecoverCause;
 use iol_disk::{SECTOR_OCTETS, SectorDisk};
@@ -31,6 +32,9 @@ pub fn read_port<D: SectorDisk>(
     requires fits { sector + sectors ≤ (D.disk disk.old).sectors }
     requires bound { sector + sectors < 1000000 }
     ensures finds { Finds (λ port. port) (D.disk disk.old) (λ image. port_in version image sector sectors) result }
+    ensures memory { result ≡ Err RecoverCause.Memory
+        → Shows (D.disk disk.old) (λ image. PortWants (vec_capacity octets.old) version image sector sectors) }
+    ensures room { vec_capacity octets.old ≤ vec_capacity octets.new }
     ensures counted { Counted (D.disk disk.old) (D.disk disk.new) result }
     ensures same { Same (D.disk disk.old) (D.disk disk.new) }
 {
@@ -61,14 +65,37 @@ pub(crate) fn read_ports<D: SectorDisk>(
     ensures ports { IfOk result (λ state. length state ≡ layout.ports) }
     ensures same { Same (D.disk disk.old) (D.disk disk.new) }
 {
-    let version = layout.version();
     let mut state = MasterState::new(alloc, layout.ports())?;
     let mut octets = Vec::with_capacity(alloc, PORT_SECTORS * SECTOR_OCTETS)?;
+    read_records(alloc, disk, layout, area, &mut state, &mut octets)?;
+    Ok(state)
+}
+
+// Puts the ports that an area's records say into a state of as many, with room for octets of a record.
+fn read_records<D: SectorDisk>(
+    alloc: Global,
+    disk: &mut D,
+    layout: Layout,
+    area: Area,
+    state: &mut MasterState,
+    octets: &mut Vec<u8>,
+) -> Result<(), RecoverCause>
+    requires fits { total layout ≤ (D.disk disk.old).sectors }
+    requires ports { length state.old ≡ layout.ports }
+    requires room { PORT_SECTORS * SECTOR_OCTETS ≤ vec_capacity octets.old }
+    ensures finds { Finds (λ _. state.new) (D.disk disk.old) (λ image. ports_from layout area image 0 layout.ports) result }
+    ensures memory { result ≡ Err RecoverCause.Memory
+        → Shows (D.disk disk.old) (λ image. PortsWant (PORT_SECTORS * SECTOR_OCTETS) layout area image) }
+    ensures counted { Counted (D.disk disk.old) (D.disk disk.new) result }
+    ensures ports { length state.new ≡ layout.ports }
+    ensures same { Same (D.disk disk.old) (D.disk disk.new) }
+{
+    let version = layout.version();
     for place in 0..layout.ports() {
         let sector = layout.port(area, usize::from(place));
         let sectors = layout.port_sectors();
-        let port = read_port(alloc, disk, version, sector, sectors, &mut octets)?;
+        let port = read_port(alloc, disk, version, sector, sectors, octets)?;
         state.set_port(PortId::new(place + 1).unwrap(), port);
     }
-    Ok(state)
+    Ok(())
 }

@@ -17,7 +17,7 @@ open_gate = GATE_MARK ++ replicate 504 0
 unfoldable pub closed_gate : List ℕ
 closed_gate = replicate SECTOR_OCTETS 0
 
--- whatever a stop leaves now, this gate is closed (own)
+-- whatever a stop of an honest disk leaves now, this gate is closed (own)
 abbrev pub IsShut : ℕ → Disk → Type 0
 IsShut gate d = IsTrue d.honest → EachImage d.content (λ image. is_open (image gate) ≡ false)
 
@@ -26,6 +26,7 @@ IsShut gate d = IsTrue d.honest → EachImage d.content (λ image. is_open (imag
 abbrev pub body_sector : ℕ → ℕ → ℕ
 body_sector first j = first + j + j / BODY_SECTORS
 
--- so many sectors of a body from its first on are written and synced (own)
+-- none of so many sectors of a body, from its first on, was written since the last sync of an honest disk: what they hold is
+-- durable (own)
 abbrev pub AreSynced : ℕ → ℕ → Disk → Type 0
 AreSynced first count d = IsTrue d.honest → (j : ℕ) → j < count → d.content.written (body_sector first j) ≡ None

@@ -9,8 +9,8 @@ use Rattle.iol_trace.specs.Words.{accepted, numbers, acked, acked_by, clock_afte
 
 -- what a power stop leaves of a run that began with a number and a state, at this clock of its disk. The accepted commands
 -- pass one after another, under numbers that rise by one. After any count of events, each image that a stop since then may
--- leave is kept, and means the starting state after the first of the accepted commands: so many that those that were
--- acknowledged by then are among them (own)
+-- leave of an honest disk is kept, and means the starting state after the first of the accepted commands: so many that those
+-- that were acknowledged by then are among them (own)
 pub record CrashPrefix (d : Disk) (begun first : ℕ) (start : State) (events : List Stamp) : Type 0 where
   pub passes : legal start (accepted events) ≡ true
   pub rise : RiseByOne first (numbers events)

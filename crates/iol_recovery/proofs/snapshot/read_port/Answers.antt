@@ -1,6 +1,7 @@
-use Rattle.std.proofs.Common.{◌+◌, ◌++◌, List, ℕ, refl, sym, ap, ◌∙◌, arith, rules}
+use Rattle.std.proofs.Common.{◌+◌, ◌++◌, List, ℕ, IsOk, inr, refl, sym, ap, subst, ◌∙◌, arith, rules}
+use Rattle.std.proofs.lemmas.Grind.{common_steps}
 use Rattle.iol_disk.specs.Content.{reads}
-use Rattle.iol_record.specs.Reading.{port_record_at}
+use Rattle.iol_record.specs.Reading.{port_record_at, port_begun_at}
 use Rattle.iol_record.specs.declared.fault.RecordFault.TheVariants.{BadTag, BadField}
 use Rattle.iol_record.proofs.RecordLaws.{port_record_at-nothing}
 use Rattle.iol_recovery.proofs.PortReadings.{none-read, port-read, port-damaged}
@@ -10,6 +11,8 @@ use Rattle.iol_recovery.proofs.snapshot.read_port.Goals as goal
 
 pub loop-j-init : goal.loop-j-init
 loop-j-init g c = record {
+  room = search rules;
+  whole = grind (arith, common_steps);
   same = search rules;
   quiet = refl;
   read = λ h. c.clear.ensures.items ∙ none-read (reads (g.D.SectorDisk.disk c.args.disk.now).content) c.args.sector;
@@ -33,6 +36,8 @@ loop-j-preserved g c =
     let old = g.D.SectorDisk.disk c.args.disk.now in
     let kept = c.loop-j.invariant in
     record {
+      room = omega (arith, c.extend_from_slice.ensures.capacity, kept.room);
+      whole = omega (arith, c.in_ok-extend_from_slice.ensures.len, kept.whole);
       same = same-then _ _ _ kept.same c.read_sector.ensures.same;
       quiet = c.in_ok-read_sector.ensures.fault ∙ kept.quiet;
       read = one_more old (g.D.SectorDisk.disk c.loop-j.disk) c.args.sector c.loop-j.j c.loop-j.octets.items
@@ -69,3 +74,19 @@ returns-in-Err-BadField-clause-finds g c = λ h.
     (omega (arith, c.loop-j-test.true)) BadField
     (λ is. cc) (ap (port_record_at c.args.version) (sym c.deref.ensures.value)
     ∙ rw c.in-Err-BadField.field-0-is at c.in-Err-BadField.ensures.exact)
+
+pub returns-in-Err-Memory-clause-memory : goal.returns-in-Err-Memory-clause-memory
+returns-in-Err-Memory-clause-memory g c = λ told h.
+    let old = g.D.SectorDisk.disk c.args.disk.now in
+    let kept = c.loop-j.invariant in
+    let read = one_more old (g.D.SectorDisk.disk c.loop-j.disk) c.args.sector c.loop-j.j c.loop-j.octets.items
+    c.extend_from_slice.new.self.items kept.same kept.read
+    (λ now. c.in_ok-extend_from_slice.ensures.items
+    ∙ ap (λ (more : List ℕ). c.loop-j.octets.items ++ more) (c.in_ok-read_sector.ensures.read now)) h in
+    let begun : IsOk (port_begun_at c.args.version c.extend_from_slice.new.self.items) =
+    rw (c.in-Err-Memory.field-0-is, c.deref.ensures.value) at c.in-Err-Memory.ensures.exact in (
+      c.loop-j.j,
+      omega (arith, c.loop-j-test.true),
+      ap (port_record_at c.args.version) (sym (kept.read h)) ∙ kept.short,
+      inr (subst (λ (octets : List ℕ). IsOk (port_begun_at c.args.version octets)) read begun),
+    )
