@@ -13,7 +13,7 @@ use Rattle.iol_record.specs.Record.{command_octets, newest}
 use Rattle.iol_journal.specs.Body.{records_of, values}
 use Rattle.iol_core.specs.Core.{CoreView, out_at}
 use Rattle.iol_core.specs.Batches.{has_batch}
-use Rattle.iol_core.specs.Submit.{has_failed}
+use Rattle.iol_core.specs.Submit.{writes_no_more}
 use Rattle.iol_types.specs.Command.{CommandValue, value_of}
 use Rattle.iol_types.specs.State.{State, check, apply, after, legal}
 use Rattle.iol_types.proofs.StateLemmas.{legal-append}
@@ -99,4 +99,4 @@ not_none (suc n) idle fails e = omega arith
 
 -- a command waits where a batch may be taken
 pub some_waits : (core : CoreView) → has_batch core ≡ true → 0 < length core.queue
-some_waits core there = not_none (length core.queue) (nat_eq core.flight 0) (not (has_failed core.stopped)) there
+some_waits core there = not_none (length core.queue) (nat_eq core.flight 0) (not (writes_no_more core.stopped)) there

@@ -8,7 +8,7 @@ use Rattle.iol_front.specs.Fronts.{Start, CommittedView}
 use Rattle.iol_core.specs.Core.{CoreView}
 use Rattle.iol_core.specs.declared.batches.AckFault.{AckFault}
 use Rattle.iol_core.specs.declared.batches.AckFault.TheVariants.{Stranger}
-use Rattle.iol_core.specs.Submit.{has_failed}
+use Rattle.iol_core.specs.Submit.{writes_no_more}
 
 -- so many of the commands are the most from the first on whose records have at most so many octets (own)
 pub record IsLongest (room : ℕ) (commands : List CommandValue) (count : ℕ) : Type 0 where
@@ -16,9 +16,9 @@ pub record IsLongest (room : ℕ) (commands : List CommandValue) (count : ℕ) :
   pub fits : length (records_of (take count commands)) ≤ room
   pub longest : (more : ℕ) → more ≤ length commands → length (records_of (take more commands)) ≤ room → more ≤ count
 
--- a batch may be taken: a command waits, none is in flight, and the disk has not failed (own)
+-- a batch may be taken: a command waits, none is in flight, and the core still writes (own)
 abbrev pub has_batch : CoreView → Bool
-has_batch core = not (nat_eq (length core.queue) 0) && nat_eq core.flight 0 && not (has_failed core.stopped)
+has_batch core = not (nat_eq (length core.queue) 0) && nat_eq core.flight 0 && not (writes_no_more core.stopped)
 
 -- the batch that is taken: the longest beginning of the queue that fits, of one command at least, under the next
 -- number; it is in flight then, and still waits (own)

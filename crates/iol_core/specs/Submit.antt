@@ -8,7 +8,7 @@ use Rattle.iol_journal.specs.Numbers.{LAST_NUMBER}
 use Rattle.iol_core.specs.Core.{CoreView, live, live_number}
 use Rattle.iol_core.specs.declared.core_value.TheConstants.{QUEUE_COMMANDS}
 use Rattle.iol_core.specs.declared.stop.StopCause.{StopCause}
-use Rattle.iol_core.specs.declared.stop.StopCause.TheVariants.{DiskFailed}
+use Rattle.iol_core.specs.declared.stop.StopCause.TheVariants.{Closed, DiskFailed, OutOfMemory}
 use Rattle.iol_core.specs.declared.ticket.SubmitFault.{SubmitFault}
 use Rattle.iol_core.specs.declared.ticket.SubmitFault.TheVariants.{Stopped, Command, QueueFull, Exhausted}
 use Rattle.iol_core.specs.declared.ticket.TicketState.{TicketState}
@@ -46,19 +46,23 @@ abbrev pub IsSubmit : CoreView → CommandValue → CoreView → Result ℕ Subm
 IsSubmit old command new (Ok ticket) = (submit_fault old command ≡ None) × (ticket ≡ live_number old + 1) × (new ≡ queued old command)
 IsSubmit old command new (Err fault) = (submit_fault old command ≡ Some fault) × (new ≡ old)
 
--- the disk has failed (own)
-abbrev pub has_failed : Option StopCause → Bool
-has_failed (Some DiskFailed) = true
-has_failed _ = false
+-- nothing more is written: the disk has failed, or memory ran out for what waits as the master ended (own)
+abbrev pub writes_no_more : Option StopCause → Bool
+writes_no_more (Some DiskFailed) = true
+writes_no_more (Some OutOfMemory) = true
+writes_no_more _ = false
 
--- why no more is taken once this cause has come too: a failed disk is the last word (own)
+-- the cause of a stop once this one has come too: the latest, but a failed disk stays the cause, and a closed core that is out of
+-- memory is out of memory (own)
 abbrev pub stopped_by : Option StopCause → StopCause → StopCause
-stopped_by stopped cause = if has_failed stopped then DiskFailed else cause
+stopped_by (Some DiskFailed) cause = DiskFailed
+stopped_by (Some OutOfMemory) Closed = OutOfMemory
+stopped_by stopped cause = cause
 
 -- what is known of a command with this number: it is durable up to the durable number; above that nobody will know
--- once the disk has failed (own)
+-- once nothing more is written (own)
 abbrev pub ticket_state : CoreView → ℕ → TicketState
 ticket_state core number =
     if nat_le number core.number then Durable
-    else if has_failed core.stopped then Unsure
+    else if writes_no_more core.stopped then Unsure
     else Waiting

@@ -57,7 +57,7 @@ impl<F: Name> Core<F> {
     fn has_batch(&self) -> bool
         ensures { result ≡ has_batch self.now }
     {
-        !self.queue.is_empty() && self.flight == 0 && !self.has_failed()
+        !self.queue.is_empty() && self.flight == 0 && !self.writes_no_more()
     }
 
     /// Whether a published batch is the one in flight: behind the durable commands, and with the commands in flight.

@@ -6,7 +6,7 @@ ghost use Rattle.iol_types.specs.Command.{value_of};
 ghost use Rattle.iol_journal.specs.Body.{values};
 ghost use Rattle.iol_types.specs.State.{after, check};
 ghost use Rattle.iol_core.specs.Core.{IsCore, FitsAt, live, live_number, out_at, permit_at, with_permit};
-ghost use Rattle.iol_core.specs.Submit.{is_stopped, has_failed, stopped_by, queue_fault, queued};
+ghost use Rattle.iol_core.specs.Submit.{is_stopped, writes_no_more, stopped_by, queue_fault, queued};
 
 use crate::permit::Grant;
 use crate::stop::StopCause;
@@ -123,13 +123,12 @@ impl<F: Name> Core<F> {
         self.pass.another()
     }
 
-    /// Takes no more commands and uploads, for this cause. Where the disk has failed that stays the cause.
+    /// Takes no more commands and uploads, for this cause. A failed disk stays the cause, and want of memory stays it where the core
+    /// is then closed.
     pub fn stop(&mut self, cause: StopCause)
         ensures { self.new ≡ record self.old { stopped = Some (stopped_by self.old.stopped cause) } }
     {
-        if !self.has_failed() {
-            self.stopped = Some(cause);
-        }
+        self.stopped = Some(cause.after(self.stopped));
     }
 
     /// The durable state.
@@ -155,11 +154,14 @@ impl<F: Name> Core<F> {
         self.stopped.is_some()
     }
 
-    // Whether the disk has failed.
-    pub(crate) fn has_failed(&self) -> bool
-        ensures { result ≡ has_failed self.now.stopped }
+    // Whether nothing more is written.
+    pub(crate) fn writes_no_more(&self) -> bool
+        ensures { result ≡ writes_no_more self.now.stopped }
     {
-        matches!(self.stopped, Some(StopCause::DiskFailed))
+        matches!(
+            self.stopped,
+            Some(StopCause::DiskFailed | StopCause::OutOfMemory)
+        )
     }
 
     // What the port's permit is for, if one is out.

@@ -18,7 +18,7 @@ ghost use Rattle.iol_core.specs.Uploads.{upload_fault};
 ghost use Rattle.iol_core.specs.declared.core_value.TheConstants.{QUEUE_COMMANDS};
 ghost use Rattle.iol_core.specs.declared.download.DownloadFault.TheVariants as download;
 ghost use Rattle.iol_core.specs.declared.permit.Grant.TheVariants.{Upload, Download};
-ghost use Rattle.iol_core.specs.declared.stop.StopCause.TheVariants.{Closed, DiskFailed};
+ghost use Rattle.iol_core.specs.declared.stop.StopCause.TheVariants.{Closed, DiskFailed, OutOfMemory};
 ghost use Rattle.iol_core.specs.declared.ticket.SubmitFault.TheVariants.{Stopped, Command, QueueFull, Exhausted};
 ghost use Rattle.iol_core.specs.declared.ticket.TicketState.TheVariants.{Waiting, Durable, Unsure};
 ghost use Rattle.iol_core.specs.declared.upload.PermitFault.TheVariants as permit;
@@ -53,8 +53,8 @@ pub fn a_submit_that_is_refused()
     ensures exhausted { submit_fault (record (blank_core []) { number = 2 ^ 62 }) (Clear 1) ≡ Some Exhausted }
 {}
 
-/// What waits may still be written where the master is shut down; once the disk has failed nobody knows, and that stays
-/// the cause.
+/// What waits may still be written where the master is shut down; once the disk has failed, or memory ran out at the end, nobody
+/// knows. A failed disk stays the cause, and want of memory stays it where the core is then closed.
 pub fn a_core_that_stopped()
     ensures waiting { ticket_state (record (blank_core (configure_one ∷ [])) { stopped = Some Closed }) 8 ≡ Waiting }
     ensures unsure { ticket_state (record (blank_core (configure_one ∷ [])) { stopped = Some DiskFailed }) 8 ≡ Unsure }
@@ -62,9 +62,14 @@ pub fn a_core_that_stopped()
     ensures closed { stopped_by None Closed ≡ Closed }
     ensures failed { stopped_by (Some Closed) DiskFailed ≡ DiskFailed }
     ensures last_word { stopped_by (Some DiskFailed) Closed ≡ DiskFailed }
+    ensures unsure_without_memory { ticket_state (record (blank_core (configure_one ∷ [])) { stopped = Some OutOfMemory }) 8 ≡ Unsure }
+    ensures out_of_memory { stopped_by (Some Closed) OutOfMemory ≡ OutOfMemory }
+    ensures stays_out_of_memory { stopped_by (Some OutOfMemory) Closed ≡ OutOfMemory }
+    ensures fails_out_of_memory { stopped_by (Some OutOfMemory) DiskFailed ≡ DiskFailed }
+    ensures stays_failed { stopped_by (Some DiskFailed) OutOfMemory ≡ DiskFailed }
 {}
 
-/// A batch is there where a command waits, none is in flight, and the disk has not failed. Once it is acknowledged its
+/// A batch is there where a command waits, none is in flight, and more is written. Once it is acknowledged its
 /// commands are in the durable state, and the others wait.
 pub fn a_batch_of_a_core()
     ensures nothing { has_batch (blank_core []) ≡ false }
@@ -72,6 +77,7 @@ pub fn a_batch_of_a_core()
     ensures in_flight { has_batch (record (blank_core (configure_one ∷ [])) { flight = 1 }) ≡ false }
     ensures closed { has_batch (record (blank_core (configure_one ∷ [])) { stopped = Some Closed }) ≡ true }
     ensures failed { has_batch (record (blank_core (configure_one ∷ [])) { stopped = Some DiskFailed }) ≡ false }
+    ensures out_of_memory { has_batch (record (blank_core (configure_one ∷ [])) { stopped = Some OutOfMemory }) ≡ false }
     ensures acknowledged { acknowledged (record (blank_core (configure_one ∷ Clear 1 ∷ [])) { flight = 1 }) []
         ≡ record (core_with (one_port example_config 1) (Clear 1 ∷ []) None) { number = 8 } }
 {}

@@ -45,7 +45,7 @@ impl<F: Name> Core<F> {
     {
         if ticket.number() <= self.number {
             TicketState::Durable
-        } else if self.has_failed() {
+        } else if self.writes_no_more() {
             TicketState::Unsure
         } else {
             TicketState::Waiting

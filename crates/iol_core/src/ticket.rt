@@ -45,7 +45,7 @@ pub enum TicketState {
     Waiting,
     /// It is durable.
     Durable,
-    /// The disk has failed before it was durable: nobody will know.
+    /// Nothing more is written, and it was not durable by then: nobody will know.
     Unsure,
 }
 

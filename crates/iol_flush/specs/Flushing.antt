@@ -72,8 +72,8 @@ pub record KeepsRun {D : Type 0} (disk : D → Disk) (old new : FlushStage D) : 
   pub goes_on : (number : ℕ) (state : State) (published waiting : List CommandValue) (marks : List Mark)
       → IsFlushing disk number state published waiting marks old → IsFlushing disk number state published waiting marks new
 
--- of commands that were accepted from a number and a state on, each passes in the state that it meets; and each image since
--- a moment has what was acknowledged by then, and behind it none but the next of them, in their order (own)
+-- of commands that were accepted from a number and a state on, each passes in the state that it meets; and each image of an honest
+-- disk since a moment has what was acknowledged by then, and behind it none but the next of them, in their order (own)
 pub record HoldsBy (d : Disk) (number : ℕ) (state : State) (commands : List CommandValue) (marks : List Mark) : Type 0 where
   pub passes : legal state commands ≡ true
   pub images : All (λ mark. IsTrue d.honest → (image : Image) → IsImageSince mark.clock d.content image

@@ -42,11 +42,12 @@ use Rattle.iol_port.specs.declared.stage.AttendFor.TheVariants as attend
 use Rattle.iol_port.specs.declared.stage.ExchangeFor.TheVariants as exchange
 use Rattle.iol_port.specs.declared.stage.Held.TheVariants as held
 
--- two pages say the same of a device (own)
+-- two flags are the same (own)
 abbrev pub same_flag : Bool → Bool → Bool
 same_flag true flag = flag
 same_flag false flag = not flag
 
+-- two pages say the same of a device, by all that is read of them (own)
 abbrev pub same_page : PageValue → PageValue → Bool
 same_page one two =
     (one.vendor == two.vendor) && (one.device == two.device) && (one.revision == two.revision)

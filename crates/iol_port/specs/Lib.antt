@@ -14,3 +14,5 @@ pub mod Ending
 pub mod View
 pub mod Examples
 pub mod Telling
+pub mod LinkWants
+pub mod Awaited

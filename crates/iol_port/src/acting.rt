@@ -5,10 +5,11 @@ ghost use Rattle.iol_port.specs.Calls.{BeginUpload, BeginDownload, MayBeMade, ca
 ghost use Rattle.iol_port.specs.Stage.{IsStage, Settled};
 ghost use Rattle.iol_port.specs.declared.stage.Rest.TheVariants.{Off};
 ghost use Rattle.iol_port.specs.Status.{status_of, status_at_rest, status_exchanging, status_returning, transfer_of};
+ghost use Rattle.iol_port.specs.LinkWants.{link_wanted};
 ghost use Rattle.iol_port.specs.View.{stage_of};
 ghost use Rattle.iol_port.specs.Wanted.{wanted, wanted_of, after_action, request_for, return_of, IfAsks};
 
-use crate::action::Action;
+use crate::action::{Action, Want};
 use crate::call::CoreCall;
 use crate::stage::{AttendFor, ExchangeFor, Found, Held, PageFor, Rest, Stage, Transfer};
 use crate::status::PortStatus;
@@ -58,6 +59,28 @@ pub(crate) fn act(port: PortId, stage: Stage) -> (Action, Stage)
             ask(return_of(held), Stage::Returned(transfer, rest))
         }
         Stage::Returned(transfer, rest) => (Action::Idle, Stage::Returned(transfer, rest)),
+    }
+}
+
+// What a link is wanted for.
+pub(crate) fn want(stage: &Stage) -> Want
+    ensures { result ≡ link_wanted (stage_of stage.now) }
+{
+    match stage {
+        Stage::Paging(_) => Want::Page,
+        Stage::Exchanging(what) => Want::Answer(request_for(what)),
+        Stage::Uploading(_, _, upload) => Want::Answer(upload.next()),
+        Stage::Downloading(_, _, download) => Want::Answer(download.next()),
+        Stage::Breaking(_, _) => Want::Answer(DsCommand::Break.request()),
+        Stage::Settled(_) => Want::Nothing,
+        Stage::Attending(_) => Want::Nothing,
+        Stage::BeginningUpload(_) => Want::Nothing,
+        Stage::BeginningDownload(_, _) => Want::Nothing,
+        Stage::Filing(_, _, _) => Want::Nothing,
+        Stage::Filed(_) => Want::Nothing,
+        Stage::Storing(_, _) => Want::Nothing,
+        Stage::Returning(_, _) => Want::Nothing,
+        Stage::Returned(_, _) => Want::Nothing,
     }
 }
 

@@ -38,3 +38,14 @@ pub enum Input {
     /// What the core answered.
     Reply(Reply),
 }
+
+/// What a port wants of its link, once it is woken where it is settled.
+#[derive(Drop)]
+pub enum Want {
+    /// Direct Parameter page 1 of its device.
+    Page,
+    /// The answer of its device to this request.
+    Answer(Request),
+    /// Nothing: its step is a call of the core.
+    Nothing,
+}

@@ -33,7 +33,7 @@ mod stage;
 mod status;
 mod uploading;
 
-pub use action::{Action, Input, UPLOAD_REQUEST};
+pub use action::{Action, Input, UPLOAD_REQUEST, Want};
 pub use call::{CoreCall, Reply};
 pub use decision::{Decision, decide};
 pub use fault::PortFault;

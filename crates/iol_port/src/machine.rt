@@ -1,21 +1,23 @@
 //! The machine of a port.
 
 ghost use Rattle.std.specs.Prelude.{◌≡◌, ◌||◌, ◌==◌};
+ghost use Rattle.iol_port.specs.Awaited.{awaited};
 ghost use Rattle.iol_port.specs.Calls.{MayBeMade};
 ghost use Rattle.iol_port.specs.Ending.{ended};
 ghost use Rattle.iol_port.specs.Heard.{IsFed, Fits, is_settled, moved, noted, at_stage};
 ghost use Rattle.iol_port.specs.Stage.{PortValue, Settled, IsStage, IsNext, new_machine};
 ghost use Rattle.iol_port.specs.Status.{status_of};
+ghost use Rattle.iol_port.specs.LinkWants.{link_wanted};
 ghost use Rattle.iol_port.specs.View.{stage_of, next_of};
 ghost use Rattle.iol_port.specs.Wanted.{wanted, wanted_of, after_action, IfAsks};
 ghost use Rattle.iol_port.specs.declared.stage.Rest.TheVariants.{Off};
 
 use crate::acting::{self, put};
-use crate::action::{Action, Input, UPLOAD_REQUEST};
+use crate::action::{Action, Input, UPLOAD_REQUEST, Want};
 use crate::stage::{Next, Rest, Stage};
 use crate::status::PortStatus;
 use crate::{attending, hearing, losing, paging};
-use iol_core::Core;
+use iol_core::{Core, Ticket};
 use iol_front::Name;
 use iol_types::PortId;
 use std::alloc::Global;
@@ -76,6 +78,23 @@ impl PortMachine {
         ensures { result ≡ is_settled self.now.stage }
     {
         matches!(self.stage, Stage::Settled(_))
+    }
+
+    /// What its link is wanted for: the page, an answer, or nothing, where the step is a call of the core.
+    pub fn want(&self) -> Want
+        ensures { result ≡ link_wanted self.now.stage }
+    {
+        acting::want(&self.stage)
+    }
+
+    /// Returns the ticket of the command that files the port's set, while the port waits until that is durable.
+    pub fn awaits(&self) -> Option<Ticket>
+        ensures { result ≡ awaited self.now.stage }
+    {
+        match &self.stage {
+            Stage::Storing(ticket, _page) => Some(*ticket),
+            _ => None,
+        }
     }
 
     /// What is next. A permit that a call of the core takes goes with it; until the reply is fed the machine is `Idle`.
