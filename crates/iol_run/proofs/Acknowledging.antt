@@ -15,7 +15,7 @@ use Rattle.iol_trace.proofs.Words.{acked-append}
 use Rattle.iol_trace.specs.Events.{Event, Accepted, Acknowledged, Stamp, stamped}
 use Rattle.iol_trace.specs.Words.{acked, acked_by}
 use Rattle.iol_run.proofs.AllSteps.{all_tell}
-use Rattle.iol_run.proofs.Changes.{Change, Permits, Waits, Tells, changed}
+use Rattle.iol_run.proofs.Changes.{Becomes, Change, Permits, Waits, Tells, changed}
 use Rattle.iol_run.proofs.PortCalls.{step_becomes}
 use Rattle.iol_run.proofs.Quiet.{AreQuiet, AcksNone, quiet_acks, stamped_both}
 use Rattle.iol_run.specs.Acknowledged.{AcksRise}
@@ -31,27 +31,27 @@ use Rattle.iol_run.specs.declared.core_on_disk.Turned.TheVariants.{Made, Idle, W
 use Rattle.iol_run.specs.declared.step.Step.{Step}
 use Rattle.iol_run.specs.declared.step.Step.TheVariants.{Client, Port, Flush}
 
-rise-append : (last : ℕ) (told more : List Stamp) → AcksRise last told → AcksRise (acked last told) more → AcksRise last (told ++ more)
+pub rise-append : (last : ℕ) (told more : List Stamp) → AcksRise last told → AcksRise (acked last told) more → AcksRise last (told ++ more)
 rise-append last [] more these those = those
 rise-append last (e ∷ told) more these those = (these.0, rise-append (acked_by last e.event) told more these.1 those)
 
 -- what is told from one core to the next
-record Rises (old new : CoreView) (told : List Stamp) : Type 0 where
+pub record Rises (old new : CoreView) (told : List Stamp) : Type 0 where
   pub rise : AcksRise old.number told
   pub number : acked old.number told ≡ new.number
 
-more_rises : (old mid new : CoreView) (told more : List Stamp) → Rises old mid told → Rises mid new more → Rises old new (told ++ more)
+pub more_rises : (old mid new : CoreView) (told more : List Stamp) → Rises old mid told → Rises mid new more → Rises old new (told ++ more)
 more_rises old mid new told more one two = record {
   rise = rise-append old.number told more one.rise (subst (λ (n : ℕ). AcksRise n more) (sym one.number) two.rise);
   number = acked-append old.number told more ∙ (ap (λ (n : ℕ). acked n more) one.number ∙ two.number);
 }
 
 module _ (t : ℕ) where
-  one_rises : (old new : CoreView) (e : Event) → acked_by old.number e ≡ new.number → old.number ≤ new.number
+  pub one_rises : (old new : CoreView) (e : Event) → acked_by old.number e ≡ new.number → old.number ≤ new.number
       → Rises old new (stamped t (e ∷ []))
   one_rises old new e is le = record { rise = (subst (λ (n : ℕ). old.number ≤ n) (sym is) le, tt); number = is }
 
-  silent_rises : (old new : CoreView) (told : List Event) → told ≡ [] → new.number ≡ old.number → Rises old new (stamped t told)
+  pub silent_rises : (old new : CoreView) (told : List Event) → told ≡ [] → new.number ≡ old.number → Rises old new (stamped t told)
   silent_rises old new told none same = subst (λ (es : List Event). Rises old new (stamped t es)) (sym none) (record {
     rise = tt;
     number =
@@ -70,12 +70,12 @@ module _ (t : ℕ) where
         ap (λ (n : ℕ). acked n (stamped t told)) (none.0 last) ∙ rest.1,
       )
 
-  quiet_rises : (old new : CoreView) (told : List Event) → AreQuiet told → new.number ≡ old.number → Rises old new (stamped t told)
+  pub quiet_rises : (old new : CoreView) (told : List Event) → AreQuiet told → new.number ≡ old.number → Rises old new (stamped t told)
   quiet_rises old new told quiet same =
       let none = none_rises old.number told (quiet_acks told quiet) in
       record { rise = none.0; number = none.1 ∙ sym same }
 
-  submit_rises : (old new : CoreView) (command : CommandValue) (answer : Result ℕ SubmitFault) → IsSubmit old command new answer
+  pub submit_rises : (old new : CoreView) (command : CommandValue) (answer : Result ℕ SubmitFault) → IsSubmit old command new answer
       → Rises old new (stamped t (submit_told command answer))
   submit_rises old new command (Ok n) is =
       let same = ap (λ (c : CoreView). c.number) is.2 in
@@ -85,12 +85,21 @@ module _ (t : ℕ) where
       one_rises old new _ (sym same) (omega (arith, same))
 
   -- a call of a port
-  change_rises : (old : CoreView) (change : Change) (told : List Event) → Tells old change told
+  pub change_rises : (old : CoreView) (change : Change) (told : List Event) → Tells old change told
       → Rises old (changed old change) (stamped t told)
   change_rises old (Permits permits) told tells = quiet_rises old (changed old (Permits permits)) told tells refl
   change_rises old (Waits command permits) told tells =
       subst (λ (es : List Event). Rises old (changed old (Waits command permits)) (stamped t es)) (sym tells)
       (one_rises old (changed old (Waits command permits)) (Accepted _ command) refl (omega arith))
+
+  -- a step of a port
+  pub stepped_rises : (old new : CoreView) (called status : List Event) → Becomes ⊥ old new called → AreQuiet status
+      → Rises old new (stamped t (called ++ status))
+  stepped_rises old new called status becomes none =
+      subst (λ (ss : List Stamp). Rises old new ss) (sym (stamped_both t called status))
+      (more_rises old new new (stamped t called) (stamped t status)
+      (subst (λ (c : CoreView). Rises old c (stamped t called)) (sym becomes.new_is) (change_rises old becomes.change called becomes.tells))
+      (quiet_rises new new status none refl))
 
 module _ (t : ℕ) {D : Type 0} where
   takes_rises : (old new : CoreOnDiskView D) (told : List Event) (turned : Turned) → Takes old new told turned
@@ -134,11 +143,7 @@ module _ (t : ℕ) {D : Type 0} where
           let becomes = step_becomes connection allows is.before is.after is.link is.linked old.core new.core is.called is.status
           is.steps_as in
           subst (λ (es : List Event). Rises old.core new.core (stamped t es)) (sym is.told_is)
-          (subst (λ (ss : List Stamp). Rises old.core new.core ss) (sym (stamped_both t is.called is.status))
-          (more_rises old.core new.core new.core (stamped t is.called) (stamped t is.status)
-          (subst (λ (c : CoreView). Rises old.core c (stamped t is.called)) (sym becomes.0.new_is) (change_rises t old.core
-          becomes.0.change is.called becomes.0.tells))
-          (quiet_rises t new.core new.core is.status becomes.1 refl)))
+          (stepped_rises t old.core new.core is.called is.status becomes.0 becomes.1)
       port_rises false port old new ports last told is = silent_rises t old.core new.core told is.2 (ap (λ (m : CoreOnDiskView D).
           m.core.number) is.0)
 

@@ -10,7 +10,7 @@ use Rattle.iol_core.specs.Core.{CoreView}
 use Rattle.iol_core.specs.Submit.{IsSubmit, submit_fault, stopped_by}
 use Rattle.iol_core.specs.Telling.{refusal_of}
 use Rattle.iol_core.specs.declared.stop.StopCause.{StopCause}
-use Rattle.iol_core.specs.declared.stop.StopCause.TheVariants.{DiskFailed}
+use Rattle.iol_core.specs.declared.stop.StopCause.TheVariants.{Closed, DiskFailed, OutOfMemory}
 use Rattle.iol_core.specs.declared.ticket.SubmitFault.{SubmitFault}
 use Rattle.iol_flush.specs.declared.need.Need.{Need}
 use Rattle.iol_flush.specs.declared.need.Need.TheVariants as need
@@ -68,8 +68,10 @@ knows_stopped events told new stops = record {
 }
 
 fails_last : (stopped : Option StopCause) → Some (stopped_by stopped DiskFailed) ≡ Some DiskFailed
+fails_last None = refl
+fails_last (Some Closed) = refl
 fails_last (Some DiskFailed) = refl
-fails_last stopped = refl
+fails_last (Some OutOfMemory) = refl
 
 module _ (t : ℕ) where
   -- events without a failure

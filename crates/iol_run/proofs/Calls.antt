@@ -1,11 +1,13 @@
 -- A core stays in step with its flusher in each call of a port and at the end of its machine, and the run of its journal
 -- goes on.
 use Rattle.std.proofs.Common.{◌≡◌, refl, ◌&&◌, true, List, [], ◌∷◌, Option, Some, None, is_none, ap, sym, ◌∙◌, subst}
+use Rattle.std.proofs.lemmas.Bool.{and_parts}
 use Rattle.iol_types.specs.Command.{CommandValue}
-use Rattle.iol_types.specs.State.{State, check}
+use Rattle.iol_types.proofs.StateLemmas.{legal-append}
+use Rattle.iol_types.specs.State.{State, check, legal}
 use Rattle.iol_types.specs.declared.command.CommandFault.{CommandFault}
 use Rattle.iol_disk.specs.Disk.{Disk}
-use Rattle.iol_core.specs.Core.{CoreView}
+use Rattle.iol_core.specs.Core.{CoreView, live}
 use Rattle.iol_core.specs.Submit.{queued}
 use Rattle.iol_core.specs.declared.permit.Grant.{Grant}
 use Rattle.iol_flush.proofs.RunLaws.{accepts_more}
@@ -17,7 +19,8 @@ use Rattle.iol_front.specs.Fronts.{Start, CommittedView}
 use Rattle.iol_journal.specs.Body.{values}
 use Rattle.iol_port.specs.Calls.{Call, Replies, Passes}
 use Rattle.iol_port.specs.declared.call.Reply.{Reply}
-use Rattle.iol_run.proofs.Changes.{Change, Permits, Waits, changed, IsPassing, replied, with_permits}
+use Rattle.iol_trace.specs.Events.{Event}
+use Rattle.iol_run.proofs.Changes.{Becomes, Change, Permits, Waits, changed, IsPassing, replied, with_permits}
 use Rattle.iol_run.proofs.InStep.{queued_in_step, waits_more, live_is}
 use Rattle.iol_run.specs.CoreOnDisk.{IsInFlight, HasFlight, IsInStep, KeepsRunning, waiting_of}
 
@@ -29,6 +32,18 @@ pub waits_with : (committed : Option CommittedView) (core : CoreView) (permits :
     → waiting_of committed (with_permits core permits) ≡ waiting_of committed core
 waits_with None core permits = refl
 waits_with (Some committed) core permits = refl
+
+-- a command that waits last passes, where all that wait do
+none_is : (fault : Option CommandFault) → is_none fault && true ≡ true → fault ≡ None
+none_is None is = refl
+none_is (Some fault) is = absurd cc
+
+passes_in : (old new : CoreView) (change : Change) → new ≡ changed old change → legal new.durable new.queue ≡ true → IsPassing old change
+passes_in old new (Permits permits) is passes = tt
+passes_in old new (Waits command permits) is passes =
+    none_is (check (live old) command)
+    (and_parts (legal old.durable old.queue) (legal (live old) (command ∷ []))
+    (sym (legal-append old.durable old.queue (command ∷ [])) ∙ subst (λ (c : CoreView). legal c.durable c.queue ≡ true) is passes)).1
 
 module _ {D : Type 0} where
   -- other permits leave what is in flight
@@ -99,3 +114,19 @@ module _ {D : Type 0} where
   call_running disk start call old new heard flusher committed is passes step =
       let becomes = replied 0 call old new heard is in
       changed_running disk start old new becomes.change flusher committed becomes.new_is (becomes.passing passes) step
+
+  -- a step of a port, behind which all that waits passes
+  pub stepped_running : (disk : D → Disk) (start : Start) (old new : CoreView) (told : List Event) (flusher : FlusherView D)
+      (committed : Option CommittedView)
+      → Becomes ⊥ old new told → legal new.durable new.queue ≡ true → IsInStep start old flusher committed
+      → KeepsRunning disk start (record { core = old; flusher = flusher; committed = committed })
+      (record { core = new; flusher = flusher; committed = committed })
+  stepped_running disk start old new told flusher committed becomes passes step =
+      changed_running disk start old new becomes.change flusher committed becomes.new_is
+      (passes_in old new becomes.change becomes.new_is passes) step
+
+  pub stepped_in_step : (start : Start) (old new : CoreView) (told : List Event) (flusher : FlusherView D)
+      (committed : Option CommittedView) → Becomes ⊥ old new told → IsInStep start old flusher committed
+      → IsInStep start new flusher committed
+  stepped_in_step start old new told flusher committed becomes step =
+      changed_in_step start old new becomes.change flusher committed becomes.new_is step

@@ -21,8 +21,9 @@ use Rattle.iol_trace.specs.Events.{Event, Accepted, Acknowledged, Stamp, stamped
 use Rattle.iol_trace.specs.Words.{accepted, acked}
 use Rattle.iol_run.proofs.Changes.{Becomes, Change, Permits, Waits, Tells, changed}
 use Rattle.iol_run.proofs.PortCalls.{step_becomes}
-use Rattle.iol_run.proofs.Quiet.{quiet_accepted, quiet_acked, stamped_both}
+use Rattle.iol_run.proofs.Quiet.{AreQuiet, quiet_accepted, quiet_acked, stamped_both}
 use Rattle.iol_run.specs.CoreOnDisk.{CoreOnDiskView}
+use Rattle.iol_run.specs.Engine as engine
 use Rattle.iol_run.specs.PortRuns.{IsCoreAfter}
 use Rattle.iol_run.specs.Ports.{PortsView, StepsIf}
 use Rattle.iol_run.specs.Runs.{RunView}
@@ -36,13 +37,8 @@ use Rattle.iol_run.specs.declared.step.Step.TheVariants.{Client, Port, Flush}
 
 module _ (first : ℕ) (start : State) where
   -- what was accepted is what is durable and what waits, and what was acknowledged is what is durable
-  pub record Stands (events : List Stamp) (core : CoreView) : Type 0 where
-    pub done : List CommandValue
-    pub accepted_is : accepted events ≡ done ++ core.queue
-    pub durable_is : core.durable ≡ after start done
-    pub number_is : core.number ≡ first + length done
-    pub acked_is : acked first events ≡ core.number
-    pub flight : core.flight ≤ length core.queue
+  abbrev pub Stands : List Stamp → CoreView → Type 0
+  Stands events core = engine.Stands first start events core
 
   pub core_after : (events : List Stamp) (core : CoreView) → Stands events core → IsCoreAfter first start events core
   core_after events core is = record {
@@ -77,7 +73,7 @@ module _ (first : ℕ) (start : State) where
   }
 
   -- events that accept and acknowledge nothing, where the core has the same commands
-  quiet : (events more : List Stamp) (old new : CoreView) → accepted more ≡ [] → ((n : ℕ) → acked n more ≡ n) → new.queue ≡ old.queue
+  pub quiet : (events more : List Stamp) (old new : CoreView) → accepted more ≡ [] → ((n : ℕ) → acked n more ≡ n) → new.queue ≡ old.queue
       → new.durable ≡ old.durable → new.number ≡ old.number → new.flight ≤ length new.queue → Stands events old
       → Stands (events ++ more) new
   quiet events more old new none acks queue durable number flight is = record {
@@ -94,14 +90,14 @@ module _ (first : ℕ) (start : State) where
   }
 
   -- nothing is told, and the core stays
-  stays : (events more : List Stamp) (old new : CoreView) → more ≡ [] → new ≡ old → Stands events old → Stands (events ++ more) new
+  pub stays : (events more : List Stamp) (old new : CoreView) → more ≡ [] → new ≡ old → Stands events old → Stands (events ++ more) new
   stays events more old new none same is =
       subst (λ (ss : List Stamp). Stands (events ++ ss) new) (sym none)
       (subst (λ (c : CoreView). Stands (events ++ []) c) (sym same)
       (quiet events [] old old refl (λ n. refl) refl refl refl is.flight is))
 
   -- a command is accepted, and waits
-  accepts : (t number : ℕ) (events : List Stamp) (command : CommandValue) (old new : CoreView) → new.queue ≡ old.queue ++ command ∷ []
+  pub accepts : (t number : ℕ) (events : List Stamp) (command : CommandValue) (old new : CoreView) → new.queue ≡ old.queue ++ command ∷ []
       → new.durable ≡ old.durable → new.number ≡ old.number → new.flight ≡ old.flight → Stands events old
       → Stands (events ++ stamped t (Accepted number command ∷ [])) new
   accepts t number events command old new queue durable same flight is = record {
@@ -118,7 +114,7 @@ module _ (first : ℕ) (start : State) where
   }
 
   -- commands are acknowledged
-  acknowledges : (t : ℕ) (events : List Stamp) (seen : List CommandValue) (old new : CoreView) → new ≡ acknowledged old seen
+  pub acknowledges : (t : ℕ) (events : List Stamp) (seen : List CommandValue) (old new : CoreView) → new ≡ acknowledged old seen
       → Stands events old
       → Stands (events ++ stamped t (Acknowledged new.number ∷ [])) new
   acknowledges t events seen old new same is = record {
@@ -147,7 +143,7 @@ module _ (first : ℕ) (start : State) where
       behind = drop old.flight old.queue
 
   -- a client's command
-  submit_stands : (t : ℕ) (events : List Stamp) (command : CommandValue) (old new : CoreView) (answer : Result ℕ SubmitFault)
+  pub submit_stands : (t : ℕ) (events : List Stamp) (command : CommandValue) (old new : CoreView) (answer : Result ℕ SubmitFault)
       → IsSubmit old command new answer → Stands events old → Stands (events ++ stamped t (submit_told command answer)) new
   submit_stands t events command old new (Ok n) is was =
       accepts t n events command old new (ap (λ (c : CoreView). c.queue) is.2) (ap (λ (c : CoreView). c.durable) is.2)
@@ -158,7 +154,7 @@ module _ (first : ℕ) (start : State) where
       (subst (λ (c : CoreView). c.flight ≤ length c.queue) (sym is.1) was.flight) was
 
   -- what a call of a port makes of the core
-  becomes_stands : (P : Type 0) (t : ℕ) (events : List Stamp) (old new : CoreView) (told : List Event) → Becomes P old new told
+  pub becomes_stands : (P : Type 0) (t : ℕ) (events : List Stamp) (old new : CoreView) (told : List Event) → Becomes P old new told
       → Stands events old
       → Stands (events ++ stamped t told) new
   becomes_stands P t events old new told becomes was = by becomes.change becomes.new_is becomes.tells
@@ -174,6 +170,16 @@ module _ (first : ℕ) (start : State) where
           (accepts t (live_number old + 1) events command old new (ap (λ (c : CoreView). c.queue) is) (ap (λ (c : CoreView). c.durable) is)
           (ap (λ (c : CoreView). c.number) is) (ap (λ (c : CoreView). c.flight) is) was)
 
+  -- a step of a port: what is called makes a change that it tells, and its status tells of none
+  pub stepped_stands : (t : ℕ) (events : List Stamp) (old new : CoreView) (called status : List Event) → Becomes ⊥ old new called
+      → AreQuiet status → Stands events old → Stands (events ++ stamped t (called ++ status)) new
+  stepped_stands t events old new called status becomes none was =
+      let one = becomes_stands ⊥ t events old new called becomes was in
+      subst (λ (ss : List Stamp). Stands (events ++ ss) new) (sym (stamped_both t called status))
+      (subst (λ (ss : List Stamp). Stands ss new) (append_assoc events (stamped t called) (stamped t status))
+      (quiet (events ++ stamped t called) (stamped t status) new new (quiet_accepted t status none) (λ n. quiet_acked t n status none) refl
+      refl refl one.flight one))
+
   module _ {D : Type 0} where
     port_stands : {L : Type 0} (number : L → ℕ) (steps : L → LinkCall → LinkAnswer → L → Type 0) (there : Bool) (t port : ℕ)
         (events : List Stamp)
@@ -182,12 +188,8 @@ module _ (first : ℕ) (start : State) where
         → Stands events old.core → Stands (events ++ stamped t told) new.core
     port_stands number steps true t port events old new ports last told is was =
         let becomes = step_becomes number steps is.before is.after is.link is.linked old.core new.core is.called is.status is.steps_as in
-        let called = becomes_stands ⊥ t events old.core new.core is.called becomes.0 was in
         subst (λ (es : List Event). Stands (events ++ stamped t es) new.core) (sym is.told_is)
-        (subst (λ (ss : List Stamp). Stands (events ++ ss) new.core) (sym (stamped_both t is.called is.status))
-        (subst (λ (ss : List Stamp). Stands ss new.core) (append_assoc events (stamped t is.called) (stamped t is.status))
-        (quiet (events ++ stamped t is.called) (stamped t is.status) new.core new.core (quiet_accepted t is.status becomes.1)
-        (λ n. quiet_acked t n is.status becomes.1) refl refl refl called.flight called)))
+        (stepped_stands t events old.core new.core is.called is.status becomes.0 becomes.1 was)
     port_stands number steps false t port events old new ports last told is was =
         stays events (stamped t told) old.core new.core (ap (stamped t) is.2) (ap (λ (m : CoreOnDiskView D). m.core) is.0) was
 

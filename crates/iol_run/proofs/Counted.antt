@@ -4,7 +4,7 @@ use Rattle.std.proofs.Common.{Result, Ok, Err, ap, sym, ◌∙◌, subst, arith,
 use Rattle.iol_types.specs.Command.{CommandValue, command_of}
 use Rattle.iol_disk.specs.Disk.{Disk}
 use Rattle.iol_core.specs.Core.{CoreView, live_number}
-use Rattle.iol_core.specs.Submit.{IsSubmit, has_failed}
+use Rattle.iol_core.specs.Submit.{IsSubmit, writes_no_more}
 use Rattle.iol_core.specs.Telling.{refusal_of}
 use Rattle.iol_core.specs.declared.ticket.SubmitFault.{SubmitFault}
 use Rattle.iol_flush.specs.declared.need.Need.{Need}
@@ -34,7 +34,7 @@ use Rattle.iol_run.specs.declared.step.Step.TheVariants.{Client, Port, Flush}
 pub record IsCounted (first : ℕ) (core : CoreView) (events : List Stamp) : Type 0 where
   pub count : first + length (accepted events) ≡ core.number + length core.queue
   pub acked_is : acked first events ≡ core.number
-  pub failure : has_failed core.stopped ≡ true → HasFailure events
+  pub failure : writes_no_more core.stopped ≡ true → HasFailure events
 
 -- a failure that was told stays told
 pub failure_stays : (events more : List Stamp) → HasFailure events → HasFailure (events ++ more)
@@ -63,7 +63,8 @@ module _ (first t : ℕ) where
   -- more events, after which as many are accepted and as many acknowledged as the core has
   more_counted : (old new : CoreView) (events more : List Stamp)
       → length (accepted more) + (old.number + length old.queue) ≡ new.number + length new.queue → acked old.number more ≡ new.number
-      → (has_failed new.stopped ≡ true → HasFailure (events ++ more)) → IsCounted first old events → IsCounted first new (events ++ more)
+      → (writes_no_more new.stopped ≡ true → HasFailure (events ++ more)) → IsCounted first old events
+      → IsCounted first new (events ++ more)
   more_counted old new events more count acknowledged failed was = record {
     count =
         ap (λ (cs : List CommandValue). first + length cs) (accepted-append events more)
@@ -74,8 +75,8 @@ module _ (first t : ℕ) where
 
   -- the cause to stop stays
   stays_told : (old new : CoreView) (events more : List Stamp) → new.stopped ≡ old.stopped → IsCounted first old events
-      → has_failed new.stopped ≡ true → HasFailure (events ++ more)
-  stays_told old new events more same was failed = failure_stays events more (was.failure (ap has_failed (sym same) ∙ failed))
+      → writes_no_more new.stopped ≡ true → HasFailure (events ++ more)
+  stays_told old new events more same was failed = failure_stays events more (was.failure (ap writes_no_more (sym same) ∙ failed))
 
   silent_counted : (old new : CoreView) (events : List Stamp) (told : List Event) → told ≡ [] → IsAlike old new → IsCounted first old events
       → IsCounted first new (events ++ stamped t told)

@@ -4,7 +4,7 @@ use Rattle.std.proofs.Common.{◌∙◌, subst, arith}
 use Rattle.std.proofs.lemmas.List.{take_all}
 use Rattle.iol_disk.specs.Disk.{Disk}
 use Rattle.iol_core.specs.Batches.{has_batch}
-use Rattle.iol_core.specs.Submit.{has_failed}
+use Rattle.iol_core.specs.Submit.{writes_no_more}
 use Rattle.iol_flush.specs.declared.need.Need.{Need}
 use Rattle.iol_flush.specs.declared.need.Need.TheVariants as need
 use Rattle.iol_front.specs.Fronts.{CommittedView}
@@ -37,11 +37,11 @@ idle_unmade same = cc
 module _ {D : Type 0} (layout : Layout) (disk : D → Disk) where
   -- where the flusher is served and finds nothing to do, nothing waits
   serves_none : (need : Need) (old new : CoreOnDiskView D) (told : List Event) → met_by old ≡ need
-      → Serves disk need old new told Idle → IsServed layout old.core old.flusher.stage None → (has_failed old.core.stopped ≡ true → ⊥)
+      → Serves disk need old new told Idle → IsServed layout old.core old.flusher.stage None → (writes_no_more old.core.stopped ≡ true → ⊥)
       → length new.core.queue ≡ 0
   serves_none need.Batch old new told needs is was sound =
       ap (λ (master : CoreOnDiskView D). length master.core.queue) is.1
-      ∙ nothing_waits (length old.core.queue) old.core.flight (has_failed old.core.stopped) is.0
+      ∙ nothing_waits (length old.core.queue) old.core.flight (writes_no_more old.core.stopped) is.0
       (resting layout old.core old.flusher.stage (has_batch old.core) needs was.batch).1 sound
   serves_none need.Disk old new told needs is was sound = absurd is
   serves_none need.BatchOrDisk old new told needs is was sound = absurd is
@@ -51,7 +51,7 @@ module _ {D : Type 0} (layout : Layout) (disk : D → Disk) where
 
   -- a turn that finds nothing to do leaves nothing that waits
   turns_none : (committed : Option CommittedView) (old new : CoreOnDiskView D) (told : List Event) → old.committed ≡ committed
-      → IsTurn disk committed old new told Idle → Served layout old → (has_failed old.core.stopped ≡ true → ⊥)
+      → IsTurn disk committed old new told Idle → Served layout old → (writes_no_more old.core.stopped ≡ true → ⊥)
       → length new.core.queue ≡ 0
   turns_none (Some committed) old new told there is was sound = absurd (idle_unmade is.0)
   turns_none None old new told there is was sound =
@@ -103,7 +103,7 @@ module _ {D L : Type 0} (disk : D → Disk) (connection : L → ℕ) (allows : L
         after : Holds disk connection allows layout first new
         after = steps_hold disk connection allows layout first (Flush ∷ []) 0 last new turn before
 
-        quiet : has_failed last.master.core.stopped ≡ true → ⊥
+        quiet : writes_no_more last.master.core.stopped ≡ true → ⊥
         quiet failed =
             sound (steps_told disk connection allows (Flush ∷ []) 0 last new turn (before.counted.failure failed))
 

@@ -3,7 +3,7 @@ use Rattle.std.proofs.Common.{◌≡◌, refl, ◌≤◌, ℕ, zero, suc, ◌+�
 use Rattle.std.proofs.Common.{◌∙◌, subst, arith}
 use Rattle.std.proofs.Math.Nat.{mul-le-mul_left}
 use Rattle.iol_disk.specs.Disk.{Disk}
-use Rattle.iol_core.specs.Submit.{has_failed}
+use Rattle.iol_core.specs.Submit.{writes_no_more}
 use Rattle.iol_core.specs.declared.stop.StopCause.{StopCause}
 use Rattle.iol_flush.specs.declared.stage.FlushStage.{FlushStage}
 use Rattle.iol_front.specs.Fronts.{CommittedView}
@@ -77,8 +77,8 @@ module _ {D L : Type 0} (disk : D → Disk) (connection : L → ℕ) (allows : L
           turns_made n made.1 mid new made.5 then_ (omega (arith, none, made.4)) sound,
           turn_fewer layout disk old.master.committed old.master mid.master made.3.0 made.0 refl made.3.1.1 was.served
               (omega (arith, none, made.4))
-              (λ (failed : has_failed old.master.core.stopped ≡ true). quiet (failure_told (was.counted.failure failed)))
-              (λ (failed : has_failed mid.master.core.stopped ≡ true). quiet (then_.counted.failure failed)),
+              (λ (failed : writes_no_more old.master.core.stopped ≡ true). quiet (failure_told (was.counted.failure failed)))
+              (λ (failed : writes_no_more mid.master.core.stopped ≡ true). quiet (then_.counted.failure failed)),
         )
       where
         mid : RunView D L
@@ -113,10 +113,10 @@ module _ {D L : Type 0} (disk : D → Disk) (connection : L → ℕ) (allows : L
       });
     }
       where
-        unstopped : (stopped : Option StopCause) → stopped ≡ None → has_failed stopped ≡ true → HasFailure []
-        unstopped stopped none failed = no (subst (λ (o : Option StopCause). has_failed o ≡ true) none failed)
+        unstopped : (stopped : Option StopCause) → stopped ≡ None → writes_no_more stopped ≡ true → HasFailure []
+        unstopped stopped none failed = no (subst (λ (o : Option StopCause). writes_no_more o ≡ true) none failed)
           where
-            no : has_failed None ≡ true → ⊥
+            no : writes_no_more None ≡ true → ⊥
             no h = cc
 
     most_turns : (run : RunView D L) → Holds run → left_of layout run.master ≤ queue_turns layout
@@ -137,7 +137,7 @@ module _ {D L : Type 0} (disk : D → Disk) (connection : L → ℕ) (allows : L
         let left : left_of layout new.master ≡ 0 =
         omega (arith, turns_made n parts.2 parts.0 new parts.5 mid (omega (arith, none, parts.4)) sound, most_turns parts.0 mid, enough) in
         let empty = none_left layout new.master.core new.master.flusher.stage new.master.committed last.served.batch
-        (λ (failed : has_failed new.master.core.stopped ≡ true). sound (last.counted.failure failed)) left in
+        (λ (failed : writes_no_more new.master.core.stopped ≡ true). sound (last.counted.failure failed)) left in
         omega (arith, last.counted.acked_is, last.counted.count, empty)
 
     -- of steps that were made from a fresh run on; a count of those that waited tells none only where there are none

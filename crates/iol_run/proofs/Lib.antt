@@ -36,3 +36,6 @@ pub mod Unanswered
 pub mod Answering
 pub mod Traces
 pub mod AllSteps
+pub mod Numbered
+pub mod Engines
+pub mod EngineStatuses

@@ -8,6 +8,7 @@ use Rattle.std.proofs.lemmas.Option.{slice_get_within, slice_get-get_or}
 use Rattle.iol_types.specs.State.{State}
 use Rattle.iol_disk.specs.Disk.{Disk}
 use Rattle.iol_core.proofs.Places.{get_written, get_other}
+use Rattle.iol_core.specs.Core.{CoreView}
 use Rattle.iol_journal.specs.Journals.{JournalView}
 use Rattle.iol_link.specs.Link.{LinkCall, LinkAnswer}
 use Rattle.iol_port.proofs.Leading.{led_is}
@@ -26,6 +27,8 @@ use Rattle.iol_run.proofs.Machines.{elsewhere, machines_length, machines_new, on
 use Rattle.iol_run.proofs.OwnEvents.{submit_own, flusher_own, step_own}
 use Rattle.iol_run.proofs.StatusesShown.{status-append, step_status}
 use Rattle.iol_run.specs.CoreOnDisk.{CoreOnDiskView, clock_of}
+use Rattle.iol_run.specs.Engine as engine
+use Rattle.iol_run.specs.Engine.{MakesStep}
 use Rattle.iol_run.specs.PortRuns.{steps_of, history_of, IsPortRun, ArePortRuns, IsCoreAfter}
 use Rattle.iol_run.specs.Ports.{PortsView, StepsThere, StepsIf, new_machines}
 use Rattle.iol_run.specs.Runs.{RunView}
@@ -91,7 +94,7 @@ module _ {L : Type 0} (number : L → ℕ) (steps : L → LinkCall → LinkAnswe
       (history_of number steps first start port begun made machine link events is, history_led port begun made machine link events is)
 
   -- its status is the one that was told last
-  run_status : (port : ℕ) (begun : L) (made : ℕ) (machine : PortValue) (link : L) (events : List Stamp)
+  pub run_status : (port : ℕ) (begun : L) (made : ℕ) (machine : PortValue) (link : L) (events : List Stamp)
       → IsRun port begun made machine link events
       → status_shown port events ≡ status_told (status_of machine.stage)
   run_status port begun zero machine link events is =
@@ -141,21 +144,15 @@ module _ {L : Type 0} (number : L → ℕ) (steps : L → LinkCall → LinkAnswe
     others = own-append port is.later more ∙ (ap (λ (es : List Event). es ++ own port more) is.others ∙ none);
   }
 
-  -- the run of a port that has a link
+  -- the run of a port that has a link, and what holds of all ports
   abbrev RunAt : List Step → List L → PortsView L → List Stamp → ℕ → Type 0
-  RunAt made links ports events place =
-      (begun link : L) (machine : PortValue) → slice_get links place ≡ Some begun → slice_get ports.links place ≡ Some link
-      → slice_get ports.machines place ≡ Some machine → IsRun (place + 1) begun (steps_of (place + 1) made) machine link events
+  RunAt made links ports events place = engine.RunAt number steps first start made links ports events place
 
-  -- what holds of all ports
-  record HaveRuns (made : List Step) (links : List L) (ports : PortsView L) (events : List Stamp) : Type 0 where
-    count : length ports.links ≡ length links
-    machines : length ports.machines ≡ length ports.links
-    runs : (place : ℕ) → RunAt made links ports events place
-    others : (port : ℕ) → (port ≡ 0) ⊎ (length links < port) → own port events ≡ []
+  abbrev HaveRuns : List Step → List L → PortsView L → List Stamp → Type 0
+  HaveRuns made links ports events = engine.HaveRuns number steps first start made links ports events
 
   -- no port that has a link makes a step, and what is told is no port's own
-  ports_stay : (made : List Step) (step : Step) (links : List L) (ports last : PortsView L) (events more : List Stamp) → last ≡ ports
+  pub ports_stay : (made : List Step) (step : Step) (links : List L) (ports last : PortsView L) (events more : List Stamp) → last ≡ ports
       → ((port : ℕ) → own port more ≡ []) → ((place : ℕ) → place < length links → steps_of (place + 1) (step ∷ []) ≡ 0)
       → HaveRuns made links ports events → HaveRuns (made ++ step ∷ []) links last (events ++ more)
   ports_stay made step links ports last events more same none still is =
@@ -172,27 +169,27 @@ module _ {L : Type 0} (number : L → ℕ) (steps : L → LinkCall → LinkAnswe
             ∙ (ap (λ (es : List Event). es ++ own port more) (is.others port beyond) ∙ none port);
       })
 
-  module _ {D : Type 0} (made : List Step) (t port : ℕ) (links : List L) (old new : CoreOnDiskView D) (ports last : PortsView L) (events :
-      List Stamp)
-      (told : List Event)
-      (core : IsCoreAfter first start events old.core) (are : HaveRuns made links ports events)
-      (is : StepsThere number steps port old new ports last told) where
+  module _ (made : List Step) (t port : ℕ) (links : List L) (old new : CoreView) (ports last : PortsView L) (linked_from linked_to : L)
+      (events : List Stamp) (told : List Event) (core : IsCoreAfter first start events old) (are : HaveRuns made links ports events)
+      (linked_is : slice_get ports.links (port - 1) ≡ Some linked_from)
+      (links_are : last.links ≡ slice_set ports.links (port - 1) linked_to)
+      (is : MakesStep number steps port old new ports.machines last.machines linked_from linked_to told) where
     abbrev place : ℕ
     place = port - 1
 
     within : place < length links
-    within = omega (arith, slice_get_within ports.links place is.link is.link_is, are.count)
+    within = omega (arith, slice_get_within ports.links place linked_from linked_is, are.count)
 
     -- the run of the port that makes its step, before it
     before_run : (begun : L) → slice_get links place ≡ Some begun
-        → IsRun (place + 1) begun (steps_of (place + 1) made) is.before is.link events
-    before_run begun at = are.runs place begun is.link is.before at is.link_is is.machine_is
+        → IsRun (place + 1) begun (steps_of (place + 1) made) is.before linked_from events
+    before_run begun at = are.runs place begun linked_from is.before at linked_is is.machine_is
 
     led : Led (place + 1) is.before
     led =
-        let begun = slice_get-get_or links place is.link within in
-        let run = before_run (get_or links place is.link) begun in
-        run_led (place + 1) (get_or links place is.link) (steps_of (place + 1) made) is.before is.link events run
+        let begun = slice_get-get_or links place linked_from within in
+        let run = before_run (get_or links place linked_from) begun in
+        run_led (place + 1) (get_or links place linked_from) (steps_of (place + 1) made) is.before linked_from events run
 
     before_port : is.before.port ≡ place + 1
     before_port = (led_is (place + 1) led.0 is.before led.1).port_is
@@ -200,7 +197,7 @@ module _ {L : Type 0} (number : L → ℕ) (steps : L → LinkCall → LinkAnswe
     others_own : (q : ℕ) → nat_eq (place + 1) q ≡ false → own q (stamped t told) ≡ []
     others_own q apart =
         ap (λ (es : List Event). own q (stamped t es)) is.told_is
-        ∙ step_own q t number steps (place + 1) is.before is.after is.link is.linked old.core new.core is.called is.status before_port apart
+        ∙ step_own q t number steps (place + 1) is.before is.after linked_from linked_to old new is.called is.status before_port apart
         led is.steps_as
 
     -- the port has made one step more
@@ -209,13 +206,13 @@ module _ {L : Type 0} (number : L → ℕ) (steps : L → LinkCall → LinkAnswe
 
     -- and behind it
     after_run : (begun : L) → slice_get links place ≡ Some begun
-        → IsRun (place + 1) begun (steps_of (place + 1) (made ++ Port port ∷ [])) is.after is.linked (events ++ stamped t told)
+        → IsRun (place + 1) begun (steps_of (place + 1) (made ++ Port port ∷ [])) is.after linked_to (events ++ stamped t told)
     after_run begun at =
-        subst (λ (n : ℕ). IsRun (place + 1) begun n is.after is.linked (events ++ stamped t told)) (sym one_more) (record {
+        subst (λ (n : ℕ). IsRun (place + 1) begun n is.after linked_to (events ++ stamped t told)) (sym one_more) (record {
           before = is.before;
-          linked = is.link;
-          old = old.core;
-          new = new.core;
+          linked = linked_from;
+          old = old;
+          new = new;
           earlier = events;
           clock = t;
           called = is.called;
@@ -235,37 +232,38 @@ module _ {L : Type 0} (number : L → ℕ) (steps : L → LinkCall → LinkAnswe
     run_at other true eq = λ begun link machine at linked there.
         let here : other ≡ place = eqb-true other place eq in
         let count : ℕ → ℕ = λ n. steps_of (n + 1) (made ++ Port port ∷ []) in
-        let link_same : is.linked ≡ link =
-        one_some is.linked link
-        (sym (ap (λ (ls : List L). slice_get ls other) is.links
-        ∙ (ap (slice_get (slice_set ports.links place is.linked)) here ∙ get_written ports.links place is.linked is.link is.link_is))
+        let link_same : linked_to ≡ link =
+        one_some linked_to link
+        (sym (ap (λ (ls : List L). slice_get ls other) links_are
+        ∙ (ap (slice_get (slice_set ports.links place linked_to)) here ∙ get_written ports.links place linked_to linked_from linked_is))
         ∙ linked) in
         let machine_same : is.after ≡ machine =
         one_some is.after machine
-        (sym (ap (λ (ms : List PortValue). slice_get ms other) is.machines
+        (sym (ap (λ (ms : List PortValue). slice_get ms other) is.last_is
         ∙ (ap (slice_get (slice_set ports.machines place is.after)) here
         ∙ get_written ports.machines place is.after is.before is.machine_is)) ∙ there) in
         let run = after_run begun (ap (slice_get links) (sym here) ∙ at) in
         subst (λ (n : ℕ). IsRun (n + 1) begun (count n) machine link (events ++ stamped t told)) (sym here)
         (subst (λ (l : L). IsRun (place + 1) begun (count place) machine l (events ++ stamped t told)) link_same
-        (subst (λ (m : PortValue). IsRun (place + 1) begun (count place) m is.linked (events ++ stamped t told)) machine_same run))
+        (subst (λ (m : PortValue). IsRun (place + 1) begun (count place) m linked_to (events ++ stamped t told)) machine_same run))
     run_at other false eq = λ begun link machine at linked there.
         let run =
         are.runs other begun link machine at
-        (sym (ap (λ (ls : List L). slice_get ls other) is.links ∙ get_other ports.links place other is.linked (elsewhere other place eq))
+        (sym (ap (λ (ls : List L). slice_get ls other) links_are ∙ get_other ports.links place other linked_to (elsewhere other place eq))
         ∙ linked)
-        (sym (ap (λ (ms : List PortValue). slice_get ms other) is.machines
+        (sym (ap (λ (ms : List PortValue). slice_get ms other) is.last_is
         ∙ get_other ports.machines place other is.after (elsewhere other place eq)) ∙ there) in
         subst (λ (n : ℕ). IsRun (other + 1) begun n machine link (events ++ stamped t told))
         (sym (unmoved (other + 1) made (Port port) (apart_step other port is.some eq)))
         (more_events (other + 1) begun (steps_of (other + 1) made) machine link events (stamped t told) run
         (others_own (other + 1) (apart_next other place eq)))
 
-    there_runs : HaveRuns (made ++ Port port ∷ []) links last (events ++ stamped t told)
+    pub there_runs : HaveRuns (made ++ Port port ∷ []) links last (events ++ stamped t told)
     there_runs = record {
-      count = ap length is.links ∙ (length-set ports.links place is.linked ∙ are.count);
-      machines = ap length is.machines
-          ∙ (length-set ports.machines place is.after ∙ (are.machines ∙ sym (ap length is.links ∙ length-set ports.links place is.linked)));
+      count = ap length links_are ∙ (length-set ports.links place linked_to ∙ are.count);
+      machines = ap length is.last_is
+          ∙ (length-set ports.machines place is.after ∙ (are.machines
+          ∙ sym (ap length links_are ∙ length-set ports.links place linked_to)));
       runs = λ other. run_at other (nat_eq other place) refl;
       others = λ q beyond. own-append q events (stamped t told)
           ∙ (ap (λ (es : List Event). es ++ own q (stamped t told)) (are.others q beyond)
@@ -275,10 +273,27 @@ module _ {L : Type 0} (number : L → ℕ) (steps : L → LinkCall → LinkAnswe
   module _ {D : Type 0} (disk : D → Disk) (made : List Step) (t : ℕ) (links : List L) (old new : CoreOnDiskView D)
       (ports last : PortsView L) (events : List Stamp) (told : List Event) (core : IsCoreAfter first start events old.core)
       (are : HaveRuns made links ports events) where
+    makes_of : (port : ℕ) (old new : CoreOnDiskView D) (ports last : PortsView L) (told : List Event)
+        → (is : StepsThere number steps port old new ports last told)
+        → MakesStep number steps port old.core new.core ports.machines last.machines is.link is.linked told
+    makes_of port old new ports last told is = record {
+      before = is.before;
+      after = is.after;
+      called = is.called;
+      status = is.status;
+      some = is.some;
+      machine_is = is.machine_is;
+      steps_as = is.steps_as;
+      told_is = is.told_is;
+      last_is = is.machines;
+    }
+
     port_runs : (there : Bool) (port : ℕ) → nat_le port (length ports.links) ≡ there
         → StepsIf number steps there port old new ports last told
         → HaveRuns (made ++ Port port ∷ []) links last (events ++ stamped t told)
-    port_runs true port eq is = there_runs made t port links old new ports last events told core are is
+    port_runs true port eq is =
+        there_runs made t port links old.core new.core ports last is.link is.linked events told core are is.link_is is.links
+        (makes_of port old new ports last told is)
     port_runs false port eq is =
         ports_stay made (Port port) links ports last events (stamped t told) is.1
         (λ q. ap (λ (es : List Event). own q (stamped t es)) is.2)
@@ -294,6 +309,39 @@ module _ {L : Type 0} (number : L → ℕ) (steps : L → LinkCall → LinkAnswe
         ports_stay made Flush links ports last events (stamped t told) is.0
         (λ q. turn_says (λ (es : List Event). own q (stamped t es)) (flusher_own q t) disk old.committed old new told turned is.1)
         (λ place within. refl) are
+
+  -- they are the runs of the ports
+  pub runs_are : (made : List Step) (links : List L) (ports : PortsView L) (events : List Stamp) → length links ≡ length start
+      → HaveRuns made links ports events → ArePortRuns number steps first start made links events ports.links
+  runs_are made links ports events count are = record {
+    count = count;
+    runs = λ place begun link at linked.
+        let inside = slice_get_within ports.links place link linked in
+        let there = slice_get-get_or ports.machines place (new_machine 0) (omega (arith, inside, are.machines)) in
+        let machine = get_or ports.machines place (new_machine 0) in
+        let run = are.runs place begun link machine at linked there in
+        let times = steps_of (place + 1) made in
+        record {
+          machine = machine;
+          run = run;
+          led = history_led (place + 1) begun times machine link events run;
+          status = run_status (place + 1) begun times machine link events run;
+        };
+    others = are.others;
+  }
+
+  -- before the first step
+  pub new_have_runs : (links : List L) → HaveRuns [] links (record { machines = new_machines (length links); links = links }) []
+  new_have_runs links = record {
+    count = refl;
+    machines = machines_length 0 (length links);
+    runs = λ place begun link machine at linked there. (
+      machines_new 0 (length links) place machine there ∙ ap new_machine (omega arith),
+      one_some link begun (sym linked ∙ at),
+      refl,
+    );
+    others = λ port beyond. refl;
+  }
 
   module _ {D : Type 0} (disk : D → Disk) where
     all_runs : (before schedule : List Step) (waits : ℕ) (links : List L) (old new : RunView D L)
@@ -323,34 +371,10 @@ module _ {L : Type 0} (number : L → ℕ) (steps : L → LinkCall → LinkAnswe
         → ArePortRuns number steps first start schedule links new.events new.ports.links
     all_port_runs schedule waits journal links old new number_is state_is count fresh made =
         let begins = fresh_stands first start disk journal links old number_is state_is fresh in
-        let are = all_runs [] schedule waits links old new made begins new_runs in
-        record {
-          count = count;
-          runs = λ place begun link at linked.
-              let inside = slice_get_within new.ports.links place link linked in
-              let machine = slice_get-get_or new.ports.machines place (new_machine 0) (omega (arith, inside, are.machines)) in
-              let run = are.runs place begun link (get_or new.ports.machines place (new_machine 0)) at linked machine in
-              let count = steps_of (place + 1) schedule in
-              record {
-                machine = get_or new.ports.machines place (new_machine 0);
-                run = run;
-                led = history_led (place + 1) begun count (get_or new.ports.machines place (new_machine 0)) link new.events run;
-                status = run_status (place + 1) begun count (get_or new.ports.machines place (new_machine 0)) link new.events run;
-              };
-          others = are.others;
-        }
+        runs_are schedule links new.ports new.events count (all_runs [] schedule waits links old new made begins new_runs)
       where
         new_runs : HaveRuns [] links old.ports old.events
         new_runs =
             subst (λ (p : PortsView L). HaveRuns [] links p old.events) (sym fresh.ports)
             (subst (λ (ss : List Stamp). HaveRuns [] links (record { machines = new_machines (length links); links = links }) ss)
-            (sym fresh.events) (record {
-              count = refl;
-              machines = machines_length 0 (length links);
-              runs = λ place begun link machine at linked there. (
-                machines_new 0 (length links) place machine there ∙ ap new_machine (omega arith),
-                one_some link begun (sym linked ∙ at),
-                refl,
-              );
-              others = λ port beyond. refl;
-            }))
+            (sym fresh.events) (new_have_runs links))

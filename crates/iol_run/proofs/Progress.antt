@@ -6,7 +6,7 @@ use Rattle.std.proofs.Math.Nat.{mul-le-mul_right, mul-zero, one-mul}
 use Rattle.iol_disk.specs.Disk.{Disk}
 use Rattle.iol_core.specs.Batches.{has_batch}
 use Rattle.iol_core.specs.Core.{CoreView}
-use Rattle.iol_core.specs.Submit.{has_failed}
+use Rattle.iol_core.specs.Submit.{writes_no_more}
 use Rattle.iol_flush.proofs.Turns.{advances, one_less}
 use Rattle.iol_flush.specs.Stages.{FlusherView, HasFewCalls, calls_owed, disk_of, due_need, most_checkpoint_calls, need_of, room_of}
 use Rattle.iol_flush.specs.Steps.{HasTaken, HasPublished, IsDiskStep}
@@ -142,7 +142,7 @@ module _ {D : Type 0} (layout : Layout) where
 
   takes_fewer : (old new : CoreOnDiskView D) (told : List Event) (turned : Turned) → old.committed ≡ None → met_by old ≡ need.Batch
       → Takes old new told turned → IsServed layout old.core old.flusher.stage None → waits_of turned ≡ 0
-      → (has_failed old.core.stopped ≡ true → ⊥)
+      → (writes_no_more old.core.stopped ≡ true → ⊥)
       → IsFewer old new
   takes_fewer old new told Made none needs is was waits sound =
       subst (λ (n : ℕ). left_of new ≤ n + turns_behind layout old.core - 1) (sym before)
@@ -184,7 +184,7 @@ module _ {D : Type 0} (layout : Layout) where
       rest = resting old.core old.flusher.stage (has_batch old.core) needs was.batch
 
       empty : length old.core.queue ≡ 0
-      empty = nothing_waits (length old.core.queue) old.core.flight (has_failed old.core.stopped) is.0 rest.1 sound
+      empty = nothing_waits (length old.core.queue) old.core.flight (writes_no_more old.core.stopped) is.0 rest.1 sound
 
       behind : length old.core.queue - old.core.flight ≡ 0
       behind = omega (arith, empty)
@@ -236,13 +236,13 @@ module _ {D : Type 0} (layout : Layout) where
 
     -- a flusher at rest makes one where no batch may be taken: none waits, or the layout is an older one
     may_advance : (core : CoreView) (stage : FlushStage D) → need_met (need_of stage) (has_batch core) ≡ need.Disk → HasFlight core stage
-        → (has_failed core.stopped ≡ true → ⊥) → MayAdvance (length core.queue) stage
+        → (writes_no_more core.stopped ≡ true → ⊥) → MayAdvance (length core.queue) stage
     may_advance core (Resting j) met flight sound =
         either (none_there (is_renewed j.standing.layout)
         (is_some j.begun || nat_le j.standing.layout.slots (2 * j.standing.used)) (has_batch core) met)
       where
         either : (has_batch core ≡ false) ⊎ (is_renewed j.standing.layout ≡ false) → MayAdvance (length core.queue) (Resting j)
-        either (inl none) = inl (nothing_waits (length core.queue) core.flight (has_failed core.stopped) none flight sound)
+        either (inl none) = inl (nothing_waits (length core.queue) core.flight (writes_no_more core.stopped) none flight sound)
         either (inr older) = inr older
     may_advance core (Opening c) met flight sound = tt
     may_advance core (Given j b) met flight sound = tt
@@ -280,14 +280,14 @@ module _ {D : Type 0} (layout : Layout) where
 
     called_fewer : (old new : CoreOnDiskView D) (told : List Event) → old.committed ≡ None → new.committed ≡ None
         → met_by old ≡ need.Disk
-        → HasCalled disk old new told → IsServed layout old.core old.flusher.stage None → (has_failed old.core.stopped ≡ true → ⊥)
-        → (has_failed new.core.stopped ≡ true → ⊥) → IsFewer old new
+        → HasCalled disk old new told → IsServed layout old.core old.flusher.stage None → (writes_no_more old.core.stopped ≡ true → ⊥)
+        → (writes_no_more new.core.stopped ≡ true → ⊥) → IsFewer old new
     called_fewer old new [] none after met is was before sound =
         less_left old new none after is.0
         (called_less (length old.core.queue) old.flusher.stage new.flusher.stage
         (may_advance old.core old.flusher.stage met was.batch before) was.few_calls is.2 is.1)
     called_fewer old new (e ∷ told) none after met is was before sound =
-        absurd (sound (ap (λ (c : CoreView). has_failed c.stopped) is.2 ∙ knows (has_failed old.core.stopped)))
+        absurd (sound (ap (λ (c : CoreView). writes_no_more c.stopped) is.2 ∙ knows old.core.stopped))
 
     publishing : (waits : ℕ) (stage : FlushStage D) (published : List CommandValue) (new : FlusherView D) (committed : CommittedView)
         → HasPublished stage published new committed
@@ -313,7 +313,7 @@ module _ {D : Type 0} (layout : Layout) where
         (ap (turns_behind layout) is.2)
 
     pub stopped : (core : CoreView) (stage : FlushStage D) (there : Bool) → need_met (need_of stage) there ≡ need.Stopped
-        → HasFlight core stage → has_failed core.stopped ≡ true
+        → HasFlight core stage → writes_no_more core.stopped ≡ true
     stopped core (Failed d f) there met flight = flight
     stopped core (Resting j) there met flight =
         absurd (never_stopped (is_renewed j.standing.layout)
@@ -327,7 +327,7 @@ module _ {D : Type 0} (layout : Layout) where
     serves_fewer : (need : Need) (old new : CoreOnDiskView D) (told : List Event) (turned : Turned) → met_by old ≡ need
         → old.committed ≡ None
         → Serves disk need old new told turned → IsServed layout old.core old.flusher.stage None → waits_of turned ≡ 0
-        → (has_failed old.core.stopped ≡ true → ⊥) → (has_failed new.core.stopped ≡ true → ⊥) → IsFewer old new
+        → (writes_no_more old.core.stopped ≡ true → ⊥) → (writes_no_more new.core.stopped ≡ true → ⊥) → IsFewer old new
     serves_fewer need.Batch old new told turned needs none is was waits before after =
         takes_fewer old new told turned none needs is was waits before
     serves_fewer need.Disk old new told Made needs none is was waits before after =
@@ -342,8 +342,8 @@ module _ {D : Type 0} (layout : Layout) where
     -- a turn that has not to wait leaves fewer, while the disk does not fail
     pub turn_fewer : (committed : Option CommittedView) (old new : CoreOnDiskView D) (told : List Event) (turned : Turned) → old.committed
         ≡ committed
-        → IsTurn disk committed old new told turned → Served layout old → waits_of turned ≡ 0 → (has_failed old.core.stopped ≡ true → ⊥)
-        → (has_failed new.core.stopped ≡ true → ⊥) → IsFewer old new
+        → IsTurn disk committed old new told turned → Served layout old → waits_of turned ≡ 0 → (writes_no_more old.core.stopped ≡ true → ⊥)
+        → (writes_no_more new.core.stopped ≡ true → ⊥) → IsFewer old new
     turn_fewer (Some committed) old new told turned there is was waits before after =
         let served = subst (λ (c : Option CommittedView). IsServed layout old.core old.flusher.stage c) there was in
         acknowledged_fewer old new committed told there is.1 served.batch.1 served.newest
@@ -364,7 +364,7 @@ no_turns each waits flies some none rests =
 module _ {D : Type 0} (layout : Layout) where
   -- where no turn is left, nothing waits
   pub none_left : (core : CoreView) (stage : FlushStage D) (committed : Option CommittedView) → HasBatch core stage committed
-      → (has_failed core.stopped ≡ true → ⊥) → turns_left layout core stage committed ≡ 0 → length core.queue ≡ 0
+      → (writes_no_more core.stopped ≡ true → ⊥) → turns_left layout core stage committed ≡ 0 → length core.queue ≡ 0
   none_left core stage (Some committed) batch sound none = absurd (omega (arith, none))
   none_left core (Resting j) None batch sound none =
       no_turns (batch_turns layout) (length core.queue) core.flight (omega arith) (omega (arith, none)) batch

@@ -1,11 +1,12 @@
 -- A core stays in step with its flusher in each turn, and the run of its journal goes on.
-use Rattle.std.proofs.Common.{◌≡◌, refl, Bool, true, false, if◌then◌else◌, List, Some, None, Ok, Err, sym, subst, rules}
+use Rattle.std.proofs.Common.{◌≡◌, refl, Bool, true, false, List, Option, Some, None, Ok, Err, sym, subst, rules}
 use Rattle.iol_types.specs.Command.{CommandValue}
 use Rattle.iol_types.specs.State.{after}
 use Rattle.iol_disk.specs.Disk.{Disk}
 use Rattle.iol_disk.specs.declared.fault.DiskFault.{DiskFault}
 use Rattle.iol_core.specs.Core.{CoreView}
-use Rattle.iol_core.specs.Submit.{has_failed}
+use Rattle.iol_core.specs.Submit.{writes_no_more, stopped_by}
+use Rattle.iol_core.specs.declared.stop.StopCause.{StopCause}
 use Rattle.iol_core.specs.declared.stop.StopCause.TheVariants as cause
 use Rattle.iol_flush.proofs.Turns.{goes_on}
 use Rattle.iol_flush.specs.Flushing.{IsFlushing, KeepsRun}
@@ -24,9 +25,11 @@ use Rattle.iol_run.specs.CoreOnDisk.{IsInFlight, IsDurable, HasFlight, IsInStep,
 use Rattle.iol_run.specs.Turns.{failed_core}
 
 -- a disk call has failed, and the core knows it
-pub knows : (stopped : Bool) → has_failed (Some (if stopped then cause.DiskFailed else cause.DiskFailed)) ≡ true
-knows true = refl
-knows false = refl
+pub knows : (stopped : Option StopCause) → writes_no_more (Some (stopped_by stopped cause.DiskFailed)) ≡ true
+knows None = refl
+knows (Some cause.Closed) = refl
+knows (Some cause.DiskFailed) = refl
+knows (Some cause.OutOfMemory) = refl
 
 module _ {D : Type 0} where
   -- what a flusher has in flight after a disk call is what it had before
@@ -79,7 +82,7 @@ module _ {D : Type 0} where
 
   pub failed_flight : (core : CoreView) (new : FlushStage D) (why : DiskFault) → failure_of new ≡ Some why
       → HasFlight (failed_core core) new
-  failed_flight core (Failed d f) why is = knows (has_failed core.stopped)
+  failed_flight core (Failed d f) why is = knows core.stopped
   failed_flight core (Resting j) why is = search rules
   failed_flight core (Opening c) why is = search rules
   failed_flight core (Given j b) why is = search rules

@@ -6,7 +6,7 @@ use Rattle.iol_types.specs.State.{check}
 use Rattle.iol_types.specs.declared.command.CommandFault.{CommandFault}
 use Rattle.iol_disk.specs.Disk.{Disk}
 use Rattle.iol_core.specs.Core.{CoreView, live}
-use Rattle.iol_core.specs.Submit.{IsSubmit, is_stopped, queue_fault, first_cause, has_failed}
+use Rattle.iol_core.specs.Submit.{IsSubmit, is_stopped, queue_fault, first_cause, writes_no_more}
 use Rattle.iol_core.specs.declared.stop.StopCause.{StopCause}
 use Rattle.iol_core.specs.declared.ticket.SubmitFault.{SubmitFault}
 use Rattle.iol_core.specs.declared.ticket.SubmitFault.TheVariants as fault
@@ -39,9 +39,9 @@ use Rattle.iol_run.specs.declared.step.Step.TheVariants.{Client, Port, Flush}
 -- what a core tells of failures, from one to the next: it accepts only where it runs, a failure of the disk that it knew is
 -- known still, and one that is told is known
 record Heeds (old new : CoreView) (told : List Stamp) : Type 0 where
-  pub accepts : has_failed old.stopped ≡ true → accepted told ≡ []
-  pub stays : has_failed old.stopped ≡ true → has_failed new.stopped ≡ true
-  pub known : HasFailure told → has_failed new.stopped ≡ true
+  pub accepts : writes_no_more old.stopped ≡ true → accepted told ≡ []
+  pub stays : writes_no_more old.stopped ≡ true → writes_no_more new.stopped ≡ true
+  pub known : HasFailure told → writes_no_more new.stopped ≡ true
   pub none : NoneOnceFailed told
 
 -- events that tell of no failure
@@ -50,11 +50,11 @@ none_failed [] sound = tt
 none_failed (e ∷ told) sound = ((λ failed. absurd (sound (inl failed))), none_failed told (λ failed. sound (inr failed)))
 
 -- a core that stopped for its disk is stopped
-failed_stops : (stopped : Option StopCause) → has_failed stopped ≡ true → is_some stopped ≡ true
+failed_stops : (stopped : Option StopCause) → writes_no_more stopped ≡ true → is_some stopped ≡ true
 failed_stops (Some c) failed = refl
 failed_stops None failed = search rules
 
-runs_still : (core : CoreView) → is_stopped core ≡ false → has_failed core.stopped ≡ true → ⊥
+runs_still : (core : CoreView) → is_stopped core ≡ false → writes_no_more core.stopped ≡ true → ⊥
 runs_still core runs failed = no (sym runs ∙ failed_stops core.stopped failed)
   where
     no : false ≡ true → ⊥
@@ -69,11 +69,11 @@ taken_runs false queue checked none = refl
 module _ (t : ℕ) where
   -- one event that is no failure
   one_heeds : (old new : CoreView) (e : Event) → new.stopped ≡ old.stopped → (IsFailure e → ⊥)
-      → (has_failed old.stopped ≡ true → accepted (stamped t (e ∷ [])) ≡ [])
+      → (writes_no_more old.stopped ≡ true → accepted (stamped t (e ∷ [])) ≡ [])
       → Heeds old new (stamped t (e ∷ []))
   one_heeds old new e same sound accepts = record {
     accepts = accepts;
-    stays = λ failed. ap has_failed same ∙ failed;
+    stays = λ failed. ap writes_no_more same ∙ failed;
     known = λ told. absurd (⊎_elim sound (λ never. never) told);
     none = none_failed (stamped t (e ∷ [])) (λ told. ⊎_elim sound (λ never. never) told);
   }
@@ -82,7 +82,7 @@ module _ (t : ℕ) where
   silent_heeds old new told is same =
       subst (λ (es : List Event). Heeds old new (stamped t es)) (sym is) (record {
         accepts = λ failed. refl;
-        stays = λ failed. ap has_failed same ∙ failed;
+        stays = λ failed. ap writes_no_more same ∙ failed;
         known = λ never. absurd never;
         none = tt;
       })
@@ -125,7 +125,7 @@ more_heeds old mid new told more one two = record {
     both : (cs ds : List CommandValue) → cs ≡ [] → ds ≡ [] → cs ++ ds ≡ []
     both cs ds first second = ap (λ (xs : List CommandValue). xs ++ ds) first ∙ second
 
-    behind : (front : List Stamp) → (HasFailure front → has_failed mid.stopped ≡ true) → NoneOnceFailed front
+    behind : (front : List Stamp) → (HasFailure front → writes_no_more mid.stopped ≡ true) → NoneOnceFailed front
         → NoneOnceFailed (front ++ more)
     behind [] known none = two.none
     behind (e ∷ front) known none = (
@@ -146,8 +146,8 @@ module _ (t : ℕ) {D : Type 0} where
     called_heeds : (old new : CoreOnDiskView D) (told : List Event) → HasCalled disk old new told → Heeds old.core new.core (stamped t told)
     called_heeds old new [] is = silent_heeds t old.core new.core [] refl (ap (λ (c : CoreView). c.stopped) is.0)
     called_heeds old new (e ∷ told) is =
-        let failed : has_failed new.core.stopped ≡ true = ap (λ (c : CoreView). has_failed c.stopped) is.2
-        ∙ knows (has_failed old.core.stopped) in
+        let failed : writes_no_more new.core.stopped ≡ true = ap (λ (c : CoreView). writes_no_more c.stopped) is.2
+        ∙ knows old.core.stopped in
         subst (λ (es : List Event). Heeds old.core new.core (stamped t es)) (sym is.1) (record {
           accepts = λ was. refl;
           stays = λ was. failed;

@@ -23,8 +23,8 @@ module _ {D : Type 0} (disk : D → Disk) (old : D) where
   abbrev pub ShowsJournal : (Standing → Type 0) → Type 0
   ShowsJournal P = Shows (disk old) (λ image. (journal : Standing) × (standing_in (disk old).sectors image ≡ Ok journal) × P journal)
 
-  -- why no schedule is run with so many links: the disk is not recovered, or its state has another count of ports, or memory
-  -- runs out where neither is so (own)
+  -- why no schedule is run with so many links: the disk is not recovered, or the state that an honest disk shows has another count
+  -- of ports, or memory runs out where neither is so (own)
   abbrev pub FailsFor : ℕ → RunFault D → Type 0
   FailsFor links (fault.Recover why) = IsRecoveryFault why
   FailsFor links (fault.Ports left) = ShowsJournal (λ journal. links ≡ length journal.state → ⊥)

@@ -5,7 +5,7 @@ use Rattle.iol_types.specs.State.{after}
 use Rattle.iol_disk.specs.Content.{clock}
 use Rattle.iol_disk.specs.Disk.{Disk}
 use Rattle.iol_core.specs.Core.{CoreView}
-use Rattle.iol_core.specs.Submit.{has_failed}
+use Rattle.iol_core.specs.Submit.{writes_no_more}
 use Rattle.iol_flush.specs.Flushing.{GoesOn, IsFlushing}
 use Rattle.iol_flush.specs.Stages.{FlusherView, disk_of}
 use Rattle.iol_flush.specs.declared.stage.FlushStage.{FlushStage}
@@ -42,7 +42,7 @@ HasFlight core (Given journal batch) = IsInFlight core (values batch.commands.it
 HasFlight core (Checkpointing checkpoint batch) = IsInFlight core (values batch.commands.items)
 HasFlight core (Writing writing) = IsInFlight core writing.commands
 HasFlight core (Publishing journal written) = IsInFlight core written.commands
-HasFlight core (Failed disk fault) = has_failed core.stopped ≡ true
+HasFlight core (Failed disk fault) = writes_no_more core.stopped ≡ true
 
 -- the journal is at rest (own)
 abbrev pub IsAtRest : {D : Type 0} → FlushStage D → Type 0

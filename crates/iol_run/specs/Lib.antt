@@ -16,3 +16,9 @@ pub mod Stopped
 pub mod Failures
 pub mod Clocks
 pub mod Acknowledged
+pub mod Engine
+pub mod Trail
+pub mod Answered
+pub mod Handed
+pub mod HandedSteps
+pub mod Waits

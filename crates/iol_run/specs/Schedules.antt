@@ -53,8 +53,8 @@ module _ {L : Type 0} (number : L → ℕ) (steps : L → LinkCall → LinkAnswe
     pub runs : (place : ℕ) (before after : L) → slice_get links place ≡ Some before → slice_get last place ≡ Some after
         → IsLinkRun number steps (place + 1) events before after
 
--- a journal was recovered from a disk: it stands as an honest disk shows, its list of commands is empty, and the disk was synced
--- and read, and nothing else (own)
+-- a journal was recovered from a disk: it stands as an honest disk shows, its list of commands is empty, and its disk is what a sync
+-- leaves of that one (own)
 pub record IsRecovered {D : Type 0} (disk : D → Disk) (given : D) (journal : JournalView D) : Type 0 where
   pub found : Shows (disk given) (λ image. standing_in (disk given).sectors image ≡ Ok journal.standing)
   pub history : journal.history ≡ record { first = journal.standing.number; start = journal.standing.state; commands = [] }
@@ -99,9 +99,9 @@ module _ {D L : Type 0} (disk : D → Disk) (number : L → ℕ) (steps : L → 
       (made : List Step) × IsRunFrom journal links tasks made trace × TellsRun journal links made trace
 
   -- a trace is that of a schedule over a disk, with these links: a journal was recovered from the disk, and the schedule run over it.
-  -- A failure of the disk is told exactly where the disk that was handed in has counted one since. Where the schedule ends in a
-  -- drain, or its steps in 128 turns of the flusher for each sector of the geometry that an honest disk shows, all that was accepted is
-  -- acknowledged (own)
+  -- A failure of the disk is told exactly where the disk that was handed in has counted one since, the greatest number that it can
+  -- show apart. Where the schedule ends in a drain, or its steps in 128 turns of the flusher for each sector of the geometry that an
+  -- honest disk shows, all that was accepted is acknowledged (own)
   pub record IsTraceOf (given : D) (links : List L) (tasks : List Task) (trace : Trace D L) : Type 0 where
     pub journal : JournalView D
     pub made : List Step

@@ -11,14 +11,17 @@ ghost use Rattle.iol_port.specs.Calls.{MayBeMade, Replies, IsReplyTo, call_of};
 ghost use Rattle.iol_port.specs.Ending.{ended};
 ghost use Rattle.iol_run.specs.CoreOnDisk.{IsInStep, KeepsRunning};
 ghost use Rattle.iol_run.specs.Events.{event_of, told_of};
+ghost use Rattle.iol_run.specs.PortSteps.{IsReady, PortStep};
 ghost use Rattle.iol_run.specs.Turns.{IsTurn, Takes, CallsDisk, Publishes, Serves, met_by};
 
-use crate::event::Event;
+use crate::event::{Event, Exchanged};
+use crate::port_step::{PortTold, step_port};
 use iol_core::{Core, StopCause, SubmitFault, Ticket};
 use iol_disk::SectorDisk;
 use iol_flush::{FlushEnd, FlushFault, Flusher, Need};
 use iol_front::{Committed, Front, Name};
 use iol_journal::Journal;
+use iol_link::DeviceLink;
 use iol_port::{CoreCall, PortMachine, Reply};
 use iol_types::{Change, MasterState};
 use std::alloc::Global;
@@ -153,6 +156,26 @@ impl<D: SectorDisk, F: Name> CoreOnDisk<D, F> {
         ensures run { KeepsRunning D.disk F.front.start self.old self.new }
     {
         self.core.submit(change)
+    }
+
+    /// Makes one step of a port with its link, as `step_port` does.
+    pub fn step_port<L: DeviceLink>(
+        &mut self,
+        machine: &mut PortMachine,
+        link: &mut L,
+        room: Box<Exchanged>,
+    ) -> PortTold
+        requires ready { IsReady machine.old.stage }
+        ensures step { PortStep L.number L.steps machine.old machine.new link.old link.new self.old.core self.new.core
+            (told_of result.called) (told_of result.status) }
+        ensures ready { IsReady machine.new.stage }
+        ensures others { (self.new.flusher ≡ self.old.flusher) × (self.new.committed ≡ self.old.committed) }
+        ensures run { KeepsRunning D.disk F.front.start self.old self.new }
+    {
+        let told = step_port(&mut self.core, machine, link, room);
+        // The contract says that what waits is legal, so a Store that was just taken passes.
+        let _number = self.core.live_number();
+        told
     }
 
     /// Makes a call that a port asks of the core.

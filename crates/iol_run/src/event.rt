@@ -20,8 +20,11 @@ pub struct Exchanged {
 }
 
 impl Exchanged {
-    // Room for an exchange, with no octets in it.
-    pub(crate) fn room(alloc: Global) -> Result<Box<Exchanged>, AllocError> {
+    /// Makes a buffer for an exchange, without octets.
+    ///
+    /// # Errors
+    /// Out of memory.
+    pub fn room(alloc: Global) -> Result<Box<Exchanged>, AllocError> {
         let octets = Exchanged {
             request: ArrayVec::new(),
             answer: ArrayVec::new(),

@@ -8,18 +8,15 @@ ghost use Rattle.iol_port.specs.Stage.{PortValue};
 ghost use Rattle.iol_port.specs.Status.{status_of};
 ghost use Rattle.iol_port.specs.declared.action.Input.TheVariants as input;
 ghost use Rattle.iol_port.specs.declared.call.Reply.{Reply};
-ghost use Rattle.iol_run.specs.CoreOnDisk.{IsInStep, KeepsRunning};
 ghost use Rattle.iol_run.specs.Events.{event_of, told_of};
 ghost use Rattle.iol_run.specs.PortSteps.{Acts, IsReady, IsStatusTold, HasEvent, PortStep, awake, HasPage, HasAnswer, HasReply, reply_told};
 ghost use Rattle.iol_run.specs.PortSteps.{store_in, command_said};
 
-use crate::core_on_disk::CoreOnDisk;
 use crate::event::{Event, Exchanged};
 use crate::said::Said;
 use crate::told_work::ToldWork;
 use arrayvec::ArrayVec;
-use iol_core::UploadGrant;
-use iol_disk::SectorDisk;
+use iol_core::{Core, UploadGrant};
 use iol_front::Name;
 use iol_isdu::{ISDU_OCTETS, Request, write_request};
 use iol_link::{DeviceLink, Lost};
@@ -36,26 +33,24 @@ pub struct PortTold {
     pub room: Option<Box<Exchanged>>,
 }
 
-/// One step of a port: an event of its device is noted, a settled machine is woken, and what the machine then wants is
-/// done once, by a call of the link or of the core. What is exchanged is told in the room that is handed in, so that a step
-/// takes no memory of its own.
-pub fn step_port<D: SectorDisk, L: DeviceLink, F: Name>(
-    master: &mut CoreOnDisk<D, F>,
+// One step of a port: an event of its device is noted, a settled machine is woken, and what the machine then wants is
+// done once, by a call of the link or of the core. What is exchanged is told in the room that is handed in, so that a step
+// takes no memory of its own.
+pub(crate) fn step_port<L: DeviceLink, F: Name>(
+    core: &mut Core<F>,
     machine: &mut PortMachine,
     link: &mut L,
     room: Box<Exchanged>,
 ) -> PortTold
     requires ready { IsReady machine.old.stage }
-    ensures step { PortStep L.number L.steps machine.old machine.new link.old link.new master.old.core master.new.core
-        (told_of result.called) (told_of result.status) }
+    ensures step { PortStep L.number L.steps machine.old machine.new link.old link.new core.old core.new (told_of result.called)
+        (told_of result.status) }
     ensures ready { IsReady machine.new.stage }
-    ensures others { (master.new.flusher ≡ master.old.flusher) × (master.new.committed ≡ master.old.committed) }
-    ensures run { KeepsRunning D.disk F.front.start master.old master.new }
 {
     let before = machine.status();
     hear_event(machine, link);
     wake(machine);
-    let (called, room) = act(master, machine, link, room);
+    let (called, room) = act(core, machine, link, room);
     let status = status_event(machine, before);
     PortTold {
         called,
@@ -64,8 +59,8 @@ pub fn step_port<D: SectorDisk, L: DeviceLink, F: Name>(
     }
 }
 
-/// Notes an event of the device, if there is one.
-pub fn hear_event<L: DeviceLink>(machine: &mut PortMachine, link: &mut L)
+// Notes an event of the device, if there is one.
+fn hear_event<L: DeviceLink>(machine: &mut PortMachine, link: &mut L)
     requires ready { IsReady machine.old.stage }
     ensures event { HasEvent L.number L.steps machine.old machine.new link.old link.new }
     ensures ready { IsReady machine.new.stage }
@@ -75,8 +70,8 @@ pub fn hear_event<L: DeviceLink>(machine: &mut PortMachine, link: &mut L)
     }
 }
 
-/// Wakes a machine that is settled.
-pub fn wake(machine: &mut PortMachine)
+// Wakes a machine that is settled.
+fn wake(machine: &mut PortMachine)
     requires ready { IsReady machine.old.stage }
     ensures awake { machine.new ≡ awake machine.old }
     ensures ready { IsReady machine.new.stage }
@@ -100,23 +95,21 @@ fn status_event(machine: &PortMachine, before: PortStatus) -> Option<Event>
 }
 
 // What the machine wants is done. The room comes back where it was not needed.
-fn act<D: SectorDisk, L: DeviceLink, F: Name>(
-    master: &mut CoreOnDisk<D, F>,
+fn act<L: DeviceLink, F: Name>(
+    core: &mut Core<F>,
     machine: &mut PortMachine,
     link: &mut L,
     room: Box<Exchanged>,
 ) -> (Option<Event>, Option<Box<Exchanged>>)
     requires ready { IsReady machine.old.stage }
     requires open { is_settled machine.old.stage ≡ false }
-    ensures acts { Acts L.number L.steps machine.old machine.new link.old link.new master.old.core master.new.core (told_of result.0) }
+    ensures acts { Acts L.number L.steps machine.old machine.new link.old link.new core.old core.new (told_of result.0) }
     ensures ready { IsReady machine.new.stage }
-    ensures others { (master.new.flusher ≡ master.old.flusher) × (master.new.committed ≡ master.old.committed) }
-    ensures run { KeepsRunning D.disk F.front.start master.old master.new }
 {
     match machine.action() {
         Action::ReadPage => (Some(read_page(machine, link)), Some(room)),
         Action::Exchange(request) => (Some(exchange(machine, link, &request, room)), None),
-        Action::Ask(call) => (ask(master, machine, call), Some(room)),
+        Action::Ask(call) => (ask(core, machine, call), Some(room)),
         Action::Idle => unreachable!(),
     }
 }
@@ -183,20 +176,14 @@ fn exchange<L: DeviceLink>(
 }
 
 // Makes a call of the core.
-fn ask<D: SectorDisk, F: Name>(
-    master: &mut CoreOnDisk<D, F>,
-    machine: &mut PortMachine,
-    call: CoreCall,
-) -> Option<Event>
+fn ask<F: Name>(core: &mut Core<F>, machine: &mut PortMachine, call: CoreCall) -> Option<Event>
     requires may { MayBeMade (call_of call) }
     requires fits { (heard : Reply) → IsReplyTo (call_of call) heard → Fits machine.old.stage (input.Reply heard) }
-    ensures reply { HasReply (call_of call) machine.old machine.new master.old.core master.new.core (told_of result) }
-    ensures others { (master.new.flusher ≡ master.old.flusher) × (master.new.committed ≡ master.old.committed) }
-    ensures run { KeepsRunning D.disk F.front.start master.old master.new }
+    ensures { HasReply (call_of call) machine.old machine.new core.old core.new (told_of result) }
 {
     let port = machine.port();
     let (call, said) = filed(call);
-    let reply = master.make(call);
+    let reply = call.make(core);
     let event = reply_event(port, said, &reply);
     machine.feed(Input::Reply(reply));
     event

@@ -9,7 +9,7 @@ ghost use Rattle.iol_run.specs.Ports.{ArePorts, StepsPort, StepsThere, new_machi
 
 use crate::core_on_disk::CoreOnDisk;
 use crate::event::Exchanged;
-use crate::port_step::{PortTold, step_port};
+use crate::port_step::PortTold;
 use iol_disk::SectorDisk;
 use iol_front::Name;
 use iol_link::DeviceLink;
@@ -87,12 +87,7 @@ impl<L: DeviceLink> Ports<L> {
         ensures run { KeepsRunning D.disk F.front.start master.old master.new }
     {
         let place = port.place();
-        step_port(
-            master,
-            &mut self.machines[place],
-            &mut self.links[place],
-            room,
-        )
+        master.step_port(&mut self.machines[place], &mut self.links[place], room)
     }
 
     /// Ends the ports: each permit that is held is returned. The links are handed out.
@@ -108,7 +103,7 @@ impl<L: DeviceLink> Ports<L> {
 }
 
 // The machines of so many ports, all new.
-fn machines_of(alloc: Global, ports: u8) -> Result<Vec<PortMachine>, AllocError>
+pub(crate) fn machines_of(alloc: Global, ports: u8) -> Result<Vec<PortMachine>, AllocError>
     requires most { ports ≤ PORTS }
     ensures { IfOk result (λ machines. machines.items ≡ new_machines ports) }
 {

@@ -96,7 +96,7 @@ fn submit<D: SectorDisk, F: Name>(master: &mut CoreOnDisk<D, F>, change: Change)
 }
 
 // What a client's change says.
-fn said_by(change: &Change) -> Said
+pub(crate) fn said_by(change: &Change) -> Said
     ensures { result.command ≡ command_of change.now }
 {
     let command = change.command();

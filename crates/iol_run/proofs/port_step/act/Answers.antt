@@ -15,7 +15,7 @@ ask-requires-clause-fits g c lifetimes outlives heard is =
 pub returns-in-ReadPage-clause-ready : goal.returns-in-ReadPage-clause-ready
 returns-in-ReadPage-clause-ready g c =
     let l = g.L.DeviceLink in
-    let core = c.args.master.now.core in
+    let core = c.args.core.now in
     let told = event_of c.read_page.result in
     ready_again l.number l.steps c.args.machine.now c.read_page.new.machine c.args.link.now c.read_page.new.link core core (told ∷ [])
     c.requires.ready
@@ -27,16 +27,16 @@ returns-in-ReadPage-clause-ready g c =
 pub returns-in-Ask-clause-acts : goal.returns-in-Ask-clause-acts
 returns-in-Ask-clause-acts g c =
     let l = g.L.DeviceLink in
-    reply_acts l.number l.steps c.args.machine.now c.ask.new.machine (call_of c.in-Ask.call) c.args.link.now c.args.master.now.core
-    c.ask.new.master.core (told_of c.ask.result)
+    reply_acts l.number l.steps c.args.machine.now c.ask.new.machine (call_of c.in-Ask.call) c.args.link.now c.args.core.now
+    c.ask.new.core (told_of c.ask.result)
     c.in-Ask.ensures.wanted
     (subst (λ (v : PortValue).
-    HasReply (call_of c.in-Ask.call) v c.ask.new.machine c.args.master.now.core c.ask.new.master.core (told_of c.ask.result))
-    c.action.ensures.after c.ask.ensures.reply)
+    HasReply (call_of c.in-Ask.call) v c.ask.new.machine c.args.core.now c.ask.new.core (told_of c.ask.result))
+    c.action.ensures.after c.ask.ensures)
 
 pub returns-in-Ask-clause-ready : goal.returns-in-Ask-clause-ready
 returns-in-Ask-clause-ready g c =
     let l = g.L.DeviceLink in
-    ready_again l.number l.steps c.args.machine.now c.ask.new.machine c.args.link.now c.args.link.now c.args.master.now.core
-    c.ask.new.master.core (told_of c.ask.result)
+    ready_again l.number l.steps c.args.machine.now c.ask.new.machine c.args.link.now c.args.link.now c.args.core.now
+    c.ask.new.core (told_of c.ask.result)
     c.requires.ready (returns-in-Ask-clause-acts g c)

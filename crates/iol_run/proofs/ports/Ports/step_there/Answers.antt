@@ -29,7 +29,7 @@ invariant_of-self g c =
     c.self.invariant machine
     (port_stays l.number l.steps c.index_mut.result.now c.step_port.new.machine c.index_mut-2.result.now c.step_port.new.link
     c.args.master.now.core
-    c.step_port.new.master.core (told_of c.step_port.result.called) (told_of c.step_port.result.status) c.step_port.ensures.step)
+    c.step_port.new.self.core (told_of c.step_port.result.called) (told_of c.step_port.result.status) c.step_port.ensures.step)
     c.step_port.ensures.ready
 
 pub returns-clause-steps : goal.returns-clause-steps
