@@ -17,6 +17,10 @@ pub mod Telling
 pub mod Running
 pub mod Everywhere
 pub mod OnePlace
+pub mod LastTold
+pub mod NoSets
 pub mod ExampleTalks
 pub mod ExampleLaws
 pub mod Headlines
+pub mod Engines
+pub mod Lists

@@ -21,7 +21,7 @@ use Rattle.iol_headline.specs.Conversations.{IsToldAs, Converses}
 pub head_is : {A : Type 0} (x y : A) (xs ys : List A) → x ∷ xs ≡ y ∷ ys → x ≡ y
 head_is x y xs ys same = cc
 
-tail_is : {A : Type 0} (x y : A) (xs ys : List A) → x ∷ xs ≡ y ∷ ys → xs ≡ ys
+pub tail_is : {A : Type 0} (x y : A) (xs ys : List A) → x ∷ xs ≡ y ∷ ys → xs ≡ ys
 tail_is x y xs ys same = cc
 
 -- a list with an element is not empty

@@ -9,7 +9,7 @@ use Rattle.iol_types.specs.DataSet.{SetValue}
 use Rattle.iol_types.specs.State.{State, Port, after, port_numbered}
 use Rattle.iol_core.specs.Core.{CoreView, live}
 use Rattle.iol_core.specs.Permits.{is_taken}
-use Rattle.iol_core.specs.Submit.{is_stopped, ticket_state, has_failed}
+use Rattle.iol_core.specs.Submit.{is_stopped, ticket_state, writes_no_more}
 use Rattle.iol_core.specs.Uploads.{IsBeginUpload, IsFinish, revision_of, upload_fault_at, store_of}
 use Rattle.iol_core.specs.declared.permit.UploadGrant.{UploadGrant}
 use Rattle.iol_core.specs.declared.ticket.TicketState.{TicketState}
@@ -293,7 +293,7 @@ module _ (first : ℕ) (start : State) (port connection : ℕ) (events : List St
 
   -- a ticket that is durable is not above the core's number
   durable_below : (old : CoreView) (number : ℕ) → ticket_state old number ≡ ticket.Durable → number ≤ old.number
-  durable_below old number is = by (nat_le number old.number) refl (has_failed old.stopped) is
+  durable_below old number is = by (nat_le number old.number) refl (writes_no_more old.stopped) is
     where
       by : (test : Bool) → nat_le number old.number ≡ test → (lost : Bool)
           → (if test then ticket.Durable else if lost then ticket.Unsure else ticket.Waiting) ≡ ticket.Durable → number ≤ old.number

@@ -2,9 +2,10 @@
 use Rattle.std.specs.Prelude.{ℕ, List, [], ◌∷◌, ◌++◌, Option, Some, None}
 use Rattle.iol_types.specs.Command.{Configure, Store}
 use Rattle.iol_types.specs.DataSet.{SetValue}
+use Rattle.iol_types.specs.State.{Stored}
 use Rattle.iol_types.specs.declared.config.PortConfig.{PortConfig}
 use Rattle.iol_types.specs.declared.config.PortMode.TheVariants.{IolManual}
-use Rattle.iol_types.specs.declared.config.Validation.TheVariants.{BackupAndRestore}
+use Rattle.iol_types.specs.declared.config.Validation.TheVariants.{BackupAndRestore, Restore}
 use Rattle.iol_trace.specs.Events.{Event, Accepted, Page, Exchange, Lost, Attended, Changed, Acknowledged}
 use Rattle.iol_trace.specs.Statuses as status
 use Rattle.iol_trace.specs.Statuses.{Work, Starting, Uploading, Storing, Ready, Downloading}
@@ -90,3 +91,23 @@ abbrev pub restored : List Event
 restored =
     half_restored ++ Exchange 1 1 (0x25 ∷ 0x41 ∷ 0x01 ∷ 0x7F ∷ 0x1A ∷ []) (0x52 ∷ 0x52 ∷ [])
     ∷ Exchange 1 1 (0x25 ∷ 0x03 ∷ 0x01 ∷ 0x04 ∷ 0x23 ∷ []) (0x52 ∷ 0x52 ∷ []) ∷ []
+
+-- for worked examples: port 1 is configured once more, as it was (own)
+abbrev pub reconfigured : List Event
+reconfigured = configured ++ Accepted 2 (Configure 1 example_config) ∷ []
+
+-- for worked examples: the page of another device of that vendor, 43982, and port 1, which is told its work and reads that page
+-- (own)
+abbrev pub other_page : List ℕ
+other_page =
+    0x00 ∷ 0x00 ∷ 0x17 ∷ 0x01 ∷ 0x11 ∷ 0x00 ∷ 0x00 ∷ 0x01 ∷ 0xF4 ∷ 0x00 ∷ 0xAB ∷ 0xCE ∷ 0x00 ∷ 0x00 ∷ 0x00 ∷ 0x00 ∷ []
+
+abbrev pub other_device : List Event
+other_device = configured ++ Attended 1 (example_work None) ∷ Changed 1 Starting ∷ Page 1 0 other_page ∷ []
+
+-- for worked examples: the same configuration with Restore alone, and the set as if it had been taken under that (own)
+abbrev pub restore_config : PortConfig
+restore_config = record example_config { validation = Restore }
+
+abbrev pub recorded_later : Stored
+recorded_later = record { set = example_set 0x7F; recorded = restore_config }

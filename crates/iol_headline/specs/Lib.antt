@@ -10,3 +10,5 @@ pub mod StoredSets
 pub mod Laws
 pub mod Examples
 pub mod Headline
+pub mod Lists
+pub mod Statuses

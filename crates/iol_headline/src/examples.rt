@@ -1,16 +1,19 @@
 //! A trace worked out: port 1 backs up its sensor, which breaks, and restores the replacement. Of each law is said that it holds
-//! of that trace, and of some wrong traces that it does not.
+//! of that trace, and that a wrong trace breaks it. No trace breaks the law of stored sets, as it follows from what commands do: of
+//! sets that no command stored so is said that the law does not allow the port to have them.
 
-ghost use Rattle.std.specs.Prelude.{[], ◌∷◌, Some, None};
+ghost use Rattle.std.specs.Prelude.{◌⊎◌, [], ◌∷◌, ◌++◌, Some, None};
+ghost use Rattle.iol_ident.specs.declared.validation.IdentFault.TheVariants.{Device};
 ghost use Rattle.iol_types.specs.Command.{Configure, Store};
 ghost use Rattle.iol_types.specs.Examples.{renewed_port, newer_stored, example_stored};
 ghost use Rattle.iol_types.specs.State.{empty_state};
-ghost use Rattle.iol_trace.specs.Events.{Accepted, Exchange, Attended, Changed, stamped};
-ghost use Rattle.iol_trace.specs.Statuses.{Uploading, Ready, Downloading};
+ghost use Rattle.iol_trace.specs.Events.{Accepted, Exchange, Lost, Attended, Changed, stamped};
+ghost use Rattle.iol_trace.specs.Statuses.{Off, Ready, Uploading, Downloading, Mismatch};
 ghost use Rattle.iol_headline.specs.Decisions.{DecidedFirst};
 ghost use Rattle.iol_headline.specs.Downloads.{DownloadsOnly, CommandsOnly};
 ghost use Rattle.iol_headline.specs.DurableEnds.{DurableThenEnd};
 ghost use Rattle.iol_headline.specs.Examples.{
+  example_config,
   example_work,
   example_set,
   configured,
@@ -23,6 +26,10 @@ ghost use Rattle.iol_headline.specs.Examples.{
   restoring,
   half_restored,
   restored,
+  reconfigured,
+  other_device,
+  restore_config,
+  recorded_later,
 };
 ghost use Rattle.iol_headline.specs.Settled.{SettledRight};
 ghost use Rattle.iol_headline.specs.StoredSets.{HasSet, HadSet, WasStored};
@@ -90,4 +97,72 @@ pub fn another_value_is_refused()
 /// The values of a replacement, as they were in the factory, are uploaded in place of the durable set.
 pub fn a_blank_upload_is_refused()
     ensures { DecidedFirst (stamped 7 replaced) (Changed 1 Uploading) → ⊥ }
+{}
+
+/// After a backup the port is told that it has no set, although one is durable.
+pub fn a_forgotten_set_is_refused()
+    ensures { TellsWork 0 (empty_state 2) (stamped 7 ended) (Attended 1 (example_work None)) → ⊥ }
+{}
+
+/// The port is told the checksum of a set that is not acknowledged.
+pub fn an_unacknowledged_set_is_refused()
+    ensures { TellsWork 0 (empty_state 2) (stamped 7 filed) (Attended 1 (example_work (Some 0x024F))) → ⊥ }
+{}
+
+/// The port is told its first revision, although its second configuration is accepted.
+pub fn an_old_revision_is_refused()
+    ensures { TellsWork 0 (empty_state 2) (stamped 7 reconfigured) (Attended 1 (example_work None)) → ⊥ }
+{}
+
+/// The octet of DS_UploadEnd is written to State_Property, at Subindex 2 of the Data Storage object.
+pub fn another_subindex_is_refused()
+    ensures { CommandsOnly (stamped 7 stored)
+        (Exchange 1 0 (0x25 ∷ 0x03 ∷ 0x02 ∷ 0x02 ∷ 0x26 ∷ []) (0x52 ∷ 0x52 ∷ [])) → ⊥ }
+{}
+
+/// The octet 06, which is no command, is written to DS_Command.
+pub fn an_unknown_command_is_refused()
+    ensures { CommandsOnly (stamped 7 stored)
+        (Exchange 1 0 (0x25 ∷ 0x03 ∷ 0x01 ∷ 0x06 ∷ 0x21 ∷ []) (0x52 ∷ 0x52 ∷ [])) → ⊥ }
+{}
+
+/// Where the port is `ready`, as it was told that it is IOL_MANUAL and its device fits, it is neither `off` nor a mismatch.
+pub fn another_status_is_refused()
+    ensures off { SettledRight (stamped 7 ended) (Changed 1 Off) → ⊥ }
+    ensures mismatch { SettledRight (stamped 7 ended) (Changed 1 (Mismatch Device)) → ⊥ }
+{}
+
+/// Another device of the vendor is a mismatch, and the port is not `ready` with it.
+pub fn another_device_is_not_ready()
+    ensures mismatch { SettledRight (stamped 7 other_device) (Changed 1 (Mismatch Device)) }
+    ensures ready { SettledRight (stamped 7 other_device) (Changed 1 Ready) → ⊥ }
+{}
+
+/// A port whose device is lost is not `ready` by the page that the device showed before.
+pub fn a_lost_device_is_not_ready()
+    ensures { SettledRight (stamped 7 (ended ++ Lost 1 0 None ∷ [])) (Changed 1 Ready) → ⊥ }
+{}
+
+/// A port that is `ready` is not so once more before it is told again what it is to work with.
+pub fn settling_twice_is_refused()
+    ensures { SettledRight (stamped 7 (ended ++ Changed 1 Ready ∷ [])) (Changed 1 Ready) → ⊥ }
+{}
+
+/// A port was not configured before, and another set is stored: the law does not allow the port to have this one.
+pub fn a_set_that_was_not_stored_is_refused()
+    ensures { (HadSet (empty_state 1) 1 example_stored ⊎ WasStored (empty_state 1)
+        (Configure 1 example_stored.recorded ∷ Store 1 1 newer_stored.set ∷ []) 1 example_stored) → ⊥ }
+{}
+
+/// The set of one port is not that of another.
+pub fn a_set_of_another_port_is_refused()
+    ensures { (HadSet (empty_state 2) 1 example_stored ⊎ WasStored (empty_state 2)
+        (Configure 2 example_stored.recorded ∷ Store 2 1 example_stored.set ∷ []) 1 example_stored) → ⊥ }
+{}
+
+/// A set is stored, and then its port is configured: the law does not allow the port to have the set as if it had been taken under
+/// the later configuration.
+pub fn a_later_configuration_is_refused()
+    ensures { (HadSet (empty_state 1) 1 recorded_later ⊎ WasStored (empty_state 1)
+        (Configure 1 example_config ∷ Store 1 1 (example_set 0x7F) ∷ Configure 1 restore_config ∷ []) 1 recorded_later) → ⊥ }
 {}

@@ -10,6 +10,7 @@
 //! `examples`, a trace worked out.
 #![tactic(auto)]
 
+pub mod engine;
 pub mod examples;
 pub mod laws;
 mod schedule;

@@ -17,6 +17,7 @@ use std::alloc::Global;
 /// # Errors
 /// `Recover` where the disk is not recovered, `Ports` where there is not one link for each port, and `Memory`, in this
 /// order. The links are gone then.
+#[tactic(auto, using(crate::proofs::Headlines::headline_of))]
 pub fn run_schedule<D: SectorDisk, L: DeviceLink + Drop>(
     alloc: Global,
     disk: D,

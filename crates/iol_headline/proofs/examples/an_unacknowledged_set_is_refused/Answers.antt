@@ -1,0 +1,14 @@
+use Rattle.std.proofs.Common.{sym}
+use Rattle.std.specs.Prelude.{Some}
+use Rattle.iol_types.specs.State.{empty_state}
+use Rattle.iol_trace.specs.Events.{stamped}
+use Rattle.iol_headline.proofs.Revisions.{none_some}
+use Rattle.iol_headline.proofs.examples.an_unacknowledged_set_is_refused.Goals as goal
+use Rattle.iol_headline.specs.Examples.{example_work, filed}
+use Rattle.iol_headline.specs.Works.{IsWorkOf}
+
+refused : IsWorkOf 0 (empty_state 2) 1 (example_work (Some 0x024F)) (stamped 7 filed) → ⊥
+refused is = none_some 0x024F (sym is.checksum)
+
+pub returns : goal.returns
+returns c law = refused law
