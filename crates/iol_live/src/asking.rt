@@ -1,7 +1,8 @@
 //! The clients of a script: one for each port that is asked for something, each in a thread of its own.
-ghost use Rattle.std.specs.Prelude.{◌≡◌, IfErr, IfOk};
+ghost use Rattle.std.specs.Prelude.{◌≡◌, IfErr, IfOk, MatchResult, None, Some};
 ghost use Rattle.iol_commands.specs.Fault.{status_of};
 ghost use Rattle.iol_live.specs.Asked.{changes_of};
+ghost use Rattle.iol_live.specs.Ends.{unreceived};
 ghost use Rattle.iol_live.specs.Lived.{IsRunCause};
 
 use crate::telling::{Telling, Told};
@@ -27,8 +28,8 @@ type Asking = Vec<JoinHandle<Result<(), CallFault>>>;
 // change.
 //
 // # Errors
-// `Memory`, `Thread` where a client's thread was not made, and `Call` where a change was refused, once all clients have ended. A
-// change that was taken and has no receipt is `Memory`: no memory came for it, unless the disk failed, which is told in its place.
+// `Memory`, also where memory ran out for a change that was taken, `Thread` where a client's thread was not made, and `Call` where
+// another change has no receipt, once all clients have ended. Where the disk failed that is told in its place.
 pub(crate) fn ask_all<
     D: SectorDisk + Drop + Send + 'static,
     F: Name + 'static,
@@ -250,21 +251,30 @@ fn hear<E: Write, R: Wait>(
 // Waits until these clients have ended, and says why one has no receipt.
 //
 // # Errors
-// `Memory` where a change was taken and has no receipt, or else `Call` where one was refused.
+// `Memory` where memory ran out for a change that was taken, or else `Call` where one has no receipt.
 fn join_all<R: Threads>(rt: &R, clients: Asking) -> Result<(), Fault<'static>>
     ensures cause { IfErr result IsRunCause }
     ensures status { IfErr result (λ fault. status_of fault ≡ 1) }
 {
     let mut refused = false;
-    let mut unsure = false;
+    let mut unwritten = false;
     for client in clients {
         match client.join(rt) {
             Ok(()) => {}
-            Err(CallFault::Unsure) => unsure = true,
+            Err(CallFault::Unwritten) => unwritten = true,
             Err(_) => refused = true,
         }
     }
-    if unsure {
+    told_of(unwritten, refused)
+}
+
+// Why not all changes have their receipts: memory ran out for one that was taken, or else one was refused.
+fn told_of(unwritten: bool, refused: bool) -> Result<(), Fault<'static>>
+    ensures told { MatchResult result (λ _. unreceived unwritten refused ≡ None) (λ fault. unreceived unwritten refused ≡ Some fault) }
+    ensures cause { IfErr result IsRunCause }
+    ensures status { IfErr result (λ fault. status_of fault ≡ 1) }
+{
+    if unwritten {
         Err(Fault::Memory)
     } else if refused {
         Err(Fault::Call)

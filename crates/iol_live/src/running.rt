@@ -13,6 +13,7 @@ ghost use Rattle.iol_commands.specs.Devices.{MayVisit};
 ghost use Rattle.iol_commands.specs.Fault.{status_of};
 ghost use Rattle.iol_commands.specs.Images.{TellsWhy};
 ghost use Rattle.iol_commands.specs.Recovered.{TellsState};
+ghost use Rattle.iol_live.specs.Ends.{IsLeftBy};
 ghost use Rattle.iol_live.specs.Lived.{Fits, HasLinks, IsAfterWhatIsThere, IsLiveCause, IsRunCause, IsStartCause, TellsReceipts};
 ghost use Rattle.iol_live.specs.Lived.{fits, lived_text};
 
@@ -181,16 +182,18 @@ fn live_with<
     text_of(alloc, disk, script.changes.len())
 }
 
-// The disk that a master leaves on which no call failed.
+// The disk that a master leaves on which no call failed, and on which all is written.
 fn left_by<D: SectorDisk + Drop, F: Name>(ending: Ending<D, F>) -> Result<D, Fault<'static>>
     ensures left { (start : Start) (first : JournalView D) → IsEnding D.disk start first ending
         → IfOk result (λ disk. (last : JournalView D) × (published : List CommandValue)
         × IsWhole D.disk start first last published × (disk ≡ last.disk)) }
+    ensures told { IsLeftBy ending result }
     ensures cause { IfErr result IsRunCause }
     ensures status { IfErr result (λ fault. status_of fault ≡ 1) }
 {
     match ending {
         Ending::Closed(journal, _) => Ok(journal.disk()),
+        Ending::Unwritten(_, _) => Err(Fault::Memory),
         Ending::Faulted(_, _) => Err(Fault::Disk),
     }
 }

@@ -13,9 +13,8 @@ use Rattle.iol_flush.specs.declared.need.Need.{Need}
 use Rattle.iol_flush.specs.declared.need.Need.TheVariants as need
 use Rattle.iol_flush.specs.declared.stage.FlushStage.{FlushStage}
 use Rattle.iol_flush.specs.declared.stage.FlushStage.TheVariants.{Resting, Opening, Given, Checkpointing, Writing, Publishing, Failed}
-use Rattle.iol_master.specs.Endings.{EndsFrom, IsWhole, MayEnd}
+use Rattle.iol_master.specs.Endings.{EndsFrom, IsOver, IsWhole, NeverMidway}
 use Rattle.iol_master.specs.Since.{IsSince}
-use Rattle.iol_master.specs.declared.flushing.Turned.TheVariants.{Ended}
 
 -- a flusher that ends needs no disk call and has nothing to publish
 needs_none : (needs : Need) → names_batch needs ≡ false → (needs ≡ need.Stopped → ⊥)
@@ -43,7 +42,7 @@ module _ {D : Type 0} (disk : D → Disk) (start : Start) (first : JournalView D
       (subst (λ (l : List CommandValue). IsWhole disk start first j l) (sym same_list) (at_rest j list since step))
 
   -- a flusher that ends has nothing on its way
-  midway : (stage : FlushStage D) → MayEnd stage Ended → IsMidway stage → ⊥
+  midway : (stage : FlushStage D) → IsOver stage → IsMidway stage → ⊥
   midway (Opening c) over is = calls_none over
   midway (Given j b) over is = calls_none over
   midway (Checkpointing k b) over is = calls_none over
@@ -53,7 +52,7 @@ module _ {D : Type 0} (disk : D → Disk) (start : Start) (first : JournalView D
   midway (Failed d f) over is = absurd is
 
   pub ends : {F : Type 0} (stage : FlushStage D) (list : List CommandValue) (out : FlushEnd D F) → IsSince disk (Resting first) stage
-      → MayEnd stage Ended → IsEnd (record { stage = stage; published = list }) out → IsInStep start stage list
+      → IsOver stage → IsEnd (record { stage = stage; published = list }) out → IsInStep start stage list
       → EndsFrom disk start first out
   ends (Resting j) list (flush.Closed back published) since over is step = closed j back list published since step is.0 is.1
   ends (Opening c) list (flush.Closed back published) since over is step = absurd is.0
@@ -71,3 +70,9 @@ module _ {D : Type 0} (disk : D → Disk) (start : Start) (first : JournalView D
   ends (Checkpointing k b) list (flush.Faulted left cause) since over is step = absurd cc
   ends (Writing w) list (flush.Faulted left cause) since over is step = absurd cc
   ends (Publishing j w) list (flush.Faulted left cause) since over is step = absurd cc
+
+  -- and so it never ends midway
+  pub never_midway : {F : Type 0} (out : FlushEnd D F) → EndsFrom disk start first out → NeverMidway out
+  never_midway (flush.Closed back published) is = tt
+  never_midway (flush.Midway left) is = absurd is
+  never_midway (flush.Faulted left cause) is = tt

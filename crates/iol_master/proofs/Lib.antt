@@ -3,5 +3,4 @@ pub mod Notices
 mod Since
 mod Ends
 mod Reading
-mod Serving
 mod WaitsForMemory

@@ -7,6 +7,9 @@ use mathlib.Core.List.{IsPrefix}
 use Rattle.iol_types.specs.Command.{CommandValue, command_of}
 use Rattle.iol_types.specs.declared.command.Change.{Change}
 use Rattle.iol_front.specs.Fronts.{Start}
+use Rattle.iol_master.specs.Faults.{IsCallFault, IsUntold}
+use Rattle.iol_master.specs.declared.client.CallFault.{CallFault}
+use Rattle.iol_master.specs.declared.client.CallFault.TheVariants as call
 use Rattle.iol_master.specs.Receipts.{IsReceiptFor, StandsAt}
 
 module _ {A : Type 0} where
@@ -26,6 +29,14 @@ module _ {A : Type 0} where
 -- what is the same begins the other
 pub unmoved : {A : Type 0} (before after : List A) → after ≡ before → IsPrefix before after
 unmoved before after same = ([], append-nil before ∙ sym same)
+
+-- why a client does not hear that its command is durable is why it has no receipt
+pub untold : (start : Start) (seen : ℕ) (command : CommandValue) (fault : CallFault) → IsUntold fault
+    → IsCallFault start seen command fault
+untold start seen command call.Memory is = absurd is
+untold start seen command (call.Submit cause) is = absurd is
+untold start seen command call.Unsure is = tt
+untold start seen command call.Unwritten is = tt
 
 -- a command at a place of a batch that was seen
 pub stands_at : (start : Start) (before commands seen : List CommandValue) (number place : ℕ) (command : CommandValue)

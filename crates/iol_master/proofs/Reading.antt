@@ -8,12 +8,13 @@ use Rattle.iol_types.proofs.StateLemmas.{length-after}
 use Rattle.iol_types.specs.Command.{CommandValue}
 use Rattle.iol_types.specs.State.{Port, State, port_numbered}
 use Rattle.iol_front.specs.Fronts.{Start}
-use Rattle.iol_core.proofs.Standing.{stands_later}
+use Rattle.iol_core.proofs.Standing.{stands_later, take_prefix}
 use Rattle.iol_core.specs.Core.{CoreView}
 use Rattle.iol_core.specs.Downloads.{durable_set, stored_at}
 use Rattle.iol_core.specs.Ports.{view_at}
 use Rattle.iol_core.specs.Standing.{Stands, state_at}
 use Rattle.iol_core.specs.declared.port.View.{View}
+use Rattle.iol_headline.specs.Lists.{IsLawfulList}
 use Rattle.iol_master.specs.Faults.{IsUnknown}
 
 -- what is not there in a list is not there in one as long
@@ -114,3 +115,20 @@ refused_known start core new port (Err why) some others stands = λ unknown.
     let none : IsUnknown core.durable port = subst (λ (s : State). IsUnknown s port) durable later in
     let wrong : IsSome (stored_at None) = subst (λ (p : Option Port). IsSome (stored_at p)) none some in
     absurd (true≢false (sym wrong))
+
+-- what is answered is the state after a lawful list, which the client has seen
+pub lawful_view : {E : Type 0} (start : Start) (core new : CoreView) (later : List CommandValue) (port : ℕ)
+    (answer : Result (Option View) E) → IfOk answer (λ (v : Option View). v ≡ view_at core port)
+    → new ≡ record core { seen = new.seen } → Stands start new.seen new.number new.durable → OnOk answer (IsPrefix new.seen later)
+    → IsLawfulList start new.number (take (new.number - start.number) new.seen)
+    → IfOk answer (λ (found : Option View). IfSome found (λ (view : View).
+    IsLawfulList start view.number (take (view.number - start.number) later)))
+lawful_view start core new later port (Err why) is others stands met list = tt
+lawful_view start core new later port (Ok None) is others stands met list = tt
+lawful_view start core new later port (Ok (Some view)) is others stands met list =
+    let same = some_view (port_numbered core.durable port) core.number view is in
+    let number : new.number ≡ view.number = ap (λ (c : CoreView). c.number) others ∙ sym same.0 in
+    let all : take (new.number - start.number) new.seen ≡ take (new.number - start.number) later =
+    sym (take_prefix new.seen later (new.number - start.number) met (omega (arith, stands.within))) in
+    subst (λ (n : ℕ). IsLawfulList start n (take (n - start.number) later)) number
+    (subst (λ (cs : List CommandValue). IsLawfulList start new.number cs) all list)

@@ -1,8 +1,8 @@
 -- Who waits for a command waits for the one at its place.
-use Rattle.std.proofs.Common.{◌≡◌, refl, ◌<◌, ◌≤◌, ℕ, ◌+◌, zero, suc, Bool, true, false, if◌then◌else◌, replicate, List, [], ◌∷◌, ◌++◌}
-use Rattle.std.proofs.Common.{length}
-use Rattle.std.proofs.Common.{take, drop, Option, Some, None, Result, Ok, Err, IfOk, IfErr, IsOk, OnOk, slice_get, sym, ◌∙◌, ap, arith}
-use Rattle.std.proofs.Common.{◌-◌, slice_index, subst, suc-add, length-append}
+use Rattle.std.proofs.Common.{◌≡◌, refl, ◌<◌, ◌≤◌, ℕ, ◌+◌, zero, suc, Bool, true, false, if◌then◌else◌, replicate}
+use Rattle.std.proofs.Common.{List, [], ◌∷◌, ◌++◌, length}
+use Rattle.std.proofs.Common.{take, drop, Option, Some, None, Result, Ok, Err, IfOk, IfErr, IsOk, OnOk, OnErr}
+use Rattle.std.proofs.Common.{slice_get, sym, ◌∙◌, ap, arith, ◌-◌, slice_index, subst, suc-add, length-append}
 use Rattle.std.proofs.lemmas.List.{append-nil, drop_all, length-set, take_all}
 use Rattle.iol_types.specs.Command.{CommandValue, command_of}
 use Rattle.iol_types.specs.declared.command.Change.{Change}
@@ -20,6 +20,13 @@ use Rattle.iol_front.specs.Fronts.{CommittedView, Start}
 use Rattle.iol_port.specs.Calls.{Call, Replies}
 use Rattle.iol_port.specs.declared.call.Reply.{Reply}
 use Rattle.iol_run.proofs.Changes.{Change as Made, Permits, Waits, changed, replied, room_in}
+use Rattle.iol_run.proofs.PortCalls.{step_becomes}
+use Rattle.iol_run.specs.Engine.{EngineView}
+use Rattle.iol_run.specs.Events.{told_of}
+use Rattle.iol_run.specs.Handed.{Hands, handed_number}
+use Rattle.iol_run.specs.HandedSteps.{StepsHanded}
+use Rattle.iol_run.specs.declared.handed.Handed.{Handed}
+use Rattle.iol_run.specs.declared.port_step.PortTold.{PortTold}
 use Rattle.iol_master.specs.Callers.{AreCallersOf}
 use Rattle.iol_master.specs.Wakes.{woken, woken_again}
 use Rattle.iol_master.specs.declared.guarded.Phase.{Phase}
@@ -191,6 +198,20 @@ pub call_waits : (call : Call) (old new : CoreView) (heard : Reply) (callers : L
 call_waits call old new heard callers replies are =
     let became = replied 0 call old new heard replies in made_waits became.change old new callers became.new_is are
 
+pub handed_waits : {E : Type 0} (port : ℕ) (handed : Handed) (old new : EngineView) (callers : List (Option Change))
+    (answer : Result PortTold E)
+    → IfOk answer (λ told. StepsHanded port handed old new (told_of told.called ++ told_of told.status)) → OnErr answer (new ≡ old)
+    → AreCallersOf old.core.queue callers
+    → IsStillWaited (live_number old.core) (live_number new.core) new.core.queue callers
+handed_waits port handed old new callers (Ok told) steps same are =
+    let makes = steps.makes in
+    let becomes =
+    step_becomes handed_number Hands makes.before makes.after handed steps.linked old.core new.core makes.called makes.status
+    makes.steps_as in
+    made_waits becomes.0.change old.core new.core callers becomes.0.new_is are
+handed_waits port handed old new callers (Err why) steps same are =
+    made_waits (Permits old.core.permits) old.core new.core callers (ap (λ (e : EngineView). e.core) same) are
+
 -- what is behind the first of what is dropped to a place
 pub dropped_next : {A : Type 0} (xs : List A) (place : ℕ) → drop 1 (drop place xs) ≡ drop (place + 1) xs
 dropped_next [] zero = refl
@@ -209,3 +230,17 @@ pub not_strange : {F : Type 0} (start : Start) (old new : CoreView) (committed :
     → IfErr answer (λ fault. IsStranger start old committed fault × (new ≡ old)) → new ≡ acknowledged old new.seen
 not_strange start old new committed (Ok number) flies done strange = done
 not_strange start old new committed (Err (Stranger back)) flies done strange = absurd (strange.0.1 flies)
+
+-- what an engine says of an acknowledged batch its core says too
+pub core_acknowledged : {F : Type 0} (start : Start) (old new : EngineView) (committed : CommittedView) (answer : Result ℕ (AckFault F))
+    → IfOk answer (λ number. IsInFlight start old.core committed × (new.core ≡ acknowledged old.core new.core.seen)
+    × (number ≡ new.core.number))
+    → IfOk answer (λ number. new.core ≡ acknowledged old.core new.core.seen)
+core_acknowledged start old new committed (Ok number) is = is.1
+core_acknowledged start old new committed (Err why) is = tt
+
+pub core_strange : {F : Type 0} (start : Start) (old new : EngineView) (committed : CommittedView) (answer : Result ℕ (AckFault F))
+    → IfErr answer (λ fault. IsStranger start old.core committed fault × (new ≡ old))
+    → IfErr answer (λ fault. IsStranger start old.core committed fault × (new.core ≡ old.core))
+core_strange start old new committed (Ok number) is = tt
+core_strange start old new committed (Err why) is = (is.0, ap (λ (e : EngineView). e.core) is.1)

@@ -8,8 +8,7 @@ use Rattle.iol_flush.specs.Steps.{IsUnfit, IsWithdrawn, MayWant}
 use Rattle.iol_flush.specs.declared.need.Need.TheVariants as need
 use Rattle.iol_flush.specs.declared.stage.FlushStage.{FlushStage}
 use Rattle.iol_flush.specs.declared.stage.FlushStage.TheVariants.{Resting, Opening, Given, Checkpointing, Writing, Publishing, Failed}
-use Rattle.iol_master.specs.Endings.{MayEnd, MayWait}
-use Rattle.iol_master.specs.declared.flushing.Turned.TheVariants.{Ended}
+use Rattle.iol_master.specs.Endings.{IsOver, MayWait}
 
 module _ {D : Type 0} where
   -- a disk call that wants memory is made of a journal at rest
@@ -39,17 +38,17 @@ module _ {D : Type 0} where
   waits_unfit old new is same = subst (λ (s : FlushStage D). MayWait s) (sym same) (unfit old is)
 
   -- a journal at rest may be given a batch, or has an older layout
-  rest_names : (j : JournalView D) (renewed : Bool) → is_renewed j.standing.layout ≡ renewed → MayEnd (Resting j) Ended
+  rest_names : (j : JournalView D) (renewed : Bool) → is_renewed j.standing.layout ≡ renewed → IsOver (Resting j)
   rest_names j true is =
       inl (elim (is_due j) as (λ due. names_batch (if due then due_need (is_renewed j.standing.layout) else need.Batch) ≡ true)
       [ true ↦ ap (λ (renewed : Bool). names_batch (due_need renewed)) is | false ↦ refl ])
   rest_names j false is = inr (inr is)
 
-  rests : (new : FlushStage D) (j : JournalView D) → new ≡ Resting j → MayEnd new Ended
-  rests new j is = subst (λ (s : FlushStage D). MayEnd s Ended) (sym is) (rest_names j (is_renewed j.standing.layout) refl)
+  rests : (new : FlushStage D) (j : JournalView D) → new ≡ Resting j → IsOver new
+  rests new j is = subst (λ (s : FlushStage D). IsOver s) (sym is) (rest_names j (is_renewed j.standing.layout) refl)
 
   -- once the batch that waits is taken back, the flusher may end
-  pub ends_withdrawn : (old new : FlushStage D) (back : Option Batch) → MayWait old → IsWithdrawn old new back → MayEnd new Ended
+  pub ends_withdrawn : (old new : FlushStage D) (back : Option Batch) → MayWait old → IsWithdrawn old new back → IsOver new
   ends_withdrawn (Resting j) new None may is = rests new j is
   ends_withdrawn (Resting j) new (Some back) may is = absurd is
   ends_withdrawn (Given j b) new (Some back) may is = rests new j is.0

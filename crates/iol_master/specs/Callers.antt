@@ -1,11 +1,12 @@
--- What the lock of a master guards: the core, and who waits for which of its commands.
+-- What the lock of a master guards: the engine, and who waits for which of its commands.
 use Rattle.std.specs.Prelude.{◌≡◌, ℕ, Bool, true, false, List, [], ◌∷◌, Option, Some, None}
 use Rattle.std.specs.Option.{option_map}
 use Rattle.iol_types.specs.Command.{CommandValue, command_of}
 use Rattle.iol_types.specs.declared.command.Change.{Change}
 use Rattle.iol_core.specs.Core.{CoreView}
 use Rattle.iol_core.specs.Submit.{stopped_by}
-use Rattle.iol_core.specs.declared.stop.StopCause.TheVariants.{DiskFailed}
+use Rattle.iol_core.specs.declared.stop.StopCause.TheVariants.{OutOfMemory}
+use Rattle.iol_run.specs.Engine.{EngineView}
 use Rattle.iol_master.specs.declared.caller.Caller.{Caller}
 use Rattle.iol_master.specs.declared.guarded.Phase.{Phase}
 use Rattle.iol_master.specs.declared.guarded.Phase.TheVariants.{Running}
@@ -21,10 +22,10 @@ AreCallersOf (command ∷ queue) (None ∷ callers) = AreCallersOf queue callers
 AreCallersOf (command ∷ queue) (Some change ∷ callers) = (command_of change ≡ command) × AreCallersOf queue callers
 AreCallersOf queue callers = ⊥
 
--- what the lock guards, as contracts see it: the core, what those asked for who wait for its commands, how often each port was
+-- what the lock guards, as contracts see it: the engine, what those asked for who wait for its commands, how often each port was
 -- woken, and how far the run is (own)
 pub record GuardedView : Type 0 where
-  pub core : CoreView
+  pub engine : EngineView
   pub callers : List (Option Change)
   pub wakes : List ℕ
   pub phase : Phase
@@ -34,7 +35,7 @@ abbrev pub ends : Phase → Bool
 ends Running = false
 ends phase = true
 
--- a core for whose commands no memory comes: where the run is to end nothing more is written, as if a disk call had failed (own)
+-- a core for whose commands memory ran out: where the run is to end nothing more is written (own)
 abbrev pub given_up : Phase → CoreView → CoreView
 given_up Running core = core
-given_up phase core = record core { stopped = Some (stopped_by core.stopped DiskFailed) }
+given_up phase core = record core { stopped = Some (stopped_by core.stopped OutOfMemory) }

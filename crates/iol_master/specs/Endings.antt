@@ -1,5 +1,5 @@
 -- How the run of a flusher ends, and of a master.
-use Rattle.std.specs.Prelude.{◌≡◌, ◌≢◌, ◌⊎◌, ℕ, true, false, List, length}
+use Rattle.std.specs.Prelude.{◌≡◌, ◌≢◌, ◌⊎◌, ◌+◌, ℕ, true, false, List, length}
 use Rattle.iol_types.specs.Command.{CommandValue}
 use Rattle.iol_disk.specs.Disk.{Disk, HasFailed}
 use Rattle.iol_front.specs.Fronts.{Start}
@@ -13,6 +13,8 @@ use Rattle.iol_flush.specs.declared.flusher.FlushEnd.TheVariants as flush
 use Rattle.iol_flush.specs.declared.need.Need.TheVariants as need
 use Rattle.iol_flush.specs.declared.stage.FlushStage.{FlushStage}
 use Rattle.iol_flush.specs.declared.stage.FlushStage.TheVariants.{Resting, Given}
+use Rattle.iol_master.specs.declared.flushing.Leaves.{Leaves}
+use Rattle.iol_master.specs.declared.flushing.Leaves.TheVariants.{Nothing, Unwritten}
 use Rattle.iol_master.specs.declared.flushing.Turned.{Turned}
 use Rattle.iol_master.specs.declared.flushing.Turned.TheVariants.{Made, Waited, Ended}
 use Rattle.iol_master.specs.declared.ending.Ending.{Ending}
@@ -25,11 +27,15 @@ abbrev pub RestsOlder : {D : Type 0} → FlushStage D → Type 0
 RestsOlder (Resting journal) = is_renewed journal.standing.layout ≡ false
 RestsOlder stage = ⊥
 
--- a flusher ends where it may be given a batch, where its journal is at rest in an older layout, or where a disk call has failed (own)
+-- a flusher may end: it may be given a batch, its journal is at rest in an older layout, or a disk call has failed (own)
+abbrev pub IsOver : {D : Type 0} → FlushStage D → Type 0
+IsOver stage = (names_batch (need_of stage) ≡ true) ⊎ (need_of stage ≡ need.Stopped) ⊎ RestsOlder stage
+
+-- a flusher that ends may end (own)
 abbrev pub MayEnd : {D : Type 0} → FlushStage D → Turned → Type 0
 MayEnd stage Made = Unit {0}
 MayEnd stage Waited = Unit {0}
-MayEnd stage Ended = (names_batch (need_of stage) ≡ true) ⊎ (need_of stage ≡ need.Stopped) ⊎ RestsOlder stage
+MayEnd stage (Ended leaves) = IsOver stage
 
 -- a flusher waits for memory where no disk call of a batch is made: its journal is at rest (own)
 abbrev pub MayWait : {D : Type 0} → FlushStage D → Type 0
@@ -37,11 +43,22 @@ MayWait (Resting journal) = Unit {0}
 MayWait (Given journal batch) = Unit {0}
 MayWait stage = ⊥
 
--- a turn leaves a flusher where it may wait, or where it may end, if it does (own)
+-- a turn leaves a flusher where it may wait, or where it may end, if it does, and then nothing is left unwritten (own)
 abbrev pub MayTurn : {D : Type 0} → FlushStage D → Turned → Type 0
 MayTurn stage Made = Unit {0}
 MayTurn stage Waited = MayWait stage
-MayTurn stage Ended = MayEnd stage Ended
+MayTurn stage (Ended leaves) = IsOver stage × (leaves ≡ Nothing)
+
+-- a flusher that ends for want of memory leaves what waits (own)
+abbrev pub LeavesWaiting : Turned → Type 0
+LeavesWaiting (Ended leaves) = leaves ≡ Unwritten
+LeavesWaiting turned = Unit {0}
+
+-- how often in a row a flusher has waited for memory, after so many times before: a turn that was made begins anew (own)
+abbrev pub HasWaited : Turned → ℕ → ℕ → Type 0
+HasWaited Made before after = after ≡ 0
+HasWaited Waited before after = (after ≡ 0) ⊎ (after ≡ before + 1)
+HasWaited (Ended leaves) before after = Unit {0}
 
 -- all that a journal has written in this run is published; and where each image was kept at the start, each is, and means the state
 -- after what is published (own)
@@ -56,9 +73,21 @@ EndsFrom disk start first (flush.Closed journal published) = IsWhole disk start 
 EndsFrom disk start first (flush.Midway left) = ⊥
 EndsFrom disk start first (flush.Faulted left fault) = HasFailed (disk first.disk) (disk left)
 
+-- a flusher that ended had no disk call of a batch on its way (own)
+abbrev pub NeverMidway : {D F : Type 0} → FlushEnd D F → Type 0
+NeverMidway (flush.Midway left) = ⊥
+NeverMidway end = Unit {0}
+
+-- a master says that all is written only where its flusher leaves nothing, and that something is not only where it leaves it (own)
+abbrev pub LeavesAs : {D F : Type 0} → Leaves → Ending D F → Type 0
+LeavesAs leaves (ending.Closed journal published) = leaves ≡ Nothing
+LeavesAs leaves (ending.Unwritten journal published) = leaves ≡ Unwritten
+LeavesAs leaves (ending.Faulted left fault) = Unit {0}
+
 -- how a master ends that was started with a journal (own)
 abbrev pub IsEnding : {D F : Type 0} → (D → Disk) → Start → JournalView D → Ending D F → Type 0
 IsEnding disk start first (ending.Closed journal published) = IsWhole disk start first journal published
+IsEnding disk start first (ending.Unwritten journal published) = IsWhole disk start first journal published
 IsEnding disk start first (ending.Faulted left fault) = HasFailed (disk first.disk) (disk left)
 
 -- the disk of a journal once a run over it has ended: a disk call has failed, or it is that of a journal that is whole (own)

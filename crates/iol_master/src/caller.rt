@@ -1,4 +1,4 @@
-//! Who waits for a change, and what is told once it is durable.
+//! Who waits for a change, and what is answered.
 
 ghost use Rattle.std.specs.Prelude.{◌≡◌};
 ghost use Rattle.iol_types.specs.Command.{command_of};
@@ -57,10 +57,20 @@ impl<F: Name> Notice<F> {
     }
 }
 
-/// A caller that waits for its change: the pass that is to see it, and where the notice goes.
+/// What a caller that waits is answered.
+#[derive(Drop)]
+pub(crate) enum Answer<F: Name> {
+    // Its change is durable.
+    Durable(Notice<F>),
+    // Memory ran out for the batch of its change.
+    Unwritten,
+}
+
+/// A caller that waits for its change: the pass that is to see it, and where the answer goes. One that is let go without an answer
+/// hears that the disk has failed.
 #[derive(Drop)]
 pub(crate) struct Caller<F: Name> {
     pub(crate) change: Change,
     pub(crate) pass: Pass<F>,
-    pub(crate) told: Sender<Notice<F>, Global>,
+    pub(crate) answers: Sender<Answer<F>, Global>,
 }

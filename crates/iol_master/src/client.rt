@@ -1,17 +1,22 @@
 //! Clients, which any threads may have.
 
-ghost use Rattle.std.specs.Prelude.{◌≡◌, ◌+◌, ◌<◌, ◌≤◌, length, IfErr, IfOk, IfSome, IsNone, IsTrue, OnErr, Some};
+ghost use Rattle.std.specs.Prelude.{◌≡◌, ◌+◌, ◌-◌, ◌<◌, ◌≤◌, length, take, IfErr, IfNone, IfOk, IfSome, IsNone, IsTrue, OnErr, Some};
 ghost use mathlib.Core.List.{IsPrefix};
 ghost use Rattle.iol_types.specs.Command.{command_of};
 ghost use Rattle.iol_types.specs.State.{port_numbered};
 ghost use Rattle.iol_core.specs.Standing.{state_at};
-ghost use Rattle.iol_master.specs.Faults.{IsCallFault, IsReadFault, IsRefused, IsUnknown};
+ghost use Rattle.iol_headline.specs.Lists.{IsLawfulList, SetsWereUploaded};
+ghost use Rattle.iol_headline.specs.Statuses.{IsLastReported};
+ghost use Rattle.iol_master.specs.Faults.{IsCallFault, IsReadFault, IsRefused, IsUnknown, IsUntold};
+ghost use Rattle.iol_master.specs.Answers.{IsToldBy};
 ghost use Rattle.iol_master.specs.Receipts.{IsReceiptFor};
 
-use crate::caller::Caller;
+use crate::caller::{Answer, Caller, Notice};
 use crate::guarded::Guarded;
+use crossbeam_channel::Receiver;
 use iol_core::{SubmitFault, View};
 use iol_front::{Name, Pass};
+use iol_port::PortStatus;
 use iol_types::{Change, PortConfig, PortId};
 use std::alloc::{AllocError, Global};
 use std::marker::Model;
@@ -24,7 +29,7 @@ pub(crate) struct Shared<F: Name> {
     pub(crate) guarded: Mutex<Guarded<F>>,
     // the flusher has something to do
     pub(crate) work: Condvar,
-    // a port was woken, or the run ends
+    // a port was woken, what a port waits for is known, or the run ends
     pub(crate) woken: Condvar,
 }
 
@@ -65,9 +70,13 @@ pub enum CallFault {
     /// The core did not take it.
     #[error("{0}")]
     Submit(SubmitFault),
-    /// The disk failed before it was known to be durable, or no memory came for it: after a recovery it may be there or not.
+    /// The disk failed before it was known to be durable: after a recovery it may be there or not.
     #[error("not known to be durable")]
     Unsure,
+    /// It was taken, and is not written, as memory ran out for its batch. It is written later if memory is there before the master
+    /// ends.
+    #[error("out of memory to write it")]
+    Unwritten,
 }
 
 /// Why there is no answer to a read.
@@ -103,8 +112,8 @@ impl<F: Name> Client<F> {
     ///
     /// # Errors
     /// `Memory` before anything is asked for; `Submit` with the first cause for which the core refuses it; `Unsure` where the disk
-    /// failed meanwhile, or no memory came for the command within a second or so: it is still written where memory comes later. What
-    /// the client has seen is as before.
+    /// failed meanwhile; `Unwritten` where the flusher was out of memory for a second or so: the command is still written once memory
+    /// is there. What the client has seen is as before.
     pub fn configure<R: Wait>(
         &mut self,
         rt: &R,
@@ -155,16 +164,21 @@ impl<F: Name> Client<F> {
         let Ok(pass) = self.pass.another() else {
             return Err(CallFault::Memory);
         };
-        let Ok((told, notices)) = crossbeam_channel::bounded(self.alloc, 1) else {
+        let Ok((answers, heard)) = crossbeam_channel::bounded(self.alloc, 1) else {
             return Err(CallFault::Memory);
         };
-        let caller = Caller { change, pass, told };
+        let caller = Caller {
+            change,
+            pass,
+            answers,
+        };
         let number = match submit(rt, &self.shared, self.pass.count(), caller) {
             Ok(number) => number,
             Err(fault) => return Err(CallFault::Submit(fault)),
         };
-        let Ok(notice) = notices.recv(rt) else {
-            return Err(CallFault::Unsure);
+        let notice = match hear(rt, &heard) {
+            Ok(notice) => notice,
+            Err(fault) => return Err(fault),
         };
         let (at, said, mut pass) = notice.into_parts();
         // No contract follows a channel, so what comes out of it is compared.
@@ -188,6 +202,11 @@ impl<F: Name> Client<F> {
         ensures number { IfOk result (λ view. (F.front.start.number + length self.old ≤ view.number)
             × (view.number ≤ F.front.start.number + length self.new)) }
         ensures port { IfOk result (λ view. port_numbered (state_at F.front.start self.new view.number) port ≡ Some view.port) }
+        // A lawful trace has acknowledged exactly the commands that the client has seen up to that number. Each set of the port was there
+        // at the start, or is that of one whole upload of such a trace, over one connection.
+        ensures lawful { IfOk result (λ view. IsLawfulList F.front.start view.number (take (view.number - F.front.start.number) self.new)) }
+        ensures sets { IfOk result (λ view. SetsWereUploaded F.front.start view.number
+            (take (view.number - F.front.start.number) self.new) port view.port) }
         ensures refused { IfErr result (IsReadFault F.front.start.state port (F.front.start.number + length self.old)) }
     {
         let seen = self.pass.count();
@@ -199,6 +218,14 @@ impl<F: Name> Client<F> {
         }
     }
 
+    /// Returns the status of a port, or none if the master has no such port. It is what a lawful trace reported of the port last.
+    pub fn status<R: Wait>(&self, rt: &R, port: PortId) -> Option<PortStatus>
+        ensures reported { IfSome result (IsLastReported F.front.start port) }
+        ensures unknown { IfNone result (IsUnknown F.front.start.state port) }
+    {
+        self.shared.guarded.lock(rt).status(port)
+    }
+
     /// The client has then seen all that the pass has, and what the pass has seen begins what the client has. It waits for nobody,
     /// and takes no memory.
     pub fn meet(&mut self, pass: &mut Pass<F>)
@@ -207,6 +234,28 @@ impl<F: Name> Client<F> {
         ensures met { IsPrefix pass.new self.new }
     {
         self.pass.meet(pass);
+    }
+}
+
+// Waits for what becomes of a change that was taken: it is durable, or why that is not known.
+fn hear<F: Name, R: Wait>(
+    rt: &R,
+    heard: &Receiver<Answer<F>, Global>,
+) -> Result<Notice<F>, CallFault>
+    ensures { IfErr result IsUntold }
+{
+    told_by(heard.recv(rt).ok())
+}
+
+// What an answer says of a change, or that none comes any more: then the disk has failed.
+fn told_by<F: Name>(answer: Option<Answer<F>>) -> Result<Notice<F>, CallFault>
+    ensures answer { IsToldBy answer result }
+    ensures untold { IfErr result IsUntold }
+{
+    match answer {
+        Some(Answer::Durable(notice)) => Ok(notice),
+        Some(Answer::Unwritten) => Err(CallFault::Unwritten),
+        None => Err(CallFault::Unsure),
     }
 }
 
@@ -228,7 +277,11 @@ fn submit<F: Name, R: Wait>(
     ensures refused { IfErr result (IsRefused F.front.start seen (command_of caller.change)) }
 {
     for _ in rt.forever() {
-        let mut guard = shared.guarded.lock(rt);
+        let mut guard = shared.woken.wait_while(
+            rt,
+            shared.guarded.lock(rt),
+            |guarded| guarded.live_number() < seen,
+        );
         let guarded = &mut *guard;
         if guarded.live_number() >= seen {
             let answer = guarded.submit(caller);
@@ -254,6 +307,8 @@ fn view<F: Name, R: Wait>(
     ensures number { IfOk result (λ found. IfSome found (λ view. view.number ≤ F.front.start.number + length pass.new)) }
     ensures port { IfOk result (λ found. IfSome found (λ view.
         port_numbered (state_at F.front.start pass.new view.number) port ≡ Some view.port)) }
+    ensures lawful { IfOk result (λ found. IfSome found (λ view.
+        IsLawfulList F.front.start view.number (take (view.number - F.front.start.number) pass.new))) }
     ensures unknown { IfOk result (λ found. IsNone found → IsUnknown F.front.start.state port) }
     ensures memory { OnErr result (IsUnknown F.front.start.state port → ⊥) }
 {

@@ -5,10 +5,12 @@ ghost use Rattle.iol_record.specs.declared.encode.TheConstants.{LARGEST_COMMAND_
 ghost use Rattle.iol_flush.specs.Stages.{HasHistory, names_disk, need_of};
 ghost use Rattle.iol_flush.specs.declared.need.Need.TheVariants as need;
 ghost use Rattle.iol_flush.specs.declared.stage.FlushStage.TheVariants as stage;
-ghost use Rattle.iol_master.specs.Endings.{EndsFrom, MayEnd, MayTurn, MayWait};
+ghost use Rattle.iol_master.specs.Endings.{EndsFrom, HasWaited, IsEnding, LeavesAs, LeavesWaiting, MayEnd, MayTurn, MayWait, NeverMidway};
+ghost use Rattle.iol_journal.specs.Journals.{JournalView};
 ghost use Rattle.iol_master.specs.Since.{IsSince};
 
 use crate::client::Shared;
+use crate::ending::Ending;
 use crate::guarded::{Guarded, Phase};
 use iol_disk::SectorDisk;
 use iol_flush::{FlushEnd, FlushFault, Flusher, Need};
@@ -65,29 +67,55 @@ impl<D: SectorDisk, F: Name> Charge<D, F> {
 #[derive(Drop)]
 pub(crate) struct FromCharge<D: SectorDisk, F: Name>(pub(crate) Snapshot<Charge<D, F>>);
 
-impl<D: SectorDisk, F: Name> Promise<FlushEnd<D, F>> for FromCharge<D, F> {
-    ghost use Rattle.iol_master.specs.Endings.{EndsFrom};
+impl<D: SectorDisk, F: Name> Promise<Ending<D, F>> for FromCharge<D, F> {
+    ghost use Rattle.iol_master.specs.Endings.{IsEnding};
 
-    ghost kept_by = { λ p end. EndsFrom D.disk F.front.start p.0.value end };
+    ghost kept_by = { λ p ending. IsEnding D.disk F.front.start p.0.value ending };
 }
 
-// Brings batches to the disk until no more is taken and nothing waits, or a disk call fails; or until no memory is left for a batch or
-// a checkpoint, where the run is to end.
+// Brings batches to the disk until no more is taken and nothing waits, or a disk call fails; or until memory ran out for a batch or a
+// checkpoint, where the run is to end.
 pub(crate) fn flush_all<D: SectorDisk, F: Name, R: Wait + Copy>(
     rt: R,
     shared: Arc<Shared<F>, Global>,
     charge: Charge<D, F>,
-) -> FlushEnd<D, F>
-    ensures { EndsFrom D.disk F.front.start charge result }
+) -> Ending<D, F>
+    ensures { IsEnding D.disk F.front.start charge result }
 {
     let mut flusher = charge.flusher();
     let mut waits = 0;
     for _ in rt.forever() {
-        if let Turned::Ended = turn(&rt, &shared, &mut flusher, &mut waits) {
-            return flusher.end();
+        if let Turned::Ended(leaves) = turn(&rt, &shared, &mut flusher, &mut waits) {
+            return ending_of(flusher.end(), leaves);
         }
     }
     unreachable!()
+}
+
+// How a master ends whose flusher ended so.
+fn ending_of<D: SectorDisk, F: Name>(end: FlushEnd<D, F>, leaves: Leaves) -> Ending<D, F>
+    requires whole { NeverMidway end }
+    ensures ending { (first : JournalView D) → EndsFrom D.disk F.front.start first end → IsEnding D.disk F.front.start first result }
+    ensures leaves { LeavesAs leaves result }
+{
+    match (end, leaves) {
+        (FlushEnd::Closed(journal, publisher), Leaves::Nothing) => Ending::Closed(
+            journal, publisher,
+        ),
+        (FlushEnd::Closed(journal, publisher), Leaves::Unwritten) => Ending::Unwritten(
+            journal, publisher,
+        ),
+        (FlushEnd::Faulted(disk, fault), _) => Ending::Faulted(disk, fault),
+        (FlushEnd::Midway(_), _) => unreachable!(),
+    }
+}
+
+/// What a flusher that ends leaves.
+#[derive(Clone, Copy)]
+pub(crate) enum Leaves {
+    Nothing,
+    // What waits, as memory ran out for it.
+    Unwritten,
 }
 
 /// Whether the flusher goes on.
@@ -96,7 +124,7 @@ pub(crate) enum Turned {
     Made,
     // There was no memory for a batch or for a checkpoint.
     Waited,
-    Ended,
+    Ended(Leaves),
 }
 
 // Meets the flusher's next need, or waits for memory.
@@ -108,6 +136,7 @@ fn turn<D: SectorDisk, F: Name, R: Wait>(
 ) -> Turned
     ensures since { IsSince D.disk flusher.old.stage flusher.new.stage }
     ensures ended { MayEnd flusher.new.stage result }
+    ensures waited { HasWaited result waits.old waits.new }
 {
     match meet_need(rt, shared, flusher) {
         Turned::Waited => wait(rt, shared, flusher, waits),
@@ -115,12 +144,12 @@ fn turn<D: SectorDisk, F: Name, R: Wait>(
             *waits = 0;
             Turned::Made
         }
-        Turned::Ended => Turned::Ended,
+        Turned::Ended(leaves) => Turned::Ended(leaves),
     }
 }
 
-// Waits for memory. Where none came so often, those who wait for a command are let go. If the run is to end, the flusher ends too, and
-// the batch that waits is not written.
+// Waits for memory. After `MOST_WAITS` failures in a row all who wait for a command hear that it is not written. If the run is to end,
+// the flusher ends too, and leaves what waits.
 fn wait<D: SectorDisk, F: Name, R: Wait>(
     rt: &R,
     shared: &Shared<F>,
@@ -130,6 +159,8 @@ fn wait<D: SectorDisk, F: Name, R: Wait>(
     requires { MayWait flusher.old.stage }
     ensures since { IsSince D.disk flusher.old.stage flusher.new.stage }
     ensures ended { MayEnd flusher.new.stage result }
+    ensures leaves { LeavesWaiting result }
+    ensures waited { HasWaited result waits.old waits.new }
 {
     thread::yield_now();
     if *waits < MOST_WAITS {
@@ -137,11 +168,13 @@ fn wait<D: SectorDisk, F: Name, R: Wait>(
         return Turned::Waited;
     }
     *waits = 0;
-    if !shared.guarded.lock(rt).give_up() {
+    let ends = shared.guarded.lock(rt).give_up(rt);
+    shared.woken.notify_all();
+    if !ends {
         return Turned::Waited;
     }
     let _unwritten = flusher.withdraw();
-    Turned::Ended
+    Turned::Ended(Leaves::Unwritten)
 }
 
 // Meets the flusher's next need.
@@ -158,7 +191,7 @@ fn meet_need<D: SectorDisk, F: Name, R: Wait>(
         Need::BatchOrDisk => take_or_call(rt, shared, flusher),
         Need::Disk => call_disk(rt, shared, flusher),
         Need::Publish => publish(rt, shared, flusher),
-        Need::Stopped => Turned::Ended,
+        Need::Stopped => Turned::Ended(Leaves::Nothing),
     }
 }
 
@@ -176,6 +209,7 @@ fn call_disk<D: SectorDisk, F: Name, R: Wait>(
         Ok(()) => Turned::Made,
         Err(FlushFault::Disk(_)) => {
             shared.guarded.lock(rt).fail();
+            shared.woken.notify_all();
             Turned::Made
         }
         Err(FlushFault::Stopped) => Turned::Made,
@@ -196,6 +230,7 @@ fn publish<D: SectorDisk, F: Name, R: Wait>(
 {
     if let Ok(committed) = flusher.publish() {
         let _ = shared.guarded.lock(rt).acknowledge(rt, committed);
+        shared.woken.notify_all();
     }
     Turned::Made
 }
@@ -244,7 +279,7 @@ fn take<D: SectorDisk, F: Name, R: Wait>(
             thread::yield_now();
             Turned::Made
         }
-        Found::Closed => Turned::Ended,
+        Found::Closed => Turned::Ended(Leaves::Nothing),
         Found::NoMemory => Turned::Waited,
     }
 }
@@ -265,7 +300,7 @@ fn take_or_call<D: SectorDisk, F: Name, R: Wait>(
             Turned::Made
         }
         Found::Nothing => call_disk(rt, shared, flusher),
-        Found::Closed => Turned::Ended,
+        Found::Closed => Turned::Ended(Leaves::Nothing),
         Found::NoMemory => Turned::Waited,
     }
 }

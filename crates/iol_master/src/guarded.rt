@@ -1,7 +1,7 @@
-//! What the lock guards: the core, who waits for which of its commands, and what wakes the ports.
+//! What the lock guards: the engine, who waits for which of its commands, and what wakes the ports.
 
 ghost use Rattle.std.specs.Prelude.{◌≡◌, ◌++◌, ◌≤◌, [], ◌∷◌, drop, length, map, replicate, take, true, IfErr, IfOk, OnErr, OnOk};
-ghost use Rattle.std.specs.Prelude.{None, Some, IsSome, ◌-◌, slice_get, slice_index};
+ghost use Rattle.std.specs.Prelude.{None, Some, IsSome, IfNone, IfSome, ◌-◌, slice_get, slice_index};
 ghost use Rattle.std.specs.VecDeque.{deque_capacity};
 ghost use mathlib.Core.List.{IsPrefix};
 ghost use Rattle.iol_types.specs.Command.{command_of, port_asked};
@@ -13,17 +13,24 @@ ghost use Rattle.iol_core.specs.Ports.{view_at};
 ghost use Rattle.iol_core.specs.Standing.{Stands};
 ghost use Rattle.iol_core.specs.Submit.{IsSubmit, stopped_by};
 ghost use Rattle.iol_core.specs.declared.stop.StopCause.TheVariants.{Closed, DiskFailed};
-ghost use Rattle.iol_port.specs.Calls.{IsReplyTo, MayBeMade, Replies, call_of};
-ghost use Rattle.iol_port.specs.Ending.{ended};
+ghost use Rattle.iol_trace.specs.Events as trace;
+ghost use Rattle.iol_run.specs.Events.{told_of};
+ghost use Rattle.iol_run.specs.HandedSteps.{StepsHanded, settled_in, status_in};
+ghost use Rattle.iol_run.specs.Waits.{waits_at};
+ghost use Rattle.iol_run.specs.Steps.{submit_told};
+ghost use Rattle.iol_headline.specs.Lists.{IsLawfulList};
+ghost use Rattle.iol_headline.specs.Statuses.{IsLastReported};
 ghost use Rattle.iol_master.specs.Callers.{AreCallersOf, asked, ends, given_up};
+ghost use Rattle.iol_master.specs.Faults.{IsUnknown};
 ghost use Rattle.iol_master.specs.Wakes.{AreWoken, woken};
 ghost use Rattle.iol_master.specs.declared.guarded.Phase.TheVariants as phase;
 
-use crate::caller::{Caller, Notice};
-use iol_core::{AckFault, Core, QUEUE_COMMANDS, StopCause, SubmitFault, View};
+use crate::caller::{Answer, Caller, Notice};
+use iol_core::{AckFault, QUEUE_COMMANDS, StopCause, SubmitFault, View};
 use iol_front::{Committed, Name, Pass};
 use iol_journal::Batch;
-use iol_port::{CoreCall, PortMachine, Reply};
+use iol_port::{PortStatus, Want};
+use iol_run::{Engine, Exchanged, Handed, PortTold};
 use iol_types::{Change, PortId};
 use std::alloc::{AllocError, Global};
 use std::collections::VecDeque;
@@ -41,11 +48,11 @@ pub(crate) enum Phase {
     Closed,
 }
 
-/// The core, and for each command of its queue the caller that waits for it, if one does. A contract sees the record `GuardedView`
+/// The engine, and for each command of its queue the caller that waits for it, if one does. A contract sees the record `GuardedView`
 /// of `specs/Callers.antt`.
 #[derive(Drop)]
 pub(crate) struct Guarded<F: Name> {
-    core: Core<F>,
+    engine: Engine<F>,
     callers: VecDeque<Option<Caller<F>>>,
     // how often each port was woken, port 1 first
     wakes: Vec<u64>,
@@ -60,17 +67,17 @@ impl<F: Name> Model for Guarded<F> {
 
     ghost Value = { GuardedView };
 
-    ghost view = { λ g. record { core = g.core; callers = map asked g.callers.items; wakes = g.wakes.items; phase = g.phase } };
+    ghost view = { λ g. record { engine = g.engine; callers = map asked g.callers.items; wakes = g.wakes.items; phase = g.phase } };
 
-    ghost invariant = { λ g. AreCallersOf g.core.queue (map asked g.callers.items) × (QUEUE_COMMANDS ≤ deque_capacity g.callers) };
+    ghost invariant = { λ g. AreCallersOf g.engine.core.queue (map asked g.callers.items) × (QUEUE_COMMANDS ≤ deque_capacity g.callers) };
 }
 
 impl<F: Name> Guarded<F> {
-    // A core for whose commands nobody waits, of this many ports, each woken once.
-    pub(crate) fn new(alloc: Global, core: Core<F>, ports: u8) -> Result<Guarded<F>, AllocError>
-        requires { core.queue ≡ [] }
+    // An engine for whose commands nobody waits, of this many ports, each woken once.
+    pub(crate) fn new(alloc: Global, engine: Engine<F>, ports: u8) -> Result<Guarded<F>, AllocError>
+        requires { engine.core.queue ≡ [] }
         ensures { IfOk result (λ guarded. guarded ≡ record {
-          core = core;
+          engine = engine;
           callers = [];
           wakes = replicate ports 1;
           phase = phase.Running;
@@ -79,7 +86,7 @@ impl<F: Name> Guarded<F> {
         let callers = VecDeque::with_capacity(alloc, QUEUE_COMMANDS)?;
         let wakes = vec![in alloc; 1; usize::from(ports)]?;
         Ok(Guarded {
-            core,
+            engine,
             callers,
             wakes,
             phase: Phase::Running,
@@ -88,21 +95,23 @@ impl<F: Name> Guarded<F> {
 
     // The number of the last command that waits, or of the last durable one.
     pub(crate) fn live_number(&self) -> u64
-        ensures number { result ≡ live_number self.now.core }
-        ensures core { IsCore F.front.start self.now.core }
+        ensures number { result ≡ live_number self.now.engine.core }
+        ensures core { IsCore F.front.start self.now.engine.core }
     {
-        self.core.live_number()
+        self.engine.live_number()
     }
 
     // Takes a change, for which this caller waits; its port is woken, unless ports are to end. As `Core::submit`.
     pub(crate) fn submit(&mut self, caller: Caller<F>) -> Result<u64, SubmitFault>
-        ensures submit { IsSubmit self.old.core (command_of caller.change) self.new.core result }
+        ensures submit { IsSubmit self.old.engine.core (command_of caller.change) self.new.engine.core result }
+        ensures reported { self.new.engine.told ≡ self.old.engine.told ++ submit_told (command_of caller.change) result }
         ensures waits { IfOk result (λ _. self.new.callers ≡ self.old.callers ++ Some caller.change ∷ []) }
         ensures woken { IfOk result (λ _. self.new.wakes ≡ woken self.old.phase (port_asked caller.change) self.old.wakes) }
-        ensures refused { OnErr result (self.new ≡ self.old) }
+        ensures refused { OnErr result ((self.new.engine.core ≡ self.old.engine.core) × (self.new.callers ≡ self.old.callers)
+            × (self.new.wakes ≡ self.old.wakes)) }
         ensures phase { self.new.phase ≡ self.old.phase }
     {
-        let ticket = self.core.submit(caller.change)?;
+        let ticket = self.engine.submit(caller.change)?;
         wake(self.phase, &mut self.wakes, caller.change.port());
         let Ok(()) = self.callers.push_back(Some(caller)) else {
             unreachable!()
@@ -116,49 +125,82 @@ impl<F: Name> Guarded<F> {
         port: PortId,
         pass: &mut Pass<F>,
     ) -> Result<Option<View>, AllocError>
-        ensures view { IfOk result (λ view. view ≡ view_at self.old.core port) }
-        ensures memory { OnErr result (IsSome (durable_set self.old.core port)) }
-        ensures others { self.new ≡ record self.old { core = record self.old.core { seen = self.new.core.seen } } }
-        ensures kept { IsPrefix self.old.core.seen self.new.core.seen × IsPrefix pass.old pass.new }
-        ensures met { OnOk result (IsPrefix self.new.core.seen pass.new) }
-        ensures stands { Stands F.front.start self.new.core.seen self.new.core.number self.new.core.durable }
+        ensures view { IfOk result (λ view. view ≡ view_at self.old.engine.core port) }
+        ensures memory { OnErr result (IsSome (durable_set self.old.engine.core port)) }
+        ensures others { self.new ≡ record self.old {
+          engine = record self.old.engine { core = record self.old.engine.core { seen = self.new.engine.core.seen } };
+        } }
+        // The durable commands that were seen are those of a lawful trace, which is what the engine has reported.
+        ensures lawful { IsLawfulList F.front.start self.new.engine.core.number
+            (take (self.new.engine.core.number - F.front.start.number) self.new.engine.core.seen) }
+        ensures kept { IsPrefix self.old.engine.core.seen self.new.engine.core.seen × IsPrefix pass.old pass.new }
+        ensures met { OnOk result (IsPrefix self.new.engine.core.seen pass.new) }
+        ensures stands { Stands F.front.start self.new.engine.core.seen self.new.engine.core.number self.new.engine.core.durable }
         ensures unchanged { OnErr result ((self.new ≡ self.old) × (pass.new ≡ pass.old)) }
     {
-        self.core.view(port, pass)
+        let view = self.engine.view(port, pass);
+        iol_headline::engine::is_lawful(&self.engine);
+        view
     }
 
-    // Makes a call that a port asks of the core. For a Store that is taken nobody waits.
-    pub(crate) fn make(&mut self, call: CoreCall) -> Reply
-        requires { MayBeMade (call_of call) }
-        ensures replies { Replies (call_of call) self.old.core self.new.core result }
-        ensures of_the_call { IsReplyTo (call_of call) result }
+    // Returns what the engine wants of a port's link.
+    pub(crate) fn want(&self, port: PortId) -> Want {
+        self.engine.want(port)
+    }
+
+    // Returns the status of a port that is there, which is the one that was reported last.
+    pub(crate) fn status(&self, port: PortId) -> Option<PortStatus>
+        ensures status { result ≡ status_in (slice_get self.now.engine.machines (port - 1)) }
+        ensures reported { IfSome result (IsLastReported F.front.start port) }
+        ensures unknown { IfNone result (IsUnknown F.front.start.state port) }
+    {
+        iol_headline::engine::status(&self.engine, port)
+    }
+
+    // Whether a port waits for the disk.
+    pub(crate) fn waits(&self, port: PortId) -> bool
+        ensures { result ≡ waits_at self.now.engine port }
+    {
+        self.engine.waits(port)
+    }
+
+    // Whether a port is settled, or is not there.
+    pub(crate) fn is_settled(&self, port: PortId) -> bool
+        ensures { result ≡ settled_in (slice_get self.now.engine.machines (port - 1)) }
+    {
+        self.engine.is_settled(port)
+    }
+
+    // Makes a step of a port with what its link answered. Nobody waits for a Store that it takes.
+    pub(crate) fn step(
+        &mut self,
+        port: PortId,
+        handed: Handed,
+        room: Box<Exchanged>,
+    ) -> Result<PortTold, Box<Exchanged>>
+        ensures steps { IfOk result (λ told. StepsHanded port handed self.old.engine self.new.engine
+            (told_of told.called ++ told_of told.status)) }
+        ensures unchanged { OnErr result (self.new ≡ self.old) }
         ensures others { (self.new.wakes ≡ self.old.wakes) × (self.new.phase ≡ self.old.phase) }
     {
-        let before = self.core.live_number();
-        let reply = call.make(&mut self.core);
-        if before < self.core.live_number() {
+        let before = self.engine.live_number();
+        let told = self.engine.step_handed(port, handed, room);
+        if before < self.engine.live_number() {
             let Ok(()) = self.callers.push_back(None) else {
                 unreachable!()
             };
         }
-        reply
-    }
-
-    // Ends the machine of a port: a permit that it holds is returned.
-    pub(crate) fn end_port(&mut self, machine: PortMachine)
-        ensures { self.new ≡ record self.old { core = ended self.old.core machine.stage } }
-    {
-        machine.end(&mut self.core);
+        told
     }
 
     // As `Core::take_batch`.
     pub(crate) fn take_batch(&mut self, room: usize) -> Result<Option<Batch>, AllocError>
         requires { LARGEST_COMMAND_RECORD ≤ room }
-        ensures take { IfOk result (λ batch. IsTake self.old.core room self.new.core batch) }
+        ensures take { IfOk result (λ batch. IsTake self.old.engine.core room self.new.engine.core batch) }
         ensures callers { self.new.callers ≡ self.old.callers }
-        ensures unchanged { OnErr result ((has_batch self.old.core ≡ true) × (self.new ≡ self.old)) }
+        ensures unchanged { OnErr result ((has_batch self.old.engine.core ≡ true) × (self.new ≡ self.old)) }
     {
-        self.core.take_batch(room)
+        self.engine.take_batch(room)
     }
 
     // As `Core::acknowledge`; who waits for a command of the batch is told, and waits no more.
@@ -167,47 +209,54 @@ impl<F: Name> Guarded<F> {
         rt: &R,
         mut committed: Committed<F>,
     ) -> Result<u64, AckFault<F>>
-        ensures acknowledged { IfOk result (λ number. IsInFlight F.front.start self.old.core committed
-            × (self.new.core ≡ acknowledged self.old.core self.new.core.seen) × (number ≡ self.new.core.number)) }
-        ensures told { OnOk result (self.new.callers ≡ drop self.old.core.flight self.old.callers) }
-        ensures stranger { IfErr result (λ fault. IsStranger F.front.start self.old.core committed fault × (self.new ≡ self.old)) }
+        ensures acknowledged { IfOk result (λ number. IsInFlight F.front.start self.old.engine.core committed
+            × (self.new.engine.core ≡ acknowledged self.old.engine.core self.new.engine.core.seen)
+            × (number ≡ self.new.engine.core.number)) }
+        ensures reported { OnOk result (self.new.engine.told ≡ self.old.engine.told
+            ++ trace.Acknowledged self.new.engine.core.number ∷ []) }
+        ensures told { OnOk result (self.new.callers ≡ drop self.old.engine.core.flight self.old.callers) }
+        ensures stranger { IfErr result (λ fault. IsStranger F.front.start self.old.engine.core committed fault × (self.new ≡ self.old)) }
     {
-        if !self.core.awaits(&committed) {
+        if !self.engine.awaits(&committed) {
             return Err(AckFault::Stranger(committed));
         }
         tell_all(rt, &mut self.callers, &mut committed);
-        self.core.acknowledge(committed)
+        self.engine.acknowledge(committed)
     }
 
     // The disk has failed: nobody is told any more, and who waits hears that.
     pub(crate) fn fail(&mut self)
-        ensures core { self.new.core ≡ record self.old.core { stopped = Some (stopped_by self.old.core.stopped DiskFailed) } }
+        ensures core { self.new.engine.core ≡ record self.old.engine.core {
+          stopped = Some (stopped_by self.old.engine.core.stopped DiskFailed);
+        } }
+        ensures reported { self.new.engine.told ≡ self.old.engine.told ++ trace.DiskFailed ∷ [] }
         ensures callers { self.new.callers ≡ replicate (length self.old.callers) None }
         ensures phase { self.new.phase ≡ self.old.phase }
     {
-        self.core.stop(StopCause::DiskFailed);
+        self.engine.fail();
         let_go(&mut self.callers);
     }
 
-    // Memory for what waits did not come: who waits hears that. Where the run is to end nothing more is written, which is answered.
-    pub(crate) fn give_up(&mut self) -> bool
-        ensures core { self.new.core ≡ given_up self.old.phase self.old.core }
+    // Memory ran out for what waits: who waits hears that. Where the run is to end nothing more is written, which is answered.
+    pub(crate) fn give_up<R: Wait>(&mut self, rt: &R) -> bool
+        ensures core { self.new.engine.core ≡ given_up self.old.phase self.old.engine.core }
         ensures callers { self.new.callers ≡ replicate (length self.old.callers) None }
+        ensures reported { self.new.engine.told ≡ self.old.engine.told }
         ensures phase { self.new.phase ≡ self.old.phase }
         ensures ends { result ≡ ends self.old.phase }
     {
+        tell_unwritten(rt, &self.callers);
+        let_go(&mut self.callers);
         if self.phase == Phase::Running {
-            let_go(&mut self.callers);
-            false
-        } else {
-            self.fail();
-            true
+            return false;
         }
+        self.engine.stop(StopCause::OutOfMemory);
+        true
     }
 
     // Ports end where they settle, once each has been woken.
     pub(crate) fn end_ports(&mut self)
-        ensures core { (self.new.core ≡ self.old.core) × (self.new.callers ≡ self.old.callers) }
+        ensures core { (self.new.engine.core ≡ self.old.engine.core) × (self.new.callers ≡ self.old.callers) }
         ensures phase { self.new.phase ≡ phase.Ending }
         ensures woken { AreWoken self.old.wakes self.new.wakes }
     {
@@ -217,15 +266,17 @@ impl<F: Name> Guarded<F> {
 
     // No more is taken; what waits is still written.
     pub(crate) fn close(&mut self)
-        ensures core { self.new.core ≡ record self.old.core { stopped = Some (stopped_by self.old.core.stopped Closed) } }
+        ensures core { self.new.engine.core ≡ record self.old.engine.core {
+          stopped = Some (stopped_by self.old.engine.core.stopped Closed);
+        } }
         ensures callers { self.new.callers ≡ self.old.callers }
         ensures phase { self.new.phase ≡ phase.Closed }
     {
-        self.core.stop(StopCause::Closed);
+        self.engine.stop(StopCause::Closed);
         self.phase = Phase::Closed;
     }
 
-    // How far the run is.
+    // Returns how far the run is.
     pub(crate) fn phase(&self) -> Phase
         ensures { result ≡ self.now.phase }
     {
@@ -237,7 +288,7 @@ impl<F: Name> Guarded<F> {
         self.phase != Phase::Closed && self.callers.is_empty()
     }
 
-    // How often a port was woken; 0 for one that is not there.
+    // Returns how often a port was woken; 0 for one that is not there.
     pub(crate) fn wakes(&self, port: PortId) -> u64
         ensures { result ≡ slice_index self.now.wakes (port - 1) }
     {
@@ -267,6 +318,14 @@ fn wake_all(wakes: &mut [u64])
 {
     for count in wakes.iter_mut() {
         *count = count.wrapping_add(1);
+    }
+}
+
+// Tells all who wait that memory ran out.
+fn tell_unwritten<F: Name, R: Wait>(rt: &R, callers: &VecDeque<Option<Caller<F>>>) {
+    for caller in callers.iter().flatten() {
+        // A caller that is gone needs no answer.
+        let _ = caller.answers.send(rt, Answer::Unwritten);
     }
 }
 
@@ -310,10 +369,11 @@ fn tell<F: Name, R: Wait>(rt: &R, caller: Caller<F>, committed: &mut Committed<F
     let Caller {
         change,
         mut pass,
-        told,
+        answers,
     } = caller;
     committed.show(&mut pass);
     let number = committed.first() + place as u64;
-    // A caller that is gone needs no notice.
-    let _ = told.send(rt, Notice::new(number, change, pass));
+    let notice = Notice::new(number, change, pass);
+    // A caller that is gone needs no answer.
+    let _ = answers.send(rt, Answer::Durable(notice));
 }

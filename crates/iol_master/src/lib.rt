@@ -5,13 +5,13 @@
 //! waits until it is durable; its [`Receipt`] says under which number it stands. [`Master::shutdown`] ends all threads, and hands
 //! back the journal, or the disk where a call of it has failed.
 //!
-//! One lock guards the core, and each time it is held one call of the core is made; a call of the disk or of a link is made without
+//! One lock guards the engine, and each time it is held one call of it is made; a call of the disk or of a link is made without
 //! it. What is decided is decided in `iol_core`, `iol_port` and `iol_flush`, by the same calls that a run on one thread makes
-//! (`iol_run`). Of all that a master stands on, this crate alone has threads and waits. A run on one thread is offered here too:
-//! [`run_schedule`].
+//! (`iol_run`). Of all that a master stands on, this crate alone has threads and waits. A run on one thread is offered here too, with
+//! what holds of its whole trace: [`run_schedule`].
 //!
-//! Modules in reading order: `caller`, who waits and what is told; `guarded`, what the lock guards; `client`; `flushing` and
-//! `working`, the two kinds of thread; `ending`, how a master ends; `master`, which starts and ends them.
+//! Modules in reading order: `caller`, who waits and what is told; `guarded`, what the lock guards; `serving`, which ports sleep;
+//! `client`; `flushing` and `working`, the two kinds of thread; `ending`, how a master ends; `master`, which starts and ends them.
 #![tactic(auto)]
 
 mod caller;
@@ -20,9 +20,11 @@ mod ending;
 mod flushing;
 mod guarded;
 mod master;
+mod serving;
 mod working;
 
 pub use client::{CallFault, Client, ReadFault, Receipt};
 pub use ending::{Ending, StartFault};
-pub use iol_run::{Ended, Event, RunFault, Step, Task, Trace, run_schedule};
+pub use iol_headline::run_schedule;
+pub use iol_run::{Ended, Event, RunFault, Step, Task, Trace};
 pub use master::Master;

@@ -1,21 +1,20 @@
 //! The master: it starts its threads, and ends them.
 
-ghost use Rattle.std.specs.Prelude.{◌≡◌, ◌≤◌, [], length, vec_capacity, vec_len, IfErr, IfOk};
+ghost use Rattle.std.specs.Prelude.{◌≡◌, ◌≤◌, [], length, map, vec_capacity, vec_len, IfErr, IfOk};
 ghost use Rattle.iol_flush.specs.Stages.{HasHistory};
 ghost use Rattle.iol_journal.specs.Journals.{JournalView};
-ghost use Rattle.iol_master.specs.Endings.{EndsFrom, IsEnding, IsLeft, IsStartFault};
+ghost use Rattle.iol_master.specs.Endings.{IsEnding, IsLeft, IsStartFault};
 
 use crate::client::{Client, Shared};
 use crate::ending::{Ending, StartFault};
 use crate::flushing::{Charge, FromCharge, flush_all};
 use crate::guarded::Guarded;
 use crate::working::{ServedPort, serve, served_ports};
-use iol_core::Core;
 use iol_disk::SectorDisk;
-use iol_flush::FlushEnd;
 use iol_front::{Name, Pass, Publisher};
 use iol_journal::Journal;
 use iol_link::DeviceLink;
+use iol_run::Engine;
 use iol_types::MasterState;
 use std::alloc::{AllocError, Global};
 use std::marker::Model;
@@ -32,15 +31,19 @@ pub struct Master<D: SectorDisk, F: Name> {
     shared: Arc<Shared<F>, Global>,
     pass: Pass<F>,
     workers: Vec<JoinHandle<()>>,
-    flusher: PromisedHandle<FlushEnd<D, F>, FromCharge<D, F>>,
+    flusher: PromisedHandle<Ending<D, F>, FromCharge<D, F>>,
 }
 
 impl<D: SectorDisk, F: Name> Model for Master<D, F> {
+    ghost use Rattle.std.specs.Prelude.{◌≡◌, []};
     ghost use Rattle.iol_journal.specs.Journals.{JournalView};
 
     ghost Value = { JournalView D };
 
     ghost view = { λ m. m.flusher.promise.0.value };
+
+    // What a client begins with has seen nothing of the run.
+    ghost invariant = { λ m. m.pass ≡ [] };
 }
 
 impl<D: SectorDisk + Drop + Send + 'static, F: Name + 'static> Master<D, F> {
@@ -79,7 +82,8 @@ impl<D: SectorDisk + Drop + Send + 'static, F: Name + 'static> Master<D, F> {
     /// # Errors
     /// Memory ran out; nothing changes.
     pub fn client(&mut self) -> Result<Client<F>, AllocError>
-        ensures { self.new ≡ self.old }
+        ensures same { self.new ≡ self.old }
+        ensures client { IfOk result (λ client. client ≡ []) }
     {
         let pass = self.pass.another()?;
         let shared = Arc::try_clone(&self.shared)?;
@@ -87,7 +91,8 @@ impl<D: SectorDisk + Drop + Send + 'static, F: Name + 'static> Master<D, F> {
     }
 
     /// Ends the run: each port is woken once more and runs until it is settled, what waits is brought to the disk, and all threads
-    /// have ended. Where no memory comes for what waits, within a second or so, it is not written; those who waited for it heard so.
+    /// have ended. Where memory stays out for a second or so, what waits is not written, which `Unwritten` says; those who waited for it
+    /// heard so.
     pub fn shutdown<R: Threads + Wait>(self, rt: &R) -> Ending<D, F>
         ensures { IsEnding D.disk F.front.start self result }
     {
@@ -103,11 +108,7 @@ impl<D: SectorDisk + Drop + Send + 'static, F: Name + 'static> Master<D, F> {
         join_all(rt, workers);
         shared.guarded.lock(rt).close();
         shared.work.notify_all();
-        match flusher.join(rt) {
-            FlushEnd::Closed(journal, publisher) => Ending::Closed(journal, publisher),
-            FlushEnd::Faulted(disk, fault) => Ending::Faulted(disk, fault),
-            FlushEnd::Midway(_) => unreachable!(),
-        }
+        flusher.join(rt)
     }
 }
 
@@ -132,13 +133,16 @@ impl<L: DeviceLink + Drop, F: Name> Room<L, F> {
     ) -> Result<Room<L, F>, AllocError>
         requires state { state ≡ F.front.start.state }
         requires publisher { publisher.old ≡ [] }
+        requires links { vec_len links ≡ length state }
         ensures publisher { publisher.new ≡ publisher.old }
+        ensures pass { IfOk result (λ room. room.pass ≡ []) }
         ensures room { IfOk result (λ room. vec_len room.served ≤ vec_capacity room.workers) }
         ensures empty { IfOk result (λ room. vec_len room.workers ≡ 0) }
     {
         let own = publisher.pass()?;
         let pass = publisher.pass()?;
-        let shared = share(alloc, state, own, ports)?;
+        let connections = connections_of(alloc, &links)?;
+        let shared = share(alloc, state, own, ports, connections)?;
         let theirs = Arc::try_clone(&shared)?;
         let served = served_ports(alloc, &shared, links)?;
         let workers = Vec::with_capacity(alloc, served.len())?;
@@ -158,12 +162,14 @@ fn share<F: Name>(
     state: MasterState,
     pass: Pass<F>,
     ports: u8,
+    connections: Vec<u64>,
 ) -> Result<Arc<Shared<F>, Global>, AllocError>
-    requires { (state ≡ F.front.start.state) × (pass ≡ []) }
+    requires start { (state ≡ F.front.start.state) × (pass ≡ []) }
+    requires ports { vec_len connections ≡ length state }
 {
-    let core = Core::new(alloc, state, pass)?;
+    let engine = Engine::new(alloc, state, pass, connections)?;
     let shared = Shared {
-        guarded: Mutex::new(Guarded::new(alloc, core, ports)?),
+        guarded: Mutex::new(Guarded::new(alloc, engine, ports)?),
         work: Condvar::new(),
         woken: Condvar::new(),
     };
@@ -171,6 +177,17 @@ fn share<F: Name>(
         Ok(shared) => Ok(shared),
         Err(_) => Err(AllocError),
     }
+}
+
+// Returns the number of the connection of each link.
+fn connections_of<L: DeviceLink>(alloc: Global, links: &[L]) -> Result<Vec<u64>, AllocError>
+    ensures { IfOk result (λ connections. connections.items ≡ map L.number links.now) }
+{
+    let mut connections = Vec::with_capacity(alloc, links.len())?;
+    for link in links {
+        connections.push(link.connection())?;
+    }
+    Ok(connections)
 }
 
 // Starts the flusher, and then a worker for each port. Where a thread is not made, those that were end again.
@@ -185,6 +202,7 @@ fn begin<
     charge: Charge<D, F>,
     room: Room<L, F>,
 ) -> Result<Master<D, F>, StartFault<D>>
+    requires pass { room.pass ≡ [] }
     requires room { vec_len room.served ≤ vec_capacity room.workers }
     requires empty { vec_len room.workers ≡ 0 }
     ensures started { IfOk result (λ master. master ≡ charge) }
@@ -202,15 +220,15 @@ fn begin<
     let started = thread::spawn_with(
         &rt,
         promise,
-        move || -> FlushEnd<D, F>
-            ensures { EndsFrom D.disk F.front.start charge result }
+        move || -> Ending<D, F>
+            ensures { IsEnding D.disk F.front.start charge result }
         { flush_all(rt, theirs, charge) },
     );
     let flusher = match started {
         Ok(flusher) => flusher,
         Err(refused) => {
             shared.guarded.lock(&rt).close();
-            return Err(StartFault::Thread(left_by((refused.value)())));
+            return Err(StartFault::Thread(disk_of((refused.value)())));
         }
     };
     let (workers, all) = start_workers(&rt, alloc, served, workers);
@@ -261,22 +279,13 @@ fn join_all<R: Threads>(rt: &R, workers: Vec<JoinHandle<()>>) {
     }
 }
 
-// The disk that a flusher leaves.
-fn left_by<D: SectorDisk, F: Name>(end: FlushEnd<D, F>) -> D
-    ensures { (first : JournalView D) → EndsFrom D.disk F.front.start first end → IsLeft D.disk F.front.start first result }
-{
-    match end {
-        FlushEnd::Closed(journal, _) => journal.disk(),
-        FlushEnd::Midway(disk) | FlushEnd::Faulted(disk, _) => disk,
-    }
-}
-
 // The disk that a master leaves.
 fn disk_of<D: SectorDisk, F: Name>(ending: Ending<D, F>) -> D
     ensures { (first : JournalView D) → IsEnding D.disk F.front.start first ending → IsLeft D.disk F.front.start first result }
 {
     match ending {
         Ending::Closed(journal, _) => journal.disk(),
+        Ending::Unwritten(journal, _) => journal.disk(),
         Ending::Faulted(disk, _) => disk,
     }
 }

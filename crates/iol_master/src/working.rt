@@ -1,31 +1,24 @@
 //! The thread of a port.
 
-ghost use Rattle.std.specs.Prelude.{◌≡◌, false, true};
-ghost use Rattle.iol_port.specs.Calls.{IsReplyTo, MayBeMade, call_of};
-ghost use Rattle.iol_port.specs.Heard.{Fits, awaits_answer, awaits_page, is_settled};
-ghost use Rattle.iol_port.specs.declared.action.Input.TheVariants as input;
-ghost use Rattle.iol_port.specs.declared.call.Reply.{Reply as Replied};
-ghost use Rattle.iol_run.specs.PortSteps.{IsReady};
-ghost use Rattle.iol_master.specs.Served.{HearsReply};
-
 use crate::client::Shared;
-use crate::guarded::Phase;
 use iol_front::Name;
-use iol_isdu::{Request, write_request};
+use iol_isdu::write_request;
 use iol_link::{DeviceLink, Lost};
-use iol_port::{Action, CoreCall, Input, PortMachine, PortStatus, Reply};
-use iol_run::{hear_event, wake};
+use iol_port::Want;
+use iol_run::{Answered, Event, Exchanged, Handed, PortTold};
 use iol_types::{PORTS, PortId};
 use std::alloc::{AllocError, Global};
 use std::sync::{Arc, Wait};
 use std::thread;
 
-/// What a worker is given: its port, the port's link, and what the threads share.
+/// What a worker is given: its port, the port's link, what the threads share, and a buffer for an exchange, so that no step needs
+/// memory.
 #[derive(Drop)]
 pub(crate) struct ServedPort<L: DeviceLink + Drop, F: Name> {
     port: PortId,
     link: L,
     shared: Arc<Shared<F>, Global>,
+    buffer: Box<Exchanged>,
 }
 
 // A port to serve for each link, port 1 first.
@@ -42,13 +35,19 @@ pub(crate) fn served_ports<L: DeviceLink + Drop, F: Name>(
             unreachable!()
         };
         let shared = Arc::try_clone(shared)?;
-        served.push(ServedPort { port, link, shared })?;
+        let buffer = Exchanged::room(alloc)?;
+        served.push(ServedPort {
+            port,
+            link,
+            shared,
+            buffer,
+        })?;
     }
     Ok(served)
 }
 
-// Serves a port: steps of its machine over its link, one after another, until it is settled at the end of the run. A port that is off
-// waits until it is woken. A permit that is held at the end is returned.
+// Serves a port until it is settled at the end of the run. The link is asked without the lock, and the port's machine makes a step with
+// the answer under the lock. A port that is off waits until it is woken. Once a port has settled it holds no permit.
 pub(crate) fn serve<L: DeviceLink + Drop, F: Name, R: Wait + Copy>(
     rt: R,
     alloc: Global,
@@ -58,107 +57,106 @@ pub(crate) fn serve<L: DeviceLink + Drop, F: Name, R: Wait + Copy>(
         port,
         mut link,
         shared,
+        buffer,
     } = served;
-    let mut machine = PortMachine::new(alloc, port);
     let mut answered = 0;
+    let mut spare = Some(buffer);
     for _ in rt.forever() {
-        if machine.is_settled() && !goes_on(&rt, &shared, &machine, &mut answered) {
-            shared.guarded.lock(&rt).end_port(machine);
+        if !goes_on(&rt, &shared, port, &mut answered) {
             return;
         }
-        step(&rt, &shared, &mut machine, &mut link);
+        // The link is asked only once there is a buffer, so that no answer of it is lost.
+        if let Some(buffer) = buffer_of(alloc, spare.take()) {
+            spare = step(&rt, &shared, port, &mut link, buffer);
+        }
         thread::yield_now();
     }
     unreachable!()
 }
 
-// Whether a port that is settled goes on: while ports are served, once it is woken where it is off; and once more at the end.
-fn goes_on<F: Name, R: Wait>(
-    rt: &R,
-    shared: &Shared<F>,
-    machine: &PortMachine,
-    answered: &mut u64,
-) -> bool {
-    let port = machine.port();
-    let last = *answered;
-    let mut guarded = shared.guarded.lock(rt);
-    if machine.status() == PortStatus::Off {
-        guarded = shared.woken.wait_while(rt, guarded, |guarded| {
-            guarded.phase() == Phase::Running && guarded.wakes(port) == last
-        });
+// The buffer that is there, or a new one; none if there is no memory for it.
+fn buffer_of(alloc: Global, spare: Option<Box<Exchanged>>) -> Option<Box<Exchanged>> {
+    match spare {
+        Some(buffer) => Some(buffer),
+        None => Exchanged::room(alloc).ok(),
     }
-    let wakes = guarded.wakes(port);
-    *answered = wakes;
-    guarded.phase() == Phase::Running || wakes != last
 }
 
-// One step of a port: an event of its device is noted, a settled machine is woken, and what the machine then wants is done once, by a
-// call of the link or of the core.
+// Whether a port is served on. Its worker sleeps first for as long as the port has nothing to do. The next step of a settled port
+// answers all its wakes.
+fn goes_on<F: Name, R: Wait>(rt: &R, shared: &Shared<F>, port: PortId, answered: &mut u64) -> bool {
+    let last = *answered;
+    let guarded = shared.woken.wait_while(
+        rt,
+        shared.guarded.lock(rt),
+        |guarded| guarded.sleeps(port, last),
+    );
+    if guarded.is_settled(port) {
+        *answered = guarded.wakes(port);
+    }
+    guarded.is_served(port, last)
+}
+
+// Makes one step of a port, and wakes the flusher for a Store that it takes. The buffer comes back.
 fn step<L: DeviceLink, F: Name, R: Wait>(
     rt: &R,
     shared: &Shared<F>,
-    machine: &mut PortMachine,
+    port: PortId,
     link: &mut L,
-)
-    requires ready { IsReady machine.old.stage }
-    ensures ready { IsReady machine.new.stage }
-{
-    hear_event(machine, link);
-    wake(machine);
-    act(rt, shared, machine, link);
-}
-
-// What the machine wants is done.
-fn act<L: DeviceLink, F: Name, R: Wait>(
-    rt: &R,
-    shared: &Shared<F>,
-    machine: &mut PortMachine,
-    link: &mut L,
-)
-    requires ready { IsReady machine.old.stage }
-    requires open { is_settled machine.old.stage ≡ false }
-    ensures ready { IsReady machine.new.stage }
-{
-    match machine.action() {
-        Action::ReadPage => read_page(machine, link),
-        Action::Exchange(request) => exchange(machine, link, &request),
-        Action::Ask(call) => ask(rt, shared, machine, call),
-        Action::Idle => unreachable!(),
-    }
-}
-
-// Reads the page of the device.
-fn read_page<L: DeviceLink>(machine: &mut PortMachine, link: &mut L)
-    requires wants { awaits_page machine.old.stage ≡ true }
-    ensures ready { IsReady machine.new.stage }
-{
+    buffer: Box<Exchanged>,
+) -> Option<Box<Exchanged>> {
+    let event = link.take_event();
+    let want = shared.guarded.lock(rt).want(port);
     let connection = link.connection();
-    match link.read_page() {
-        Ok(octets) => machine.feed(Input::Page { connection, octets }),
-        Err(Lost) => machine.feed(Input::Lost),
+    let answer = answer_of(link, &want);
+    let handed = Handed::new(connection, event, answer);
+    let told = shared.guarded.lock(rt).step(port, handed, buffer);
+    match told {
+        Ok(told) => {
+            if has_stored(&told) {
+                shared.work.notify_all();
+            }
+            spare_of(told)
+        }
+        Err(buffer) => Some(buffer),
     }
 }
 
-// Sends a request to the device.
-fn exchange<L: DeviceLink>(machine: &mut PortMachine, link: &mut L, request: &Request)
-    requires wants { awaits_answer machine.old.stage ≡ true }
-    ensures ready { IsReady machine.new.stage }
-{
-    match link.exchange(write_request(request).as_slice()) {
-        Ok(answer) => machine.feed(Input::Octets(answer)),
-        Err(Lost) => machine.feed(Input::Lost),
+// Whether a step took a Store.
+fn has_stored(told: &PortTold) -> bool {
+    matches!(&told.called, Some(Event::Accepted { .. }))
+}
+
+// The buffer of a step, which its event holds if the step made an exchange.
+fn spare_of(told: PortTold) -> Option<Box<Exchanged>> {
+    let PortTold {
+        called,
+        status: _,
+        room,
+    } = told;
+    match called {
+        Some(Event::Exchange { octets, .. }) => Some(octets),
+        Some(
+            Event::Lost {
+                octets: Some(octets),
+                ..
+            },
+        ) => Some(octets),
+        _ => room,
     }
 }
 
-// Makes a call of the core, under the lock. For a Store that is taken the flusher is woken.
-fn ask<F: Name, R: Wait>(rt: &R, shared: &Shared<F>, machine: &mut PortMachine, call: CoreCall)
-    requires may { MayBeMade (call_of call) }
-    requires fits { (heard : Replied) → IsReplyTo (call_of call) heard → Fits machine.old.stage (input.Reply heard) }
-    ensures { HearsReply (call_of call) machine.old machine.new }
-{
-    let reply = shared.guarded.lock(rt).make(call);
-    if matches!(&reply, Reply::FinishedUpload(Ok(_))) {
-        shared.work.notify_all();
+// Asks the link for what the engine wants.
+fn answer_of<L: DeviceLink>(link: &mut L, want: &Want) -> Answered {
+    match want {
+        Want::Nothing => Answered::Nothing,
+        Want::Page => match link.read_page() {
+            Ok(octets) => Answered::Page(octets),
+            Err(Lost) => Answered::Gone,
+        },
+        Want::Answer(request) => match link.exchange(write_request(request).as_slice()) {
+            Ok(octets) => Answered::Octets(octets),
+            Err(Lost) => Answered::Gone,
+        },
     }
-    machine.feed(Input::Reply(reply));
 }

@@ -6,8 +6,8 @@ use Rattle.iol_master.proofs.Notices.{stands_at}
 use Rattle.iol_master.proofs.guarded.tell.Goals as goal
 
 -- the command stands at the number of its place
-pub new-requires-after_bounds : goal.new-requires-after_bounds
-new-requires-after_bounds g c lifetimes outlives =
+pub new-notice-requires-after_bounds : goal.new-notice-requires-after_bounds
+new-notice-requires-after_bounds g c lifetimes outlives =
     let start = g.F.Name.front.start in
     let place = c.args.place in
     stands_at start c.args.committed.now.before c.args.committed.now.commands c.show.new.pass (c.first.result + place) place

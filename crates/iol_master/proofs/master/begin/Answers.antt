@@ -1,6 +1,6 @@
 use Rattle.std.proofs.Common.{◌≡◌, refl, sym, ap, ◌∙◌, subst}
 use Rattle.iol_journal.specs.Journals.{JournalView}
-use Rattle.iol_master.specs.Endings.{EndsFrom, IsEnding}
+use Rattle.iol_master.specs.Endings.{IsEnding}
 use Rattle.iol_master.specs.declared.flushing.FromCharge.{FromCharge}
 use Rattle.iol_master.proofs.master.begin.Goals as goal
 
@@ -8,8 +8,8 @@ use Rattle.iol_master.proofs.master.begin.Goals as goal
 pub returns-in-Err-clause-fault : goal.returns-in-Err-clause-fault
 returns-in-Err-clause-fault g c =
     let same : c.in-Err.refused.value.2 ≡ c.args.charge = ap (λ f. f.2) c.in-Err.ensures.err in (
-      c.left_by.ensures c.args.charge
-          (subst (λ (first : JournalView g.row.D.Denot). EndsFrom g.D.SectorDisk.disk g.F.Name.front.start first c.spawn_with.result) same
+      c.disk_of.ensures c.args.charge
+          (subst (λ (first : JournalView g.row.D.Denot). IsEnding g.D.SectorDisk.disk g.F.Name.front.start first c.spawn_with.result) same
           c.spawn_with.ensures),
       refl,
     )
@@ -19,7 +19,7 @@ pub returns-else-all-clause-fault : goal.returns-else-all-clause-fault
 returns-else-all-clause-fault g c =
     let promise : c.in-Ok.flusher.promise.0.value ≡ c.args.charge =
     ap (λ (p : FromCharge g.row.D.Denot g.row.F.Denot). p.0.value) c.in-Ok.ensures.ok ∙ c.of.ensures in (
-      c.disk_of.ensures c.args.charge
+      c.disk_of-else-all.ensures c.args.charge
           (subst (λ (first : JournalView g.row.D.Denot). IsEnding g.D.SectorDisk.disk g.F.Name.front.start first c.shutdown.result) promise
           c.shutdown.ensures),
       refl,
@@ -31,4 +31,4 @@ returns-then-all-clause-started g c =
 
 pub spawn_with-started-requires-clause-keeps : goal.spawn_with-started-requires-clause-keeps
 spawn_with-started-requires-clause-keeps g c lifetimes outlives end ends =
-    subst (λ (first : JournalView g.row.D.Denot). EndsFrom g.D.SectorDisk.disk g.F.Name.front.start first end) (sym c.of.ensures) ends
+    subst (λ (first : JournalView g.row.D.Denot). IsEnding g.D.SectorDisk.disk g.F.Name.front.start first end) (sym c.of.ensures) ends

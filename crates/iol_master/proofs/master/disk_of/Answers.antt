@@ -11,3 +11,12 @@ returns-in-Closed g c = λ first ends.
       subst (λ (e : Ending g.row.D.Denot g.row.F.Denot). IsEnding g.D.SectorDisk.disk g.F.Name.front.start first e) c.in-Closed.is ends,
       c.disk.ensures,
     )
+
+pub returns-in-Unwritten : goal.returns-in-Unwritten
+returns-in-Unwritten g c = λ first ends.
+    inr (
+      c.in-Unwritten.journal,
+      c.in-Unwritten.field-1,
+      subst (λ (e : Ending g.row.D.Denot g.row.F.Denot). IsEnding g.D.SectorDisk.disk g.F.Name.front.start first e) c.in-Unwritten.is ends,
+      c.disk-in-Unwritten.ensures,
+    )

@@ -2,7 +2,7 @@ use Rattle.std.proofs.Common.{◌≡◌, ℕ, ◌+◌, List, length, ap, ◌∙�
 use mathlib.Core.List.{IsPrefix}
 use Rattle.iol_types.specs.Command.{CommandValue, command_of}
 use Rattle.iol_master.specs.Faults.{IsRefused}
-use Rattle.iol_master.proofs.Notices.{has_receipt, unmoved}
+use Rattle.iol_master.proofs.Notices.{has_receipt, unmoved, untold}
 use Rattle.iol_master.proofs.client.Client.ask.Goals as goal
 
 pub returns-clause-kept : goal.returns-clause-kept
@@ -43,11 +43,14 @@ returns-in_default-bounded-clause-refused g c = (c.another.ensures.same ∙ c.se
 pub returns-in-Err-clause-kept : goal.returns-in-Err-clause-kept
 returns-in-Err-clause-kept g c = unmoved c.args.self.now c.another.new.self (c.another.ensures.same ∙ c.self.view_is)
 
-pub returns-in_default-recv-clause-kept : goal.returns-in_default-recv-clause-kept
-returns-in_default-recv-clause-kept g c = unmoved c.args.self.now c.another.new.self (c.another.ensures.same ∙ c.self.view_is)
+pub returns-in-Err-hear-clause-kept : goal.returns-in-Err-hear-clause-kept
+returns-in-Err-hear-clause-kept g c = unmoved c.args.self.now c.another.new.self (c.another.ensures.same ∙ c.self.view_is)
 
-pub returns-in_default-recv-clause-refused : goal.returns-in_default-recv-clause-refused
-returns-in_default-recv-clause-refused g c = (c.another.ensures.same ∙ c.self.view_is, tt)
+pub returns-in-Err-hear-clause-refused : goal.returns-in-Err-hear-clause-refused
+returns-in-Err-hear-clause-refused g c = (
+  c.another.ensures.same ∙ c.self.view_is,
+  untold g.F.Name.front.start _ (command_of c.args.change) c.in-Err-hear.fault c.in-Err-hear.ensures,
+)
 
 pub returns-then-at-number-clause-kept : goal.returns-then-at-number-clause-kept
 returns-then-at-number-clause-kept g c = unmoved c.args.self.now c.another.new.self (c.another.ensures.same ∙ c.self.view_is)

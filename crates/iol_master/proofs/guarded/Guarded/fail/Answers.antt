@@ -9,7 +9,7 @@ use Rattle.iol_master.proofs.guarded.Guarded.fail.Goals as goal
 pub invariant_of-self : goal.invariant_of-self
 invariant_of-self g c =
     let i = c.self.inside in (
-      nobody_left i.core.queue c.stop.new.self.queue (map asked i.callers.items) _ (length i.callers.items) c.self.invariant.0
-          (ap (λ (core : CoreView). length core.queue) c.stop.ensures) (length-map i.callers.items asked) c.let_go.ensures.none,
+      nobody_left i.engine.core.queue c.fail.new.self.core.queue (map asked i.callers.items) _ (length i.callers.items) c.self.invariant.0
+          (ap (λ (core : CoreView). length core.queue) c.fail.ensures.core) (length-map i.callers.items asked) c.let_go.ensures.none,
       omega (arith, c.self.invariant.1, c.let_go.ensures.room),
     )

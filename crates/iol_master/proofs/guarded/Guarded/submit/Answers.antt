@@ -18,10 +18,10 @@ unreachable-requires g c =
     (c.push_back.ensures.succeeds
     (omega (
       arith,
-      as_many i.core.queue (map asked i.callers.items) c.self.invariant.0,
+      as_many i.engine.core.queue (map asked i.callers.items) c.self.invariant.0,
       length-map i.callers.items asked,
       i.callers.ok.0,
-      submit_room i.core (command_of c.args.caller.change) c.in_ok-ticket.ensures.0,
+      submit_room i.engine.core (command_of c.args.caller.change) c.in_ok-ticket.ensures.submit.0,
       c.self.invariant.1,
     )))
     c.in_default.is
@@ -31,18 +31,18 @@ pub invariant_of-self-2 : goal.invariant_of-self-2
 invariant_of-self-2 g c =
     let i = c.self.inside in
     let change = c.args.caller.change in
-    let queued = ap (λ (core : CoreView). core.queue) c.in_ok-ticket.ensures.2 in (
-      subst (λ (ws : List (Option Change)). AreCallersOf c.submit.new.self.queue ws)
+    let queued = ap (λ (core : CoreView). core.queue) c.in_ok-ticket.ensures.submit.2 in (
+      subst (λ (ws : List (Option Change)). AreCallersOf c.submit.new.self.core.queue ws)
           (sym (ap (map asked) c.in-Ok.ensures.items ∙ map-append asked i.callers.items (Some c.args.caller ∷ [])))
           (subst (λ (q : List CommandValue). AreCallersOf q (map asked i.callers.items ++ Some change ∷ [])) (sym queued)
-          (waits_more i.core.queue (map asked i.callers.items) (command_of change) (Some change) c.self.invariant.0 (refl, tt))),
+          (waits_more i.engine.core.queue (map asked i.callers.items) (command_of change) (Some change) c.self.invariant.0 (refl, tt))),
       omega (arith, c.self.invariant.1, c.in-Ok.ensures.capacity),
     )
 
 -- a command that is refused changes nobody's place
 pub invariant_of-self : goal.invariant_of-self
 invariant_of-self g c = (
-  subst (λ (core : CoreView). AreCallersOf core.queue (map asked c.self.inside.callers.items)) (sym c.in_err-ticket.ensures.1)
+  subst (λ (core : CoreView). AreCallersOf core.queue (map asked c.self.inside.callers.items)) (sym c.in_err-ticket.ensures.submit.1)
       c.self.invariant.0,
   c.self.invariant.1,
 )
@@ -51,10 +51,10 @@ pub returns-clause-submit : goal.returns-clause-submit
 returns-clause-submit g c =
     let command = command_of c.args.caller.change in
     subst (λ (core : CoreView). (submit_fault core command ≡ None) × (c.number.result ≡ live_number core + 1)
-    × (c.submit.new.self ≡ queued core command)) (ap (λ (v : GuardedView). v.core) c.self.view_is) (
-      c.in_ok-ticket.ensures.0,
-      c.number.ensures ∙ c.in_ok-ticket.ensures.1,
-      c.in_ok-ticket.ensures.2,
+    × (c.submit.new.self.core ≡ queued core command)) (ap (λ (v : GuardedView). v.engine.core) c.self.view_is) (
+      c.in_ok-ticket.ensures.submit.0,
+      c.number.ensures ∙ c.in_ok-ticket.ensures.submit.1,
+      c.in_ok-ticket.ensures.submit.2,
     )
 
 pub returns-clause-waits : goal.returns-clause-waits
