@@ -114,9 +114,10 @@ give_back() {
     rm -rf "$room"
 }
 
-# The words for `rt` that prove and build a crate with so many jobs.
+# The words for `rt` that prove and build a crate with so many jobs. `rt` says how many tests and other programs have.
 words_of() {
-    case " $main $also " in
+    case "$main $also " in
+        "$1 "*) echo "run --jobs $2 -- --help" ;;
         *" $1 "*) if [ -e "$top/crates/$1/src/main.rt" ]; then echo "run -- --help"; else echo test; fi ;;
         *) echo "lib --jobs $2" ;;
     esac
@@ -162,8 +163,10 @@ ready() {
 start_next() {
     set -- $(ready)
     [ $# -gt 0 ] || return 1
+    # A crate that has ended may not be collected yet.
+    beside=$(for other in $running; do ended "$other" || echo "$other"; done)
     jobs=1
-    [ $# -gt 1 ] || [ -n "$running" ] || jobs=$at_once
+    [ $# -gt 1 ] || [ -n "$beside" ] || jobs=$at_once
     number=$((number + 1))
     say "crate $number of $count: $1"
     (exec 9>&-; build_crate "$1" "$jobs") &

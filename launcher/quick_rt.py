@@ -2,7 +2,7 @@
 """Runs `rt` with the words given, and makes the sum of each crate's sources once.
 
 `rt` compares sums to see what is built already. It makes the sum of a crate anew for each way that leads down to the crate: there are
-some 87,000 ways down from the program, so that most of a proof's time went there. Nothing else is changed: behind each call of the
+some 61,000 ways down from the program, so that most of a proof's time went there. Nothing else is changed: behind each call of the
 prover or the compiler all sums are made anew, so that a source that was changed meanwhile is seen. An `rt` that is another program than
 this one knows is run as it is.
 """

@@ -75,7 +75,7 @@ port_lines number (port ∷ ports) = port_text number port ++ port_lines (number
 abbrev pub recovered_text : ℕ → State → List ℕ
 recovered_text number state = codes "recovered " ++ (decimal number ++ (codes "\n" ++ port_lines 1 state))
 
--- a text tells the state on a disk: that which each of its images means, after so many commands (format, Texts)
+-- a text tells a number and a state: of an honest disk those that what is read of it means (format, Texts)
 abbrev pub TellsState : Disk → List ℕ → Type 0
 TellsState disk text =
     (number : ℕ) × (state : State) × Shows disk (λ image. meaning disk.sectors image ≡ Ok (record { number = number; state = state }))

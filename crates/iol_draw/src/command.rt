@@ -5,10 +5,11 @@ ghost use Rattle.iol_commands.specs.Runs.{CanRun, IsCause, IsSilentOver};
 ghost use Rattle.iol_draw.specs.Drawn.{TellsDrawn, drawn_text};
 
 use crate::numbers::numbers_of;
+use crate::picture::picture_of;
+use crate::stop_text::Numbers;
 use iol_commands::{Fault, print, read_playable, report, write_picture};
 use iol_disk::{LockFile, Pick};
 use iol_explain::{Explained, explained_run};
-use iol_picture::{Numbers, picture_of};
 use std::alloc::{AllocError, Global};
 use std::fs::OpenFile;
 use std::io::Write;

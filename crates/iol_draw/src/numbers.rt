@@ -5,10 +5,10 @@ ghost use Rattle.iol_commands.specs.Devices.{MayVisit};
 ghost use Rattle.iol_commands.specs.Fault.{status_of};
 ghost use Rattle.iol_commands.specs.Played.{IsSaidGeometry};
 
+use crate::stop_text::Numbers;
 use iol_commands::{Fault, empty_disk, make_run, stop};
 use iol_disk::Pick;
 use iol_journal::Geometry;
-use iol_picture::Numbers;
 use iol_script::Script;
 use std::alloc::Global;
 

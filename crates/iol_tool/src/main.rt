@@ -1,8 +1,19 @@
-//! `iolmaster`, the program: the commands of `iol_program` over its words, standard output and standard error.
+//! `iolmaster`, the program: the command that the words of the command line name, carried out.
+//!
+//! In come the words of the program; out comes the exit status, with what the command writes to standard output and standard
+//! error. The words are read by `iol_words`; the commands themselves are those of `iol_commands`, `iol_check`, `iol_explain`,
+//! `iol_draw`, `iol_view` and `iol_live`.
+//!
+//! Modules in reading order: `arguments` carries out over writers what words ask for, `script_file` reads a script from its
+//! file, and `version` has what `--version` prints.
 #![tactic(auto)]
 
+mod arguments;
+mod script_file;
+mod version;
+
+use arguments::run_program;
 use iol_live::Telling;
-use iol_program::run_program;
 use std::io::IsTerminal;
 use std::process::ExitCode;
 

@@ -14,7 +14,7 @@ ReadsAs number state text = (json : List ℕ) × (text ≡ json ++ codes "\n") �
 abbrev pub IsSomeState : List ℕ → Type 0
 IsSomeState text = (number : ℕ) × (state : State) × ReadsAs number state text
 
--- a text reads as the state on a disk: that which each of its images means, after so many commands (format, JSON)
+-- a text reads as a number and a state: of an honest disk those that what is read of it means (format, JSON)
 abbrev pub TellsStateAsJson : Disk → List ℕ → Type 0
 TellsStateAsJson disk text =
     (number : ℕ) × (state : State) × Shows disk (λ image. meaning disk.sectors image ≡ Ok (record { number = number; state = state }))

@@ -32,8 +32,8 @@ use Rattle.iol_view.specs.declared.map_outcome.Outcome.TheVariants as ending
 use Rattle.iol_view.specs.declared.map_slots.Reach.{Reach}
 use Rattle.iol_view.specs.declared.map_slots.Reach.TheVariants as reach
 
--- what a recovery of a disk comes to: the number of commands after which each of its images has a state, or the first
--- cause why they have none (format, Maps)
+-- what a recovery comes to: of an honest disk the number that what is read of it means, or the first cause why it means none
+-- (format, Maps)
 abbrev pub TellsOutcome : Disk → Outcome → Type 0
 TellsOutcome disk (ending.Recovered number) =
     (state : State) × Shows disk (λ image. meaning disk.sectors image ≡ Ok (record { number = number; state = state }))

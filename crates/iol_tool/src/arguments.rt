@@ -19,10 +19,10 @@ use std::rt::{Env, Files};
 use std::sync::Wait;
 use std::thread::Threads;
 
-/// Carries out the command that the program's words name, and returns the exit status: 2 where the words are wrong, 0 for
-/// help and the version, and else that of the command. Of a master that runs, `err` is told what `telling` says, unless the
-/// words ask for receipts.
-pub fn run_program<
+// Carries out the command that the program's words name, and returns the exit status: 2 where the words are wrong, 0 for
+// help and the version, and else that of the command. Of a master that runs, `err` is told what `telling` says, unless the
+// words ask for receipts.
+pub(crate) fn run_program<
     F: FileExt + OpenFile + LockFile + Drop + Send + 'static,
     R: Env + Files<File = F> + AllocGlobal + Threads + Wait + Copy + Send + 'static,
     W: Write,
@@ -44,8 +44,8 @@ fn words<R: Env + AllocGlobal>(rt: &R) -> Result<Vec<String>, Fault<'static>> {
     }
 }
 
-/// Carries out the command that these words name, the first of which is the name of the program.
-pub fn run_words<
+// Carries out the command that these words name, the first of which is the name of the program.
+fn run_words<
     F: FileExt + OpenFile + LockFile + Drop + Send + 'static,
     R: Files<File = F> + AllocGlobal + Threads + Wait + Copy + Send + 'static,
     W: Write,

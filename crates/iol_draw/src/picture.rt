@@ -18,9 +18,9 @@ const STOP_WIDTH: usize = 420;
 // How wide a picture is at least, for its legend.
 const LEAST_WIDTH: usize = 820;
 
-/// The picture of a run in SVG (docs/FORMATS.md, "Pictures of runs"), whose stop keeps this, with the numbers of the last
-/// commands that are recovered behind each kind of stop.
-pub fn picture_of(
+// The picture of a run in SVG (docs/FORMATS.md, "Pictures of runs"), whose stop keeps this, with the numbers of the last
+// commands that are recovered behind each kind of stop.
+pub(crate) fn picture_of(
     alloc: Global,
     run: &Explained,
     keep: Pick,

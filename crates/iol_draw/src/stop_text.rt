@@ -10,17 +10,17 @@ const TOP: usize = 40;
 // The lines before those of sectors.
 const FRONT: usize = 7;
 
-/// The number of the last command that is recovered behind a stop, by what the stop keeps of each sector that no sync has
-/// settled.
+// The number of the last command that is recovered behind a stop, by what the stop keeps of each sector that no sync has
+// settled.
 #[derive(Clone, Copy)]
-pub struct Numbers {
-    /// What was durable before.
+pub(crate) struct Numbers {
+    // What was durable before.
     pub old: u64,
-    /// What was written.
+    // What was written.
     pub new: u64,
-    /// Zeros.
+    // Zeros.
     pub zero: u64,
-    /// A pattern.
+    // A pattern.
     pub pattern: u64,
 }
 
