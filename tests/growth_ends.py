@@ -309,6 +309,23 @@ class Check(Subject):
         return "whole" if said.told == self.whole.told else "out of memory" if said.told == MEMORY else None
 
 
+class Misfit(Subject):
+    """A batch that does not follow its journal: where the batch finds no memory, that is told in place of the misfit."""
+
+    def end_of_all(self, said):
+        return self.end(said)
+
+    def end(self, said):
+        if said.told == self.whole.told == ("Misfit behind 0 commands\n", "", 0):
+            return "whole"
+        if said.told == ("Memory behind 0 commands\n", "", 0):
+            return "out of memory in place of a misfit"
+        out, errors, status = said.told
+        before = (*NO_MEMORY, "Error: a sync of the disk failed\n", "Error: no recovery\n")
+        is_before = out == "" and status == 1 and errors in before
+        return "out of memory before the batch" if is_before else None
+
+
 @dataclasses.dataclass
 class Schedule(Subject):
     """A run of `iol_plays` with one schedule, which says with all memory what is wanted."""

@@ -120,6 +120,10 @@ fn end<D: SectorDisk + Drop + Send + 'static, F: Name + 'static, R: Threads + Wa
             writeln!(out, "closed behind {}", journal.number())?;
             Ok(journal.disk())
         }
+        Ending::Unwritten(journal, _publisher) => {
+            writeln!(out, "out of memory behind {}", journal.number())?;
+            Ok(journal.disk())
+        }
         Ending::Faulted(disk, fault) => {
             writeln!(out, "{fault}")?;
             Ok(disk)

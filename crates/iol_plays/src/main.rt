@@ -10,12 +10,16 @@
 //!   master while they ask.
 //! - `iol_plays clients SCRIPT.toml 2 PAGES CLIENT..` runs it on a new disk in memory with the devices of a script, and prints what a
 //!   recovery then finds behind a power stop.
+//! - `iol_plays again KIND N CLIENT..` runs a master on a new disk in memory of which the N-th `read`, `write` or `sync` fails, counted
+//!   from its recovery, and a second one on the disk that it hands back. Prints what a recovery then finds behind a power stop.
+//! - `iol_plays misfit` hands a journal a batch that does not follow, also where memory runs out, and prints why it is refused.
 //! - `iol_plays two_clients` plays an example to read (`two_clients`).
 //! - `iol_plays measure FOLDER ROUNDS` times a journal on files in a folder (`measures`); `bench/run` makes medians of it.
 //! - `iol_plays longest FOLDER TURNS` times commits with so many turns of the flusher between two of them; `bench/longest` shows the
 //!   median and the longest.
 #![tactic(auto)]
 
+mod again;
 mod asking;
 mod behind;
 mod clients;
@@ -23,22 +27,35 @@ mod live;
 mod master;
 mod measures;
 mod meeting_link;
+mod misfit;
 mod schedule;
 mod two_clients;
 
+use again::play_again;
 use anyhow::bail;
 use clients::{empty_links, meeting, play_clients};
 use iol_commands::opened;
 use live::text_of_live;
 use master::play_in_memory;
 use measures::{measure, time_commits};
+use misfit::play_misfit;
 use schedule::{play_schedule, show};
 use two_clients::play_two_clients;
 
 fn main(rt: HostRuntime) -> anyhow::Result<()> {
     let words: Vec<String> = std::env::args(&rt)?.collect(rt.alloc())?;
     match words.as_slice() {
-        [_, _two_clients] => play_two_clients(&rt, rt.alloc(), &mut rt.stdout()),
+        [_, play] => {
+            if play.as_str() == "misfit" {
+                return play_misfit(rt.alloc(), &mut rt.stdout());
+            }
+            play_two_clients(&rt, rt.alloc(), &mut rt.stdout())
+        }
+        [_, play, kind, nth, clients @ ..] if play.as_str() == "again" => {
+            let (kind, nth) = (kind.as_str(), nth.as_str().parse()?);
+            let out = &mut rt.stdout();
+            show(&rt, play_again(&rt, rt.alloc(), kind, nth, clients, out)?)
+        }
         [_, play, path] => {
             let script = std::fs::read(&rt, path.as_str())?;
             if play.as_str() == "schedule" {

@@ -21,8 +21,8 @@ use std::thread::Threads;
 
 const PORTS: u16 = 2;
 
-// A disk with an empty journal of two ports.
-fn formatted(alloc: Global) -> anyhow::Result<MemoryDisk> {
+/// A disk with an empty journal of two ports and four slots.
+pub(crate) fn formatted(alloc: Global) -> anyhow::Result<MemoryDisk> {
     let Some(geometry) = Geometry::new(PORTS, 4) else {
         bail!("no geometry")
     };
@@ -71,6 +71,7 @@ fn end<F: Name + 'static, R: Threads + Wait, W: Write>(
 ) -> anyhow::Result<()> {
     let number = match master.shutdown(rt) {
         Ending::Closed(journal, _) => journal.number(),
+        Ending::Unwritten(_, _) => bail!("out of memory"),
         Ending::Faulted(_, _) => bail!("the disk failed"),
     };
     writeln!(out, "closed behind {number} commands")?;

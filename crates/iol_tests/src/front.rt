@@ -13,8 +13,8 @@ use std::sync::Wait;
 use std::thread;
 use std::thread::Threads;
 
-// Publishes a Clear behind what the journal has.
-fn publish_clear<F: Name, R: Abort>(
+/// Publishes a Clear behind what the journal has.
+pub fn publish_clear<F: Name, R: Abort>(
     rt: &R,
     alloc: Global,
     journal: Journal<MemoryDisk>,
@@ -78,4 +78,53 @@ fn publish_three<F: Name + 'static, R: Threads + Wait + Abort + Sync>(
     two.meet(&mut there);
     assert!(rt; there.count() == 3 && two.count() == 3);
     there.retire();
+}
+
+#[test]
+fn a_look_sees_what_is_published_by_then(rt: HostRuntime) {
+    let (journal, state) = empty_journal(&rt, rt.alloc());
+    let front = Front::new(rt.alloc(), journal.number(), &state).expect(&rt, "memory");
+    look_between::<Brand, _>(&rt, rt.alloc(), front, journal);
+}
+
+fn look_between<F: Name, R: Abort>(
+    rt: &R,
+    alloc: Global,
+    front: Front,
+    journal: Journal<MemoryDisk>,
+)
+    requires name { front ≡ F.front }
+    requires number { front.start.number ≡ journal.standing.number }
+{
+    let mut publisher = front.publisher::<F>();
+    let mut pass = publisher.pass().expect(rt, "a pass");
+    assert!(rt; pass.look() == 0);
+    let (journal, _) = publish_clear(rt, alloc, journal, &mut publisher);
+    assert!(rt; pass.count() == 0 && pass.look() == 1 && pass.look() == 1);
+    let (_, _) = publish_clear(rt, alloc, journal, &mut publisher);
+    assert!(rt; pass.count() == 1 && pass.look() == 2 && pass.count() == 2);
+}
+
+#[test]
+fn a_pass_that_is_retired_takes_nothing_from_others(rt: HostRuntime) {
+    let (journal, state) = empty_journal(&rt, rt.alloc());
+    let front = Front::new(rt.alloc(), journal.number(), &state).expect(&rt, "memory");
+    retire_one::<Brand, _>(&rt, rt.alloc(), front, journal);
+}
+
+fn retire_one<F: Name, R: Abort>(rt: &R, alloc: Global, front: Front, journal: Journal<MemoryDisk>)
+    requires name { front ≡ F.front }
+    requires number { front.start.number ≡ journal.standing.number }
+{
+    let mut publisher = front.publisher::<F>();
+    let mut kept = publisher.pass().expect(rt, "a pass");
+    let mut retired = kept.another().expect(rt, "a pass");
+    let (journal, _) = publish_clear(rt, alloc, journal, &mut publisher);
+    assert!(rt; retired.look() == 1);
+    retired.retire();
+    assert!(rt; kept.count() == 0 && kept.look() == 1);
+    let (_, mut last) = publish_clear(rt, alloc, journal, &mut publisher);
+    last.show(&mut kept);
+    let next = publisher.pass().expect(rt, "a pass");
+    assert!(rt; kept.count() == 2 && next.count() == 2);
 }

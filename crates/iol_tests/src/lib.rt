@@ -8,7 +8,8 @@
 //! - `paused`: a checkpoint that is paused while batches are written. `older_layout`: the one that renews a disk of an earlier release.
 //! - `largest`: the largest record of a command, and batches that do not follow behind others. `full_ports`: that of a port, and the
 //!   checkpoint of ports with the largest sets.
-//! - `front`, `core_reads`, `flush`: passes of two threads, a view of a port with a set, batches that do not fit.
+//! - `front`, `core_reads`, `flush`: passes of two threads, a view of a port with a set, batches that do not fit. `stranger`: a batch
+//!   that a core did not take.
 //! - `cut_file`: a file of which a read has failed. `no_link`: a run of a port without a link. `texts`: the texts of faults.
 //!
 //! `blank` and `scene` have what they begin with.
@@ -58,5 +59,7 @@ mod random_told;
 mod rows;
 #[cfg(test)]
 mod scene;
+#[cfg(test)]
+mod stranger;
 #[cfg(test)]
 mod texts;

@@ -1,0 +1,46 @@
+//! Two masters, one after another, on a disk in memory of which a call fails.
+
+use crate::clients::{empty_links, meeting, play_clients};
+use crate::two_clients::formatted;
+use iol_disk::{DiskFault, FaultDisk, MemoryDisk};
+use std::alloc::Global;
+use std::io::{Input, Write};
+use std::sync::Wait;
+use std::thread::Threads;
+
+/// Runs a master on a new disk of which one call of a kind fails, this one counted from its recovery, and a second master on the disk
+/// that it hands back, and gives that disk. Prints what the clients of each are answered, and how each ends.
+pub(crate) fn play_again<R: Threads + Wait + Input + Copy + Send + 'static, W: Write>(
+    rt: &R,
+    alloc: Global,
+    kind: &str,
+    nth: u64,
+    words: &[String],
+    out: &mut W,
+) -> anyhow::Result<MemoryDisk> {
+    let disk = FaultDisk::new(formatted(alloc)?, fault_named(kind), nth);
+    let disk = serve(rt, alloc, disk, words, out)?;
+    let disk = serve(rt, alloc, disk, words, out)?;
+    Ok(disk.disk())
+}
+
+// A call of the disk, by its name.
+fn fault_named(kind: &str) -> DiskFault {
+    match kind {
+        "read" => DiskFault::Read,
+        "write" => DiskFault::Write,
+        _ => DiskFault::Sync,
+    }
+}
+
+// Runs a master at whose ports no device is, and gives the disk that it hands back.
+fn serve<R: Threads + Wait + Input + Copy + Send + 'static, W: Write>(
+    rt: &R,
+    alloc: Global,
+    disk: FaultDisk<MemoryDisk>,
+    words: &[String],
+    out: &mut W,
+) -> anyhow::Result<FaultDisk<MemoryDisk>> {
+    let links = meeting(alloc, empty_links(alloc, 2)?, 0)?;
+    play_clients(rt, alloc, disk, links, words, out)
+}
