@@ -1,13 +1,13 @@
 //! The lines of an event (docs/FORMATS.md, "Texts").
 ghost use Rattle.std.specs.Prelude.{◌≡◌};
 ghost use Rattle.std.specs.Fmt.{WritesOnOk};
-ghost use Rattle.iol_run.specs.Events.{event_of};
+ghost use Rattle.iol_engine.specs.Events.{event_of};
 ghost use Rattle.iol_commands.specs.Lines.{octets_line, event_text};
 
 use crate::names::refusal_name;
 use crate::octets::Spaced;
 use crate::status_text::StatusText;
-use iol_run::Event;
+use iol_engine::Event;
 use iol_types::PortId;
 use std::fmt;
 

@@ -1,13 +1,14 @@
 //! The text of a run: its trace, and the state that was recovered (docs/FORMATS.md, "Texts").
 ghost use Rattle.std.specs.Prelude.{◌≡◌};
 ghost use Rattle.std.specs.Fmt.{WritesOnOk};
-ghost use Rattle.iol_run.specs.Events.{event_of};
+ghost use Rattle.iol_engine.specs.Events.{event_of};
 ghost use Rattle.iol_commands.specs.Lines.{lost_in, is_said, lines_behind, lines_of, events_of};
 
 use crate::event_text::write_event;
 use crate::run::Report;
 use iol_port::PortStatus;
-use iol_run::{Event, Stamped};
+use iol_engine::Event;
+use iol_run::Stamped;
 use iol_types::PortId;
 use std::fmt;
 

@@ -2,7 +2,7 @@
 use Rattle.std.specs.Prelude.{ℕ, if◌then◌else◌, List, [], ◌∷◌, ◌++◌, length, codes}
 use Rattle.iol_types.specs.State.{State}
 use Rattle.iol_journal.specs.Geometry.{Geometry}
-use Rattle.iol_run.specs.Events.{event_of}
+use Rattle.iol_engine.specs.Events.{event_of}
 use Rattle.iol_run.specs.declared.run.Stamped.{Stamped}
 use Rattle.iol_trace.specs.Events.{Event}
 use Rattle.iol_commands.specs.Lines.{is_said}

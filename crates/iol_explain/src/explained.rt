@@ -1,6 +1,6 @@
 //! A run that is explained: its lines with their words, and between them those of disk calls.
 ghost use Rattle.std.specs.Fmt.{WritesOnOk};
-ghost use Rattle.iol_run.specs.Events.{event_of};
+ghost use Rattle.iol_engine.specs.Events.{event_of};
 ghost use Rattle.iol_explain.specs.Explained.{run_lines, told_text, unsaid_lines};
 
 use crate::disk_lines::{calls_between, calls_of_run, write_calls};

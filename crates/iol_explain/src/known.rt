@@ -14,7 +14,7 @@ use crate::row::{Row, row_of};
 use iol_dsindex::StateProperty;
 use iol_isdu::Answer;
 use iol_port::PortStatus;
-use iol_run::ToldWork;
+use iol_engine::ToldWork;
 use iol_types::Validation;
 
 // What was told of a port so far: its work, and what it has read of its device since it began to look at it.

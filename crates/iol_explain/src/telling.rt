@@ -1,11 +1,12 @@
 //! What the lines before an event have told.
 ghost use Rattle.std.specs.Prelude.{◌≡◌};
-ghost use Rattle.iol_run.specs.Events.{event_of};
+ghost use Rattle.iol_engine.specs.Events.{event_of};
 ghost use Rattle.iol_explain.specs.Telling.{after, first, known_after, known_at, known_for, port_of};
 
 use crate::known::Known;
 use iol_commands::lost_port;
-use iol_run::{Event, Stamped};
+use iol_engine::Event;
+use iol_run::Stamped;
 use iol_types::{PORTS, PortId};
 
 // The numbers of ports, and 0, which is that of none.

@@ -22,8 +22,8 @@ use Rattle.iol_port.specs.declared.action.Input.TheVariants as input
 use Rattle.iol_port.specs.declared.call.Reply.TheVariants as reply
 use Rattle.iol_port.specs.declared.stage.ExchangeFor.TheVariants as exchange
 use Rattle.iol_port.specs.declared.stage.Held.TheVariants as held
-use Rattle.iol_run.specs.PortRuns.{IsCoreAfter}
-use Rattle.iol_run.specs.PortSteps.{Hears, attended_told, filed_told}
+use Rattle.iol_engine.specs.PortRuns.{IsCoreAfter}
+use Rattle.iol_engine.specs.PortSteps.{Hears, attended_told, filed_told}
 use Rattle.iol_trace.specs.Events.{Event, Page, Stamp}
 use Rattle.iol_headline.proofs.Going.{Goes, NextGoes, moved_goes, is_said, settles, still, plain_began}
 use Rattle.iol_port.specs.declared.fault.PortFault.TheVariants as fault

@@ -1,7 +1,7 @@
 -- What an engine has told is lawful.
 use Rattle.iol_front.specs.Fronts.{Start}
-use Rattle.iol_run.proofs.Engines.{engine_runs}
-use Rattle.iol_run.specs.Engine.{EngineView, IsEngine, any_steps, itself, trace_of}
+use Rattle.iol_engine.proofs.Engines.{engine_runs}
+use Rattle.iol_engine.specs.Engine.{EngineView, IsEngine, any_steps, itself, trace_of}
 use Rattle.iol_headline.proofs.Everywhere.{lawful}
 use Rattle.iol_headline.specs.Laws.{IsLawful}
 

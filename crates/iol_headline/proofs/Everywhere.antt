@@ -8,8 +8,9 @@ use Rattle.iol_link.specs.Link.{LinkCall, LinkAnswer}
 use Rattle.iol_trace.specs.Events as trace
 use Rattle.iol_trace.specs.Events.{Event, Accepted, Refused, Page, Lost, Attended, Changed, Acknowledged, DiskFailed, Stamp}
 use Rattle.iol_trace.specs.Words.{accepted}
-use Rattle.iol_run.specs.Acknowledged.{AcksRise}
-use Rattle.iol_run.specs.PortRuns.{HasPortRun, ArePortRuns, steps_of}
+use Rattle.iol_engine.specs.Acknowledged.{AcksRise}
+use Rattle.iol_engine.specs.PortRuns.{HasPortRun}
+use Rattle.iol_run.specs.PortRuns.{ArePortRuns, steps_of}
 use Rattle.iol_run.specs.declared.step.Step.{Step}
 use Rattle.iol_headline.proofs.Lawful.{IsLawfulAt, durable_ends, unsent_lawful}
 use Rattle.iol_headline.proofs.Places.{everywhere}

@@ -21,7 +21,7 @@ use Rattle.iol_port.specs.declared.status.PortStatus.{PortStatus}
 use Rattle.iol_trace.proofs.Words.{accepted-append}
 use Rattle.iol_trace.specs.Events.{Event, Changed, Stamp, stamped}
 use Rattle.iol_trace.specs.Words.{accepted}
-use Rattle.iol_run.specs.PortRuns.{IsCoreAfter}
+use Rattle.iol_engine.specs.PortRuns.{IsCoreAfter}
 use Rattle.iol_types.specs.Config.{is_manual}
 use Rattle.std.proofs.Common.{Bool, true, false, if◌then◌else◌}
 use Rattle.iol_port.specs.declared.stage.PageFor.TheVariants as page_for

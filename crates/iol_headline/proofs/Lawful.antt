@@ -7,7 +7,7 @@ use Rattle.iol_dsindex.specs.Command.{commanded}
 use Rattle.iol_trace.proofs.Words.{acked-append}
 use Rattle.iol_trace.specs.Events.{Event, Stamp}
 use Rattle.iol_trace.specs.Words.{acked, acked_by}
-use Rattle.iol_run.specs.Acknowledged.{AcksRise}
+use Rattle.iol_engine.specs.Acknowledged.{AcksRise}
 use Rattle.iol_headline.specs.Conversations.{Sends}
 use Rattle.iol_headline.specs.Decisions.{DecidedFirst}
 use Rattle.iol_headline.specs.Downloads.{DownloadsOnly, CommandsOnly}

@@ -5,7 +5,7 @@ use Rattle.std.proofs.lemmas.List.{take-append-drop}
 use Rattle.iol_types.specs.Command.{CommandValue, Store}
 use Rattle.iol_types.specs.State.{Port, after, port_numbered}
 use Rattle.iol_front.specs.Fronts.{Start}
-use Rattle.iol_run.specs.Engine.{EngineView, IsEngine, trace_of}
+use Rattle.iol_engine.specs.Engine.{EngineView, IsEngine, trace_of}
 use Rattle.iol_trace.specs.Events as trace
 use Rattle.iol_trace.specs.Events.{Event, Accepted, Refused, Page, Lost, Attended, Changed, Acknowledged, DiskFailed, Stamp}
 use Rattle.iol_trace.specs.Words.{accepted, command_in}

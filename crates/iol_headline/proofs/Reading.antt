@@ -47,8 +47,8 @@ use Rattle.iol_port.specs.declared.stage.Rest.{Rest}
 use Rattle.iol_port.specs.declared.stage.Rest.TheVariants as rest
 use Rattle.iol_port.specs.declared.status.PortStatus.{PortStatus}
 use Rattle.iol_port.specs.declared.status.PortStatus.TheVariants as status
-use Rattle.iol_run.specs.PortRuns.{IsCoreAfter}
-use Rattle.iol_run.specs.PortSteps.{attended_told}
+use Rattle.iol_engine.specs.PortRuns.{IsCoreAfter}
+use Rattle.iol_engine.specs.PortSteps.{attended_told}
 use Rattle.iol_trace.specs.Events as trace
 use Rattle.iol_trace.specs.Events.{Event, Page, Attended, Stamp, stamped}
 use Rattle.iol_trace.specs.Own.{own}

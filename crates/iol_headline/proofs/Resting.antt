@@ -35,8 +35,8 @@ use Rattle.iol_port.specs.declared.stage.ExchangeFor.TheVariants as exchange
 use Rattle.iol_port.specs.declared.stage.Held.TheVariants as held
 use Rattle.iol_port.specs.declared.stage.Rest.TheVariants as rest
 use Rattle.iol_port.specs.declared.status.PortStatus.TheVariants as status
-use Rattle.iol_run.specs.PortRuns.{IsCoreAfter}
-use Rattle.iol_run.specs.PortSteps.{Hears, filed_told}
+use Rattle.iol_engine.specs.PortRuns.{IsCoreAfter}
+use Rattle.iol_engine.specs.PortSteps.{Hears, filed_told}
 use Rattle.iol_trace.specs.Events as trace
 use Rattle.iol_trace.specs.Events.{Event, Page, Attended, Accepted, Stamp, stamped}
 use Rattle.iol_trace.specs.Own.{own, own_in}

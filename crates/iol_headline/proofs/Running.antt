@@ -15,10 +15,10 @@ use Rattle.iol_port.specs.declared.action.Input.{Input}
 use Rattle.iol_port.specs.declared.action.Input.TheVariants as input
 use Rattle.iol_port.specs.declared.stage.Held.TheVariants as held
 use Rattle.iol_port.specs.declared.status.PortStatus.{PortStatus}
-use Rattle.iol_run.proofs.Histories.{Led, acting_led, step_led}
-use Rattle.iol_run.proofs.Quiet.{stamped_both}
-use Rattle.iol_run.specs.PortRuns.{IsPortRun, IsCoreAfter, happened}
-use Rattle.iol_run.specs.PortSteps.{PortStep, Hears, noted_by, awake}
+use Rattle.iol_engine.proofs.Histories.{Led, acting_led, step_led}
+use Rattle.iol_engine.proofs.Quiet.{stamped_both}
+use Rattle.iol_engine.specs.PortRuns.{IsPortRun, IsCoreAfter, happened}
+use Rattle.iol_engine.specs.PortSteps.{PortStep, Hears, noted_by, awake}
 use Rattle.iol_trace.specs.Events.{Event, Changed, Stamp, stamped}
 use Rattle.iol_trace.specs.Own.{own, own_in}
 use Rattle.iol_trace.specs.Words.{accepted}

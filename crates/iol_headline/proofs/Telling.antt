@@ -26,8 +26,8 @@ use Rattle.iol_port.specs.declared.action.Input.{Input}
 use Rattle.iol_port.specs.declared.action.Input.TheVariants as input
 use Rattle.iol_port.specs.declared.call.Reply.TheVariants as reply
 use Rattle.iol_port.specs.declared.stage.Held.TheVariants as held
-use Rattle.iol_run.specs.PortRuns.{IsCoreAfter}
-use Rattle.iol_run.specs.PortSteps.{Hears, HearsAnswer, filed_told}
+use Rattle.iol_engine.specs.PortRuns.{IsCoreAfter}
+use Rattle.iol_engine.specs.PortSteps.{Hears, HearsAnswer, filed_told}
 use Rattle.iol_trace.specs.Events as trace
 use Rattle.iol_trace.specs.Events.{Event, Page, Lost, Attended, Accepted, Changed, Stamp, stamped}
 use Rattle.iol_trace.specs.Own.{own}

@@ -50,8 +50,8 @@ use Rattle.iol_port.specs.declared.stage.ExchangeFor.TheVariants as exchange
 use Rattle.iol_port.specs.declared.stage.Found.{Found}
 use Rattle.iol_port.specs.declared.status.PortStatus.{PortStatus}
 use Rattle.iol_port.specs.declared.status.PortStatus.TheVariants as status
-use Rattle.iol_run.specs.PortRuns.{IsCoreAfter}
-use Rattle.iol_run.specs.PortSteps.{filed_told}
+use Rattle.iol_engine.specs.PortRuns.{IsCoreAfter}
+use Rattle.iol_engine.specs.PortSteps.{filed_told}
 use Rattle.iol_trace.specs.Events as trace
 use Rattle.iol_trace.specs.Events.{Event, Page, Attended, Accepted, Changed, Stamp, stamped}
 use Rattle.iol_trace.specs.Own.{own}

@@ -5,12 +5,12 @@ ghost use Rattle.iol_types.specs.State.{port_numbered};
 ghost use Rattle.iol_headline.specs.Laws.{IsLawful};
 ghost use Rattle.iol_headline.specs.Lists.{IsLawfulList};
 ghost use Rattle.iol_headline.specs.Statuses.{IsLastReported};
-ghost use Rattle.iol_run.specs.Engine.{trace_of};
-ghost use Rattle.iol_run.specs.HandedSteps.{status_in};
+ghost use Rattle.iol_engine.specs.Engine.{trace_of};
+ghost use Rattle.iol_engine.specs.HandedSteps.{status_in};
 
 use iol_front::Name;
 use iol_port::PortStatus;
-use iol_run::Engine;
+use iol_engine::Engine;
 use iol_types::PortId;
 
 /// Does nothing. Its contract says that at each moment what an engine has reported is lawful.

@@ -19,14 +19,14 @@ use Rattle.iol_core.specs.declared.ticket.SubmitFault.TheVariants.{Command, Stop
 use Rattle.iol_front.specs.Fronts.{CommittedView, Start}
 use Rattle.iol_port.specs.Calls.{Call, Replies}
 use Rattle.iol_port.specs.declared.call.Reply.{Reply}
-use Rattle.iol_run.proofs.Changes.{Change as Made, Permits, Waits, changed, replied, room_in}
-use Rattle.iol_run.proofs.PortCalls.{step_becomes}
-use Rattle.iol_run.specs.Engine.{EngineView}
-use Rattle.iol_run.specs.Events.{told_of}
-use Rattle.iol_run.specs.Handed.{Hands, handed_number}
-use Rattle.iol_run.specs.HandedSteps.{StepsHanded}
-use Rattle.iol_run.specs.declared.handed.Handed.{Handed}
-use Rattle.iol_run.specs.declared.port_step.PortTold.{PortTold}
+use Rattle.iol_engine.proofs.Changes.{Change as Made, Permits, Waits, changed, replied, room_in}
+use Rattle.iol_engine.proofs.PortCalls.{step_becomes}
+use Rattle.iol_engine.specs.Engine.{EngineView}
+use Rattle.iol_engine.specs.Events.{told_of}
+use Rattle.iol_engine.specs.Handed.{Hands, handed_number}
+use Rattle.iol_engine.specs.HandedSteps.{StepsHanded}
+use Rattle.iol_engine.specs.declared.handed.Handed.{Handed}
+use Rattle.iol_engine.specs.declared.port_step.PortTold.{PortTold}
 use Rattle.iol_master.specs.Callers.{AreCallersOf}
 use Rattle.iol_master.specs.Wakes.{woken, woken_again}
 use Rattle.iol_master.specs.declared.guarded.Phase.{Phase}

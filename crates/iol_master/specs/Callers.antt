@@ -6,7 +6,7 @@ use Rattle.iol_types.specs.declared.command.Change.{Change}
 use Rattle.iol_core.specs.Core.{CoreView}
 use Rattle.iol_core.specs.Submit.{stopped_by}
 use Rattle.iol_core.specs.declared.stop.StopCause.TheVariants.{OutOfMemory}
-use Rattle.iol_run.specs.Engine.{EngineView}
+use Rattle.iol_engine.specs.Engine.{EngineView}
 use Rattle.iol_master.specs.declared.caller.Caller.{Caller}
 use Rattle.iol_master.specs.declared.guarded.Phase.{Phase}
 use Rattle.iol_master.specs.declared.guarded.Phase.TheVariants.{Running}

@@ -2,8 +2,8 @@
 use Rattle.std.specs.Prelude.{◌-◌, ◌==◌, ◌&&◌, ◌||◌, not, ℕ, Bool, true, false, Option, Some, None, slice_get, slice_index}
 use Rattle.iol_port.specs.declared.status.PortStatus.{PortStatus}
 use Rattle.iol_port.specs.declared.status.PortStatus.TheVariants.{Off}
-use Rattle.iol_run.specs.HandedSteps.{settled_in, status_in}
-use Rattle.iol_run.specs.Waits.{waits_at}
+use Rattle.iol_engine.specs.HandedSteps.{settled_in, status_in}
+use Rattle.iol_engine.specs.Waits.{waits_at}
 use Rattle.iol_master.specs.Callers.{GuardedView, ends}
 
 -- a port is off (own)

@@ -14,7 +14,7 @@ use iol_disk::SectorDisk;
 use iol_front::{Name, Pass, Publisher};
 use iol_journal::Journal;
 use iol_link::DeviceLink;
-use iol_run::Engine;
+use iol_engine::Engine;
 use iol_types::MasterState;
 use std::alloc::{AllocError, Global};
 use std::marker::Model;

@@ -5,7 +5,7 @@ use iol_front::Name;
 use iol_isdu::write_request;
 use iol_link::{DeviceLink, Lost};
 use iol_port::Want;
-use iol_run::{Answered, Event, Exchanged, Handed, PortTold};
+use iol_engine::{Answered, Event, Exchanged, Handed, PortTold};
 use iol_types::{PORTS, PortId};
 use std::alloc::{AllocError, Global};
 use std::sync::{Arc, Wait};

@@ -5,12 +5,12 @@ use Rattle.iol_journal.specs.Journals.{JournalView}
 use Rattle.iol_link.specs.Link.{LinkCall, LinkAnswer}
 use Rattle.iol_trace.specs.Events.{Event, Stamp, stamped}
 use Rattle.iol_run.specs.CoreOnDisk.{CoreOnDiskView, clock_of}
-use Rattle.iol_run.specs.Ports.{PortsView}
+use Rattle.iol_engine.specs.Ports.{PortsView}
 use Rattle.iol_run.specs.Runs.{RunView}
 use Rattle.iol_run.specs.Schedules.{IsFresh}
 use Rattle.iol_run.specs.Steps.{Does}
 use Rattle.iol_run.specs.Tasks.{HasMade}
-use Rattle.iol_run.specs.declared.core_on_disk.Turned.{Turned}
+use Rattle.iol_run.specs.declared.turn.Turned.{Turned}
 use Rattle.iol_run.specs.declared.step.Step.{Step}
 
 -- of a view of the master, what is told from one value of it to the next: nothing where it stays, and more behind what was told

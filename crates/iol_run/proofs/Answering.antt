@@ -20,22 +20,25 @@ use Rattle.iol_link.specs.Link.{LinkCall, LinkAnswer}
 use Rattle.iol_trace.proofs.Words.{failure-append}
 use Rattle.iol_trace.specs.Events.{Event, Accepted, Refused, Stamp, stamped}
 use Rattle.iol_trace.specs.Words.{durable, IsFailure, HasFailure}
-use Rattle.iol_run.proofs.Changes.{Change, Permits, Waits, Tells, changed}
-use Rattle.iol_run.proofs.CoreAfter.{Stands, core_after, fresh_stands, step_stands}
+use Rattle.iol_engine.proofs.Changes.{Change, Permits, Waits, Tells, changed}
+use Rattle.iol_engine.proofs.CoreAfter.{core_after}
+use Rattle.iol_run.proofs.CoreOfRun.{Stands, fresh_stands, step_stands}
 use Rattle.iol_run.proofs.Counted.{failure_stays, failure_told}
 use Rattle.iol_run.proofs.FlusherTells.{turn_says}
-use Rattle.iol_run.proofs.PortCalls.{step_becomes}
-use Rattle.iol_run.proofs.Quiet.{quiet_fails, stamped_both}
+use Rattle.iol_engine.proofs.PortCalls.{step_becomes}
+use Rattle.iol_engine.proofs.Quiet.{quiet_fails, stamped_both}
 use Rattle.iol_run.specs.Answers.{clients_of, is_answer, IsAnswer, Answers, AnswersNext, AnswersClients}
 use Rattle.iol_run.specs.CoreOnDisk.{CoreOnDiskView, clock_of}
-use Rattle.iol_run.specs.Ports.{PortsView, StepsIf}
+use Rattle.iol_engine.specs.Ports.{PortsView}
+use Rattle.iol_run.specs.Ports.{StepsIf}
 use Rattle.iol_run.specs.Runs.{RunView}
 use Rattle.iol_run.specs.Schedules.{IsFresh}
-use Rattle.iol_run.specs.Steps.{Does, submit_told}
+use Rattle.iol_engine.specs.Submitted.{submit_told}
+use Rattle.iol_run.specs.Steps.{Does}
 use Rattle.iol_run.specs.Tasks.{HasMade}
 use Rattle.iol_run.specs.Turns.{Takes, HasCalled, Serves, IsTurn, met_by}
-use Rattle.iol_run.specs.declared.core_on_disk.Turned.{Turned}
-use Rattle.iol_run.specs.declared.core_on_disk.Turned.TheVariants.{Made, Idle, Waited}
+use Rattle.iol_run.specs.declared.turn.Turned.{Turned}
+use Rattle.iol_run.specs.declared.turn.Turned.TheVariants.{Made, Idle, Waited}
 use Rattle.iol_run.specs.declared.step.Step.{Step}
 use Rattle.iol_run.specs.declared.step.Step.TheVariants.{Client, Port, Flush}
 use Rattle.iol_run.proofs.Unanswered.{answers_in, port_answers, flusher_answers}

@@ -15,17 +15,19 @@ use Rattle.iol_trace.proofs.Words.{accepted-append, acked-append}
 use Rattle.iol_trace.specs.Events.{Event, Accepted, Refused, Acknowledged, DiskFailed, Stamp, stamped}
 use Rattle.iol_trace.specs.Words.{accepted, acked, HasFailure}
 use Rattle.iol_link.specs.Link.{LinkCall, LinkAnswer}
-use Rattle.iol_run.proofs.Changes.{Becomes, Change, Permits, Waits, Tells, changed}
-use Rattle.iol_run.proofs.PortCalls.{step_becomes}
-use Rattle.iol_run.proofs.Quiet.{AreQuiet, quiet_accepted, quiet_acked, stamped_more}
+use Rattle.iol_engine.proofs.Changes.{Becomes, Change, Permits, Waits, Tells, changed}
+use Rattle.iol_engine.proofs.PortCalls.{step_becomes}
+use Rattle.iol_engine.proofs.Quiet.{AreQuiet, quiet_accepted, quiet_acked, stamped_more}
 use Rattle.iol_run.proofs.Served.{IsServed, Served}
 use Rattle.iol_run.proofs.TurnsLeft.{flies_within}
 use Rattle.iol_run.specs.CoreOnDisk.{CoreOnDiskView}
-use Rattle.iol_run.specs.Ports.{PortsView, StepsIf}
-use Rattle.iol_run.specs.Steps.{Does, submit_told}
+use Rattle.iol_engine.specs.Ports.{PortsView}
+use Rattle.iol_run.specs.Ports.{StepsIf}
+use Rattle.iol_engine.specs.Submitted.{submit_told}
+use Rattle.iol_run.specs.Steps.{Does}
 use Rattle.iol_run.specs.Turns.{Acknowledges, Takes, HasCalled, Serves, IsTurn, met_by}
-use Rattle.iol_run.specs.declared.core_on_disk.Turned.{Turned}
-use Rattle.iol_run.specs.declared.core_on_disk.Turned.TheVariants.{Made, Idle, Waited}
+use Rattle.iol_run.specs.declared.turn.Turned.{Turned}
+use Rattle.iol_run.specs.declared.turn.Turned.TheVariants.{Made, Idle, Waited}
 use Rattle.iol_run.specs.declared.step.Step.{Step}
 use Rattle.iol_run.specs.declared.step.Step.TheVariants.{Client, Port, Flush}
 

@@ -23,7 +23,7 @@ use Rattle.iol_run.specs.Runs.{RunView}
 use Rattle.iol_run.specs.Schedules.{IsFresh}
 use Rattle.iol_run.specs.Tasks.{HasMade, HasDrained, HasTried, HasDoneAll, EndsAfter, HasRun}
 use Rattle.iol_run.specs.Turns.{Serves, IsTurn, met_by}
-use Rattle.iol_run.specs.declared.core_on_disk.Turned.TheVariants.{Made, Idle}
+use Rattle.iol_run.specs.declared.turn.Turned.TheVariants.{Made, Idle}
 use Rattle.iol_run.specs.declared.schedule.Ended.{Ended}
 use Rattle.iol_run.specs.declared.schedule.Ended.TheVariants.{Whole}
 use Rattle.iol_run.specs.declared.step.Step.{Step}

@@ -13,7 +13,7 @@ use Rattle.iol_run.proofs.AllSteps.{all_tell}
 use Rattle.iol_run.proofs.Counted.{failure_stays, failure_told}
 use Rattle.iol_run.proofs.DiskSteps.{DiskStep, Stays, Makes, Fails, disk_step}
 use Rattle.iol_run.specs.CoreOnDisk.{CoreOnDiskView}
-use Rattle.iol_run.specs.Events.{stamp_of}
+use Rattle.iol_run.specs.Stamps.{stamp_of}
 use Rattle.iol_run.specs.Failures.{TellsFailures}
 use Rattle.iol_run.specs.Runs.{RunView}
 use Rattle.iol_run.specs.Schedules.{IsFresh}

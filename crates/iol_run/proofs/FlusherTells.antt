@@ -7,8 +7,8 @@ use Rattle.iol_front.specs.Fronts.{CommittedView}
 use Rattle.iol_trace.specs.Events.{Event, Acknowledged, DiskFailed}
 use Rattle.iol_run.specs.CoreOnDisk.{CoreOnDiskView}
 use Rattle.iol_run.specs.Turns.{Takes, HasCalled, Serves, IsTurn, met_by}
-use Rattle.iol_run.specs.declared.core_on_disk.Turned.{Turned}
-use Rattle.iol_run.specs.declared.core_on_disk.Turned.TheVariants.{Made, Idle, Waited}
+use Rattle.iol_run.specs.declared.turn.Turned.{Turned}
+use Rattle.iol_run.specs.declared.turn.Turned.TheVariants.{Made, Idle, Waited}
 
 module _ {A : Type 0} (say : List Event → List A) where
   -- words on events that say nothing of acknowledgements and failures

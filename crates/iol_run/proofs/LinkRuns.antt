@@ -18,10 +18,10 @@ use Rattle.iol_trace.proofs.Links.{joined, calls-append}
 use Rattle.iol_trace.specs.Events.{Event, Stamp, stamped}
 use Rattle.iol_trace.specs.Links.{IsLinkRun, call_told, calls_told, if_told}
 use Rattle.iol_trace.specs.Own.{at_port}
-use Rattle.iol_run.proofs.Machines.{awake_port}
-use Rattle.iol_run.proofs.Quiet.{stamped_both}
-use Rattle.iol_run.specs.PortSteps.{Hears, HearsCore, HasEvent, IsStatusTold, PortStep, reply_told, attended_told, filed_told}
-use Rattle.iol_run.specs.PortSteps.{accepted_told, store_in}
+use Rattle.iol_engine.proofs.Machines.{awake_port}
+use Rattle.iol_engine.proofs.Quiet.{stamped_both}
+use Rattle.iol_engine.specs.PortSteps.{Hears, HearsCore, HasEvent, IsStatusTold, PortStep, reply_told, attended_told, filed_told}
+use Rattle.iol_engine.specs.PortSteps.{accepted_told, store_in}
 
 module _ (q t : ℕ) where
   -- the core's replies tell of no link

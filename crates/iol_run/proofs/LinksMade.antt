@@ -15,14 +15,16 @@ use Rattle.iol_trace.specs.Events.{Event, Stamp, stamped}
 use Rattle.iol_trace.specs.Links.{IsLinkRun, calls_told}
 use Rattle.iol_run.proofs.FlusherTells.{PassesOver, turn_says}
 use Rattle.iol_run.proofs.LinkRuns.{step_link}
-use Rattle.iol_run.proofs.Machines.{HavePlaces, elsewhere, new_places, one_some, port_stays}
+use Rattle.iol_engine.proofs.Machines.{HavePlaces, elsewhere, new_places, one_some, port_stays}
 use Rattle.iol_run.specs.CoreOnDisk.{CoreOnDiskView, clock_of}
-use Rattle.iol_run.specs.Ports.{PortsView, StepsThere, StepsIf}
+use Rattle.iol_engine.specs.Ports.{PortsView}
+use Rattle.iol_run.specs.Ports.{StepsThere, StepsIf}
 use Rattle.iol_run.specs.Runs.{RunView}
 use Rattle.iol_run.specs.Schedules.{IsFresh, AreLinkRuns}
 use Rattle.iol_run.specs.Tasks.{HasMade}
-use Rattle.iol_run.specs.Steps.{Does, submit_told}
-use Rattle.iol_run.specs.declared.core_on_disk.Turned.{Turned}
+use Rattle.iol_engine.specs.Submitted.{submit_told}
+use Rattle.iol_run.specs.Steps.{Does}
+use Rattle.iol_run.specs.declared.turn.Turned.{Turned}
 use Rattle.iol_run.specs.declared.step.Step.{Step}
 use Rattle.iol_run.specs.declared.step.Step.TheVariants.{Client, Port, Flush}
 

@@ -5,8 +5,8 @@ use Rattle.iol_disk.specs.Disk.{Disk}
 use Rattle.iol_link.specs.Link.{LinkCall, LinkAnswer}
 use Rattle.iol_run.specs.Runs.{RunView, Did}
 use Rattle.iol_run.specs.Tasks.{IsCountOf, HasMade, HasRepeated, HasTried, HasDoneAll, EndsAfter, HasRun, waits_of}
-use Rattle.iol_run.specs.declared.core_on_disk.Turned.{Turned}
-use Rattle.iol_run.specs.declared.core_on_disk.Turned.TheVariants.{Made, Idle, Waited}
+use Rattle.iol_run.specs.declared.turn.Turned.{Turned}
+use Rattle.iol_run.specs.declared.turn.Turned.TheVariants.{Made, Idle, Waited}
 use Rattle.iol_run.specs.declared.schedule.Ended.{Ended}
 use Rattle.iol_run.specs.declared.schedule.Ended.TheVariants.{Whole, Memory}
 use Rattle.iol_run.specs.declared.step.Step.{Step}

@@ -21,16 +21,18 @@ use Rattle.iol_trace.specs.Events.{Event, Accepted, Refused, Acknowledged, DiskF
 use Rattle.iol_trace.specs.Words.{acked, acked_by, clock_after}
 use Rattle.iol_core.specs.Core.{CoreView}
 use Rattle.iol_link.specs.Link.{LinkCall, LinkAnswer}
-use Rattle.iol_run.proofs.Changes.{Change, Permits, Waits, Tells}
-use Rattle.iol_run.proofs.PortCalls.{step_becomes}
-use Rattle.iol_run.proofs.Quiet.{AcksNone, quiet_acks, stamped_more}
+use Rattle.iol_engine.proofs.Changes.{Change, Permits, Waits, Tells}
+use Rattle.iol_engine.proofs.PortCalls.{step_becomes}
+use Rattle.iol_engine.proofs.Quiet.{AcksNone, quiet_acks, stamped_more}
 use Rattle.iol_run.proofs.Batches.{acknowledged_in_step}
 use Rattle.iol_run.specs.CoreOnDisk.{CoreOnDiskView, IsAtRest, IsInStep, clock_of, IsRunning}
-use Rattle.iol_run.specs.Ports.{PortsView, StepsIf}
-use Rattle.iol_run.specs.Steps.{Does, submit_told}
+use Rattle.iol_engine.specs.Ports.{PortsView}
+use Rattle.iol_run.specs.Ports.{StepsIf}
+use Rattle.iol_engine.specs.Submitted.{submit_told}
+use Rattle.iol_run.specs.Steps.{Does}
 use Rattle.iol_run.specs.Turns.{Acknowledges, Takes, HasCalled, Serves, IsTurn, met_by}
-use Rattle.iol_run.specs.declared.core_on_disk.Turned.{Turned}
-use Rattle.iol_run.specs.declared.core_on_disk.Turned.TheVariants.{Made, Idle, Waited}
+use Rattle.iol_run.specs.declared.turn.Turned.{Turned}
+use Rattle.iol_run.specs.declared.turn.Turned.TheVariants.{Made, Idle, Waited}
 use Rattle.iol_run.specs.declared.step.Step.{Step}
 use Rattle.iol_run.specs.declared.step.Step.TheVariants.{Client, Port, Flush}
 

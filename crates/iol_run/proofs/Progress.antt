@@ -34,8 +34,8 @@ use Rattle.iol_run.specs.CoreOnDisk.{CoreOnDiskView, IsInFlight, HasFlight, IsAt
 use Rattle.iol_run.specs.Flushed.{batch_turns}
 use Rattle.iol_run.specs.Tasks.{waits_of}
 use Rattle.iol_run.specs.Turns.{need_met, met_by, Acknowledges, Takes, HasCalled, Publishes, Serves, IsTurn}
-use Rattle.iol_run.specs.declared.core_on_disk.Turned.{Turned}
-use Rattle.iol_run.specs.declared.core_on_disk.Turned.TheVariants.{Made, Idle, Waited}
+use Rattle.iol_run.specs.declared.turn.Turned.{Turned}
+use Rattle.iol_run.specs.declared.turn.Turned.TheVariants.{Made, Idle, Waited}
 
 -- fewer turns of the batch with the flusher, and as many behind it
 less_own : (own_old own_new old new : ℕ) → own_new + 1 ≤ own_old → new ≡ old → own_new + new ≤ own_old + old - 1

@@ -33,17 +33,18 @@ use Rattle.iol_trace.specs.Events.{Event}
 use Rattle.iol_link.specs.Link.{LinkCall, LinkAnswer}
 use Rattle.iol_run.proofs.Batches.{taken_flight}
 use Rattle.iol_run.proofs.Calls.{flight_with, in_flight_with}
-use Rattle.iol_run.proofs.Changes.{Change, Permits, Waits, HasRoom, changed, room_in, with_permits}
-use Rattle.iol_run.proofs.PortCalls.{step_becomes}
+use Rattle.iol_engine.proofs.Changes.{Change, Permits, Waits, HasRoom, changed, room_in, with_permits}
+use Rattle.iol_engine.proofs.PortCalls.{step_becomes}
 use Rattle.iol_run.proofs.InStep.{more_waits, flight_stays}
 use Rattle.iol_run.proofs.Serving.{made_flight, failed_flight}
 use Rattle.iol_run.proofs.TurnsLeft.{HasBatch, HasLayout, IsNewest}
 use Rattle.iol_run.specs.CoreOnDisk.{CoreOnDiskView, IsInFlight, HasFlight, IsAtRest}
-use Rattle.iol_run.specs.Ports.{PortsView, StepsIf}
+use Rattle.iol_engine.specs.Ports.{PortsView}
+use Rattle.iol_run.specs.Ports.{StepsIf}
 use Rattle.iol_run.specs.Steps.{Does}
 use Rattle.iol_run.specs.Turns.{Acknowledges, Takes, HasCalled, Publishes, Serves, IsTurn, met_by, need_met}
-use Rattle.iol_run.specs.declared.core_on_disk.Turned.{Turned}
-use Rattle.iol_run.specs.declared.core_on_disk.Turned.TheVariants.{Made, Idle, Waited}
+use Rattle.iol_run.specs.declared.turn.Turned.{Turned}
+use Rattle.iol_run.specs.declared.turn.Turned.TheVariants.{Made, Idle, Waited}
 use Rattle.iol_run.specs.declared.step.Step.{Step}
 use Rattle.iol_run.specs.declared.step.Step.TheVariants.{Client, Port, Flush}
 

@@ -19,20 +19,22 @@ use Rattle.iol_trace.proofs.Words.{accepted-append, failure-append}
 use Rattle.iol_trace.specs.Events.{Event, Accepted, Acknowledged, Stamp, stamped}
 use Rattle.iol_trace.specs.Words.{accepted, IsFailure, HasFailure}
 use Rattle.iol_run.proofs.AllSteps.{all_tell}
-use Rattle.iol_run.proofs.Changes.{Change, Permits, Waits, HasRoom, Tells, changed}
-use Rattle.iol_run.proofs.PortCalls.{step_becomes}
-use Rattle.iol_run.proofs.Quiet.{AreQuiet, quiet_accepted, quiet_fails, stamped_both}
+use Rattle.iol_engine.proofs.Changes.{Change, Permits, Waits, HasRoom, Tells, changed}
+use Rattle.iol_engine.proofs.PortCalls.{step_becomes}
+use Rattle.iol_engine.proofs.Quiet.{AreQuiet, quiet_accepted, quiet_fails, stamped_both}
 use Rattle.iol_run.proofs.Serving.{knows}
 use Rattle.iol_run.specs.CoreOnDisk.{CoreOnDiskView}
-use Rattle.iol_run.specs.Ports.{PortsView, StepsIf}
+use Rattle.iol_engine.specs.Ports.{PortsView}
+use Rattle.iol_run.specs.Ports.{StepsIf}
 use Rattle.iol_run.specs.Runs.{RunView}
 use Rattle.iol_run.specs.Schedules.{IsFresh}
 use Rattle.iol_run.specs.Tasks.{HasMade}
-use Rattle.iol_run.specs.Steps.{Does, submit_told}
+use Rattle.iol_engine.specs.Submitted.{submit_told}
+use Rattle.iol_run.specs.Steps.{Does}
 use Rattle.iol_run.specs.Stopped.{NoneOnceFailed}
 use Rattle.iol_run.specs.Turns.{Takes, HasCalled, Serves, IsTurn, met_by}
-use Rattle.iol_run.specs.declared.core_on_disk.Turned.{Turned}
-use Rattle.iol_run.specs.declared.core_on_disk.Turned.TheVariants.{Made, Idle, Waited}
+use Rattle.iol_run.specs.declared.turn.Turned.{Turned}
+use Rattle.iol_run.specs.declared.turn.Turned.TheVariants.{Made, Idle, Waited}
 use Rattle.iol_run.specs.declared.step.Step.{Step}
 use Rattle.iol_run.specs.declared.step.Step.TheVariants.{Client, Port, Flush}
 

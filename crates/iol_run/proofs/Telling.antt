@@ -15,19 +15,21 @@ use Rattle.iol_trace.proofs.Words.{accepted-append, numbers-append, acked-append
 use Rattle.iol_trace.specs.Events.{Event, Accepted, Refused, Acknowledged, DiskFailed, Stamp, stamped}
 use Rattle.iol_trace.specs.Words.{accepted, numbers, acked, RiseByOne}
 use Rattle.iol_run.specs.CoreOnDisk.{CoreOnDiskView, IsInFlight, IsInStep, waiting_of, accepted_in}
-use Rattle.iol_run.specs.Ports.{PortsView, StepsIf}
+use Rattle.iol_engine.specs.Ports.{PortsView}
+use Rattle.iol_run.specs.Ports.{StepsIf}
 use Rattle.iol_run.specs.Runs.{IsTold}
-use Rattle.iol_run.specs.Steps.{Does, submit_told}
+use Rattle.iol_engine.specs.Submitted.{submit_told}
+use Rattle.iol_run.specs.Steps.{Does}
 use Rattle.iol_run.specs.Turns.{Acknowledges, Takes, HasCalled, Publishes, Serves, IsTurn, met_by}
-use Rattle.iol_run.specs.declared.core_on_disk.Turned.{Turned}
-use Rattle.iol_run.specs.declared.core_on_disk.Turned.TheVariants.{Made, Idle, Waited}
+use Rattle.iol_run.specs.declared.turn.Turned.{Turned}
+use Rattle.iol_run.specs.declared.turn.Turned.TheVariants.{Made, Idle, Waited}
 use Rattle.iol_run.specs.declared.step.Step.{Step}
 use Rattle.iol_run.specs.declared.step.Step.TheVariants.{Client, Port, Flush}
 use Rattle.iol_link.specs.Link.{LinkCall, LinkAnswer}
 use Rattle.iol_run.proofs.Calls.{waits_with}
-use Rattle.iol_run.proofs.Changes.{Becomes, Change, Permits, Waits, Tells, changed}
-use Rattle.iol_run.proofs.PortCalls.{step_becomes}
-use Rattle.iol_run.proofs.Quiet.{quiet_accepted, quiet_numbers, quiet_acked, stamped_more}
+use Rattle.iol_engine.proofs.Changes.{Becomes, Change, Permits, Waits, Tells, changed}
+use Rattle.iol_engine.proofs.PortCalls.{step_becomes}
+use Rattle.iol_engine.proofs.Quiet.{quiet_accepted, quiet_numbers, quiet_acked, stamped_more}
 use Rattle.iol_run.proofs.Batches.{published_in_step, before_is}
 use Rattle.iol_run.proofs.InStep.{waits_more, count_is, all_of}
 

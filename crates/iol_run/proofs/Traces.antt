@@ -8,7 +8,7 @@ use Rattle.iol_journal.specs.Layout.{renewed, total}
 use Rattle.iol_link.specs.Link.{LinkCall, LinkAnswer}
 use Rattle.iol_trace.specs.Events.{Stamp}
 use Rattle.iol_trace.specs.Words.{durable}
-use Rattle.iol_run.proofs.Acknowledging.{acks_rise}
+use Rattle.iol_run.proofs.AcknowledgedInRun.{acks_rise}
 use Rattle.iol_run.proofs.Answering.{all_answered}
 use Rattle.iol_run.proofs.Clocks.{clocks_rise}
 use Rattle.iol_run.proofs.Draining.{all_drained}
@@ -16,9 +16,9 @@ use Rattle.iol_run.proofs.Flushing.{all_flushed}
 use Rattle.iol_run.proofs.Layouts.{more_flushed, turns_within}
 use Rattle.iol_run.proofs.LinksMade.{all_link_runs}
 use Rattle.iol_run.proofs.Making.{run_made, begun_stays}
-use Rattle.iol_run.proofs.PortRuns.{all_port_runs}
+use Rattle.iol_run.proofs.PortsOfRun.{all_port_runs}
 use Rattle.iol_run.proofs.Stopped.{none_once_failed}
-use Rattle.iol_run.specs.Acknowledged.{AcksRise}
+use Rattle.iol_engine.specs.Acknowledged.{AcksRise}
 use Rattle.iol_run.specs.Answers.{AnswersClients, clients_of}
 use Rattle.iol_run.specs.Clocks.{ClocksRise}
 use Rattle.iol_run.specs.Failures.{TellsFailures}

@@ -19,8 +19,9 @@ use Rattle.iol_trace.specs.Events.{Event}
 use Rattle.iol_run.proofs.FlusherTells.{PassesOver}
 use Rattle.iol_run.specs.Answers.{is_answer}
 use Rattle.iol_run.specs.CoreOnDisk.{CoreOnDiskView}
-use Rattle.iol_run.specs.PortSteps.{attended_told, filed_told, reply_told, store_in, Hears, HearsCore, IsStatusTold}
-use Rattle.iol_run.specs.Ports.{PortsView, StepsIf}
+use Rattle.iol_engine.specs.PortSteps.{attended_told, filed_told, reply_told, store_in, Hears, HearsCore, IsStatusTold}
+use Rattle.iol_engine.specs.Ports.{PortsView}
+use Rattle.iol_run.specs.Ports.{StepsIf}
 
 -- the answers among events
 unfoldable pub answers_in : List Event → List Event

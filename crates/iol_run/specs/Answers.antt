@@ -10,7 +10,7 @@ use Rattle.iol_core.specs.declared.ticket.SubmitFault.{SubmitFault}
 use Rattle.iol_trace.specs.Events as trace
 use Rattle.iol_trace.specs.Events.{Event, Stamp}
 use Rattle.iol_trace.specs.Words.{HasFailure}
-use Rattle.iol_run.specs.PortRuns.{IsCoreAfter}
+use Rattle.iol_engine.specs.PortRuns.{IsCoreAfter}
 use Rattle.iol_run.specs.declared.step.Step.{Step}
 use Rattle.iol_run.specs.declared.step.Step.TheVariants.{Client}
 

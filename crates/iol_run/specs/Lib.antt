@@ -1,8 +1,7 @@
-pub mod Said
-pub mod Events
+pub mod Stamps
 pub mod CoreOnDisk
+pub mod EngineOnDisk
 pub mod Turns
-pub mod PortSteps
 pub mod Ports
 pub mod PortRuns
 pub mod Answers
@@ -15,10 +14,3 @@ pub mod Flushed
 pub mod Stopped
 pub mod Failures
 pub mod Clocks
-pub mod Acknowledged
-pub mod Engine
-pub mod Trail
-pub mod Answered
-pub mod Handed
-pub mod HandedSteps
-pub mod Waits

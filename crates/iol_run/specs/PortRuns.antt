@@ -1,20 +1,9 @@
--- What is told of a port is what its machine, its link and the core did, step by step.
-use Rattle.std.specs.Prelude.{◌≡◌, ◌<◌, ◌+◌, ◌⊎◌, ℕ, zero, suc, nat_eq, if◌then◌else◌, List, [], ◌∷◌, ◌++◌, length, Option, Some, None}
-use Rattle.std.specs.Prelude.{slice_get}
-use Rattle.iol_types.specs.State.{State, after}
-use Rattle.iol_core.specs.Core.{CoreView, live, live_number}
+-- What is told of the ports in a run, step by step.
+use Rattle.std.specs.Prelude.{ℕ, ◌+◌, nat_eq, if◌then◌else◌, List, [], ◌∷◌}
+use Rattle.iol_types.specs.State.{State}
 use Rattle.iol_link.specs.Link.{LinkCall, LinkAnswer}
-use Rattle.iol_port.specs.History.{Happening, Raised, Did, HasLed}
-use Rattle.iol_port.specs.Stage.{Stage, Settled, PortValue, new_machine}
-use Rattle.iol_port.specs.Status.{status_of}
-use Rattle.iol_port.specs.Telling.{status_told}
-use Rattle.iol_port.specs.Wanted.{Wanted, Nothing}
-use Rattle.iol_port.specs.declared.action.Input.{Input}
-use Rattle.iol_port.specs.declared.action.Input.TheVariants as input
-use Rattle.iol_trace.specs.Events.{Event, Stamp, stamped}
-use Rattle.iol_trace.specs.Own.{own, status_shown}
-use Rattle.iol_trace.specs.Words.{accepted, acked, durable}
-use Rattle.iol_run.specs.PortSteps.{PortStep, noted_by}
+use Rattle.iol_trace.specs.Events.{Stamp}
+use Rattle.iol_engine.specs.PortRuns.{AreRunsOfPorts}
 use Rattle.iol_run.specs.declared.step.Step.{Step}
 use Rattle.iol_run.specs.declared.step.Step.TheVariants.{Port}
 
@@ -24,75 +13,8 @@ steps_of port [] = 0
 steps_of port (Port told ∷ made) = (if nat_eq told port then 1 else 0) + steps_of port made
 steps_of port (step ∷ made) = steps_of port made
 
--- a core as it stands after these events of a run that began with a number and a state: its live state is that after the
--- commands that were accepted, its durable state and number are those of the ones that were acknowledged (own)
-pub record IsCoreAfter (first : ℕ) (start : State) (events : List Stamp) (core : CoreView) : Type 0 where
-  pub live : live core ≡ after start (accepted events)
-  pub live_number : live_number core ≡ first + length (accepted events)
-  pub durable : core.durable ≡ durable first start events
-  pub number : core.number ≡ acked first events
-
--- an event of the device that was heard (own)
-abbrev pub raised_first : Option ℕ → List Happening
-raised_first None = []
-raised_first (Some code) = Raised code ∷ []
-
--- a machine that was settled is woken (own)
-abbrev pub woken_first : Stage → List Happening
-woken_first (Settled rest) = Did Nothing input.Wake ∷ []
-woken_first stage = []
-
--- what has happened to a machine in a step of its port, the newest first: it was told of an event, if there was one, woken where it
--- was settled, and heard what came of what it wants (own)
-abbrev pub happened : PortValue → Option ℕ → Wanted → Input → List Happening
-happened before event wants heard = Did wants heard ∷ (woken_first (noted_by event before).stage ++ raised_first event)
-
-module _ {L : Type 0} (number : L → ℕ) (steps : L → LinkCall → LinkAnswer → L → Type 0) (first : ℕ) (start : State) where
-  -- the last step of a port's machine: it stood so before, was led there by what was told earlier, and made its step with its
-  -- link and with the core as it stood then. What it tells of that follows at once, and later nothing of the port's own (own)
-  pub record HasLastStep (Led : PortValue → L → List Stamp → Type 0) (port : ℕ) (machine : PortValue) (link : L) (events : List Stamp) :
-      Type 0 where
-    pub before : PortValue
-    pub linked : L
-    pub old : CoreView
-    pub new : CoreView
-    pub earlier : List Stamp
-    pub clock : ℕ
-    pub called : List Event
-    pub status : List Event
-    pub later : List Stamp
-    pub led : Led before linked earlier
-    pub core : IsCoreAfter first start earlier old
-    pub step : PortStep number steps before machine linked link old new called status
-    pub told : events ≡ earlier ++ stamped clock (called ++ status) ++ later
-    pub others : own port later ≡ []
-
-  -- so many steps have led a port's machine, which was new, and its link to where they are, and told all that is told of the port (own)
-  abbrev pub IsPortRun : ℕ → L → ℕ → PortValue → L → List Stamp → Type 0
-  IsPortRun port begun zero machine link events = (machine ≡ new_machine port) × (link ≡ begun) × (own port events ≡ [])
-  IsPortRun port begun (suc made) machine link events = HasLastStep (IsPortRun port begun made) port machine link events
-
-  -- what has happened to the machine of a port in its steps, the newest first (own)
-  abbrev pub history_of : (port : ℕ) (begun : L) (made : ℕ) (machine : PortValue) (link : L) (events : List Stamp)
-      → IsPortRun port begun made machine link events → List Happening
-  history_of port begun zero machine link events run = []
-  history_of port begun (suc made) machine link events run =
-      happened run.before run.step.hears_event.event run.step.acts.wants run.step.acts.heard
-      ++ history_of port begun made run.before run.linked run.earlier run.led
-
-  -- what is told of a port is a run of its machine, of so many steps, from one link to another. What has happened in these steps is
-  -- the history of the machine, and its status is the one that was told last (own)
-  pub record HasPortRun (port made : ℕ) (begun last : L) (events : List Stamp) : Type 0 where
-    pub machine : PortValue
-    pub run : IsPortRun port begun made machine last events
-    pub led : HasLed port (history_of port begun made machine last events run) machine
-    pub status : status_shown port events ≡ status_told (status_of machine.stage)
-
-  -- there is a link for each port of the state at the start. What is told of each of them is a run of its machine, of as many steps
-  -- as the port has made, from the link that was handed in to the one that is handed out; of other ports, and of a port 0, nothing is
-  -- told (own)
-  pub record ArePortRuns (made : List Step) (links : List L) (events : List Stamp) (last : List L) : Type 0 where
-    pub count : length links ≡ length start
-    pub runs : (place : ℕ) (begun link : L) → slice_get links place ≡ Some begun → slice_get last place ≡ Some link
-        → HasPortRun (place + 1) (steps_of (place + 1) made) begun link events
-    pub others : (port : ℕ) → (port ≡ 0) ⊎ (length links < port) → own port events ≡ []
+-- what is told of the ports are runs of their machines, of as many steps as each port has made (own)
+abbrev pub ArePortRuns : {L : Type 0} → (L → ℕ) → (L → LinkCall → LinkAnswer → L → Type 0) → ℕ → State → List Step → List L → List Stamp
+    → List L → Type 0
+ArePortRuns number steps first start made links events last =
+    AreRunsOfPorts number steps first start (λ port. steps_of port made) links events last

@@ -1,35 +1,11 @@
--- The ports of a master.
-use Rattle.std.specs.Prelude.{◌≡◌, ℕ, zero, suc, ◌+◌, ◌-◌, ◌≤◌, nat_le, Bool, true, false, List, [], ◌∷◌, ◌++◌, length, Some, slice_get}
-use Rattle.std.specs.Prelude.{slice_set}
+-- What a port's step does in a run.
+use Rattle.std.specs.Prelude.{◌≡◌, ℕ, ◌-◌, ◌≤◌, nat_le, Bool, true, false, List, [], ◌++◌, length, Some, slice_get, slice_set}
 use Rattle.iol_link.specs.Link.{LinkCall, LinkAnswer}
-use Rattle.iol_port.specs.Stage.{PortValue, new_machine}
+use Rattle.iol_port.specs.Stage.{PortValue}
 use Rattle.iol_trace.specs.Events.{Event}
+use Rattle.iol_engine.specs.PortSteps.{PortStep}
+use Rattle.iol_engine.specs.Ports.{PortsView}
 use Rattle.iol_run.specs.CoreOnDisk.{CoreOnDiskView}
-use Rattle.iol_run.specs.PortSteps.{IsReady, PortStep}
-
--- the ports of a master, port 1 first: the machine of each, and its link (own)
-pub record PortsView (L : Type 0) : Type 0 where
-  pub machines : List PortValue
-  pub links : List L
-
--- the machine of a port stands at its place, and is ready (own)
-pub record IsAtPlace (place : ℕ) (machine : PortValue) : Type 0 where
-  pub port_is : machine.port ≡ place + 1
-  pub ready : IsReady machine.stage
-
--- there is a machine for each link, and each is at its place (own)
-pub record ArePorts {L : Type 0} (ports : PortsView L) : Type 0 where
-  pub count : length ports.machines ≡ length ports.links
-  pub places : (place : ℕ) (machine : PortValue) → slice_get ports.machines place ≡ Some machine → IsAtPlace place machine
-
--- so many machines, all new, from the port behind a number on (own)
-abbrev pub machines_from : ℕ → ℕ → List PortValue
-machines_from before zero = []
-machines_from before (suc ports) = new_machine (before + 1) ∷ machines_from (before + 1) ports
-
--- the machines of so many ports, all new (own)
-abbrev pub new_machines : ℕ → List PortValue
-new_machines ports = machines_from 0 ports
 
 module _ {D L : Type 0} (number : L → ℕ) (steps : L → LinkCall → LinkAnswer → L → Type 0) where
   -- a port makes its step; the other ports, and what the flusher has, stay (own)

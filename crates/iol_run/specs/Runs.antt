@@ -7,9 +7,9 @@ use Rattle.iol_trace.specs.CrashPrefix.{marks_of}
 use Rattle.iol_trace.specs.Events.{Event, Stamp, stamped}
 use Rattle.iol_trace.specs.Words.{accepted, numbers, acked, RiseByOne}
 use Rattle.iol_run.specs.CoreOnDisk.{CoreOnDiskView, accepted_in, clock_of, IsRunning}
-use Rattle.iol_run.specs.Ports.{PortsView}
+use Rattle.iol_engine.specs.Ports.{PortsView}
 use Rattle.iol_run.specs.Steps.{Does}
-use Rattle.iol_run.specs.declared.core_on_disk.Turned.{Turned}
+use Rattle.iol_run.specs.declared.turn.Turned.{Turned}
 use Rattle.iol_run.specs.declared.step.Step.{Step}
 
 -- a run as contracts see it: its master, the ports, what it has told, and the disk's clock when it began (own)

@@ -12,15 +12,15 @@ use Rattle.iol_link.specs.Link.{LinkCall, LinkAnswer}
 use Rattle.iol_trace.specs.Events.{Stamp}
 use Rattle.iol_trace.specs.Links.{IsLinkRun}
 use Rattle.iol_trace.specs.Words.{durable}
-use Rattle.iol_run.specs.Acknowledged.{AcksRise}
+use Rattle.iol_engine.specs.Acknowledged.{AcksRise}
 use Rattle.iol_run.specs.Answers.{AnswersClients, clients_of}
 use Rattle.iol_run.specs.Clocks.{ClocksRise}
 use Rattle.iol_run.specs.CoreOnDisk.{clock_of}
-use Rattle.iol_run.specs.Events.{stamp_of}
+use Rattle.iol_run.specs.Stamps.{stamp_of}
 use Rattle.iol_run.specs.Failures.{TellsFailures}
 use Rattle.iol_run.specs.Flushed.{AllDrained, AllFlushed, queue_turns}
 use Rattle.iol_run.specs.PortRuns.{ArePortRuns}
-use Rattle.iol_run.specs.Ports.{new_machines}
+use Rattle.iol_engine.specs.Ports.{new_machines}
 use Rattle.iol_run.specs.Runs.{RunView}
 use Rattle.iol_run.specs.Stopped.{NoneOnceFailed}
 use Rattle.iol_run.specs.Tasks.{HasRun, IsCountOf}

@@ -1,24 +1,20 @@
 -- What a step of a schedule does.
-use Rattle.std.specs.Prelude.{◌≡◌, ℕ, List, [], ◌∷◌, Result, Ok, Err}
+use Rattle.std.specs.Prelude.{◌≡◌, ℕ, List, Result}
 use Rattle.iol_types.specs.Command.{CommandValue, command_of}
 use Rattle.iol_disk.specs.Disk.{Disk}
 use Rattle.iol_core.specs.Submit.{IsSubmit}
-use Rattle.iol_core.specs.Telling.{refusal_of}
 use Rattle.iol_core.specs.declared.ticket.SubmitFault.{SubmitFault}
 use Rattle.iol_link.specs.Link.{LinkCall, LinkAnswer}
-use Rattle.iol_trace.specs.Events.{Event, Accepted, Refused}
+use Rattle.iol_trace.specs.Events.{Event}
+use Rattle.iol_engine.specs.Submitted.{submit_told}
 use Rattle.iol_run.specs.CoreOnDisk.{CoreOnDiskView}
-use Rattle.iol_run.specs.Ports.{PortsView, StepsPort}
+use Rattle.iol_engine.specs.Ports.{PortsView}
+use Rattle.iol_run.specs.Ports.{StepsPort}
 use Rattle.iol_run.specs.Turns.{IsTurn}
-use Rattle.iol_run.specs.declared.core_on_disk.Turned.{Turned}
-use Rattle.iol_run.specs.declared.core_on_disk.Turned.TheVariants.{Made}
+use Rattle.iol_run.specs.declared.turn.Turned.{Turned}
+use Rattle.iol_run.specs.declared.turn.Turned.TheVariants.{Made}
 use Rattle.iol_run.specs.declared.step.Step.{Step}
 use Rattle.iol_run.specs.declared.step.Step.TheVariants.{Client, Port, Flush}
-
--- what is told of a command: its number, or why it is refused (own)
-abbrev pub submit_told : CommandValue → Result ℕ SubmitFault → List Event
-submit_told command (Ok number) = Accepted number command ∷ []
-submit_told command (Err fault) = Refused (refusal_of fault) ∷ []
 
 -- a client's command is accepted, or refused, as the core says (own)
 abbrev pub Submits : {D : Type 0} → CommandValue → CoreOnDiskView D → CoreOnDiskView D → List Event → Type 0

@@ -15,8 +15,8 @@ use Rattle.iol_front.specs.Fronts.{CommittedView}
 use Rattle.iol_journal.specs.Batch.{Batch}
 use Rattle.iol_trace.specs.Events.{Event, Acknowledged, DiskFailed}
 use Rattle.iol_run.specs.CoreOnDisk.{CoreOnDiskView}
-use Rattle.iol_run.specs.declared.core_on_disk.Turned.{Turned}
-use Rattle.iol_run.specs.declared.core_on_disk.Turned.TheVariants.{Made, Idle, Waited}
+use Rattle.iol_run.specs.declared.turn.Turned.{Turned}
+use Rattle.iol_run.specs.declared.turn.Turned.TheVariants.{Made, Idle, Waited}
 
 -- the published batch is acknowledged with its last number, and the core's own pass has seen it (own)
 abbrev pub Acknowledges : {D : Type 0} → CoreOnDiskView D → CoreOnDiskView D → List Event → Type 0

@@ -3,7 +3,7 @@
 ghost use Rattle.std.specs.Prelude.{◌≡◌, ◌∷◌, []};
 ghost use Rattle.iol_run.specs.CoreOnDisk.{clock_of};
 
-use crate::core_on_disk::CoreOnDisk;
+use crate::engine_on_disk::EngineOnDisk;
 use boxcar::tag::{Names, Tag};
 use iol_disk::SectorDisk;
 use iol_front::Name;
@@ -11,8 +11,8 @@ use std::marker::Model;
 
 struct ClockOf;
 
-impl<D: SectorDisk, F: Name> Names<CoreOnDisk<D, F>> for ClockOf {
-    ghost numbers = { λ m. clock_of D.disk m ∷ [] };
+impl<D: SectorDisk, F: Name> Names<EngineOnDisk<D, F>> for ClockOf {
+    ghost numbers = { λ m. clock_of D.disk m.master ∷ [] };
 }
 
 /// A moment of a disk. It has no octets; a contract sees the disk's clock.
@@ -31,11 +31,11 @@ impl Model for Moment {
 
 impl Moment {
     // This moment of the disk.
-    pub(crate) fn of<D: SectorDisk, F: Name>(master: &CoreOnDisk<D, F>) -> Moment
-        ensures { result ≡ clock_of D.disk master.now }
+    pub(crate) fn of<D: SectorDisk, F: Name>(master: &EngineOnDisk<D, F>) -> Moment
+        ensures { result ≡ clock_of D.disk master.now.master }
     {
         Moment {
-            tag: Tag::of::<CoreOnDisk<D, F>, ClockOf>(master),
+            tag: Tag::of::<EngineOnDisk<D, F>, ClockOf>(master),
         }
     }
 }

@@ -3,18 +3,19 @@
 ghost use Rattle.std.specs.Prelude.{◌≡◌, ◌<◌, ◌≤◌, ◌+◌, ◌++◌, [], map, length, vec_len, vec_capacity, IfOk, IfErr, OnErr};
 ghost use Rattle.iol_trace.specs.Events.{stamped};
 ghost use Rattle.iol_run.specs.CoreOnDisk.{clock_of};
-ghost use Rattle.iol_run.specs.Events.{stamp_of, told_of};
+ghost use Rattle.iol_engine.specs.Events.{told_of};
+ghost use Rattle.iol_run.specs.Stamps.{stamp_of};
 ghost use Rattle.iol_flush.specs.Stages.{disk_of};
 ghost use Rattle.iol_run.specs.Runs.{Did, IsTold, KeepsRun};
 ghost use Rattle.iol_run.specs.Schedules.{IsFresh};
 
-use crate::core_on_disk::{CoreOnDisk, Turned};
-use crate::event::{Event, Exchanged};
+use crate::engine_on_disk::EngineOnDisk;
 use crate::moment::Moment;
-use crate::ports::Ports;
 use crate::schedule::{Ended, Trace};
 use crate::step::{Step, Told, make};
+use crate::turn::Turned;
 use iol_disk::SectorDisk;
+use iol_engine::{Event, Exchanged};
 use iol_front::{Front, Name};
 use iol_journal::Journal;
 use iol_link::DeviceLink;
@@ -37,8 +38,9 @@ const _: () = prove!(size_of::<Stamped>() <= 40);
 
 /// A run between its steps. A contract sees the record `RunView` of `specs/Runs.antt`.
 pub struct Run<D: SectorDisk, L: DeviceLink, F: Name> {
-    master: CoreOnDisk<D, F>,
-    ports: Ports<L>,
+    master: EngineOnDisk<D, F>,
+    // the link of each port, port 1 first
+    links: Vec<L>,
     events: Vec<Stamped>,
     // room for the next exchange, if there is any
     spare: Option<Box<Exchanged>>,
@@ -46,25 +48,32 @@ pub struct Run<D: SectorDisk, L: DeviceLink, F: Name> {
 }
 
 impl<D: SectorDisk, L: DeviceLink, F: Name> Model for Run<D, L, F> {
-    ghost use Rattle.std.specs.Prelude.{map};
-    ghost use Rattle.iol_run.specs.Events.{stamp_of};
+    ghost use Rattle.std.specs.Prelude.{◌≡◌, map};
+    ghost use Rattle.iol_run.specs.EngineOnDisk.{ports_with};
     ghost use Rattle.iol_run.specs.Runs.{RunView, IsTold};
+    ghost use Rattle.iol_run.specs.Stamps.{stamp_of};
 
     ghost Value = { RunView D L };
 
-    ghost view = { λ r. record { master = r.master; ports = r.ports; events = map stamp_of r.events.items; begun = r.begun } };
+    ghost view = { λ r. record {
+      master = r.master.master;
+      ports = ports_with r.master r.links.items;
+      events = map stamp_of r.events.items;
+      begun = r.begun;
+    } };
 
-    ghost invariant = { λ r. IsTold F.front.start r.master (map stamp_of r.events.items) };
+    ghost invariant = { λ r. IsTold F.front.start r.master.master (map stamp_of r.events.items)
+        × (r.master.connections ≡ map L.number r.links.items) };
 }
 
 // Writes down what happened, if anything did; there is room.
 fn note<D: SectorDisk, F: Name>(
     events: &mut Vec<Stamped>,
-    master: &CoreOnDisk<D, F>,
+    master: &EngineOnDisk<D, F>,
     event: Option<Event>,
 )
     requires { vec_len events.old < vec_capacity events.old }
-    ensures events { map stamp_of events.new.items ≡ map stamp_of events.old.items ++ stamped (clock_of D.disk master.now) (told_of event) }
+    ensures events { map stamp_of events.new.items ≡ map stamp_of events.old.items ++ stamped (clock_of D.disk master.now.master) (told_of event) }
     ensures room { (vec_len events.new ≤ vec_len events.old + 1) × (vec_capacity events.new ≡ vec_capacity events.old) }
 {
     if let Some(event) = event {
@@ -110,16 +119,11 @@ impl<D: SectorDisk, L: DeviceLink + Drop, F: Name> Run<D, L, F> {
         ensures fresh { IfOk result (IsFresh D.disk journal links.items) }
         ensures disk { IfErr result (λ disk. disk ≡ journal.disk) }
     {
-        let ports = state.ports();
-        let master = CoreOnDisk::new(alloc, front, journal, state)?;
-        let Ok(ports) = Ports::new(alloc, ports, links) else {
-            let (disk, _state) = master.end();
-            return Err(disk);
-        };
+        let master = EngineOnDisk::new(alloc, front, journal, state, links.as_slice())?;
         let begun = Moment::of(&master);
         Ok(Run {
             master,
-            ports,
+            links,
             events: Vec::new(alloc),
             spare: None,
             begun,
@@ -140,13 +144,11 @@ impl<D: SectorDisk, L: DeviceLink, F: Name> Run<D, L, F> {
     {
         let Run {
             master,
-            ports,
+            links,
             events,
             spare: _,
             begun,
         } = self;
-        let mut master = master;
-        let links = ports.end(&mut master);
         let (disk, state) = master.end();
         Trace {
             events,
@@ -177,7 +179,7 @@ impl<D: SectorDisk, L: DeviceLink, F: Name> Run<D, L, F> {
             first,
             second,
             room,
-        } = make(&mut self.master, &mut self.ports, step, room);
+        } = make(&mut self.master, &mut self.links, step, room);
         self.spare = room;
         note(&mut self.events, &self.master, first);
         note(&mut self.events, &self.master, second);

@@ -1,17 +1,16 @@
 //! The steps of a schedule.
 
-ghost use Rattle.std.specs.Prelude.{◌≡◌, ◌++◌, ◌∷◌, []};
-ghost use Rattle.iol_types.specs.Command.{command_of};
-ghost use Rattle.iol_run.specs.CoreOnDisk.{IsInStep, KeepsRunning};
-ghost use Rattle.iol_run.specs.Events.{event_of, told_of};
-ghost use Rattle.iol_run.specs.Steps.{Does, Submits};
+ghost use Rattle.std.specs.Prelude.{◌≡◌, ◌++◌, map};
+ghost use Rattle.iol_engine.specs.Events.{told_of};
+ghost use Rattle.iol_run.specs.CoreOnDisk.{KeepsRunning};
+ghost use Rattle.iol_run.specs.EngineOnDisk.{ports_with};
+ghost use Rattle.iol_run.specs.Ports.{StepsPort};
+ghost use Rattle.iol_run.specs.Steps.{Does};
 
-use crate::core_on_disk::{CoreOnDisk, Turn, Turned};
-use crate::event::{Event, Exchanged};
-use crate::port_step::PortTold;
-use crate::ports::Ports;
-use crate::said::Said;
+use crate::engine_on_disk::EngineOnDisk;
+use crate::turn::{Turn, Turned};
 use iol_disk::SectorDisk;
+use iol_engine::{Event, Exchanged, PortTold};
 use iol_front::Name;
 use iol_link::DeviceLink;
 use iol_types::{Change, PortId};
@@ -39,19 +38,21 @@ pub(crate) struct Told {
 
 // Makes a step.
 pub(crate) fn make<D: SectorDisk, L: DeviceLink, F: Name>(
-    master: &mut CoreOnDisk<D, F>,
-    ports: &mut Ports<L>,
+    master: &mut EngineOnDisk<D, F>,
+    links: &mut Vec<L>,
     step: &Step,
     room: Box<Exchanged>,
 ) -> Told
-    ensures does { Does D.disk L.number L.steps step.now master.old master.new ports.old ports.new (told_of result.first
-        ++ told_of result.second) result.turned }
-    ensures run { KeepsRunning D.disk F.front.start master.old master.new }
+    requires links { master.old.connections ≡ map L.number links.old.items }
+    ensures does { Does D.disk L.number L.steps step.now master.old.master master.new.master (ports_with master.old links.old.items)
+        (ports_with master.new links.new.items) (told_of result.first ++ told_of result.second) result.turned }
+    ensures links { master.new.connections ≡ map L.number links.new.items }
+    ensures run { KeepsRunning D.disk F.front.start master.old.master master.new.master }
 {
     match step {
         Step::Client(change) => Told {
             turned: Turned::Made,
-            first: Some(submit(master, *change)),
+            first: Some(master.submit(*change)),
             second: None,
             room: Some(room),
         },
@@ -60,7 +61,7 @@ pub(crate) fn make<D: SectorDisk, L: DeviceLink, F: Name>(
                 called,
                 status,
                 room,
-            } = ports.step(master, *port, room);
+            } = step_port(master, links, *port, room);
             Told {
                 turned: Turned::Made,
                 first: called,
@@ -80,25 +81,27 @@ pub(crate) fn make<D: SectorDisk, L: DeviceLink, F: Name>(
     }
 }
 
-// A client's change: accepted, or refused.
-fn submit<D: SectorDisk, F: Name>(master: &mut CoreOnDisk<D, F>, change: Change) -> Event
-    ensures submits { Submits (command_of change) master.old master.new (event_of result ∷ []) }
-    ensures run { KeepsRunning D.disk F.front.start master.old master.new }
+// Makes a step of a port. Of a port that has no link nothing is told, and nothing changes.
+fn step_port<D: SectorDisk, L: DeviceLink, F: Name>(
+    master: &mut EngineOnDisk<D, F>,
+    links: &mut Vec<L>,
+    port: PortId,
+    room: Box<Exchanged>,
+) -> PortTold
+    requires links { master.old.connections ≡ map L.number links.old.items }
+    ensures steps { StepsPort L.number L.steps port master.old.master master.new.master (ports_with master.old links.old.items)
+        (ports_with master.new links.new.items) (told_of result.called ++ told_of result.status) }
+    ensures links { master.new.connections ≡ map L.number links.new.items }
+    ensures run { KeepsRunning D.disk F.front.start master.old.master master.new.master }
 {
-    let said = said_by(&change);
-    match master.submit(change) {
-        Ok(ticket) => Event::Accepted {
-            number: ticket.number(),
-            said,
-        },
-        Err(fault) => Event::Refused(fault),
+    let place = port.place();
+    if place < links.len() {
+        master.step(port, &mut links[place], room)
+    } else {
+        PortTold {
+            called: None,
+            status: None,
+            room: Some(room),
+        }
     }
-}
-
-// What a client's change says.
-pub(crate) fn said_by(change: &Change) -> Said
-    ensures { result.command ≡ command_of change.now }
-{
-    let command = change.command();
-    Said::of(&command)
 }

@@ -5,10 +5,10 @@ ghost use Rattle.iol_run.specs.Runs.{KeepsRun};
 ghost use Rattle.iol_run.specs.Tasks.{Repeats, Runs, Tries, once, waits_of};
 ghost use Rattle.iol_run.specs.declared.task.Task.TheVariants as task;
 
-use crate::core_on_disk::Turned;
 use crate::run::Run;
 use crate::schedule::Ended;
 use crate::step::Step;
+use crate::turn::Turned;
 use iol_disk::SectorDisk;
 use iol_front::Name;
 use iol_link::DeviceLink;

@@ -13,7 +13,8 @@ use iol_dsindex::examples::{
 use iol_isdu::{Answer, ISDU_OCTETS, write_answer};
 use iol_journal::{Geometry, format};
 use iol_port::PortStatus;
-use iol_run::{Ended, Event, Stamped, Task, run_schedule};
+use iol_engine::Event;
+use iol_run::{Ended, Stamped, Task, run_schedule};
 use iol_sim::ScriptLink;
 use iol_types::{Change, DeviceId, Label, PortConfig, PortId, PortMode, Validation};
 use std::alloc::Global;

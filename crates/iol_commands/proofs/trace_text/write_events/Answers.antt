@@ -1,6 +1,6 @@
 use Rattle.std.proofs.Common.{rules, ◌≡◌, ◌<◌, ◌+◌, length, refl, sym, ◌∙◌, take, get_or, arith}
 use Rattle.std.proofs.lemmas.Grind.{put_two}
-use Rattle.iol_run.specs.Events.{event_of}
+use Rattle.iol_engine.specs.Events.{event_of}
 use Rattle.iol_commands.specs.Lines.{lines_of, lines_behind, events_of}
 use Rattle.iol_commands.proofs.TraceLines.{lines_next, lost_next}
 use Rattle.iol_commands.proofs.trace_text.write_events.Goals as goal

@@ -1,7 +1,7 @@
 use Rattle.std.proofs.Common.{sym, subst}
 use Rattle.std.specs.Fmt.{WritesOnOk}
-use Rattle.iol_run.specs.Events.{event_of}
-use Rattle.iol_run.specs.declared.event.Event.{Event}
+use Rattle.iol_engine.specs.Events.{event_of}
+use Rattle.iol_engine.specs.declared.event.Event.{Event}
 use Rattle.iol_explain.specs.EventLines.{event_lines}
 use Rattle.iol_explain.proofs.event_lines.write_event.Goals as goal
 

@@ -1,8 +1,8 @@
 use Rattle.std.proofs.Common.{◌≡◌, Option, Some, None, IfNone, IfSome, refl, sym, ◌∙◌, arith}
 use Rattle.iol_types.specs.State.{port_numbered}
 use Rattle.iol_port.specs.declared.status.PortStatus.{PortStatus}
-use Rattle.iol_run.proofs.EngineStatuses.{engine_lacks, engine_shows}
-use Rattle.iol_run.specs.Engine.{trace_of}
+use Rattle.iol_engine.proofs.EngineStatuses.{engine_lacks, engine_shows}
+use Rattle.iol_engine.specs.Engine.{trace_of}
 use Rattle.iol_headline.proofs.Engines.{engine_lawful}
 use Rattle.iol_headline.proofs.engine.status.Goals as goal
 use Rattle.iol_headline.specs.Statuses.{IsLastReported}

@@ -7,7 +7,7 @@ use Rattle.iol_journal.specs.Runs.{begun}
 use Rattle.iol_journal.specs.Running.{IsRunAtRest}
 use Rattle.iol_trace.specs.CrashPrefix.{CrashPrefix}
 use Rattle.iol_run.specs.Causes.{FailsFor}
-use Rattle.iol_run.specs.Events.{stamp_of}
+use Rattle.iol_run.specs.Stamps.{stamp_of}
 use Rattle.iol_run.specs.Schedules.{IsRecovered}
 use Rattle.iol_run.proofs.Crash.{means_is, of_trace}
 use Rattle.iol_run.proofs.Failures.{trace_tells}

@@ -2,8 +2,8 @@ use Rattle.std.proofs.Common.{refl, ◌+◌, replicate, List, [], ◌∷◌, ◌
 use Rattle.std.proofs.lemmas.Grind.{replicate_next}
 use Rattle.iol_run.specs.Runs.{Did}
 use Rattle.iol_run.specs.Tasks.{HasMade, HasDrained}
-use Rattle.iol_run.specs.declared.core_on_disk.Turned.{Turned}
-use Rattle.iol_run.specs.declared.core_on_disk.Turned.TheVariants.{Made, Waited}
+use Rattle.iol_run.specs.declared.turn.Turned.{Turned}
+use Rattle.iol_run.specs.declared.turn.Turned.TheVariants.{Made, Waited}
 use Rattle.iol_run.specs.declared.step.Step.{Step}
 use Rattle.iol_run.specs.declared.step.Step.TheVariants.{Flush}
 use Rattle.iol_run.proofs.Making.{made_more}

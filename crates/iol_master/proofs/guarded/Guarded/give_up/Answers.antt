@@ -1,6 +1,6 @@
 use Rattle.std.proofs.Common.{length, map, refl, ap, arith}
 use Rattle.std.proofs.lemmas.List.{length-map}
-use Rattle.iol_run.specs.Engine.{EngineView}
+use Rattle.iol_engine.specs.Engine.{EngineView}
 use Rattle.iol_master.specs.Callers.{asked}
 use Rattle.iol_master.proofs.Waiting.{nobody_left}
 use Rattle.iol_master.proofs.guarded.Guarded.give_up.Goals as goal

@@ -1,0 +1,14 @@
+pub mod Quiet
+pub mod Changes
+pub mod PortSteps
+pub mod PortCalls
+pub mod Machines
+pub mod Histories
+pub mod StatusesShown
+pub mod OwnEvents
+pub mod CoreAfter
+pub mod PortRuns
+pub mod Acknowledging
+pub mod Numbered
+pub mod Engines
+pub mod EngineStatuses

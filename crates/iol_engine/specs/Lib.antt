@@ -1,0 +1,13 @@
+pub mod Said
+pub mod Events
+pub mod PortSteps
+pub mod Ports
+pub mod PortRuns
+pub mod Submitted
+pub mod Acknowledged
+pub mod Engine
+pub mod Trail
+pub mod Answered
+pub mod Handed
+pub mod HandedSteps
+pub mod Waits

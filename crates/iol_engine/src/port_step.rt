@@ -1,0 +1,281 @@
+//! A step of a port: what its machine wants is asked of its link or of the core.
+
+ghost use Rattle.std.specs.Prelude.{◌≡◌, true, false};
+ghost use Rattle.iol_port.specs.Calls.{MayBeMade, IsReplyTo, call_of};
+ghost use Rattle.iol_port.specs.Heard.{Fits, awaits_page, awaits_answer, is_settled};
+ghost use Rattle.iol_core.specs.Uploads.{store_of};
+ghost use Rattle.iol_port.specs.Stage.{PortValue};
+ghost use Rattle.iol_port.specs.Status.{status_of};
+ghost use Rattle.iol_port.specs.declared.action.Input.TheVariants as input;
+ghost use Rattle.iol_port.specs.declared.call.Reply.{Reply};
+ghost use Rattle.iol_engine.specs.Events.{event_of, told_of};
+ghost use Rattle.iol_engine.specs.PortSteps.{Acts, IsReady, IsStatusTold, HasEvent, PortStep, awake, HasPage, HasAnswer, HasReply, reply_told};
+ghost use Rattle.iol_engine.specs.PortSteps.{store_in, command_said};
+
+use crate::event::{Event, Exchanged};
+use crate::said::Said;
+use crate::told_work::ToldWork;
+use arrayvec::ArrayVec;
+use iol_core::{Core, UploadGrant};
+use iol_front::Name;
+use iol_isdu::{ISDU_OCTETS, Request, write_request};
+use iol_link::{DeviceLink, Lost};
+use iol_port::{Action, CoreCall, Input, PortMachine, PortStatus, Reply};
+use iol_types::{Command, DataSet, PortId};
+use std::sync::Arc;
+
+/// What a step of a port tells: what came of what its machine wanted, and then its status, where that has changed. The room
+/// that was handed in comes back where it was not needed.
+#[derive(Drop)]
+pub struct PortTold {
+    pub called: Option<Event>,
+    pub status: Option<Event>,
+    pub room: Option<Box<Exchanged>>,
+}
+
+// One step of a port: an event of its device is noted, a settled machine is woken, and what the machine then wants is
+// done once, by a call of the link or of the core. What is exchanged is told in the room that is handed in, so that a step
+// takes no memory of its own.
+pub(crate) fn step_port<L: DeviceLink, F: Name>(
+    core: &mut Core<F>,
+    machine: &mut PortMachine,
+    link: &mut L,
+    room: Box<Exchanged>,
+) -> PortTold
+    requires ready { IsReady machine.old.stage }
+    ensures step { PortStep L.number L.steps machine.old machine.new link.old link.new core.old core.new (told_of result.called)
+        (told_of result.status) }
+    ensures ready { IsReady machine.new.stage }
+{
+    let before = machine.status();
+    hear_event(machine, link);
+    wake(machine);
+    let (called, room) = act(core, machine, link, room);
+    let status = status_event(machine, before);
+    PortTold {
+        called,
+        status,
+        room,
+    }
+}
+
+// Notes an event of the device, if there is one.
+fn hear_event<L: DeviceLink>(machine: &mut PortMachine, link: &mut L)
+    requires ready { IsReady machine.old.stage }
+    ensures event { HasEvent L.number L.steps machine.old machine.new link.old link.new }
+    ensures ready { IsReady machine.new.stage }
+{
+    if let Some(code) = link.take_event() {
+        machine.feed(Input::Event(code));
+    }
+}
+
+// Wakes a machine that is settled.
+fn wake(machine: &mut PortMachine)
+    requires ready { IsReady machine.old.stage }
+    ensures awake { machine.new ≡ awake machine.old }
+    ensures ready { IsReady machine.new.stage }
+    ensures open { is_settled machine.new.stage ≡ false }
+{
+    if machine.is_settled() {
+        machine.feed(Input::Wake);
+    }
+}
+
+// The status of a port, where it is another than before.
+fn status_event(machine: &PortMachine, before: PortStatus) -> Option<Event>
+    ensures { (old : PortValue) → status_of old.stage ≡ before → IsStatusTold old machine.now (told_of result) }
+{
+    let status = machine.status();
+    if status == before {
+        return None;
+    }
+    let port = machine.port();
+    Some(Event::Status { port, status })
+}
+
+// What the machine wants is done. The room comes back where it was not needed.
+fn act<L: DeviceLink, F: Name>(
+    core: &mut Core<F>,
+    machine: &mut PortMachine,
+    link: &mut L,
+    room: Box<Exchanged>,
+) -> (Option<Event>, Option<Box<Exchanged>>)
+    requires ready { IsReady machine.old.stage }
+    requires open { is_settled machine.old.stage ≡ false }
+    ensures acts { Acts L.number L.steps machine.old machine.new link.old link.new core.old core.new (told_of result.0) }
+    ensures ready { IsReady machine.new.stage }
+{
+    match machine.action() {
+        Action::ReadPage => (Some(read_page(machine, link)), Some(room)),
+        Action::Exchange(request) => (Some(exchange(machine, link, &request, room)), None),
+        Action::Ask(call) => (ask(core, machine, call), Some(room)),
+        Action::Idle => unreachable!(),
+    }
+}
+
+// Reads the page of the device.
+fn read_page<L: DeviceLink>(machine: &mut PortMachine, link: &mut L) -> Event
+    requires wants { awaits_page machine.old.stage ≡ true }
+    ensures { HasPage L.number L.steps machine.old machine.new link.old link.new (event_of result) }
+{
+    let port = machine.port();
+    let connection = link.connection();
+    match link.read_page() {
+        Ok(octets) => {
+            machine.feed(Input::Page { connection, octets });
+            Event::Page {
+                port,
+                connection,
+                octets,
+            }
+        }
+        Err(Lost) => {
+            machine.feed(Input::Lost);
+            Event::Lost {
+                port,
+                connection,
+                octets: None,
+            }
+        }
+    }
+}
+
+// Sends a request to the device.
+fn exchange<L: DeviceLink>(
+    machine: &mut PortMachine,
+    link: &mut L,
+    request: &Request,
+    room: Box<Exchanged>,
+) -> Event
+    requires wants { awaits_answer machine.old.stage ≡ true }
+    ensures { HasAnswer L.number L.steps request.now machine.old machine.new link.old link.new (event_of result) }
+{
+    let port = machine.port();
+    let connection = link.connection();
+    let request = write_request(request);
+    match link.exchange(request.as_slice()) {
+        Ok(answer) => {
+            machine.feed(Input::Octets(copy_of(&answer)));
+            Event::Exchange {
+                port,
+                connection,
+                octets: Exchanged { request, answer }.put(room),
+            }
+        }
+        Err(Lost) => {
+            machine.feed(Input::Lost);
+            let answer = ArrayVec::new();
+            Event::Lost {
+                port,
+                connection,
+                octets: Some(Exchanged { request, answer }.put(room)),
+            }
+        }
+    }
+}
+
+// Makes a call of the core.
+fn ask<F: Name>(core: &mut Core<F>, machine: &mut PortMachine, call: CoreCall) -> Option<Event>
+    requires may { MayBeMade (call_of call) }
+    requires fits { (heard : Reply) → IsReplyTo (call_of call) heard → Fits machine.old.stage (input.Reply heard) }
+    ensures { HasReply (call_of call) machine.old machine.new core.old core.new (told_of result) }
+{
+    let port = machine.port();
+    let (call, said) = filed(call);
+    let reply = call.make(core);
+    let event = reply_event(port, said, &reply);
+    machine.feed(Input::Reply(reply));
+    event
+}
+
+// What is said of the Store that a call files, if it files one.
+fn filed(call: CoreCall) -> (CoreCall, Option<Said>)
+    ensures call { call_of result.0 ≡ call_of call }
+    ensures said { command_said result.1 ≡ store_in (call_of call) }
+{
+    match call {
+        CoreCall::FinishUpload(permit, set) => {
+            let (set, said) = stored(permit.grant(), set);
+            (CoreCall::FinishUpload(permit, set), Some(said))
+        }
+        CoreCall::Attend(port) => (CoreCall::Attend(port), None),
+        CoreCall::BeginUpload {
+            port,
+            vendor,
+            device,
+            connection,
+        } => (
+            CoreCall::BeginUpload {
+                port,
+                vendor,
+                device,
+                connection,
+            },
+            None,
+        ),
+        CoreCall::AbandonUpload(permit) => (CoreCall::AbandonUpload(permit), None),
+        CoreCall::AskTicket(ticket) => (CoreCall::AskTicket(ticket), None),
+        CoreCall::BeginDownload {
+            port,
+            vendor,
+            device,
+            checksum,
+        } => (
+            CoreCall::BeginDownload {
+                port,
+                vendor,
+                device,
+                checksum,
+            },
+            None,
+        ),
+        CoreCall::EndDownload(permit) => (CoreCall::EndDownload(permit), None),
+    }
+}
+
+// What the Store of a set says, and the set.
+fn stored(grant: UploadGrant, set: Arc<DataSet>) -> (Arc<DataSet>, Said)
+    ensures set { result.0 ≡ set }
+    ensures said { result.1.command ≡ store_of grant set.value }
+{
+    let command = Command::Store {
+        port: grant.port,
+        revision: grant.revision,
+        set,
+    };
+    let said = Said::of(&command);
+    let Command::Store { set, .. } = command else {
+        unreachable!()
+    };
+    (set, said)
+}
+
+// What is told of a reply of the core.
+fn reply_event(port: PortId, said: Option<Said>, reply: &Reply) -> Option<Event>
+    ensures { told_of result ≡ reply_told port (command_said said) reply.now }
+{
+    match reply {
+        Reply::Attended(Some(work)) => Some(Event::Attended {
+            port,
+            work: ToldWork::of(port, work),
+        }),
+        Reply::FinishedUpload(Ok(ticket)) => match said {
+            Some(said) => Some(Event::Accepted {
+                number: ticket.number(),
+                said,
+            }),
+            None => None,
+        },
+        _ => None,
+    }
+}
+
+// The same octets once more.
+fn copy_of(answer: &ArrayVec<u8, ISDU_OCTETS>) -> ArrayVec<u8, ISDU_OCTETS>
+    ensures { result ≡ answer.now }
+{
+    let mut same = ArrayVec::new();
+    same.try_extend_from_slice(answer.as_slice()).unwrap();
+    same
+}

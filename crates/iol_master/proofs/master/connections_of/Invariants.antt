@@ -1,5 +1,0 @@
-use Rattle.std.proofs.Common.{◌≡◌, map, take}
-use Rattle.iol_master.proofs.master.connections_of.Given as goal
-
-abbrev pub invariant-loop-link : goal.invariant-loop-link
-invariant-loop-link g l = l.connections.items ≡ map g.L.DeviceLink.number (take l.link-index l.links)

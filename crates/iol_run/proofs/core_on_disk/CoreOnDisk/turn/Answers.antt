@@ -1,8 +1,0 @@
-use Rattle.std.proofs.Common.{rules}
-use Rattle.iol_run.proofs.core_on_disk.CoreOnDisk.turn.Goals as goal
-
-pub returns-in-Batch-clause-turn : goal.returns-in-Batch-clause-turn
-returns-in-Batch-clause-turn g c = search rules
-
-pub returns-in-BatchOrDisk-clause-turn : goal.returns-in-BatchOrDisk-clause-turn
-returns-in-BatchOrDisk-clause-turn g c = search rules
