@@ -7,5 +7,5 @@ use Rattle.iol_headline.specs.Laws.{IsLawful}
 
 pub engine_lawful : (start : Start) (engine : EngineView) → IsEngine start engine → IsLawful start.number start.state (trace_of engine)
 engine_lawful start engine is =
-    lawful start.number start.state itself any_steps is.made is.begun (trace_of engine) engine.connections is.runs.count
+    lawful start.number start.state itself any_steps is.counted is.begun (trace_of engine) engine.connections is.runs.count
     (engine_runs start engine is) is.rise

@@ -9,9 +9,7 @@ use Rattle.iol_trace.specs.Events as trace
 use Rattle.iol_trace.specs.Events.{Event, Accepted, Refused, Page, Lost, Attended, Changed, Acknowledged, DiskFailed, Stamp}
 use Rattle.iol_trace.specs.Words.{accepted}
 use Rattle.iol_engine.specs.Acknowledged.{AcksRise}
-use Rattle.iol_engine.specs.PortRuns.{HasPortRun}
-use Rattle.iol_run.specs.PortRuns.{ArePortRuns, steps_of}
-use Rattle.iol_run.specs.declared.step.Step.{Step}
+use Rattle.iol_engine.specs.PortRuns.{AreRunsOfPorts, HasPortRun}
 use Rattle.iol_headline.proofs.Lawful.{IsLawfulAt, durable_ends, unsent_lawful}
 use Rattle.iol_headline.proofs.Places.{everywhere}
 use Rattle.iol_headline.proofs.Revisions.{at_place}
@@ -71,9 +69,9 @@ module _ (first : ℕ) (start : State) where
         (run_told first start (place + 1) number steps (port_there place within) begun made is.machine link events is.run).each
 
     -- each event of the trace
-    all_lawful : (made : List Step) (links : List L) (events : List Stamp) (last : List L) → length last ≡ length links
-        → ArePortRuns number steps first start made links events last → Everywhere (IsLawfulAt first start) events
-    all_lawful made links events last count are before behind e split =
+    all_lawful : (counted : ℕ → ℕ) (links : List L) (events : List Stamp) (last : List L) → length last ≡ length links
+        → AreRunsOfPorts number steps first start counted links events last → Everywhere (IsLawfulAt first start) events
+    all_lawful counted links events last count are before behind e split =
         owned before e.event (λ port. at port (placed (length links) port))
       where
         at : (port : ℕ) → ((place : ℕ) × (port ≡ place + 1) × (place < length links)) ⊎ ((port ≡ 0) ⊎ (length links < port))
@@ -84,14 +82,14 @@ module _ (first : ℕ) (start : State) where
             let begun = there_is links there.0 there.2 in
             let link = there_is last there.0 (omega (arith, there.2, count)) in
             subst (λ (p : ℕ). OwnLaw first start p before e.event) (sym there.1)
-            (ported there.0 (steps_of (there.0 + 1) made) begun.0 link.0 events (omega (arith, there.2, are.count)) (are.runs there.0
+            (ported there.0 (counted (there.0 + 1)) begun.0 link.0 events (omega (arith, there.2, are.count)) (are.runs there.0
             begun.0 link.0 begun.1 link.1)
             before behind e split)
 
     -- the whole trace
-    pub lawful : (made : List Step) (links : List L) (events : List Stamp) (last : List L) → length last ≡ length links
-        → ArePortRuns number steps first start made links events last → AcksRise first events → IsLawful first start events
-    lawful made links events last count are rise = record {
+    pub lawful : (counted : ℕ → ℕ) (links : List L) (events : List Stamp) (last : List L) → length last ≡ length links
+        → AreRunsOfPorts number steps first start counted links events last → AcksRise first events → IsLawful first start events
+    lawful counted links events last count are rise = record {
       whole_sets = λ before behind e split. (each before behind e split).whole;
       stored_sets = λ count. sets_stored (take count (accepted events)) start;
       durable_then_end = λ before behind e split.
@@ -105,4 +103,4 @@ module _ (first : ℕ) (start : State) where
     }
       where
         each : Everywhere (IsLawfulAt first start) events
-        each = all_lawful made links events last count are
+        each = all_lawful counted links events last count are

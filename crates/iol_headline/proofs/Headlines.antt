@@ -7,6 +7,7 @@ use Rattle.iol_journal.specs.Meaning.{Standing, Cause, meaning}
 use Rattle.iol_link.specs.Link.{LinkCall, LinkAnswer}
 use Rattle.iol_record.specs.Reading.{◌>>=◌}
 use Rattle.iol_trace.specs.CrashPrefix.{CrashPrefix}
+use Rattle.iol_run.specs.PortRuns.{steps_of}
 use Rattle.iol_run.specs.Schedules.{IsTraceOf, told_in}
 use Rattle.iol_run.specs.declared.schedule.RunFault.{RunFault}
 use Rattle.iol_run.specs.declared.schedule.Trace.{Trace}
@@ -25,7 +26,7 @@ module _ {D L : Type 0} (disk : D → Disk) (number : L → ℕ) (steps : L → 
   headline_of (Ok trace) given links tasks run crash = record {
     run = run;
     lawful =
-        lawful run.journal.standing.number run.journal.standing.state number steps run.made links (told_in trace) trace.links.items
+        lawful run.journal.standing.number run.journal.standing.state number steps (λ port. steps_of port run.made) links (told_in trace) trace.links.items
         run.tells.links_made.count run.tells.ports run.tells.acknowledged;
     crash_prefix = λ honest kept.
         crash honest kept run.journal.standing.number run.journal.standing.state

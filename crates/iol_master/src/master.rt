@@ -1,6 +1,6 @@
 //! The master: it starts its threads, and ends them.
 
-ghost use Rattle.std.specs.Prelude.{◌≡◌, ◌≤◌, [], length, map, vec_capacity, vec_len, IfErr, IfOk};
+ghost use Rattle.std.specs.Prelude.{◌≡◌, ◌≤◌, [], length, vec_capacity, vec_len, IfErr, IfOk};
 ghost use Rattle.iol_flush.specs.Stages.{HasHistory};
 ghost use Rattle.iol_journal.specs.Journals.{JournalView};
 ghost use Rattle.iol_master.specs.Endings.{IsEnding, IsLeft, IsStartFault};
@@ -141,8 +141,7 @@ impl<L: DeviceLink + Drop, F: Name> Room<L, F> {
     {
         let own = publisher.pass()?;
         let pass = publisher.pass()?;
-        let connections = connections_of(alloc, &links)?;
-        let shared = share(alloc, state, own, ports, connections)?;
+        let shared = share(alloc, state, own, ports, &links)?;
         let theirs = Arc::try_clone(&shared)?;
         let served = served_ports(alloc, &shared, links)?;
         let workers = Vec::with_capacity(alloc, served.len())?;
@@ -157,17 +156,17 @@ impl<L: DeviceLink + Drop, F: Name> Room<L, F> {
 }
 
 // What the threads share, over a state that is durable.
-fn share<F: Name>(
+fn share<L: DeviceLink, F: Name>(
     alloc: Global,
     state: MasterState,
     pass: Pass<F>,
     ports: u8,
-    connections: Vec<u64>,
+    links: &[L],
 ) -> Result<Arc<Shared<F>, Global>, AllocError>
     requires start { (state ≡ F.front.start.state) × (pass ≡ []) }
-    requires ports { vec_len connections ≡ length state }
+    requires ports { length links.now ≡ length state }
 {
-    let engine = Engine::new(alloc, state, pass, connections)?;
+    let engine = Engine::new(alloc, state, pass, links)?;
     let shared = Shared {
         guarded: Mutex::new(Guarded::new(alloc, engine, ports)?),
         work: Condvar::new(),
@@ -177,17 +176,6 @@ fn share<F: Name>(
         Ok(shared) => Ok(shared),
         Err(_) => Err(AllocError),
     }
-}
-
-// Returns the number of the connection of each link.
-fn connections_of<L: DeviceLink>(alloc: Global, links: &[L]) -> Result<Vec<u64>, AllocError>
-    ensures { IfOk result (λ connections. connections.items ≡ map L.number links.now) }
-{
-    let mut connections = Vec::with_capacity(alloc, links.len())?;
-    for link in links {
-        connections.push(link.connection())?;
-    }
-    Ok(connections)
 }
 
 // Starts the flusher, and then a worker for each port. Where a thread is not made, those that were end again.
