@@ -6,8 +6,8 @@ ghost use Rattle.iol_commands.specs.Lines.{lost_in, is_said, lines_behind, lines
 
 use crate::event_text::write_event;
 use crate::run::Report;
-use iol_port::PortStatus;
 use iol_engine::Event;
+use iol_port::PortStatus;
 use iol_run::Stamped;
 use iol_types::PortId;
 use std::fmt;

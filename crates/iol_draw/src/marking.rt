@@ -2,10 +2,10 @@
 
 use crate::mark::{DiskMark, Mark, PortMark};
 use crate::waiting::Waiting;
+use iol_engine::Event;
 use iol_explain::{Place, ToldCall, place_of};
 use iol_journal::Geometry;
 use iol_port::PortStatus;
-use iol_engine::Event;
 use iol_types::{PORTS, PortId};
 use std::alloc::{AllocError, Global};
 

@@ -1,7 +1,7 @@
 //! Which sectors were written and not synced when the power stops.
 
-use iol_explain::{Explained, Place, ToldCall, calls_between, calls_of_run, place_of};
 use iol_engine::Event;
+use iol_explain::{Explained, Place, ToldCall, calls_between, calls_of_run, place_of};
 use iol_run::Stamped;
 use std::alloc::{AllocError, Global};
 

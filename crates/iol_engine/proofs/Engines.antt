@@ -89,7 +89,8 @@ module _ (start : Start) where
     count = count;
     runs =
         subst (λ (ms : List PortValue).
-        HaveRuns itself any_steps first start.state (λ port. 0) new.connections (record { machines = ms; links = new.connections }) (trace_of new))
+        HaveRuns itself any_steps first start.state (λ port. 0) new.connections (record { machines = ms; links = new.connections })
+        (trace_of new))
         (sym machines)
         (subst (λ (es : List Event).
         HaveRuns itself any_steps first start.state (λ port. 0) new.connections
@@ -291,7 +292,8 @@ module _ (start : Start) where
     runs =
         subst (λ (ss : List Stamp). HaveRuns itself any_steps first start.state (stepped port was.counted) was.begun (ports_of new) ss)
         (sym trace)
-        (there_runs itself any_steps first start.state was.counted 0 port was.begun old.core new.core (ports_of old) (ports_of new) from into
+        (there_runs itself any_steps first start.state was.counted 0 port was.begun old.core new.core (ports_of old)
+        (ports_of new) from into
         (trace_of old) told (core_after first start.state (trace_of old) old.core was.stands) was.runs from_is into_is is);
     rise = subst (λ (es : List Event). AcksRise first (stamped 0 es)) (sym told_is) (rises_on old new told was rises);
   }
@@ -318,4 +320,5 @@ module _ (start : Start) where
   -- what is told of its ports are their runs
   pub engine_runs : (engine : EngineView) → (is : IsEngine start engine)
       → AreRunsOfPorts itself any_steps first start.state is.counted is.begun (trace_of engine) engine.connections
-  engine_runs engine is = runs_are itself any_steps first start.state is.counted is.begun (ports_of engine) (trace_of engine) is.count is.runs
+  engine_runs engine is = runs_are itself any_steps first start.state is.counted is.begun (ports_of engine)
+  (trace_of engine) is.count is.runs

@@ -1,5 +1,6 @@
 -- What the steps of ports tell of each port is a run of its machine.
-use Rattle.std.proofs.Common.{◌≡◌, ◌<◌, ◌⊎◌, inl, inr, refl, ◌+◌, ◌-◌, ℕ, zero, suc, nat_eq, if◌then◌else◌, Bool, true, false, List, [], ◌++◌}
+use Rattle.std.proofs.Common.{◌≡◌, ◌<◌, ◌⊎◌, inl, inr, refl, ◌+◌, ◌-◌, ℕ, zero, suc, nat_eq, if◌then◌else◌, Bool, true, false, List}
+use Rattle.std.proofs.Common.{[], ◌++◌}
 use Rattle.std.proofs.Common.{length, Some, ◌≤◌, slice_get, slice_set, get_or, ap, sym, ◌∙◌, subst, arith, append-nil, append_assoc}
 use Rattle.std.proofs.lemmas.Bool.{eqb-true}
 use Rattle.std.proofs.lemmas.Bool.Decides.{nat_tests}

@@ -9,7 +9,8 @@ ghost use Rattle.iol_port.specs.Status.{status_of};
 ghost use Rattle.iol_port.specs.declared.action.Input.TheVariants as input;
 ghost use Rattle.iol_port.specs.declared.call.Reply.{Reply};
 ghost use Rattle.iol_engine.specs.Events.{event_of, told_of};
-ghost use Rattle.iol_engine.specs.PortSteps.{Acts, IsReady, IsStatusTold, HasEvent, PortStep, awake, HasPage, HasAnswer, HasReply, reply_told};
+ghost use Rattle.iol_engine.specs.PortSteps.{Acts, IsReady, IsStatusTold, HasEvent, PortStep, awake, HasPage, HasAnswer, HasReply};
+ghost use Rattle.iol_engine.specs.PortSteps.{reply_told};
 ghost use Rattle.iol_engine.specs.PortSteps.{store_in, command_said};
 
 use crate::event::{Event, Exchanged};

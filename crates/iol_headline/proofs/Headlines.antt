@@ -26,7 +26,8 @@ module _ {D L : Type 0} (disk : D → Disk) (number : L → ℕ) (steps : L → 
   headline_of (Ok trace) given links tasks run crash = record {
     run = run;
     lawful =
-        lawful run.journal.standing.number run.journal.standing.state number steps (λ port. steps_of port run.made) links (told_in trace) trace.links.items
+        lawful run.journal.standing.number run.journal.standing.state number steps (λ port. steps_of port run.made) links
+        (told_in trace) trace.links.items
         run.tells.links_made.count run.tells.ports run.tells.acknowledged;
     crash_prefix = λ honest kept.
         crash honest kept run.journal.standing.number run.journal.standing.state

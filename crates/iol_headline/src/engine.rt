@@ -8,9 +8,9 @@ ghost use Rattle.iol_headline.specs.Statuses.{IsLastReported};
 ghost use Rattle.iol_engine.specs.Engine.{trace_of};
 ghost use Rattle.iol_engine.specs.HandedSteps.{status_in};
 
+use iol_engine::Engine;
 use iol_front::Name;
 use iol_port::PortStatus;
-use iol_engine::Engine;
 use iol_types::PortId;
 
 /// Does nothing. Its contract says that at each moment what an engine has reported is lawful.

@@ -27,10 +27,10 @@ ghost use Rattle.iol_master.specs.declared.guarded.Phase.TheVariants as phase;
 
 use crate::caller::{Answer, Caller, Notice};
 use iol_core::{AckFault, QUEUE_COMMANDS, StopCause, SubmitFault, View};
+use iol_engine::{Engine, Exchanged, Handed, PortTold};
 use iol_front::{Committed, Name, Pass};
 use iol_journal::Batch;
 use iol_port::{PortStatus, Want};
-use iol_engine::{Engine, Exchanged, Handed, PortTold};
 use iol_types::{Change, PortId};
 use std::alloc::{AllocError, Global};
 use std::collections::VecDeque;

@@ -25,7 +25,7 @@ mod working;
 
 pub use client::{CallFault, Client, ReadFault, Receipt};
 pub use ending::{Ending, StartFault};
-pub use iol_headline::run_schedule;
 pub use iol_engine::Event;
+pub use iol_headline::run_schedule;
 pub use iol_run::{Ended, RunFault, Step, Task, Trace};
 pub use master::Master;

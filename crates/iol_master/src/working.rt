@@ -1,11 +1,11 @@
 //! The thread of a port.
 
 use crate::client::Shared;
+use iol_engine::{Answered, Event, Exchanged, Handed, PortTold};
 use iol_front::Name;
 use iol_isdu::write_request;
 use iol_link::{DeviceLink, Lost};
 use iol_port::Want;
-use iol_engine::{Answered, Event, Exchanged, Handed, PortTold};
 use iol_types::{PORTS, PortId};
 use std::alloc::{AllocError, Global};
 use std::sync::{Arc, Wait};

@@ -2,8 +2,8 @@
 
 use iol_commands::{Recovered, links_of, read_playable};
 use iol_disk::{MemoryDisk, Pick};
-use iol_journal::{Journal, RecoverFault, format};
 use iol_engine::Event;
+use iol_journal::{Journal, RecoverFault, format};
 use iol_run::{RunFault, Stamped, Task, Trace, run_schedule};
 use iol_script::Step;
 use iol_sim::SimLink;

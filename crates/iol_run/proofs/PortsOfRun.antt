@@ -131,7 +131,8 @@ module _ {L : Type 0} (number : L → ℕ) (steps : L → LinkCall → LinkAnswe
         → ArePortRuns number steps first start schedule links new.events new.ports.links
     all_port_runs schedule waits journal links old new number_is state_is count fresh made =
         let begins = fresh_stands first start disk journal links old number_is state_is fresh in
-        runs_are number steps first start (counted schedule) links new.ports new.events count (all_runs [] schedule waits links old new made begins new_runs)
+        runs_are number steps first start (counted schedule) links new.ports new.events count
+        (all_runs [] schedule waits links old new made begins new_runs)
       where
         new_runs : HaveRuns [] links old.ports old.events
         new_runs =

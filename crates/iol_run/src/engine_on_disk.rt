@@ -132,8 +132,8 @@ impl<D: SectorDisk, F: Name> EngineOnDisk<D, F> {
     ) -> PortTold
         requires there { port ≤ length self.old.connections }
         requires connection { slice_get self.old.connections (port - 1) ≡ Some (L.number link.old) }
-        ensures steps { MakesStep L.number L.steps port self.old.master.core self.new.master.core self.old.machines self.new.machines link.old
-            link.new (told_of result.called ++ told_of result.status) }
+        ensures steps { MakesStep L.number L.steps port self.old.master.core self.new.master.core self.old.machines self.new.machines
+            link.old link.new (told_of result.called ++ told_of result.status) }
         ensures connections { self.new.connections ≡ slice_set self.old.connections (port - 1) (L.number link.new) }
         ensures others { (self.new.master.flusher ≡ self.old.master.flusher) × (self.new.master.committed ≡ self.old.master.committed) }
         ensures run { KeepsRunning D.disk F.front.start self.old.master self.new.master }

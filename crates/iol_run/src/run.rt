@@ -73,7 +73,8 @@ fn note<D: SectorDisk, F: Name>(
     event: Option<Event>,
 )
     requires { vec_len events.old < vec_capacity events.old }
-    ensures events { map stamp_of events.new.items ≡ map stamp_of events.old.items ++ stamped (clock_of D.disk master.now.master) (told_of event) }
+    ensures events { map stamp_of events.new.items ≡ map stamp_of events.old.items
+        ++ stamped (clock_of D.disk master.now.master) (told_of event) }
     ensures room { (vec_len events.new ≤ vec_len events.old + 1) × (vec_capacity events.new ≡ vec_capacity events.old) }
 {
     if let Some(event) = event {

@@ -10,10 +10,10 @@ use iol_disk::MemoryDisk;
 use iol_dsindex::examples::{
     BROKEN_OFF, FURTHER_LIST, NAMED_TWICE, ONE_KEY, ONE_KEY_AND_MORE, RESERVED_ENTRY, RESERVED_NEXT,
 };
+use iol_engine::Event;
 use iol_isdu::{Answer, ISDU_OCTETS, write_answer};
 use iol_journal::{Geometry, format};
 use iol_port::PortStatus;
-use iol_engine::Event;
 use iol_run::{Ended, Stamped, Task, run_schedule};
 use iol_sim::ScriptLink;
 use iol_types::{Change, DeviceId, Label, PortConfig, PortId, PortMode, Validation};

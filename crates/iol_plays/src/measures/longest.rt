@@ -1,16 +1,17 @@
-//! Commits of one Configure each through a core and its flusher, one after the other, on a journal of 32 ports and 256 slots.
+//! Commits of one Configure each through an engine and its flusher, one after the other, on a journal of 32 ports and 256 slots.
 
 ghost use Rattle.std.specs.Prelude.{◌≡◌, []};
 
+use crate::clients::empty_links;
 use crate::measures::commands::config;
 use crate::measures::plain::nanoseconds_since;
 use anyhow::{Context, bail};
 use iol_disk::{ImageFile, SectorDisk};
+use iol_engine::Event;
 use iol_example::create;
 use iol_front::{Front, Name};
 use iol_journal::{Geometry, Journal};
-use iol_engine::Event;
-use iol_run::{CoreOnDisk, Turn, Turned};
+use iol_run::{EngineOnDisk, Turn, Turned};
 use iol_types::{Change, MasterState, PORTS, PortId};
 use std::fs;
 use std::marker::Brand;
@@ -39,7 +40,7 @@ pub(crate) fn time_commits(rt: &HostRuntime, folder: &str, turns: u32) -> anyhow
     Ok(())
 }
 
-// Makes all commits through a core and its flusher over the journal.
+// Makes all commits through an engine and its flusher over the journal.
 fn commit_all<F: Name, D: SectorDisk + Drop>(
     rt: &HostRuntime,
     front: Front,
@@ -52,7 +53,11 @@ fn commit_all<F: Name, D: SectorDisk + Drop>(
     requires state { (front.start.state ≡ journal.history.start) × (state ≡ journal.history.start) }
     requires list { journal.history.commands ≡ [] }
 {
-    let Ok(mut master) = CoreOnDisk::<D, F>::new(rt.alloc(), front, journal, state) else {
+    let links = empty_links(rt.alloc(), state.ports())?;
+    if links.len() != usize::from(state.ports()) {
+        bail!("another count of ports")
+    }
+    let Ok(mut master) = EngineOnDisk::<D, F>::new(rt.alloc(), front, journal, state, &links) else {
         bail!("out of memory")
     };
     let printed = print_commits(rt, &mut master, turns);
@@ -63,7 +68,7 @@ fn commit_all<F: Name, D: SectorDisk + Drop>(
 // Makes commits, and prints what each took.
 fn print_commits<D: SectorDisk, F: Name>(
     rt: &HostRuntime,
-    master: &mut CoreOnDisk<D, F>,
+    master: &mut EngineOnDisk<D, F>,
     turns: u32,
 ) -> anyhow::Result<()> {
     for _ in 0..COMMITS {
@@ -79,12 +84,15 @@ fn print_commits<D: SectorDisk, F: Name>(
 // The nanoseconds from a Configure to its acknowledgement.
 fn commit<D: SectorDisk, F: Name>(
     rt: &HostRuntime,
-    master: &mut CoreOnDisk<D, F>,
+    master: &mut EngineOnDisk<D, F>,
 ) -> anyhow::Result<u64> {
     let port = PortId::new(1).context("no port number")?;
     let config = config()?;
     let start = Instant::now(rt)?;
-    if master.submit(Change::Configure { port, config }).is_err() {
+    if !matches!(
+        master.submit(Change::Configure { port, config }),
+        Event::Accepted { .. }
+    ) {
         bail!("a change is refused")
     }
     for _ in 0..MOST_TURNS {

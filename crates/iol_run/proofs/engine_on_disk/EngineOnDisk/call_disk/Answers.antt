@@ -12,7 +12,8 @@ invariant_of-self g c =
     let start = g.F.Name.front.start in
     let none : i.committed ≡ None = ap (λ (m : EngineOnDiskView g.row.D.Denot). m.master.committed) c.self.view_is ∙ c.requires.0 in
     subst (λ o. IsInStep start i.engine.core c.disk_step.new.self o) (sym none)
-    (called_in_step g.D.SectorDisk.disk start i.engine.core i.flusher c.disk_step.new.self c.disk_step.ensures.published c.in-Ok.ensures.step
+    (called_in_step g.D.SectorDisk.disk start i.engine.core i.flusher c.disk_step.new.self c.disk_step.ensures.published
+    c.in-Ok.ensures.step
     (subst (λ o. IsInStep start i.engine.core i.flusher o) none c.self.invariant))
 
 pub returns-in-Ok-clause-run : goal.returns-in-Ok-clause-run
@@ -20,8 +21,10 @@ returns-in-Ok-clause-run g c =
     let i = c.self.inside in
     let none : i.committed ≡ None = ap (λ (m : EngineOnDiskView g.row.D.Denot). m.master.committed) c.self.view_is ∙ c.requires.0 in
     to_none g.D.SectorDisk.disk g.F.Name.front.start c.args.self.now.master i.engine.core c.disk_step.new.self i.committed none
-    (from_none g.D.SectorDisk.disk g.F.Name.front.start c.args.self.now.master _ i.engine.core i.flusher i.committed (ap (λ (m : EngineOnDiskView g.row.D.Denot). m.master) c.self.view_is) none
-    (called_running g.D.SectorDisk.disk g.F.Name.front.start i.engine.core i.engine.core i.flusher c.disk_step.new.self c.disk_step.ensures.published refl
+    (from_none g.D.SectorDisk.disk g.F.Name.front.start c.args.self.now.master _ i.engine.core i.flusher i.committed (ap (λ
+    (m : EngineOnDiskView g.row.D.Denot). m.master) c.self.view_is) none
+    (called_running g.D.SectorDisk.disk g.F.Name.front.start i.engine.core i.engine.core i.flusher c.disk_step.new.self
+    c.disk_step.ensures.published refl
     c.disk_step.ensures.run))
 
 pub returns-in-Err-Disk-clause-run : goal.returns-in-Err-Disk-clause-run
@@ -29,7 +32,8 @@ returns-in-Err-Disk-clause-run g c =
     let i = c.self.inside in
     let none : i.committed ≡ None = ap (λ (m : EngineOnDiskView g.row.D.Denot). m.master.committed) c.self.view_is ∙ c.requires.0 in
     to_none g.D.SectorDisk.disk g.F.Name.front.start c.args.self.now.master c.fail.new.self.core c.disk_step.new.self i.committed none
-    (from_none g.D.SectorDisk.disk g.F.Name.front.start c.args.self.now.master _ i.engine.core i.flusher i.committed (ap (λ (m : EngineOnDiskView g.row.D.Denot). m.master) c.self.view_is) none
+    (from_none g.D.SectorDisk.disk g.F.Name.front.start c.args.self.now.master _ i.engine.core i.flusher i.committed (ap (λ
+    (m : EngineOnDiskView g.row.D.Denot). m.master) c.self.view_is) none
     (called_running g.D.SectorDisk.disk g.F.Name.front.start i.engine.core c.fail.new.self.core i.flusher c.disk_step.new.self
     c.disk_step.ensures.published
     (ap (λ (core : CoreView). core.queue) c.fail.ensures.core) c.disk_step.ensures.run))

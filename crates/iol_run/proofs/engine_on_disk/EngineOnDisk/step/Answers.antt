@@ -11,7 +11,8 @@ invariant_of-self g c =
     let i = c.self.inside in
     let new = c.step-told.new.self.core in
     let is = c.step-told.ensures.steps in
-    let becomes = step_becomes l.number l.steps is.before is.after c.args.link.now c.step-told.new.link i.engine.core new is.called is.status
+    let becomes = step_becomes l.number l.steps is.before is.after c.args.link.now c.step-told.new.link i.engine.core new is.called
+    is.status
     is.steps_as in
     stepped_in_step g.F.Name.front.start i.engine.core new is.called i.flusher i.committed becomes.0 c.self.invariant
 
@@ -21,7 +22,8 @@ returns-clause-run g c =
     let i = c.self.inside in
     let new = c.step-told.new.self.core in
     let is = c.step-told.ensures.steps in
-    let becomes = step_becomes l.number l.steps is.before is.after c.args.link.now c.step-told.new.link i.engine.core new is.called is.status
+    let becomes = step_becomes l.number l.steps is.before is.after c.args.link.now c.step-told.new.link i.engine.core new is.called
+    is.status
     is.steps_as in
     subst (λ (m : CoreOnDiskView g.row.D.Denot).
     KeepsRunning g.D.SectorDisk.disk g.F.Name.front.start m (record { core = new; flusher = i.flusher; committed = i.committed }))

@@ -36,8 +36,10 @@ invariant_of-self-2 g c =
     let i = c.self.inside in (
       subst (λ (es : List Stamp). IsTold g.F.Name.front.start c.make-turned.new.master.master es) (sym (noted g c))
           (step_told g.F.Name.front.start (clock_of d c.make-turned.new.master.master) d l.number l.steps c.args.step.now i.master.master
-          c.make-turned.new.master.master (ports_with i.master i.links.items) (ports_with c.make-turned.new.master c.make-turned.new.links.items)
-          (map stamp_of i.events.items) (told_of c.make-turned.result.first ++ told_of c.make-turned.result.second) c.make-turned.result.turned
+          c.make-turned.new.master.master (ports_with i.master i.links.items) (ports_with c.make-turned.new.master
+          c.make-turned.new.links.items)
+          (map stamp_of i.events.items) (told_of c.make-turned.result.first ++ told_of c.make-turned.result.second)
+          c.make-turned.result.turned
           c.is_in_step.ensures
           c.make-turned.ensures.does c.self.invariant.0),
       c.make-turned.ensures.links,
@@ -48,7 +50,8 @@ returns-clause-did g c = (
   told_of c.make-turned.result.first ++ told_of c.make-turned.result.second,
   subst (λ (v : RunView g.row.D.Denot g.row.L.Denot).
       Does g.D.SectorDisk.disk g.L.DeviceLink.number g.L.DeviceLink.steps c.args.step.now v.master c.make-turned.new.master.master
-      v.ports (ports_with c.make-turned.new.master c.make-turned.new.links.items) (told_of c.make-turned.result.first ++ told_of c.make-turned.result.second)
+      v.ports (ports_with c.make-turned.new.master c.make-turned.new.links.items)
+      (told_of c.make-turned.result.first ++ told_of c.make-turned.result.second)
       c.make-turned.result.turned)
       c.self.view_is c.make-turned.ensures.does,
   noted g c
@@ -68,7 +71,8 @@ returns-clause-kept g c = record {
       let i = c.self.inside in
       let before = subst (λ (v : RunView g.row.D.Denot g.row.L.Denot). IsMarked disk start v) (sym c.self.view_is) was in
       subst (λ (es : List Stamp). Marked disk start i.begun c.make-turned.new.master.master es) (sym (noted g c))
-      (step_mark disk start i.begun l.number l.steps c.args.step.now i.master.master c.make-turned.new.master.master (ports_with i.master i.links.items) (ports_with c.make-turned.new.master c.make-turned.new.links.items)
+      (step_mark disk start i.begun l.number l.steps c.args.step.now i.master.master c.make-turned.new.master.master
+      (ports_with i.master i.links.items) (ports_with c.make-turned.new.master c.make-turned.new.links.items)
       (map stamp_of i.events.items)
       (told_of c.make-turned.result.first ++ told_of c.make-turned.result.second) c.make-turned.result.turned c.is_in_step.ensures
       c.make-turned.ensures.does
