@@ -89,8 +89,8 @@ module _ (start : Start) where
     count = count;
     runs =
         subst (λ (ms : List PortValue).
-        HaveRuns itself any_steps first start.state (λ port. 0) new.connections (record { machines = ms; links = new.connections })
-        (trace_of new))
+        HaveRuns itself any_steps first start.state (λ port. 0) new.connections
+        (record { machines = ms; links = new.connections }) (trace_of new))
         (sym machines)
         (subst (λ (es : List Event).
         HaveRuns itself any_steps first start.state (λ port. 0) new.connections
@@ -320,5 +320,5 @@ module _ (start : Start) where
   -- what is told of its ports are their runs
   pub engine_runs : (engine : EngineView) → (is : IsEngine start engine)
       → AreRunsOfPorts itself any_steps first start.state is.counted is.begun (trace_of engine) engine.connections
-  engine_runs engine is = runs_are itself any_steps first start.state is.counted is.begun (ports_of engine)
-  (trace_of engine) is.count is.runs
+  engine_runs engine is =
+      runs_are itself any_steps first start.state is.counted is.begun (ports_of engine) (trace_of engine) is.count is.runs

@@ -55,8 +55,8 @@ module _ (first : ℕ) (start : State) where
         subst (λ (es : List Event). Stands (events ++ stamped t es) new.core) (sym is.told_is)
         (core_after.stepped_stands first start t events old.core new.core is.called is.status becomes.0 becomes.1 was)
     port_stands number steps false t port events old new ports last told is was =
-        core_after.stays first start events (stamped t told) old.core new.core (ap (stamped t) is.2) (ap (λ
-        (m : CoreOnDiskView D). m.core) is.0) was
+        core_after.stays first start events (stamped t told) old.core new.core (ap (stamped t) is.2)
+        (ap (λ (m : CoreOnDiskView D). m.core) is.0) was
 
     takes_stands : (t : ℕ) (events : List Stamp) (old new : CoreOnDiskView D) (told : List Event) (turned : Turned)
         → Takes old new told turned
@@ -70,11 +70,11 @@ module _ (first : ℕ) (start : State) where
         queue : new.core.queue ≡ old.core.queue
         queue = ap (λ (c : CoreView). c.queue) is.1.others
     takes_stands t events old new told Idle is was =
-        core_after.stays first start events (stamped t told) old.core new.core (ap (stamped t) is.2) (ap (λ
-        (m : CoreOnDiskView D). m.core) is.1) was
+        core_after.stays first start events (stamped t told) old.core new.core (ap (stamped t) is.2)
+        (ap (λ (m : CoreOnDiskView D). m.core) is.1) was
     takes_stands t events old new told Waited is was =
-        core_after.stays first start events (stamped t told) old.core new.core (ap (stamped t) is.2) (ap (λ
-        (m : CoreOnDiskView D). m.core) is.1) was
+        core_after.stays first start events (stamped t told) old.core new.core (ap (stamped t) is.2)
+        (ap (λ (m : CoreOnDiskView D). m.core) is.1) was
 
     module _ (disk : D → Disk) where
       called_stands : (t : ℕ) (events : List Stamp) (old new : CoreOnDiskView D) (told : List Event) → HasCalled disk old new told
@@ -82,8 +82,8 @@ module _ (first : ℕ) (start : State) where
       called_stands t events old new [] is was = core_after.stays first start events [] old.core new.core refl is.0 was
       called_stands t events old new (e ∷ told) is was =
           subst (λ (es : List Event). Stands (events ++ stamped t es) new.core) (sym is.1)
-          (core_after.quiet first start events _ old.core new.core refl (λ n. refl) (ap (λ (c : CoreView). c.queue) is.2) (ap (λ
-          (c : CoreView). c.durable) is.2)
+          (core_after.quiet first start events _ old.core new.core refl (λ n. refl) (ap (λ (c : CoreView). c.queue) is.2)
+          (ap (λ (c : CoreView). c.durable) is.2)
           (ap (λ (c : CoreView). c.number) is.2) (subst (λ (c : CoreView). c.flight ≤ length c.queue) (sym is.2) was.flight) was)
 
       serves_stands : (needs : Need) (t : ℕ) (events : List Stamp) (old new : CoreOnDiskView D) (told : List Event) (turned : Turned)
@@ -93,13 +93,13 @@ module _ (first : ℕ) (start : State) where
       serves_stands need.Disk t events old new told Idle is was = absurd is
       serves_stands need.BatchOrDisk t events old new told turned is was = absurd is
       serves_stands need.Disk t events old new told Waited is was =
-          core_after.stays first start events (stamped t told) old.core new.core (ap (stamped t) is.2) (ap (λ
-          (m : CoreOnDiskView D). m.core) is.1) was
+          core_after.stays first start events (stamped t told) old.core new.core (ap (stamped t) is.2)
+          (ap (λ (m : CoreOnDiskView D). m.core) is.1) was
       serves_stands need.Publish t events old new told turned is was =
           core_after.stays first start events (stamped t told) old.core new.core (ap (stamped t) is.1.4) is.1.2 was
       serves_stands need.Stopped t events old new told turned is was =
-          core_after.stays first start events (stamped t told) old.core new.core (ap (stamped t) is.2) (ap (λ
-          (m : CoreOnDiskView D). m.core) is.1) was
+          core_after.stays first start events (stamped t told) old.core new.core (ap (stamped t) is.2)
+          (ap (λ (m : CoreOnDiskView D). m.core) is.1) was
 
       turn_stands : (committed : Option CommittedView) (t : ℕ) (events : List Stamp) (old new : CoreOnDiskView D) (told : List Event)
           (turned : Turned)

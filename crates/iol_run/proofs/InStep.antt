@@ -20,6 +20,7 @@ use Rattle.iol_flush.specs.declared.stage.FlushStage.TheVariants.{Resting, Openi
 use Rattle.iol_front.specs.Fronts.{Start, CommittedView}
 use Rattle.iol_journal.specs.Body.{values}
 use Rattle.iol_journal.specs.Runs.{Mark}
+use Rattle.iol_run.specs.EngineOnDisk.{EngineOnDiskView}
 use Rattle.iol_run.specs.CoreOnDisk.{CoreOnDiskView, IsInFlight, HasFlight, IsInStep, IsRunning, KeepsRunning, waiting_of}
 
 -- a command that is accepted passes in the live state
@@ -131,6 +132,10 @@ module _ {D : Type 0} (disk : D → Disk) (start : Start) (marks : List Mark) wh
           ∙ ap (λ (f : Option CommandFault). is_none f && true) (accepted_passes old command is.0)
   submit_running old new command flusher committed (Err f) is step was =
       subst (λ (c : CoreView). IsRunning disk start marks (record { core = c; flusher = flusher; committed = committed })) (sym is.1) was
+
+-- the core and the flusher of an engine on a disk are those of one that is the same
+pub master_is : {D : Type 0} {one two : EngineOnDiskView D} → one ≡ two → one.master ≡ two.master
+master_is {D} same = ap (λ (m : EngineOnDiskView D). m.master) same
 
 -- the run goes on as a contract sees it, from where no batch is to be acknowledged
 pub from_none : {D : Type 0} (disk : D → Disk) (start : Start) (seen next : CoreOnDiskView D) (core : CoreView) (flusher : FlusherView D)

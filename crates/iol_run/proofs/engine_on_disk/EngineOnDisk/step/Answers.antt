@@ -1,8 +1,8 @@
-use Rattle.std.proofs.Common.{ap, subst}
+use Rattle.std.proofs.Common.{subst}
 use Rattle.iol_engine.proofs.PortCalls.{step_becomes}
 use Rattle.iol_run.specs.CoreOnDisk.{CoreOnDiskView, KeepsRunning}
-use Rattle.iol_run.specs.EngineOnDisk.{EngineOnDiskView}
 use Rattle.iol_run.proofs.Calls.{stepped_in_step, stepped_running}
+use Rattle.iol_run.proofs.InStep.{master_is}
 use Rattle.iol_run.proofs.engine_on_disk.EngineOnDisk.step.Goals as goal
 
 pub invariant_of-self : goal.invariant_of-self
@@ -27,6 +27,6 @@ returns-clause-run g c =
     is.steps_as in
     subst (λ (m : CoreOnDiskView g.row.D.Denot).
     KeepsRunning g.D.SectorDisk.disk g.F.Name.front.start m (record { core = new; flusher = i.flusher; committed = i.committed }))
-    (ap (λ (m : EngineOnDiskView g.row.D.Denot). m.master) c.self.view_is)
+    (master_is c.self.view_is)
     (stepped_running g.D.SectorDisk.disk g.F.Name.front.start i.engine.core new is.called i.flusher i.committed becomes.0
     c.live_number-number.ensures.core.legal c.self.invariant)

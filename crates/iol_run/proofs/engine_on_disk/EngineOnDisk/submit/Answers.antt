@@ -1,8 +1,7 @@
-use Rattle.std.proofs.Common.{ap, subst, sym}
+use Rattle.std.proofs.Common.{subst, sym}
 use Rattle.iol_types.specs.Command.{command_of}
-use Rattle.iol_run.specs.EngineOnDisk.{EngineOnDiskView}
 use Rattle.iol_run.specs.CoreOnDisk.{CoreOnDiskView, IsRunning}
-use Rattle.iol_run.proofs.InStep.{submit_in_step, submit_running}
+use Rattle.iol_run.proofs.InStep.{master_is, submit_in_step, submit_running}
 use Rattle.iol_run.proofs.engine_on_disk.EngineOnDisk.submit.Goals as goal
 
 pub invariant_of-self : goal.invariant_of-self
@@ -19,6 +18,6 @@ returns-clause-run g c = record {
       (command_of c.args.change)
       c.self.inside.flusher
       c.self.inside.committed c.submit-answer.result c.submit-answer.ensures.submit c.self.invariant
-      (subst (λ (m : CoreOnDiskView g.row.D.Denot). IsRunning g.D.SectorDisk.disk g.F.Name.front.start marks m) (sym (ap (λ
-      (m : EngineOnDiskView g.row.D.Denot). m.master) c.self.view_is)) was);
+      (subst (λ (m : CoreOnDiskView g.row.D.Denot). IsRunning g.D.SectorDisk.disk g.F.Name.front.start marks m) (sym
+      (master_is c.self.view_is)) was);
 }

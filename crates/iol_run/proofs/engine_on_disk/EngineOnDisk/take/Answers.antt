@@ -15,7 +15,7 @@ use Rattle.iol_engine.specs.Events.{told_of}
 use Rattle.iol_run.specs.Turns.{Takes}
 use Rattle.iol_run.specs.declared.turn.Turned.{Turned}
 use Rattle.iol_run.proofs.Batches.{given_in_step, given_running}
-use Rattle.iol_run.proofs.InStep.{from_none, to_none}
+use Rattle.iol_run.proofs.InStep.{from_none, master_is, to_none}
 use Rattle.iol_run.proofs.engine_on_disk.EngineOnDisk.take.Goals as goal
 
 pub invariant_of-self : goal.invariant_of-self
@@ -24,8 +24,8 @@ invariant_of-self g c =
     let none : i.committed ≡ None = ap (λ (m : EngineOnDiskView g.row.D.Denot). m.master.committed) c.self.view_is ∙ c.requires.needs.0 in
     let batch = c.in-Ok-Some.batch in
     let start = g.F.Name.front.start in
-    let stands = subst (λ (m : CoreOnDiskView g.row.D.Denot). flush.IsInStep start m.flusher.stage m.flusher.published) (sym (ap (λ
-    (m : EngineOnDiskView g.row.D.Denot). m.master) c.self.view_is))
+    let stands = subst (λ (m : CoreOnDiskView g.row.D.Denot). flush.IsInStep start m.flusher.stage m.flusher.published) (sym
+    (master_is c.self.view_is))
     c.requires.stands in
     let took = subst (λ (o : Option Batch). IsTake i.engine.core c.room.result c.take_batch.new.self.core o) c.in-Ok-Some.field-0-is
     c.in-Ok-Some.ensures.take in
@@ -60,12 +60,9 @@ returns-in-Ok-clause-turn g c =
     Takes c.args.self.now.master (record { core = c.take_batch.new.self.core; flusher = c.give.new.self; committed = i.committed })
     (told_of c.silent.result.event) t) (sym c.silent.ensures.0) (
       batch,
-      subst (λ (m : V). IsTaken m.core (room_of m.flusher.stage) c.take_batch.new.self.core batch) (ap (λ
-      (m : EngineOnDiskView g.row.D.Denot). m.master) c.self.view_is) is,
-      subst (λ (m : V). HasTaken m.flusher.stage batch c.give.new.self.stage) (ap (λ
-      (m : EngineOnDiskView g.row.D.Denot). m.master) c.self.view_is) c.in-Ok.ensures.gift,
-      subst (λ (m : V). c.give.new.self.published ≡ m.flusher.published) (ap (λ (m : EngineOnDiskView g.row.D.Denot). m.master)
-      c.self.view_is) c.give.ensures.published,
+      subst (λ (m : V). IsTaken m.core (room_of m.flusher.stage) c.take_batch.new.self.core batch) (master_is c.self.view_is) is,
+      subst (λ (m : V). HasTaken m.flusher.stage batch c.give.new.self.stage) (master_is c.self.view_is) c.in-Ok.ensures.gift,
+      subst (λ (m : V). c.give.new.self.published ≡ m.flusher.published) (master_is c.self.view_is) c.give.ensures.published,
       none,
       c.silent.ensures.1,
     )
@@ -81,7 +78,7 @@ returns-in-Ok-clause-run g c =
     let is : IsTaken i.engine.core room c.take_batch.new.self.core batch =
     subst (λ (room : ℕ). IsTaken i.engine.core room c.take_batch.new.self.core batch) c.room.ensures.room took in
     to_none g.D.SectorDisk.disk g.F.Name.front.start c.args.self.now.master c.take_batch.new.self.core c.give.new.self i.committed none
-    (from_none g.D.SectorDisk.disk g.F.Name.front.start c.args.self.now.master _ i.engine.core i.flusher i.committed (ap (λ
-    (m : EngineOnDiskView g.row.D.Denot). m.master) c.self.view_is) none
+    (from_none g.D.SectorDisk.disk g.F.Name.front.start c.args.self.now.master _ i.engine.core i.flusher i.committed
+    (master_is c.self.view_is) none
     (given_running g.D.SectorDisk.disk g.F.Name.front.start i.engine.core c.take_batch.new.self.core i.flusher c.give.new.self batch room
     c.in-Ok.ensures.gift c.give.ensures.published is))
