@@ -67,8 +67,20 @@ impl<F: Name> Core<F> {
         ensures memory { OnErr result (IsSome (durable_set self.old port)) }
     {
         let view = view_of(&self.durable, self.number, port)?;
-        pass.meet(&mut self.pass);
+        self.meet(pass);
         Ok(view)
+    }
+
+    /// The pass has then seen each durable command. Returns the number of the last one. It takes no memory.
+    pub fn meet(&mut self, pass: &mut Pass<F>) -> u64
+        ensures number { result ≡ self.old.number }
+        ensures others { self.new ≡ record self.old { seen = self.new.seen } }
+        ensures kept { IsPrefix self.old.seen self.new.seen × IsPrefix pass.old pass.new }
+        ensures met { IsPrefix self.new.seen pass.new }
+        ensures stands { Stands F.front.start self.new.seen self.new.number self.new.durable }
+    {
+        pass.meet(&mut self.pass);
+        self.number
     }
 }
 

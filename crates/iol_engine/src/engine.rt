@@ -174,6 +174,17 @@ impl<F: Name> Engine<F> {
         self.core.view(port, pass)
     }
 
+    /// The pass has then seen each durable command, as after `Core::meet`. Returns the number of the last one.
+    pub fn meet(&mut self, pass: &mut Pass<F>) -> u64
+        ensures number { result ≡ self.new.core.number }
+        ensures others { self.new ≡ record self.old { core = record self.old.core { seen = self.new.core.seen } } }
+        ensures kept { IsPrefix self.old.core.seen self.new.core.seen × IsPrefix pass.old pass.new }
+        ensures met { IsPrefix self.new.core.seen pass.new }
+        ensures stands { Stands F.front.start self.new.core.seen self.new.core.number self.new.core.durable }
+    {
+        self.core.meet(pass)
+    }
+
     /// Takes the next batch, as `Core::take_batch` does.
     ///
     /// # Errors

@@ -4,3 +4,4 @@ mod Since
 mod Ends
 mod Reading
 mod WaitsForMemory
+mod Settling

@@ -3,6 +3,7 @@ pub mod Receipts
 pub mod Faults
 pub mod Since
 pub mod Endings
+pub mod Settled
 pub mod Wakes
 pub mod Serving
 pub mod Answers

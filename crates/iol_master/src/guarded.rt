@@ -143,6 +143,18 @@ impl<F: Name> Guarded<F> {
         view
     }
 
+    // As `Core::meet`. The durable commands that the pass has then seen are those of a lawful trace.
+    pub(crate) fn meet(&mut self, pass: &mut Pass<F>) -> u64
+        ensures lawful { IsLawfulList F.front.start result (take (result - F.front.start.number) self.new.engine.core.seen) }
+        ensures kept { IsPrefix pass.old pass.new }
+        ensures met { IsPrefix self.new.engine.core.seen pass.new }
+        ensures stands { Stands F.front.start self.new.engine.core.seen result self.new.engine.core.durable }
+    {
+        let number = self.engine.meet(pass);
+        iol_headline::engine::is_lawful(&self.engine);
+        number
+    }
+
     // Returns what the engine wants of a port's link.
     pub(crate) fn want(&self, port: PortId) -> Want {
         self.engine.want(port)

@@ -1,9 +1,11 @@
 //! The master: it starts its threads, and ends them.
 
-ghost use Rattle.std.specs.Prelude.{◌≡◌, ◌≤◌, [], length, vec_capacity, vec_len, IfErr, IfOk};
+ghost use Rattle.std.specs.Prelude.{◌≡◌, ◌≤◌, ◌+◌, ◌-◌, [], length, take, vec_capacity, vec_len, IfErr, IfOk, IsTrue};
 ghost use Rattle.iol_flush.specs.Stages.{HasHistory};
 ghost use Rattle.iol_journal.specs.Journals.{JournalView};
+ghost use Rattle.iol_headline.specs.Lists.{IsLawfulList};
 ghost use Rattle.iol_master.specs.Endings.{IsEnding, IsLeft, IsStartFault};
+ghost use Rattle.iol_master.specs.Settled.{IsSettled};
 
 use crate::client::{Client, Shared};
 use crate::ending::{Ending, StartFault};
@@ -94,12 +96,14 @@ impl<D: SectorDisk + Drop + Send + 'static, F: Name + 'static> Master<D, F> {
     /// have ended. Where memory stays out for a second or so, what waits is not written, which `Unwritten` says; those who waited for it
     /// heard so.
     pub fn shutdown<R: Threads + Wait>(self, rt: &R) -> Ending<D, F>
-        ensures { IsEnding D.disk F.front.start self result }
+        ensures ending { IsEnding D.disk F.front.start self result }
+        // A master that is closed has published a list of commands that a lawful trace accepted and acknowledged, whole.
+        ensures settled { IsSettled F.front.start result }
     {
         let Master {
             alloc: _,
             shared,
-            pass: _,
+            pass,
             workers,
             flusher,
         } = self;
@@ -108,8 +112,53 @@ impl<D: SectorDisk + Drop + Send + 'static, F: Name + 'static> Master<D, F> {
         join_all(rt, workers);
         shared.guarded.lock(rt).close();
         shared.work.notify_all();
-        flusher.join(rt)
+        settle(rt, &shared, pass, flusher.join(rt))
     }
+}
+
+// A master is closed only where all that its flusher has published is acknowledged.
+fn settle<D: SectorDisk, F: Name, R: Wait>(
+    rt: &R,
+    shared: &Shared<F>,
+    mut pass: Pass<F>,
+    ending: Ending<D, F>,
+) -> Ending<D, F>
+    ensures ending { (first : JournalView D) → IsEnding D.disk F.front.start first ending → IsEnding D.disk F.front.start first result }
+    ensures settled { IsSettled F.front.start result }
+{
+    match ending {
+        Ending::Closed(journal, mut publisher) => {
+            if is_acknowledged(rt, shared, &mut pass, &mut publisher) {
+                Ending::Closed(journal, publisher)
+            } else {
+                Ending::Unwritten(journal, publisher)
+            }
+        }
+        other => other,
+    }
+}
+
+// Whether all that is published is acknowledged. If so, a lawful trace has accepted it.
+fn is_acknowledged<F: Name, R: Wait>(
+    rt: &R,
+    shared: &Shared<F>,
+    pass: &mut Pass<F>,
+    publisher: &mut Publisher<F>,
+) -> bool
+    ensures same { publisher.new ≡ publisher.old }
+    ensures lawful { IsTrue result → IsLawfulList F.front.start (F.front.start.number + length publisher.new) publisher.new }
+{
+    let number = acknowledged(rt, shared, pass);
+    publisher.covers(pass);
+    number == publisher.number()
+}
+
+// The number of the last durable command. The pass has then seen all of them.
+fn acknowledged<F: Name, R: Wait>(rt: &R, shared: &Shared<F>, pass: &mut Pass<F>) -> u64
+    ensures lawful { IsLawfulList F.front.start result (take (result - F.front.start.number) pass.new) }
+    ensures number { result ≤ F.front.start.number + length pass.new }
+{
+    shared.guarded.lock(rt).meet(pass)
 }
 
 // All that a master needs memory for, made before its first thread.
