@@ -1,6 +1,5 @@
--- What is known of a published list whose number is acknowledged.
-use Rattle.std.proofs.Common.{◌≡◌, ◌≤◌, ◌+◌, ◌-◌, ℕ, List, length, take, sym, ◌∙◌, subst, arith}
-use Rattle.std.proofs.lemmas.List.{take_all}
+-- What a core has seen, as a later pass has it.
+use Rattle.std.proofs.Common.{◌-◌, ℕ, List, take, sym, subst, arith}
 use mathlib.Core.List.{IsPrefix}
 use Rattle.iol_types.specs.Command.{CommandValue}
 use Rattle.iol_types.specs.State.{State}
@@ -16,13 +15,3 @@ pub seen_later : (start : Start) (number : ℕ) (seen later : List CommandValue)
 seen_later start number seen later state stands met is =
     subst (λ (cs : List CommandValue). IsLawfulList start number cs)
     (sym (take_prefix seen later (number - start.number) met (omega (arith, stands.within)))) is
-
--- a published list that ends with the acknowledged number is lawful, whole
-pub settled : (start : Start) (number : ℕ) (pass list : List CommandValue) → IsPrefix pass list → number ≤ start.number + length pass
-    → number ≡ start.number + length list → IsLawfulList start number (take (number - start.number) pass)
-    → IsLawfulList start (start.number + length list) list
-settled start number pass list begins within same is =
-    let all : take (number - start.number) pass ≡ list =
-    sym (take_prefix pass list (number - start.number) begins (omega (arith, within)))
-    ∙ take_all (number - start.number) list (omega (arith, same)) in
-    subst (λ (n : ℕ). IsLawfulList start n list) same (subst (λ (cs : List CommandValue). IsLawfulList start number cs) all is)
