@@ -1,17 +1,19 @@
 //! What a port does next, and its status meanwhile.
 
-ghost use Rattle.std.specs.Prelude.{◌≡◌};
+ghost use Rattle.std.specs.Prelude.{◌≡◌, ℕ};
 ghost use Rattle.iol_port.specs.Calls.{BeginUpload, BeginDownload, MayBeMade, call_of};
 ghost use Rattle.iol_port.specs.Stage.{IsStage, Settled};
 ghost use Rattle.iol_port.specs.declared.stage.Rest.TheVariants.{Off};
-ghost use Rattle.iol_port.specs.Status.{status_of, status_at_rest, status_exchanging, status_returning, transfer_of};
+ghost use Rattle.iol_port.specs.Status.{status_of, status_at_rest, status_exchanging, status_returning, status_during, transfer_of};
 ghost use Rattle.iol_port.specs.LinkWants.{link_wanted};
-ghost use Rattle.iol_port.specs.View.{stage_of};
-ghost use Rattle.iol_port.specs.Wanted.{wanted, wanted_of, after_action, request_for, return_of, IfAsks};
+ghost use Rattle.iol_port.specs.View.{awaiting_answer, stage_of};
+ghost use Rattle.iol_port.specs.Wanted.{AnswerTo, wanted, wanted_of, after_action, request_for, return_of, IfAsks};
 
 use crate::action::{Action, Want};
 use crate::call::CoreCall;
-use crate::stage::{AttendFor, ExchangeFor, Found, Held, PageFor, Rest, Stage, Transfer};
+use crate::stage::{
+    AttendFor, AwaitsAnswer, ExchangeFor, Found, Held, PageFor, Rest, Stage, Transfer,
+};
 use crate::status::PortStatus;
 use iol_dsindex::{DATA_STORAGE, DsCommand, PARAMETER_CHECKSUM, STATE_PROPERTY};
 use iol_isdu::Request;
@@ -27,7 +29,8 @@ pub(crate) fn act(port: PortId, stage: Stage) -> (Action, Stage)
 {
     match { stage } {
         Stage::Settled(rest) => (Action::Idle, Stage::Settled(rest)),
-        Stage::Paging(what) => (Action::ReadPage, Stage::Paging(what)),
+        Stage::Page(what) => (Action::ReadPage, Stage::Page(what)),
+        Stage::Answer(awaits) => (Action::Exchange(request_of(&awaits)), Stage::Answer(awaits)),
         Stage::Attending(what) => ask(CoreCall::Attend(port), Stage::Attending(what)),
         Stage::BeginningUpload(found) => {
             ask(begin_upload(port, &found), Stage::BeginningUpload(found))
@@ -36,23 +39,12 @@ pub(crate) fn act(port: PortId, stage: Stage) -> (Action, Stage)
             let call = begin_download(port, &found, checksum);
             ask(call, Stage::BeginningDownload(found, checksum))
         }
-        Stage::Exchanging(what) => send(request_for(&what), Stage::Exchanging(what)),
-        Stage::Uploading(permit, page, upload) => {
-            send(upload.next(), Stage::Uploading(permit, page, upload))
-        }
         Stage::Filing(permit, page, set) => {
             ask(CoreCall::FinishUpload(permit, set), Stage::Filed(page))
         }
         Stage::Filed(page) => (Action::Idle, Stage::Filed(page)),
         Stage::Storing(ticket, page) => {
             ask(CoreCall::AskTicket(ticket), Stage::Storing(ticket, page))
-        }
-        Stage::Downloading(permit, page, download) => {
-            let request = download.next();
-            send(request, Stage::Downloading(permit, page, download))
-        }
-        Stage::Breaking(held, fault) => {
-            send(DsCommand::Break.request(), Stage::Breaking(held, fault))
         }
         Stage::Returning(held, rest) => {
             let transfer = transfer_of(&held);
@@ -67,11 +59,8 @@ pub(crate) fn want(stage: &Stage) -> Want
     ensures { result ≡ link_wanted (stage_of stage.now) }
 {
     match stage {
-        Stage::Paging(_) => Want::Page,
-        Stage::Exchanging(what) => Want::Answer(request_for(what)),
-        Stage::Uploading(_, _, upload) => Want::Answer(upload.next()),
-        Stage::Downloading(_, _, download) => Want::Answer(download.next()),
-        Stage::Breaking(_, _) => Want::Answer(DsCommand::Break.request()),
+        Stage::Page(_) => Want::Page,
+        Stage::Answer(awaits) => Want::Answer(request_of(awaits)),
         Stage::Settled(_) => Want::Nothing,
         Stage::Attending(_) => Want::Nothing,
         Stage::BeginningUpload(_) => Want::Nothing,
@@ -82,14 +71,6 @@ pub(crate) fn want(stage: &Stage) -> Want
         Stage::Returning(_, _) => Want::Nothing,
         Stage::Returned(_, _) => Want::Nothing,
     }
-}
-
-// Sends a request, at a stage.
-fn send(request: Request, stage: Stage) -> (Action, Stage)
-    ensures action { result.0 ≡ Action.Exchange request }
-    ensures stage { result.1 ≡ stage }
-{
-    (Action::Exchange(request), stage)
 }
 
 // Asks the core, at a stage.
@@ -121,6 +102,19 @@ fn begin_download(port: PortId, found: &Found, checksum: u32) -> CoreCall
         vendor: found.page.vendor(),
         device: found.page.device(),
         checksum,
+    }
+}
+
+// The request whose answer is awaited.
+fn request_of(awaits: &AwaitsAnswer) -> Request
+    ensures wanted { (port : ℕ) → wanted port (awaiting_answer awaits.now) ≡ AnswerTo result }
+    ensures link { link_wanted (awaiting_answer awaits.now) ≡ Want.Answer result }
+{
+    match awaits {
+        AwaitsAnswer::Exchanging(what) => request_for(what),
+        AwaitsAnswer::Uploading(_, _, upload) => upload.next(),
+        AwaitsAnswer::Downloading(_, _, download) => download.next(),
+        AwaitsAnswer::Breaking(_, _) => DsCommand::Break.request(),
     }
 }
 
@@ -169,21 +163,20 @@ pub(crate) fn status(stage: &Stage) -> PortStatus
 {
     match stage {
         Stage::Settled(rest) => status_at_rest(rest),
-        Stage::Paging(PageFor::Comparing { work: _, rest }) => status_at_rest(rest),
-        Stage::Paging(PageFor::Identifying { .. }) => PortStatus::Starting,
+        Stage::Page(PageFor::Comparing { work: _, rest }) => status_at_rest(rest),
+        Stage::Page(PageFor::Identifying { .. }) => PortStatus::Starting,
+        Stage::Answer(AwaitsAnswer::Exchanging(what)) => status_exchanging(what),
+        Stage::Answer(AwaitsAnswer::Uploading(_, _, _)) => PortStatus::Uploading,
+        Stage::Answer(AwaitsAnswer::Downloading(_, _, _)) => PortStatus::Downloading,
+        Stage::Answer(AwaitsAnswer::Breaking(held, _)) => status_during(transfer_of(held)),
         Stage::Attending(AttendFor::Waking { rest }) => status_at_rest(rest),
         Stage::Attending(AttendFor::Confirming { .. }) => PortStatus::Starting,
         Stage::Attending(AttendFor::Restarting) => PortStatus::Uploading,
         Stage::BeginningUpload(_) => PortStatus::Starting,
         Stage::BeginningDownload(_, _) => PortStatus::Starting,
-        Stage::Exchanging(what) => status_exchanging(what),
-        Stage::Uploading(_, _, _) => PortStatus::Uploading,
         Stage::Filing(_, _, _) => PortStatus::Uploading,
         Stage::Filed(_) => PortStatus::Uploading,
         Stage::Storing(_, _) => PortStatus::Storing,
-        Stage::Downloading(_, _, _) => PortStatus::Downloading,
-        Stage::Breaking(Held::Upload(_), _) => PortStatus::Uploading,
-        Stage::Breaking(Held::Download(_), _) => PortStatus::Downloading,
         Stage::Returning(held, rest) => status_returning(transfer_of(held), rest),
         Stage::Returned(transfer, rest) => status_returning(*transfer, rest),
     }
@@ -225,6 +218,13 @@ fn status_returning(transfer: Transfer, rest: &Rest) -> PortStatus
     if matches!(rest, Rest::Lost) {
         return PortStatus::Lost;
     }
+    status_during(transfer)
+}
+
+// The status during a transfer.
+fn status_during(transfer: Transfer) -> PortStatus
+    ensures { result ≡ status_during transfer }
+{
     match transfer {
         Transfer::Upload => PortStatus::Uploading,
         Transfer::Download => PortStatus::Downloading,

@@ -2,25 +2,13 @@
 
 ghost use Rattle.std.specs.Prelude.{◌≡◌, true};
 ghost use Rattle.iol_port.specs.Stage.{IsStage, IsNext};
-ghost use Rattle.iol_port.specs.Heard.{attended, resumed, is_under, decided, confirmed, told, woken, is_attending, is_settled};
+ghost use Rattle.iol_port.specs.Heard.{attended, resumed, is_under, decided, confirmed, told, is_attending};
 ghost use Rattle.iol_port.specs.View.{stage_of, next_of};
 
 use crate::decision::{Decision, decide};
 use crate::stage::{AttendFor, Found, Next, PageFor, Rest, Stage};
 use iol_core::Work;
 use iol_dsindex::StateProperty;
-
-// A settled port is woken.
-pub(crate) fn wake(stage: Stage) -> Stage
-    requires { is_settled (stage_of stage) ≡ true }
-    ensures stage { stage_of result ≡ woken (stage_of stage) }
-    ensures holds { IsStage (stage_of result) }
-{
-    let Stage::Settled(rest) = stage else {
-        unreachable!()
-    };
-    Stage::Attending(AttendFor::Waking { rest })
-}
 
 // The core has said what is to be done.
 pub(crate) fn attend(under: Option<u64>, kept: bool, stage: Stage, work: Option<Work>) -> Next
@@ -70,7 +58,7 @@ fn resume(rest: Rest, work: Work) -> Next
         Rest::Lost => Next::Start(work),
         Rest::Failed(_) => Next::Start(work),
         Rest::Ready(_) | Rest::ReadyLocked(_) | Rest::ReadyEmpty(_) | Rest::Mismatch(_, _) => {
-            Next::To(Stage::Paging(PageFor::Comparing { work, rest }))
+            Next::To(Stage::Page(PageFor::Comparing { work, rest }))
         }
     }
 }

@@ -6,9 +6,9 @@ ghost use Rattle.iol_port.specs.Heard.{download_permitted, is_beginning_download
 ghost use Rattle.iol_port.specs.Stage.{IsStage};
 ghost use Rattle.iol_port.specs.View.{stage_of};
 
-use crate::exchanging::fail;
+use crate::exchanging::{break_off, fail};
 use crate::fault::PortFault;
-use crate::stage::{Held, Rest, Stage};
+use crate::stage::{AwaitsAnswer, Held, Rest, Stage};
 use iol_core::{DownloadBegun, DownloadFault, DownloadPermit};
 use iol_ident::Page;
 use iol_isdu::{Answer, IsduFault};
@@ -25,7 +25,7 @@ pub(crate) fn begin(stage: Stage, begun: Result<DownloadBegun, DownloadFault>) -
     };
     match begun {
         Ok(DownloadBegun { permit, set }) => {
-            Stage::Downloading(permit, found.page, Download::begin(set))
+            Stage::Answer(AwaitsAnswer::Downloading(permit, found.page, Download::begin(set)))
         }
         Err(fault) => fail(PortFault::of_download(fault)),
     }
@@ -44,12 +44,12 @@ pub(crate) fn answer(
     let mut download = download;
     match answer {
         Ok(answer) => match download.feed(answer) {
-            DownloadStep::More => Stage::Downloading(permit, page, download),
+            DownloadStep::More => Stage::Answer(AwaitsAnswer::Downloading(permit, page, download)),
             DownloadStep::Whole => Stage::Returning(Held::Download(permit), Rest::Ready(page)),
             DownloadStep::Fault(fault) => {
-                Stage::Breaking(Held::Download(permit), PortFault::of_transfer(fault))
+                break_off(Held::Download(permit), PortFault::of_transfer(fault))
             }
         },
-        Err(fault) => Stage::Breaking(Held::Download(permit), PortFault::of_isdu(fault)),
+        Err(fault) => break_off(Held::Download(permit), PortFault::of_isdu(fault)),
     }
 }

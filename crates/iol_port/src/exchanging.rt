@@ -1,13 +1,13 @@
 //! Messages outside of a transfer.
 
-ghost use Rattle.std.specs.Prelude.{◌≡◌, ◌⊎◌, true};
+ghost use Rattle.std.specs.Prelude.{◌≡◌};
 ghost use Rattle.iol_isdu.specs.Reading.{answer_of};
 ghost use Rattle.iol_port.specs.Answers.{exchanged, state_read, checksum_read, upload_ended, failed, again};
-ghost use Rattle.iol_port.specs.Stage.{IsStage};
+ghost use Rattle.iol_port.specs.Stage.{IsStage, Exchanging, Breaking};
 ghost use Rattle.iol_port.specs.View.{stage_of};
 
 use crate::fault::PortFault;
-use crate::stage::{AttendFor, ExchangeFor, Found, Rest, Stage};
+use crate::stage::{AttendFor, AwaitsAnswer, ExchangeFor, Found, Held, Rest, Stage};
 use iol_dsindex::StateProperty;
 use iol_ident::Page;
 use iol_isdu::{Answer, IsduFault, read_answer};
@@ -28,13 +28,29 @@ pub(crate) fn fail(fault: PortFault) -> Stage
     Stage::Settled(Rest::Failed(fault))
 }
 
+// The device is sent a message outside of a transfer.
+pub(crate) fn send(what: ExchangeFor) -> Stage
+    ensures stage { stage_of result ≡ Exchanging what }
+    ensures holds { IsStage (stage_of result) }
+{
+    Stage::Answer(AwaitsAnswer::Exchanging(what))
+}
+
+// A transfer is broken off, and its permit is returned after that.
+pub(crate) fn break_off(held: Held, fault: PortFault) -> Stage
+    ensures stage { stage_of result ≡ Breaking held fault }
+    ensures holds { IsStage (stage_of result) }
+{
+    Stage::Answer(AwaitsAnswer::Breaking(held, fault))
+}
+
 // The device is busy: a request that may still be sent is sent again.
 fn again(left: u8, next: ExchangeFor) -> Stage
     ensures stage { stage_of result ≡ again left next }
     ensures holds { IsStage (stage_of result) }
 {
     if 1 < left {
-        Stage::Exchanging(next)
+        send(next)
     } else {
         fail(PortFault::Busy)
     }
@@ -65,7 +81,7 @@ fn read_state(found: Found, left: u8, answer: Result<Answer, IsduFault>) -> Stag
 {
     match answer {
         Ok(Answer::ReadOk(octets)) => match octets.as_slice() {
-            [octet] => Stage::Exchanging(ExchangeFor::ReadingChecksum {
+            [octet] => send(ExchangeFor::ReadingChecksum {
                 found,
                 property: StateProperty::read(*octet),
                 left: MOST_REQUESTS,

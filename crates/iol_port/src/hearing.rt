@@ -1,47 +1,36 @@
 //! What a port makes of an answer of its device, and of a reply of the core.
 
-ghost use Rattle.std.specs.Prelude.{◌≡◌, ◌⊎◌, true};
+ghost use Rattle.std.specs.Prelude.{◌≡◌, ◌⊎◌};
 ghost use Rattle.iol_isdu.specs.Reading.{answer_of};
 ghost use Rattle.iol_port.specs.Answers.{answered, RunsOut};
-ghost use Rattle.iol_port.specs.Heard.{replied, awaits_answer, FitsReply};
+ghost use Rattle.iol_port.specs.Heard.{replied, FitsReply};
 ghost use Rattle.iol_port.specs.Stage.{IsStage, IsNext};
-ghost use Rattle.iol_port.specs.View.{stage_of, next_of};
+ghost use Rattle.iol_port.specs.View.{awaiting_answer, stage_of, next_of};
 
 use crate::call::Reply;
 use crate::exchanging::{answer_in, exchange};
 use crate::losing::settle;
-use crate::stage::{Next, Rest, Stage};
+use crate::stage::{AwaitsAnswer, Next, Rest, Stage};
 use crate::{attending, downloading, uploading};
 use std::alloc::Global;
 
 // The device has answered.
-pub(crate) fn answer(alloc: Global, stage: Stage, octets: &[u8]) -> Stage
-    requires awaits { awaits_answer (stage_of stage) ≡ true }
-    requires held { IsStage (stage_of stage) }
-    ensures stage { (stage_of result ≡ answered (stage_of stage) (answer_of octets.now))
-        ⊎ RunsOut (stage_of stage) (answer_of octets.now) (stage_of result) }
+pub(crate) fn answer(alloc: Global, awaits: AwaitsAnswer, octets: &[u8]) -> Stage
+    requires { IsStage (awaiting_answer awaits) }
+    ensures stage { (stage_of result ≡ answered (awaiting_answer awaits) (answer_of octets.now))
+        ⊎ RunsOut (awaiting_answer awaits) (answer_of octets.now) (stage_of result) }
     ensures holds { IsStage (stage_of result) }
 {
     let answer = answer_in(octets);
-    match { stage } {
-        Stage::Exchanging(what) => exchange(what, answer),
-        Stage::Uploading(permit, page, upload) => {
+    match { awaits } {
+        AwaitsAnswer::Exchanging(what) => exchange(what, answer),
+        AwaitsAnswer::Uploading(permit, page, upload) => {
             uploading::answer(alloc, permit, page, upload, answer)
         }
-        Stage::Downloading(permit, page, download) => {
+        AwaitsAnswer::Downloading(permit, page, download) => {
             downloading::answer(permit, page, download, answer)
         }
-        Stage::Breaking(held, fault) => Stage::Returning(held, Rest::Failed(fault)),
-        Stage::Settled(_rest) => unreachable!(),
-        Stage::Paging(_what) => unreachable!(),
-        Stage::Attending(_what) => unreachable!(),
-        Stage::BeginningUpload(_found) => unreachable!(),
-        Stage::BeginningDownload(_found, _checksum) => unreachable!(),
-        Stage::Filing(_permit, _page, _set) => unreachable!(),
-        Stage::Filed(_page) => unreachable!(),
-        Stage::Storing(_ticket, _page) => unreachable!(),
-        Stage::Returning(_held, _rest) => unreachable!(),
-        Stage::Returned(_transfer, _rest) => unreachable!(),
+        AwaitsAnswer::Breaking(held, fault) => Stage::Returning(held, Rest::Failed(fault)),
     }
 }
 

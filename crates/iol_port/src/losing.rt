@@ -3,39 +3,28 @@
 ghost use Rattle.std.specs.Prelude.{◌≡◌, true, IfSome, IfNone};
 ghost use Rattle.iol_core.specs.Core.{CoreView};
 ghost use Rattle.iol_port.specs.Ending.{released, ended};
-ghost use Rattle.iol_port.specs.Heard.{lost, settled, awaits_link, is_returned};
+ghost use Rattle.iol_port.specs.Heard.{lost, settled, is_returned};
 ghost use Rattle.iol_port.specs.Stage.{IsStage};
-ghost use Rattle.iol_port.specs.View.{stage_of};
+ghost use Rattle.iol_port.specs.View.{awaiting_answer, stage_of};
 
-use crate::stage::{Held, Rest, Stage};
+use crate::stage::{AwaitsAnswer, Held, Rest, Stage};
 use iol_core::Core;
 use iol_front::Name;
 
-// The device is gone.
-pub(crate) fn lose(stage: Stage) -> Stage
-    requires { awaits_link (stage_of stage) ≡ true }
-    ensures stage { stage_of result ≡ lost (stage_of stage) }
+// The device is gone, in place of an answer.
+pub(crate) fn lose(awaits: AwaitsAnswer) -> Stage
+    ensures stage { stage_of result ≡ lost (awaiting_answer awaits) }
     ensures holds { IsStage (stage_of result) }
 {
-    match stage {
-        Stage::Paging(_what) => Stage::Settled(Rest::Lost),
-        Stage::Exchanging(_what) => Stage::Settled(Rest::Lost),
-        Stage::Uploading(permit, _page, upload) => {
+    match awaits {
+        AwaitsAnswer::Exchanging(_what) => Stage::Settled(Rest::Lost),
+        AwaitsAnswer::Uploading(permit, _page, upload) => {
             Stage::Returning(Held::of_upload(permit, upload), Rest::Lost)
         }
-        Stage::Downloading(permit, _page, download) => {
+        AwaitsAnswer::Downloading(permit, _page, download) => {
             Stage::Returning(Held::of_download(permit, download), Rest::Lost)
         }
-        Stage::Breaking(held, _fault) => Stage::Returning(held, Rest::Lost),
-        Stage::Settled(..) => unreachable!(),
-        Stage::Attending(..) => unreachable!(),
-        Stage::BeginningUpload(..) => unreachable!(),
-        Stage::BeginningDownload(..) => unreachable!(),
-        Stage::Filing(..) => unreachable!(),
-        Stage::Filed(..) => unreachable!(),
-        Stage::Storing(..) => unreachable!(),
-        Stage::Returning(..) => unreachable!(),
-        Stage::Returned(..) => unreachable!(),
+        AwaitsAnswer::Breaking(held, _fault) => Stage::Returning(held, Rest::Lost),
     }
 }
 
@@ -68,19 +57,31 @@ fn held_by(stage: Stage) -> Option<Held>
     ensures none { IfNone result ((core : CoreView) → ended core (stage_of stage) ≡ core) }
 {
     match { stage } {
-        Stage::Uploading(permit, _page, upload) => Some(Held::of_upload(permit, upload)),
+        Stage::Answer(awaits) => held_by_transfer(awaits),
         Stage::Filing(permit, _page, _set) => Some(Held::Upload(permit)),
-        Stage::Downloading(permit, _page, download) => Some(Held::of_download(permit, download)),
-        Stage::Breaking(held, _fault) => Some(held),
         Stage::Returning(held, _rest) => Some(held),
         Stage::Settled(_rest) => None,
-        Stage::Paging(_what) => None,
+        Stage::Page(_what) => None,
         Stage::Attending(_what) => None,
         Stage::BeginningUpload(_found) => None,
         Stage::BeginningDownload(_found, _checksum) => None,
-        Stage::Exchanging(_what) => None,
         Stage::Filed(_page) => None,
         Stage::Storing(_ticket, _page) => None,
         Stage::Returned(_transfer, _rest) => None,
+    }
+}
+
+// The permit that a stage holds which awaits an answer, if it does.
+fn held_by_transfer(awaits: AwaitsAnswer) -> Option<Held>
+    ensures held { IfSome result (λ held. (core : CoreView) → ended core (awaiting_answer awaits) ≡ released core held) }
+    ensures none { IfNone result ((core : CoreView) → ended core (awaiting_answer awaits) ≡ core) }
+{
+    match awaits {
+        AwaitsAnswer::Exchanging(_what) => None,
+        AwaitsAnswer::Uploading(permit, _page, upload) => Some(Held::of_upload(permit, upload)),
+        AwaitsAnswer::Downloading(permit, _page, download) => {
+            Some(Held::of_download(permit, download))
+        }
+        AwaitsAnswer::Breaking(held, _fault) => Some(held),
     }
 }

@@ -14,9 +14,9 @@ ghost use Rattle.iol_port.specs.declared.stage.Rest.TheVariants.{Off};
 
 use crate::acting::{self, put};
 use crate::action::{Action, Input, UPLOAD_REQUEST, Want};
-use crate::stage::{Next, Rest, Stage};
+use crate::stage::{AttendFor, Next, Rest, Stage};
 use crate::status::PortStatus;
-use crate::{attending, hearing, losing, paging};
+use crate::{hearing, losing, paging};
 use iol_core::{Core, Ticket};
 use iol_front::Name;
 use iol_types::PortId;
@@ -116,28 +116,28 @@ impl PortMachine {
         ensures fed { IsFed self.old input self.new }
         ensures holds { IsStage self.new.stage }
     {
-        match input {
-            Input::Wake => {
-                let stage = self.take();
-                self.go(Next::To(attending::wake(stage)));
+        match (self.take(), input) {
+            (stage, Input::Event(code)) => {
+                self.note(code);
+                self.go(Next::To(stage));
             }
-            Input::Event(code) => self.note(code),
-            Input::Page { connection, octets } => {
-                let stage = self.take();
-                self.go(paging::page(stage, connection, &octets));
+            (Stage::Settled(rest), Input::Wake) => {
+                let waking = AttendFor::Waking { rest };
+                self.go(Next::To(Stage::Attending(waking)));
             }
-            Input::Octets(octets) => {
-                let stage = self.take();
-                self.go(Next::To(hearing::answer(self.alloc, stage, octets.as_slice())));
+            (Stage::Page(what), Input::Page { connection, octets }) => {
+                self.go(paging::page(what, connection, &octets));
             }
-            Input::Lost => {
-                let stage = self.take();
-                self.go(Next::To(losing::lose(stage)));
+            (Stage::Page(_what), Input::Lost) => self.go(Next::To(Stage::Settled(Rest::Lost))),
+            (Stage::Answer(awaits), Input::Octets(octets)) => {
+                let stage = hearing::answer(self.alloc, awaits, octets.as_slice());
+                self.go(Next::To(stage));
             }
-            Input::Reply(reply) => {
-                let stage = self.take();
+            (Stage::Answer(awaits), Input::Lost) => self.go(Next::To(losing::lose(awaits))),
+            (stage, Input::Reply(reply)) => {
                 self.go(hearing::reply(self.alloc, self.under, self.kept, stage, reply));
             }
+            _ => unreachable!(),
         }
     }
 

@@ -1,11 +1,12 @@
 //! What the page of the device says.
 
-ghost use Rattle.std.specs.Prelude.{◌≡◌, true};
+ghost use Rattle.std.specs.Prelude.{◌≡◌};
 ghost use Rattle.iol_ident.specs.Page.{page_of};
-ghost use Rattle.iol_port.specs.Heard.{paged, found_by, settled_with, first_stage, awaits_page};
+ghost use Rattle.iol_port.specs.Heard.{page_heard, found_by, settled_with, first_stage};
 ghost use Rattle.iol_port.specs.Stage.{IsStage, IsNext};
 ghost use Rattle.iol_port.specs.View.{stage_of, next_of};
 
+use crate::exchanging::send;
 use crate::stage::{ExchangeFor, Found, Next, PageFor, Rest, Stage};
 use iol_core::Work;
 use iol_ident::{PAGE_OCTETS, Page, validate};
@@ -13,14 +14,10 @@ use iol_transfer::MOST_REQUESTS;
 use iol_types::{PortMode, Validation};
 
 // The page was read, on a connection.
-pub(crate) fn page(stage: Stage, connection: u64, octets: &[u8; PAGE_OCTETS]) -> Next
-    requires { awaits_page (stage_of stage) ≡ true }
-    ensures next { next_of result ≡ paged (stage_of stage) connection (page_of octets.now) }
+pub(crate) fn page(what: PageFor, connection: u64, octets: &[u8; PAGE_OCTETS]) -> Next
+    ensures next { next_of result ≡ page_heard what connection (page_of octets.now) }
     ensures holds { IsNext (next_of result) }
 {
-    let Stage::Paging(what) = stage else {
-        unreachable!()
-    };
     let page = Page::read(octets);
     match what {
         PageFor::Comparing { work, rest } => {
@@ -64,7 +61,7 @@ fn find(work: Work, connection: u64, page: Page) -> Stage
             page,
             connection,
         };
-        Stage::Exchanging(ExchangeFor::ReadingState {
+        send(ExchangeFor::ReadingState {
             found,
             left: MOST_REQUESTS,
         })
@@ -79,7 +76,7 @@ pub(crate) fn start(work: Work) -> Stage
     ensures holds { IsStage (stage_of result) }
 {
     if matches!(work.config.mode, PortMode::IolManual) {
-        Stage::Paging(PageFor::Identifying { work })
+        Stage::Page(PageFor::Identifying { work })
     } else {
         Stage::Settled(Rest::Off)
     }

@@ -112,22 +112,29 @@ impl Held {
     }
 }
 
+// What the device's answer is awaited for. A transfer holds its permit, which is spent with it.
+pub(crate) enum AwaitsAnswer {
+    Exchanging(ExchangeFor),
+    Uploading(UploadPermit, Page, Upload),
+    Downloading(DownloadPermit, Page, Download),
+    // DS_Break, and then the permit is returned.
+    Breaking(Held, PortFault),
+}
+
 // How far a port is. Permits stand in the stages that hold them, and are spent with these.
 pub(crate) enum Stage {
+    // The port is to be woken.
     Settled(Rest),
-    Paging(PageFor),
+    // The device's page is awaited.
+    Page(PageFor),
+    Answer(AwaitsAnswer),
     Attending(AttendFor),
     BeginningUpload(Found),
     BeginningDownload(Found, u32),
-    Exchanging(ExchangeFor),
-    Uploading(UploadPermit, Page, Upload),
     Filing(UploadPermit, Page, Arc<DataSet>),
     // The set and its permit are with the core.
     Filed(Page),
     Storing(Ticket, Page),
-    Downloading(DownloadPermit, Page, Download),
-    // DS_Break, and then the permit is returned.
-    Breaking(Held, PortFault),
     Returning(Held, Rest),
     // The permit is with the core.
     Returned(Transfer, Rest),

@@ -10,9 +10,9 @@ ghost use Rattle.iol_port.specs.View.{stage_of};
 ghost use Rattle.iol_port.specs.declared.fault.PortFault.TheVariants.{Memory};
 ghost use Rattle.iol_port.specs.declared.stage.Held.TheVariants as held;
 
-use crate::exchanging::fail;
+use crate::exchanging::{break_off, fail, send};
 use crate::fault::PortFault;
-use crate::stage::{ExchangeFor, Held, Stage};
+use crate::stage::{AwaitsAnswer, ExchangeFor, Held, Stage};
 use iol_core::{FinishFault, PermitFault, Ticket, TicketState, UploadPermit};
 use iol_ident::Page;
 use iol_isdu::{Answer, IsduFault};
@@ -34,7 +34,7 @@ pub(crate) fn begin(alloc: Global, stage: Stage, begun: Result<UploadPermit, Per
         Ok(permit) => {
             let grant = permit.grant();
             let upload = Upload::begin(alloc, grant.vendor, grant.device);
-            Stage::Uploading(permit, found.page, upload)
+            Stage::Answer(AwaitsAnswer::Uploading(permit, found.page, upload))
         }
         Err(fault) => fail(PortFault::of_permit(fault)),
     }
@@ -55,9 +55,7 @@ pub(crate) fn answer(
 {
     match answer {
         Ok(answer) => feed(alloc, permit, page, upload, answer),
-        Err(fault) => {
-            Stage::Breaking(Held::of_upload(permit, upload), PortFault::of_isdu(fault))
-        }
+        Err(fault) => break_off(Held::of_upload(permit, upload), PortFault::of_isdu(fault)),
     }
 }
 
@@ -70,10 +68,10 @@ fn feed(alloc: Global, permit: UploadPermit, page: Page, upload: Upload, answer:
 {
     let mut upload = upload;
     match upload.feed(answer) {
-        UploadStep::More => Stage::Uploading(permit, page, upload),
+        UploadStep::More => Stage::Answer(AwaitsAnswer::Uploading(permit, page, upload)),
         UploadStep::Whole(set) => file(alloc, permit, page, set),
         UploadStep::Fault(fault) => {
-            Stage::Breaking(
+            break_off(
                 Held::of_upload(permit, upload),
                 PortFault::of_transfer(fault),
             )
@@ -89,7 +87,7 @@ fn file(alloc: Global, permit: UploadPermit, page: Page, set: DataSet) -> Stage
 {
     match Arc::new(alloc, set) {
         Ok(set) => Stage::Filing(permit, page, set),
-        Err(_) => Stage::Breaking(Held::Upload(permit), PortFault::Memory),
+        Err(_) => break_off(Held::Upload(permit), PortFault::Memory),
     }
 }
 
@@ -104,14 +102,14 @@ pub(crate) fn finish(stage: Stage, finished: Result<Ticket, FinishFault>) -> Sta
     };
     match finished {
         Ok(ticket) => Stage::Storing(ticket, page),
-        Err(FinishFault::Stopped) => { Stage::Exchanging(ExchangeFor::Stopping { storing: false }) }
-        Err(FinishFault::ConfigChanged) => Stage::Exchanging(ExchangeFor::Yielding),
+        Err(FinishFault::Stopped) => send(ExchangeFor::Stopping { storing: false }),
+        Err(FinishFault::ConfigChanged) => send(ExchangeFor::Yielding),
         Err(FinishFault::QueueFull(permit, set)) => Stage::Filing(permit, page, set),
         Err(FinishFault::Exhausted(permit, _set)) => {
-            Stage::Breaking(Held::Upload(permit), PortFault::Exhausted)
+            break_off(Held::Upload(permit), PortFault::Exhausted)
         }
         Err(FinishFault::Memory(permit, _set)) => {
-            Stage::Breaking(Held::Upload(permit), PortFault::Memory)
+            break_off(Held::Upload(permit), PortFault::Memory)
         }
     }
 }
@@ -127,10 +125,10 @@ pub(crate) fn store(stage: Stage, state: TicketState) -> Stage
     };
     match state {
         TicketState::Waiting => Stage::Storing(ticket, page),
-        TicketState::Durable => Stage::Exchanging(ExchangeFor::EndingUpload {
+        TicketState::Durable => send(ExchangeFor::EndingUpload {
             page,
             left: MOST_REQUESTS,
         }),
-        TicketState::Unsure => Stage::Exchanging(ExchangeFor::Stopping { storing: true }),
+        TicketState::Unsure => send(ExchangeFor::Stopping { storing: true }),
     }
 }
