@@ -1,7 +1,11 @@
 -- A stage in memory, as what it is to a contract.
 use Rattle.iol_port.specs.Stage as port
 use Rattle.iol_port.specs.declared.stage.AwaitsAnswer.{AwaitsAnswer}
-use Rattle.iol_port.specs.declared.stage.AwaitsAnswer.TheVariants as awaits
+use Rattle.iol_port.specs.declared.stage.AwaitsAnswer.TheVariants as answer
+use Rattle.iol_port.specs.declared.stage.AwaitsCore.{AwaitsCore}
+use Rattle.iol_port.specs.declared.stage.AwaitsCore.TheVariants as core
+use Rattle.iol_port.specs.declared.stage.SpendsPermit.{SpendsPermit}
+use Rattle.iol_port.specs.declared.stage.SpendsPermit.TheVariants as permit
 use Rattle.iol_port.specs.declared.stage.Stage.{Stage}
 use Rattle.iol_port.specs.declared.stage.Stage.TheVariants as stage
 use Rattle.iol_port.specs.declared.stage.Next.{Next}
@@ -9,24 +13,32 @@ use Rattle.iol_port.specs.declared.stage.Next.TheVariants as next
 
 -- how far a port is that awaits an answer of its device (own)
 abbrev pub awaiting_answer : AwaitsAnswer → port.Stage
-awaiting_answer (awaits.Exchanging exchange_for) = port.Exchanging exchange_for
-awaiting_answer (awaits.Uploading permit page upload) = port.Uploading permit page upload
-awaiting_answer (awaits.Downloading permit page download) = port.Downloading permit page download
-awaiting_answer (awaits.Breaking held fault) = port.Breaking held fault
+awaiting_answer (answer.Exchanging exchange_for) = port.Exchanging exchange_for
+awaiting_answer (answer.Uploading permit page upload) = port.Uploading permit page upload
+awaiting_answer (answer.Downloading permit page download) = port.Downloading permit page download
+awaiting_answer (answer.Breaking held fault) = port.Breaking held fault
+
+-- how far a port is that awaits a reply of the core (own)
+abbrev pub awaiting_core : AwaitsCore → port.Stage
+awaiting_core (core.Attending attend_for) = port.Attending attend_for
+awaiting_core (core.BeginningUpload found) = port.BeginningUpload found
+awaiting_core (core.BeginningDownload found checksum) = port.BeginningDownload found checksum
+awaiting_core (core.Filed page) = port.Filed page
+awaiting_core (core.Storing ticket page) = port.Storing ticket page
+awaiting_core (core.Returned transfer rest) = port.Returned transfer rest
+
+-- how far a port is that is about to spend a permit (own)
+abbrev pub spending : SpendsPermit → port.Stage
+spending (permit.Filing grant page set) = port.Filing grant page set.value
+spending (permit.Returning held rest) = port.Returning held rest
 
 -- how far a port in memory is (own)
 abbrev pub stage_of : Stage → port.Stage
 stage_of (stage.Settled rest) = port.Settled rest
 stage_of (stage.Page page_for) = port.Paging page_for
-stage_of (stage.Answer waits) = awaiting_answer waits
-stage_of (stage.Attending attend_for) = port.Attending attend_for
-stage_of (stage.BeginningUpload found) = port.BeginningUpload found
-stage_of (stage.BeginningDownload found checksum) = port.BeginningDownload found checksum
-stage_of (stage.Filing permit page set) = port.Filing permit page set.value
-stage_of (stage.Filed page) = port.Filed page
-stage_of (stage.Storing ticket page) = port.Storing ticket page
-stage_of (stage.Returning held rest) = port.Returning held rest
-stage_of (stage.Returned transfer rest) = port.Returned transfer rest
+stage_of (stage.Answer awaited) = awaiting_answer awaited
+stage_of (stage.Core awaited) = awaiting_core awaited
+stage_of (stage.Permit spent) = spending spent
 
 -- where a machine in memory goes (own)
 abbrev pub next_of : Next → port.Next

@@ -2,17 +2,17 @@
 
 ghost use Rattle.std.specs.Prelude.{◌≡◌, ℕ};
 ghost use Rattle.iol_port.specs.Calls.{BeginUpload, BeginDownload, MayBeMade, call_of};
-ghost use Rattle.iol_port.specs.Stage.{IsStage, Settled};
-ghost use Rattle.iol_port.specs.declared.stage.Rest.TheVariants.{Off};
+ghost use Rattle.iol_port.specs.Stage.{IsStage};
 ghost use Rattle.iol_port.specs.Status.{status_of, status_at_rest, status_exchanging, status_returning, status_during, transfer_of};
 ghost use Rattle.iol_port.specs.LinkWants.{link_wanted};
-ghost use Rattle.iol_port.specs.View.{awaiting_answer, stage_of};
-ghost use Rattle.iol_port.specs.Wanted.{AnswerTo, wanted, wanted_of, after_action, request_for, return_of, IfAsks};
+ghost use Rattle.iol_port.specs.View.{awaiting_answer, awaiting_core, spending, stage_of};
+ghost use Rattle.iol_port.specs.Wanted.{AnswerTo, ReplyTo, wanted, wanted_of, after_action, request_for, return_of, IfAsks};
 
 use crate::action::{Action, Want};
 use crate::call::CoreCall;
 use crate::stage::{
-    AttendFor, AwaitsAnswer, ExchangeFor, Found, Held, PageFor, Rest, Stage, Transfer,
+    AttendFor, AwaitsAnswer, AwaitsCore, ExchangeFor, Found, Held, PageFor, Rest, SpendsPermit,
+    Stage, Transfer,
 };
 use crate::status::PortStatus;
 use iol_dsindex::{DATA_STORAGE, DsCommand, PARAMETER_CHECKSUM, STATE_PROPERTY};
@@ -31,26 +31,11 @@ pub(crate) fn act(port: PortId, stage: Stage) -> (Action, Stage)
         Stage::Settled(rest) => (Action::Idle, Stage::Settled(rest)),
         Stage::Page(what) => (Action::ReadPage, Stage::Page(what)),
         Stage::Answer(awaits) => (Action::Exchange(request_of(&awaits)), Stage::Answer(awaits)),
-        Stage::Attending(what) => ask(CoreCall::Attend(port), Stage::Attending(what)),
-        Stage::BeginningUpload(found) => {
-            ask(begin_upload(port, &found), Stage::BeginningUpload(found))
+        Stage::Core(awaits) => (ask(port, &awaits), Stage::Core(awaits)),
+        Stage::Permit(spends) => {
+            let (call, awaits) = spend(spends);
+            (Action::Ask(call), Stage::Core(awaits))
         }
-        Stage::BeginningDownload(found, checksum) => {
-            let call = begin_download(port, &found, checksum);
-            ask(call, Stage::BeginningDownload(found, checksum))
-        }
-        Stage::Filing(permit, page, set) => {
-            ask(CoreCall::FinishUpload(permit, set), Stage::Filed(page))
-        }
-        Stage::Filed(page) => (Action::Idle, Stage::Filed(page)),
-        Stage::Storing(ticket, page) => {
-            ask(CoreCall::AskTicket(ticket), Stage::Storing(ticket, page))
-        }
-        Stage::Returning(held, rest) => {
-            let transfer = transfer_of(&held);
-            ask(return_of(held), Stage::Returned(transfer, rest))
-        }
-        Stage::Returned(transfer, rest) => (Action::Idle, Stage::Returned(transfer, rest)),
     }
 }
 
@@ -61,24 +46,45 @@ pub(crate) fn want(stage: &Stage) -> Want
     match stage {
         Stage::Page(_) => Want::Page,
         Stage::Answer(awaits) => Want::Answer(request_of(awaits)),
-        Stage::Settled(_) => Want::Nothing,
-        Stage::Attending(_) => Want::Nothing,
-        Stage::BeginningUpload(_) => Want::Nothing,
-        Stage::BeginningDownload(_, _) => Want::Nothing,
-        Stage::Filing(_, _, _) => Want::Nothing,
-        Stage::Filed(_) => Want::Nothing,
-        Stage::Storing(_, _) => Want::Nothing,
-        Stage::Returning(_, _) => Want::Nothing,
-        Stage::Returned(_, _) => Want::Nothing,
+        Stage::Settled(_) | Stage::Core(_) | Stage::Permit(_) => Want::Nothing,
     }
 }
 
-// Asks the core, at a stage.
-fn ask(call: CoreCall, stage: Stage) -> (Action, Stage)
-    ensures action { result.0 ≡ Action.Ask call }
-    ensures stage { result.1 ≡ stage }
+// Asks the core for the reply that is awaited. A call that took a permit is made already: the port is idle.
+fn ask(port: PortId, awaits: &AwaitsCore) -> Action
+    ensures wanted { wanted_of result ≡ wanted port (awaiting_core awaits.now) }
+    ensures may_be_made { IfAsks result MayBeMade }
+    ensures after { after_action (awaiting_core awaits.now) ≡ awaiting_core awaits.now }
 {
-    (Action::Ask(call), stage)
+    match awaits {
+        AwaitsCore::Attending(_) => Action::Ask(CoreCall::Attend(port)),
+        AwaitsCore::BeginningUpload(found) => Action::Ask(begin_upload(port, found)),
+        AwaitsCore::BeginningDownload(found, checksum) => {
+            Action::Ask(begin_download(port, found, *checksum))
+        }
+        AwaitsCore::Storing(ticket, _) => Action::Ask(CoreCall::AskTicket(*ticket)),
+        AwaitsCore::Filed(_) => Action::Idle,
+        AwaitsCore::Returned(_, _) => Action::Idle,
+    }
+}
+
+// The call that takes the permit, and the reply that is awaited then.
+fn spend(spends: SpendsPermit) -> (CoreCall, AwaitsCore)
+    requires { IsStage (spending spends) }
+    ensures wanted { (port : ℕ) → wanted port (spending spends) ≡ ReplyTo (call_of result.0) }
+    ensures may_be_made { MayBeMade (call_of result.0) }
+    ensures after { awaiting_core result.1 ≡ after_action (spending spends) }
+    ensures holds { IsStage (awaiting_core result.1) }
+{
+    match spends {
+        SpendsPermit::Filing(permit, page, set) => {
+            (CoreCall::FinishUpload(permit, set), AwaitsCore::Filed(page))
+        }
+        SpendsPermit::Returning(held, rest) => {
+            let transfer = transfer_of(&held);
+            (return_of(held), AwaitsCore::Returned(transfer, rest))
+        }
+    }
 }
 
 // The call for a permit to upload from a device that was found.
@@ -169,16 +175,27 @@ pub(crate) fn status(stage: &Stage) -> PortStatus
         Stage::Answer(AwaitsAnswer::Uploading(_, _, _)) => PortStatus::Uploading,
         Stage::Answer(AwaitsAnswer::Downloading(_, _, _)) => PortStatus::Downloading,
         Stage::Answer(AwaitsAnswer::Breaking(held, _)) => status_during(transfer_of(held)),
-        Stage::Attending(AttendFor::Waking { rest }) => status_at_rest(rest),
-        Stage::Attending(AttendFor::Confirming { .. }) => PortStatus::Starting,
-        Stage::Attending(AttendFor::Restarting) => PortStatus::Uploading,
-        Stage::BeginningUpload(_) => PortStatus::Starting,
-        Stage::BeginningDownload(_, _) => PortStatus::Starting,
-        Stage::Filing(_, _, _) => PortStatus::Uploading,
-        Stage::Filed(_) => PortStatus::Uploading,
-        Stage::Storing(_, _) => PortStatus::Storing,
-        Stage::Returning(held, rest) => status_returning(transfer_of(held), rest),
-        Stage::Returned(transfer, rest) => status_returning(*transfer, rest),
+        Stage::Core(awaits) => status_asking(awaits),
+        Stage::Permit(SpendsPermit::Filing(_, _, _)) => PortStatus::Uploading,
+        Stage::Permit(SpendsPermit::Returning(held, rest)) => {
+            status_returning(transfer_of(held), rest)
+        }
+    }
+}
+
+// The status while a reply of the core is awaited.
+fn status_asking(awaits: &AwaitsCore) -> PortStatus
+    ensures { result ≡ status_of (awaiting_core awaits.now) }
+{
+    match awaits {
+        AwaitsCore::Attending(AttendFor::Waking { rest }) => status_at_rest(rest),
+        AwaitsCore::Attending(AttendFor::Confirming { .. }) => PortStatus::Starting,
+        AwaitsCore::Attending(AttendFor::Restarting) => PortStatus::Uploading,
+        AwaitsCore::BeginningUpload(_) => PortStatus::Starting,
+        AwaitsCore::BeginningDownload(_, _) => PortStatus::Starting,
+        AwaitsCore::Filed(_) => PortStatus::Uploading,
+        AwaitsCore::Storing(_, _) => PortStatus::Storing,
+        AwaitsCore::Returned(transfer, rest) => status_returning(*transfer, rest),
     }
 }
 
@@ -229,15 +246,4 @@ fn status_during(transfer: Transfer) -> PortStatus
         Transfer::Upload => PortStatus::Uploading,
         Transfer::Download => PortStatus::Downloading,
     }
-}
-
-// Puts a stage where none is kept.
-pub(crate) fn put(slot: &mut Stage, stage: Stage)
-    requires { stage_of slot.old ≡ Settled Off }
-    ensures { slot.new ≡ stage }
-{
-    let old = std::mem::replace(slot, stage);
-    let Stage::Settled(_rest) = old else {
-        unreachable!()
-    };
 }

@@ -1,24 +1,28 @@
 //! What the core says is to be done.
 
-ghost use Rattle.std.specs.Prelude.{◌≡◌, true};
-ghost use Rattle.iol_port.specs.Stage.{IsStage, IsNext};
-ghost use Rattle.iol_port.specs.Heard.{attended, resumed, is_under, decided, confirmed, told, is_attending};
+ghost use Rattle.std.specs.Prelude.{◌≡◌};
+ghost use Rattle.iol_port.specs.Stage.{IsStage, IsNext, Attending};
+ghost use Rattle.iol_port.specs.Heard.{attended, resumed, is_under, decided, confirmed};
 ghost use Rattle.iol_port.specs.View.{stage_of, next_of};
 
 use crate::decision::{Decision, decide};
-use crate::stage::{AttendFor, Found, Next, PageFor, Rest, Stage};
+use crate::stage::{AttendFor, AwaitsCore, Found, Next, PageFor, Rest, Stage};
 use iol_core::Work;
 use iol_dsindex::StateProperty;
 
+// The port asks the core what is to be done.
+pub(crate) fn attend(what: AttendFor) -> Stage
+    ensures stage { stage_of result ≡ Attending what }
+    ensures holds { IsStage (stage_of result) }
+{
+    Stage::Core(AwaitsCore::Attending(what))
+}
+
 // The core has said what is to be done.
-pub(crate) fn attend(under: Option<u64>, kept: bool, stage: Stage, work: Option<Work>) -> Next
-    requires { is_attending (stage_of stage) ≡ true }
-    ensures next { next_of result ≡ told under kept (stage_of stage) work }
+pub(crate) fn attended(under: Option<u64>, kept: bool, what: AttendFor, work: Option<Work>) -> Next
+    ensures next { next_of result ≡ attended under kept what work }
     ensures holds { IsNext (next_of result) }
 {
-    let Stage::Attending(what) = stage else {
-        unreachable!()
-    };
     let Some(work) = work else {
         return Next::To(Stage::Settled(Rest::Off));
     };
@@ -89,7 +93,7 @@ fn stage_decided(found: Found, checksum: u32, decision: Decision) -> Stage
         Decision::Ready => Stage::Settled(Rest::Ready(found.page)),
         Decision::ReadyLocked => Stage::Settled(Rest::ReadyLocked(found.page)),
         Decision::ReadyEmpty => Stage::Settled(Rest::ReadyEmpty(found.page)),
-        Decision::Upload => Stage::BeginningUpload(found),
-        Decision::Download => Stage::BeginningDownload(found, checksum),
+        Decision::Upload => Stage::Core(AwaitsCore::BeginningUpload(found)),
+        Decision::Download => Stage::Core(AwaitsCore::BeginningDownload(found, checksum)),
     }
 }

@@ -6,6 +6,7 @@ ghost use Rattle.iol_port.specs.Answers.{exchanged, state_read, checksum_read, u
 ghost use Rattle.iol_port.specs.Stage.{IsStage, Exchanging, Breaking};
 ghost use Rattle.iol_port.specs.View.{stage_of};
 
+use crate::attending::attend;
 use crate::fault::PortFault;
 use crate::stage::{AttendFor, AwaitsAnswer, ExchangeFor, Found, Held, Rest, Stage};
 use iol_dsindex::StateProperty;
@@ -28,7 +29,7 @@ pub(crate) fn fail(fault: PortFault) -> Stage
     Stage::Settled(Rest::Failed(fault))
 }
 
-// The device is sent a message outside of a transfer.
+// The port sends a message outside of a transfer, and awaits the answer.
 pub(crate) fn send(what: ExchangeFor) -> Stage
     ensures stage { stage_of result ≡ Exchanging what }
     ensures holds { IsStage (stage_of result) }
@@ -36,7 +37,7 @@ pub(crate) fn send(what: ExchangeFor) -> Stage
     Stage::Answer(AwaitsAnswer::Exchanging(what))
 }
 
-// A transfer is broken off, and its permit is returned after that.
+// The port breaks a transfer off, and returns the permit after that.
 pub(crate) fn break_off(held: Held, fault: PortFault) -> Stage
     ensures stage { stage_of result ≡ Breaking held fault }
     ensures holds { IsStage (stage_of result) }
@@ -70,7 +71,7 @@ pub(crate) fn exchange(what: ExchangeFor, answer: Result<Answer, IsduFault>) -> 
         } => read_checksum(found, property, left, answer),
         ExchangeFor::EndingUpload { page, left } => end_upload(page, left, answer),
         ExchangeFor::Stopping { .. } => fail(PortFault::Stopped),
-        ExchangeFor::Yielding => Stage::Attending(AttendFor::Restarting),
+        ExchangeFor::Yielding => attend(AttendFor::Restarting),
     }
 }
 
@@ -111,7 +112,7 @@ fn read_checksum(
 {
     match answer {
         Ok(Answer::ReadOk(octets)) => match octets.as_slice() {
-            [first, second, third, fourth] => Stage::Attending(AttendFor::Confirming {
+            [first, second, third, fourth] => attend(AttendFor::Confirming {
                 found,
                 property,
                 checksum: u32::from_be_bytes([*first, *second, *third, *fourth]),

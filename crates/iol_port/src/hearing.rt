@@ -5,12 +5,12 @@ ghost use Rattle.iol_isdu.specs.Reading.{answer_of};
 ghost use Rattle.iol_port.specs.Answers.{answered, RunsOut};
 ghost use Rattle.iol_port.specs.Heard.{replied, FitsReply};
 ghost use Rattle.iol_port.specs.Stage.{IsStage, IsNext};
-ghost use Rattle.iol_port.specs.View.{awaiting_answer, stage_of, next_of};
+ghost use Rattle.iol_port.specs.View.{awaiting_answer, awaiting_core, stage_of, next_of};
 
 use crate::call::Reply;
 use crate::exchanging::{answer_in, exchange};
-use crate::losing::settle;
-use crate::stage::{AwaitsAnswer, Next, Rest, Stage};
+use crate::losing::give_back;
+use crate::stage::{AwaitsAnswer, AwaitsCore, Next, Rest, Stage};
 use crate::{attending, downloading, uploading};
 use std::alloc::Global;
 
@@ -30,7 +30,7 @@ pub(crate) fn answer(alloc: Global, awaits: AwaitsAnswer, octets: &[u8]) -> Stag
         AwaitsAnswer::Downloading(permit, page, download) => {
             downloading::answer(permit, page, download, answer)
         }
-        AwaitsAnswer::Breaking(held, fault) => Stage::Returning(held, Rest::Failed(fault)),
+        AwaitsAnswer::Breaking(held, fault) => give_back(held, Rest::Failed(fault)),
     }
 }
 
@@ -39,20 +39,32 @@ pub(crate) fn reply(
     alloc: Global,
     under: Option<u64>,
     kept: bool,
-    stage: Stage,
+    awaits: &AwaitsCore,
     reply: Reply,
 ) -> Next
-    requires { FitsReply (stage_of stage) reply }
-    ensures next { next_of result ≡ replied under kept (stage_of stage) reply }
+    requires { FitsReply (awaiting_core awaits.now) reply }
+    ensures next { next_of result ≡ replied under kept (awaiting_core awaits.now) reply }
     ensures holds { IsNext (next_of result) }
 {
-    match reply {
-        Reply::Attended(work) => attending::attend(under, kept, stage, work),
-        Reply::BegunUpload(begun) => Next::To(uploading::begin(alloc, stage, begun)),
-        Reply::FinishedUpload(finished) => Next::To(uploading::finish(stage, finished)),
-        Reply::AbandonedUpload => Next::To(settle(stage)),
-        Reply::Ticket(state) => Next::To(uploading::store(stage, state)),
-        Reply::BegunDownload(begun) => Next::To(downloading::begin(stage, begun)),
-        Reply::EndedDownload => Next::To(settle(stage)),
+    match (awaits, reply) {
+        (AwaitsCore::Attending(what), Reply::Attended(work)) => {
+            attending::attended(under, kept, *what, work)
+        }
+        (AwaitsCore::BeginningUpload(found), Reply::BegunUpload(begun)) => {
+            Next::To(uploading::begin(alloc, found.page, begun))
+        }
+        (AwaitsCore::BeginningDownload(found, _checksum), Reply::BegunDownload(begun)) => {
+            Next::To(downloading::begin(found.page, begun))
+        }
+        (AwaitsCore::Filed(page), Reply::FinishedUpload(finished)) => {
+            Next::To(uploading::finish(*page, finished))
+        }
+        (AwaitsCore::Storing(ticket, page), Reply::Ticket(state)) => {
+            Next::To(uploading::store(*ticket, *page, state))
+        }
+        (AwaitsCore::Returned(_transfer, rest), Reply::AbandonedUpload | Reply::EndedDownload) => {
+            Next::To(Stage::Settled(*rest))
+        }
+        _ => unreachable!(),
     }
 }

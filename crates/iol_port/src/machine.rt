@@ -12,11 +12,10 @@ ghost use Rattle.iol_port.specs.View.{stage_of, next_of};
 ghost use Rattle.iol_port.specs.Wanted.{wanted, wanted_of, after_action, IfAsks};
 ghost use Rattle.iol_port.specs.declared.stage.Rest.TheVariants.{Off};
 
-use crate::acting::{self, put};
 use crate::action::{Action, Input, UPLOAD_REQUEST, Want};
-use crate::stage::{AttendFor, Next, Rest, Stage};
+use crate::stage::{AttendFor, AwaitsCore, Next, Rest, Stage};
 use crate::status::PortStatus;
-use crate::{hearing, losing, paging};
+use crate::{acting, attending, hearing, losing, paging};
 use iol_core::{Core, Ticket};
 use iol_front::Name;
 use iol_types::PortId;
@@ -92,7 +91,7 @@ impl PortMachine {
         ensures { result ≡ awaited self.now.stage }
     {
         match &self.stage {
-            Stage::Storing(ticket, _page) => Some(*ticket),
+            Stage::Core(AwaitsCore::Storing(ticket, _page)) => Some(*ticket),
             _ => None,
         }
     }
@@ -123,7 +122,7 @@ impl PortMachine {
             }
             (Stage::Settled(rest), Input::Wake) => {
                 let waking = AttendFor::Waking { rest };
-                self.go(Next::To(Stage::Attending(waking)));
+                self.go(Next::To(attending::attend(waking)));
             }
             (Stage::Page(what), Input::Page { connection, octets }) => {
                 self.go(paging::page(what, connection, &octets));
@@ -134,8 +133,8 @@ impl PortMachine {
                 self.go(Next::To(stage));
             }
             (Stage::Answer(awaits), Input::Lost) => self.go(Next::To(losing::lose(awaits))),
-            (stage, Input::Reply(reply)) => {
-                self.go(hearing::reply(self.alloc, self.under, self.kept, stage, reply));
+            (Stage::Core(awaits), Input::Reply(reply)) => {
+                self.go(hearing::reply(self.alloc, self.under, self.kept, &awaits, reply));
             }
             _ => unreachable!(),
         }
@@ -178,13 +177,17 @@ impl PortMachine {
         requires holds { IsNext (next_of next) }
         ensures { self.new ≡ moved self.old (next_of next) }
     {
-        match next {
-            Next::To(stage) => put(&mut self.stage, stage),
+        let stage = match next {
+            Next::To(stage) => stage,
             Next::Start(work) => {
                 self.under = Some(work.revision);
                 self.kept = false;
-                put(&mut self.stage, paging::start(work));
+                paging::start(work)
             }
-        }
+        };
+        let taken = std::mem::replace(&mut self.stage, stage);
+        let Stage::Settled(_off) = taken else {
+            unreachable!()
+        };
     }
 }

@@ -93,26 +93,7 @@ pub(crate) enum Held {
     Download(DownloadPermit),
 }
 
-impl Held {
-    ghost use Rattle.std.specs.Prelude.{◌≡◌};
-    ghost use Rattle.iol_port.specs.declared.stage.Held.TheVariants as held;
-
-    // The permit of an upload that is let go.
-    pub(crate) fn of_upload(permit: UploadPermit, _upload: Upload) -> Held
-        ensures { result ≡ held.Upload permit }
-    {
-        Held::Upload(permit)
-    }
-
-    // The permit of a download that is let go.
-    pub(crate) fn of_download(permit: DownloadPermit, _download: Download) -> Held
-        ensures { result ≡ held.Download permit }
-    {
-        Held::Download(permit)
-    }
-}
-
-// What the device's answer is awaited for. A transfer holds its permit, which is spent with it.
+// The port awaits an answer of its device. A transfer holds its permit, which is spent with it.
 pub(crate) enum AwaitsAnswer {
     Exchanging(ExchangeFor),
     Uploading(UploadPermit, Page, Upload),
@@ -121,23 +102,37 @@ pub(crate) enum AwaitsAnswer {
     Breaking(Held, PortFault),
 }
 
-// How far a port is. Permits stand in the stages that hold them, and are spent with these.
-pub(crate) enum Stage {
-    // The port is to be woken.
-    Settled(Rest),
-    // The device's page is awaited.
-    Page(PageFor),
-    Answer(AwaitsAnswer),
+// The port awaits a reply of the core, and holds no permit.
+#[derive(Clone, Copy)]
+pub(crate) enum AwaitsCore {
     Attending(AttendFor),
     BeginningUpload(Found),
     BeginningDownload(Found, u32),
-    Filing(UploadPermit, Page, Arc<DataSet>),
     // The set and its permit are with the core.
     Filed(Page),
     Storing(Ticket, Page),
-    Returning(Held, Rest),
     // The permit is with the core.
     Returned(Transfer, Rest),
+}
+
+// The port holds a permit, and spends it with its next call of the core.
+pub(crate) enum SpendsPermit {
+    Filing(UploadPermit, Page, Arc<DataSet>),
+    Returning(Held, Rest),
+}
+
+// How far a port is: a stage says by its type what the port hears there.
+pub(crate) enum Stage {
+    // It is woken.
+    Settled(Rest),
+    // It hears the page of its device, or that the device is gone.
+    Page(PageFor),
+    // It hears an answer of its device, or that the device is gone.
+    Answer(AwaitsAnswer),
+    // It hears the reply of the core to its call.
+    Core(AwaitsCore),
+    // It hears nothing until it has asked the core.
+    Permit(SpendsPermit),
 }
 
 // Where a port goes.

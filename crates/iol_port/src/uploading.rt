@@ -1,10 +1,10 @@
 //! An upload of a port, from its permit to its last message.
 
-ghost use Rattle.std.specs.Prelude.{◌≡◌, ◌⊎◌, true, Ok};
+ghost use Rattle.std.specs.Prelude.{◌≡◌, ◌⊎◌, Ok};
 ghost use Rattle.iol_transfer.specs.Machine.{step};
 ghost use Rattle.iol_port.specs.Answers.{uploaded, upload_answered, RunsOut};
 ghost use Rattle.iol_port.specs.Calls.{HandsBack, IsUnder};
-ghost use Rattle.iol_port.specs.Heard.{upload_permitted, finished_upload, told_ticket, is_beginning_upload, is_filed, is_storing};
+ghost use Rattle.iol_port.specs.Heard.{upload_begun, upload_finished, ticket_told};
 ghost use Rattle.iol_port.specs.Stage.{IsStage, Uploading, Filing, Breaking};
 ghost use Rattle.iol_port.specs.View.{stage_of};
 ghost use Rattle.iol_port.specs.declared.fault.PortFault.TheVariants.{Memory};
@@ -12,7 +12,7 @@ ghost use Rattle.iol_port.specs.declared.stage.Held.TheVariants as held;
 
 use crate::exchanging::{break_off, fail, send};
 use crate::fault::PortFault;
-use crate::stage::{AwaitsAnswer, ExchangeFor, Held, Stage};
+use crate::stage::{AwaitsAnswer, AwaitsCore, ExchangeFor, Held, SpendsPermit, Stage};
 use iol_core::{FinishFault, PermitFault, Ticket, TicketState, UploadPermit};
 use iol_ident::Page;
 use iol_isdu::{Answer, IsduFault};
@@ -22,19 +22,15 @@ use std::alloc::Global;
 use std::sync::Arc;
 
 // A permit is given or refused.
-pub(crate) fn begin(alloc: Global, stage: Stage, begun: Result<UploadPermit, PermitFault>) -> Stage
-    requires { is_beginning_upload (stage_of stage) ≡ true }
-    ensures stage { stage_of result ≡ upload_permitted (stage_of stage) begun }
+pub(crate) fn begin(alloc: Global, page: Page, begun: Result<UploadPermit, PermitFault>) -> Stage
+    ensures stage { stage_of result ≡ upload_begun page begun }
     ensures holds { IsStage (stage_of result) }
 {
-    let Stage::BeginningUpload(found) = stage else {
-        unreachable!()
-    };
     match begun {
         Ok(permit) => {
             let grant = permit.grant();
             let upload = Upload::begin(alloc, grant.vendor, grant.device);
-            Stage::Answer(AwaitsAnswer::Uploading(permit, found.page, upload))
+            Stage::Answer(AwaitsAnswer::Uploading(permit, page, upload))
         }
         Err(fault) => fail(PortFault::of_permit(fault)),
     }
@@ -55,7 +51,7 @@ pub(crate) fn answer(
 {
     match answer {
         Ok(answer) => feed(alloc, permit, page, upload, answer),
-        Err(fault) => break_off(Held::of_upload(permit, upload), PortFault::of_isdu(fault)),
+        Err(fault) => break_off(Held::Upload(permit), PortFault::of_isdu(fault)),
     }
 }
 
@@ -71,10 +67,7 @@ fn feed(alloc: Global, permit: UploadPermit, page: Page, upload: Upload, answer:
         UploadStep::More => Stage::Answer(AwaitsAnswer::Uploading(permit, page, upload)),
         UploadStep::Whole(set) => file(alloc, permit, page, set),
         UploadStep::Fault(fault) => {
-            break_off(
-                Held::of_upload(permit, upload),
-                PortFault::of_transfer(fault),
-            )
+            break_off(Held::Upload(permit), PortFault::of_transfer(fault))
         }
     }
 }
@@ -86,25 +79,24 @@ fn file(alloc: Global, permit: UploadPermit, page: Page, set: DataSet) -> Stage
     ensures holds { IsStage (stage_of result) }
 {
     match Arc::new(alloc, set) {
-        Ok(set) => Stage::Filing(permit, page, set),
+        Ok(set) => Stage::Permit(SpendsPermit::Filing(permit, page, set)),
         Err(_) => break_off(Held::Upload(permit), PortFault::Memory),
     }
 }
 
 // The core has taken the set, or not.
-pub(crate) fn finish(stage: Stage, finished: Result<Ticket, FinishFault>) -> Stage
-    requires { (is_filed (stage_of stage) ≡ true) × HandsBack finished }
-    ensures stage { stage_of result ≡ finished_upload (stage_of stage) finished }
+pub(crate) fn finish(page: Page, finished: Result<Ticket, FinishFault>) -> Stage
+    requires { HandsBack finished }
+    ensures stage { stage_of result ≡ upload_finished page finished }
     ensures holds { IsStage (stage_of result) }
 {
-    let Stage::Filed(page) = stage else {
-        unreachable!()
-    };
     match finished {
-        Ok(ticket) => Stage::Storing(ticket, page),
+        Ok(ticket) => Stage::Core(AwaitsCore::Storing(ticket, page)),
         Err(FinishFault::Stopped) => send(ExchangeFor::Stopping { storing: false }),
         Err(FinishFault::ConfigChanged) => send(ExchangeFor::Yielding),
-        Err(FinishFault::QueueFull(permit, set)) => Stage::Filing(permit, page, set),
+        Err(FinishFault::QueueFull(permit, set)) => {
+            Stage::Permit(SpendsPermit::Filing(permit, page, set))
+        }
         Err(FinishFault::Exhausted(permit, _set)) => {
             break_off(Held::Upload(permit), PortFault::Exhausted)
         }
@@ -115,16 +107,12 @@ pub(crate) fn finish(stage: Stage, finished: Result<Ticket, FinishFault>) -> Sta
 }
 
 // The core has said whether the set is durable.
-pub(crate) fn store(stage: Stage, state: TicketState) -> Stage
-    requires { is_storing (stage_of stage) ≡ true }
-    ensures stage { stage_of result ≡ told_ticket (stage_of stage) state }
+pub(crate) fn store(ticket: Ticket, page: Page, state: TicketState) -> Stage
+    ensures stage { stage_of result ≡ ticket_told ticket page state }
     ensures holds { IsStage (stage_of result) }
 {
-    let Stage::Storing(ticket, page) = stage else {
-        unreachable!()
-    };
     match state {
-        TicketState::Waiting => Stage::Storing(ticket, page),
+        TicketState::Waiting => Stage::Core(AwaitsCore::Storing(ticket, page)),
         TicketState::Durable => send(ExchangeFor::EndingUpload {
             page,
             left: MOST_REQUESTS,
