@@ -1,7 +1,6 @@
 //! The device is gone, or the machine ends: a permit that is held is returned.
 
-ghost use Rattle.std.specs.Prelude.{◌≡◌, IfSome, IfNone};
-ghost use Rattle.iol_core.specs.Core.{CoreView};
+ghost use Rattle.std.specs.Prelude.{◌≡◌};
 ghost use Rattle.iol_port.specs.Ending.{released, ended};
 ghost use Rattle.iol_port.specs.Heard.{lost};
 ghost use Rattle.iol_port.specs.Stage.{IsStage, Returning};
@@ -36,41 +35,36 @@ pub(crate) fn give_back(held: Held, rest: Rest) -> Stage
     Stage::Permit(SpendsPermit::Returning(held, rest))
 }
 
-// Returns the permit that a stage holds.
+// Returns the permit that a stage holds, if it holds one; the rest of it is let go.
 pub(crate) fn release<F: Name>(stage: Stage, core: &mut Core<F>)
     ensures { core.new ≡ ended core.old (stage_of stage) }
 {
-    match held_by(stage) {
-        Some(Held::Upload(permit)) => core.abandon_upload(permit),
-        Some(Held::Download(permit)) => core.end_download(permit),
-        None => {}
-    }
-}
-
-// The permit that a stage holds, if it does; the rest of it is let go.
-fn held_by(stage: Stage) -> Option<Held>
-    ensures held { IfSome result (λ held. (core : CoreView) → ended core (stage_of stage) ≡ released core held) }
-    ensures none { IfNone result ((core : CoreView) → ended core (stage_of stage) ≡ core) }
-{
     match { stage } {
-        Stage::Answer(awaits) => held_by_transfer(awaits),
-        Stage::Permit(SpendsPermit::Filing(permit, _page, _set)) => Some(Held::Upload(permit)),
-        Stage::Permit(SpendsPermit::Returning(held, _rest)) => Some(held),
-        Stage::Settled(_rest) => None,
-        Stage::Page(_what) => None,
-        Stage::Core(_awaits) => None,
+        Stage::Answer(awaits) => release_transfer(awaits, core),
+        Stage::Permit(SpendsPermit::Filing(permit, _page, _set)) => core.abandon_upload(permit),
+        Stage::Permit(SpendsPermit::Returning(held, _rest)) => release_held(held, core),
+        Stage::Settled(_) | Stage::Page(_) | Stage::Core(_) => {}
     }
 }
 
-// The permit of the transfer whose answer is awaited, if there is one.
-fn held_by_transfer(awaits: AwaitsAnswer) -> Option<Held>
-    ensures held { IfSome result (λ held. (core : CoreView) → ended core (awaiting_answer awaits) ≡ released core held) }
-    ensures none { IfNone result ((core : CoreView) → ended core (awaiting_answer awaits) ≡ core) }
+// Returns the permit of the transfer whose answer is awaited, if there is one.
+fn release_transfer<F: Name>(awaits: AwaitsAnswer, core: &mut Core<F>)
+    ensures { core.new ≡ ended core.old (awaiting_answer awaits) }
 {
     match awaits {
-        AwaitsAnswer::Exchanging(_what) => None,
-        AwaitsAnswer::Uploading(permit, _page, _upload) => Some(Held::Upload(permit)),
-        AwaitsAnswer::Downloading(permit, _page, _download) => Some(Held::Download(permit)),
-        AwaitsAnswer::Breaking(held, _fault) => Some(held),
+        AwaitsAnswer::Exchanging(_what) => {}
+        AwaitsAnswer::Uploading(permit, _page, _upload) => core.abandon_upload(permit),
+        AwaitsAnswer::Downloading(permit, _page, _download) => core.end_download(permit),
+        AwaitsAnswer::Breaking(held, _fault) => release_held(held, core),
+    }
+}
+
+// Returns a permit.
+fn release_held<F: Name>(held: Held, core: &mut Core<F>)
+    ensures { core.new ≡ released core.old held }
+{
+    match held {
+        Held::Upload(permit) => core.abandon_upload(permit),
+        Held::Download(permit) => core.end_download(permit),
     }
 }
