@@ -1,5 +1,5 @@
 # Proves and builds the program, two crates at a time where neither waits for the other. Part of `iolmaster`.
-at_once=3
+at_once=2
 usual_gigabytes=6
 # Crates of tests and of other programs that are proved beside the program, where `tests/proofs` asks for them.
 also=${PROVED_TOO:-}

@@ -1,6 +1,6 @@
 // Stands between a program and the file that it writes (LD_PRELOAD), as HELD_CALLS says, in words with blanks between them:
 //
-// hold      the first write makes the file `begun`, and waits until a file `go` is there
+// hold N    the N-th write makes the file `begun`, and waits until a file `go` is there; the first one where no number is said
 // lose      what is written is kept aside until the next sync, and so lost where none comes, as by a power stop
 // write N   the N-th write fails, and is not made; writes are counted from 1
 // sync N    the N-th sync fails, likewise
@@ -32,8 +32,8 @@ static struct {
     char octets[SECTOR];
 } aside[MOST_ASIDE];
 
-static int kept_aside, is_held, is_lost;
-static long writes, syncs, failing_write, failing_sync;
+static int kept_aside, is_lost;
+static long writes, syncs, held_write, failing_write, failing_sync;
 
 // The number behind a word, 0 where it is not said.
 static long behind(const char *said, const char *word) {
@@ -44,7 +44,7 @@ static long behind(const char *said, const char *word) {
 __attribute__((constructor)) static void begin(void) {
     const char *said = getenv("HELD_CALLS");
     if (!said) return;
-    is_held = strstr(said, "hold") != 0;
+    if (strstr(said, "hold")) held_write = behind(said, "hold ") ? behind(said, "hold ") : 1;
     is_lost = strstr(said, "lose") != 0;
     failing_write = behind(said, "write ");
     failing_sync = behind(said, "sync ");
@@ -59,15 +59,15 @@ static int fails(void) {
 static void *own(const char *name) { return dlsym((void *)-1L, name); }
 
 static void hold(void) {
-    if (!is_held) return;
-    is_held = 0;
+    if (writes != held_write) return;
     close(open("begun", WRITE_CREATE, OWNER_MAY_WRITE));
     while (access("go", 0)) usleep(MILLISECOND);
 }
 
 long pwrite64(int file, const void *octets, size_t count, long at) {
+    writes++;
     hold();
-    if (++writes == failing_write) return fails();
+    if (writes == failing_write) return fails();
     if (!is_lost) return ((Transfer *)own("pwrite64"))(file, (void *)octets, count, at);
     if (count != SECTOR || kept_aside == MOST_ASIDE) return fails();
     aside[kept_aside].at = at;

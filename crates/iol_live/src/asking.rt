@@ -2,7 +2,7 @@
 ghost use Rattle.std.specs.Prelude.{◌≡◌, IfErr, IfOk, MatchResult, None, Some};
 ghost use Rattle.iol_commands.specs.Fault.{status_of};
 ghost use Rattle.iol_live.specs.Asked.{changes_of};
-ghost use Rattle.iol_live.specs.Ends.{unreceived};
+ghost use Rattle.iol_live.specs.Ends.{missing_with, unreceived};
 ghost use Rattle.iol_live.specs.Lived.{IsRunCause};
 
 use crate::telling::{Telling, Told};
@@ -256,16 +256,40 @@ fn join_all<R: Threads>(rt: &R, clients: Asking) -> Result<(), Fault<'static>>
     ensures cause { IfErr result IsRunCause }
     ensures status { IfErr result (λ fault. status_of fault ≡ 1) }
 {
-    let mut refused = false;
-    let mut unwritten = false;
+    let mut missing = Missing {
+        unwritten: false,
+        refused: false,
+    };
     for client in clients {
-        match client.join(rt) {
-            Ok(()) => {}
-            Err(CallFault::Unwritten) => unwritten = true,
-            Err(_) => refused = true,
+        missing = missing.with(client.join(rt));
+    }
+    told_of(missing.unwritten, missing.refused)
+}
+
+/// Which receipts clients miss: memory ran out for a change that was taken, and one was refused or is not known to be durable.
+#[derive(Clone, Copy)]
+struct Missing {
+    unwritten: bool,
+    refused: bool,
+}
+
+impl Missing {
+    // The same, once one more client has ended so.
+    fn with(self, ended: Result<(), CallFault>) -> Missing
+        ensures { result ≡ missing_with self ended }
+    {
+        match ended {
+            Ok(()) => self,
+            Err(CallFault::Unwritten) => Missing {
+                unwritten: true,
+                refused: self.refused,
+            },
+            Err(_) => Missing {
+                unwritten: self.unwritten,
+                refused: true,
+            },
         }
     }
-    told_of(unwritten, refused)
 }
 
 // Why not all changes have their receipts: memory ran out for one that was taken, or else one was refused.

@@ -16,6 +16,7 @@ use std::os::unix::fs::FileExt;
 use std::rt::Files;
 use std::sync::Wait;
 use std::thread::Threads;
+use std::time::Clock;
 
 /// Runs a master on the image file at `path`, with the devices of a script and its clients, and returns the exit status: 0 once
 /// how many receipts there are and the recovered state are written to `out`, 2 where the script is not valid, and else 1.
@@ -25,7 +26,7 @@ use std::thread::Threads;
 /// and each receipt that was told is on the image then.
 pub fn live_image<
     F: FileExt + OpenFile + LockFile + Drop + Send + 'static,
-    R: Files<File = F> + AllocGlobal + Threads + Wait + Copy + Send + 'static,
+    R: Files<File = F> + AllocGlobal + Threads + Wait + Clock + Copy + Send + 'static,
     W: Write,
     E: Write,
 >(rt: &R, path: &str, script: &[u8], telling: Telling, out: &mut W, err: &mut E) -> u8
@@ -47,7 +48,7 @@ pub fn live_image<
 fn text_of_live<
     'a,
     F: FileExt + OpenFile + LockFile + Drop + Send + 'static,
-    R: Files<File = F> + AllocGlobal + Threads + Wait + Copy + Send + 'static,
+    R: Files<File = F> + AllocGlobal + Threads + Wait + Clock + Copy + Send + 'static,
     E: Write,
 >(rt: &R, path: &'a str, script: &[u8], telling: Telling, err: &mut E) -> Result<String, Fault<'a>>
     ensures printed { IfOk result (λ text. TellsRun script.now (string_bytes text)) }

@@ -32,6 +32,7 @@ use std::io::Write;
 use std::marker::Brand;
 use std::sync::Wait;
 use std::thread::Threads;
+use std::time::Clock;
 
 /// Runs a master on a disk, with the devices of a script at its ports and a client for each port that the script asks for
 /// something; what is printed once all clients have their receipts, the master has ended, and the disk is recovered anew.
@@ -42,7 +43,7 @@ use std::thread::Threads;
 pub fn live_on_disk<
     D: SectorDisk + Drop + Send + 'static,
     E: Write,
-    R: Threads + Wait + Copy + Send + 'static,
+    R: Threads + Wait + Clock + Copy + Send + 'static,
 >(
     rt: &R,
     alloc: Global,
@@ -86,7 +87,7 @@ fn live_behind<
     D: SectorDisk + Drop + Send + 'static,
     F: Name + 'static,
     E: Write,
-    R: Threads + Wait + Copy + Send + 'static,
+    R: Threads + Wait + Clock + Copy + Send + 'static,
 >(
     rt: &R,
     alloc: Global,
@@ -127,7 +128,7 @@ fn live_behind<
 fn started<
     D: SectorDisk + Drop + Send + 'static,
     F: Name + 'static,
-    R: Threads + Wait + Copy + Send + 'static,
+    R: Threads + Wait + Clock + Copy + Send + 'static,
 >(
     rt: &R,
     alloc: Global,

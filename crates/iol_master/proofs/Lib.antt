@@ -4,4 +4,5 @@ mod Since
 mod Ends
 mod Reading
 mod WaitsForMemory
-mod Settling
+mod SeenLater
+mod ServedOver

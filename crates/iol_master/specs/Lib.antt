@@ -7,3 +7,6 @@ pub mod Settled
 pub mod Wakes
 pub mod Serving
 pub mod Answers
+pub mod Watching
+pub mod Finding
+pub mod Served

@@ -1,5 +1,5 @@
 -- Which workers sleep, and which ports are served on.
-use Rattle.std.specs.Prelude.{◌-◌, ◌==◌, ◌&&◌, ◌||◌, not, ℕ, Bool, true, false, Option, Some, None, slice_get, slice_index}
+use Rattle.std.specs.Prelude.{◌-◌, ◌==◌, ◌&&◌, ◌||◌, not, ℕ, Bool, true, false, Option, Some, slice_get, slice_index}
 use Rattle.iol_port.specs.declared.status.PortStatus.{PortStatus}
 use Rattle.iol_port.specs.declared.status.PortStatus.TheVariants.{Off}
 use Rattle.iol_engine.specs.HandedSteps.{settled_in, status_in}

@@ -1,6 +1,6 @@
 //! Clients, which any threads may have.
 
-ghost use Rattle.std.specs.Prelude.{◌≡◌, ◌+◌, ◌-◌, ◌<◌, ◌≤◌, length, take, IfErr, IfNone, IfOk, IfSome, IsNone, IsTrue, OnErr, Some};
+ghost use Rattle.std.specs.Prelude.{◌≡◌, ◌≢◌, ◌+◌, ◌-◌, ◌<◌, ◌≤◌, length, take, IfErr, IfNone, IfOk, IfSome, IsNone, IsTrue, OnErr, Some};
 ghost use mathlib.Core.List.{IsPrefix};
 ghost use Rattle.iol_types.specs.Command.{command_of};
 ghost use Rattle.iol_types.specs.State.{port_numbered};
@@ -10,9 +10,11 @@ ghost use Rattle.iol_headline.specs.Statuses.{IsLastReported};
 ghost use Rattle.iol_master.specs.Faults.{IsCallFault, IsReadFault, IsRefused, IsUnknown, IsUntold};
 ghost use Rattle.iol_master.specs.Answers.{IsToldBy};
 ghost use Rattle.iol_master.specs.Receipts.{IsReceiptFor};
+ghost use Rattle.iol_master.specs.Watching.{IsWatchFault};
 
 use crate::caller::{Answer, Caller, Notice};
 use crate::guarded::Guarded;
+use crate::watching::{WatchFault, watch};
 use crossbeam_channel::Receiver;
 use iol_core::{SubmitFault, View};
 use iol_front::{Name, Pass};
@@ -31,6 +33,8 @@ pub(crate) struct Shared<F: Name> {
     pub(crate) work: Condvar,
     // a port was woken, what a port waits for is known, or the run ends
     pub(crate) woken: Condvar,
+    // a port has another status, or the run has ended
+    pub(crate) reported: Condvar,
 }
 
 /// A client of a master: it asks for changes, and reads what is durable. A contract sees the list of commands that it has seen.
@@ -112,7 +116,7 @@ impl<F: Name> Client<F> {
     ///
     /// # Errors
     /// `Memory` before anything is asked for; `Submit` with the first cause for which the core refuses it; `Unsure` where the disk
-    /// failed meanwhile; `Unwritten` where the flusher was out of memory for a second or so: the command is still written once memory
+    /// failed meanwhile; `Unwritten` where the flusher was out of memory for a second: the command is still written once memory
     /// is there. What the client has seen is as before.
     pub fn configure<R: Wait>(
         &mut self,
@@ -224,6 +228,26 @@ impl<F: Name> Client<F> {
         ensures unknown { IfNone result (IsUnknown F.front.start.state port) }
     {
         self.shared.guarded.lock(rt).status(port)
+    }
+
+    /// Waits until a port has another status than `last`, and returns that. It is what a lawful trace reported of the port last. Of the
+    /// statuses that a port has one after another, a client that asks late hears the last alone. It polls nothing: the port's thread
+    /// wakes it.
+    ///
+    /// # Errors
+    /// `UnknownPort`; and `Ended` once no port makes a step any more and the port still has the status `last`. `shutdown` wakes who
+    /// waits.
+    pub fn watch<R: Wait>(
+        &self,
+        rt: &R,
+        port: PortId,
+        last: PortStatus,
+    ) -> Result<PortStatus, WatchFault>
+        ensures reported { IfOk result (IsLastReported F.front.start port) }
+        ensures another { IfOk result (λ status. status ≢ last) }
+        ensures refused { IfErr result (IsWatchFault F.front.start port last) }
+    {
+        watch(rt, &self.shared, port, last)
     }
 
     /// The client has then seen all that the pass has, and what the pass has seen begins what the client has. It waits for nobody,

@@ -11,20 +11,24 @@ ghost use Rattle.iol_master.specs.Since.{IsSince};
 
 use crate::client::Shared;
 use crate::ending::Ending;
-use crate::guarded::{Guarded, Phase};
+use crate::finding::Found;
+use crate::guarded::Guarded;
 use iol_disk::SectorDisk;
 use iol_flush::{FlushEnd, FlushFault, Flusher, Need};
 use iol_front::{Name, Publisher};
-use iol_journal::{Batch, Journal};
+use iol_journal::Journal;
 use std::alloc::Global;
 use std::marker::Model;
 use std::snapshot::Snapshot;
 use std::sync::{Arc, MutexGuard, Wait};
 use std::thread;
 use std::thread::Promise;
+use std::time::{Clock, Duration};
 
-// How often in a row a batch may find no memory until those who wait are told so: about a second.
-const MOST_WAITS: u32 = 250_000;
+// How often in a row the flusher waits for memory until those who wait are told so, and how long each time: a second in all.
+const MOST_WAITS: u32 = 100;
+
+const WAIT_MILLISECONDS: u64 = 10;
 
 /// What the thread of the flusher is given: a journal and the publisher of its list. It makes the flusher itself, which may hold a
 /// batch that is durable and so goes into no closure. A contract sees the journal.
@@ -75,7 +79,7 @@ impl<D: SectorDisk, F: Name> Promise<Ending<D, F>> for FromCharge<D, F> {
 
 // Brings batches to the disk until no more is taken and nothing waits, or a disk call fails; or until memory ran out for a batch or a
 // checkpoint, where the run is to end.
-pub(crate) fn flush_all<D: SectorDisk, F: Name, R: Wait + Copy>(
+pub(crate) fn flush_all<D: SectorDisk, F: Name, R: Wait + Clock + Copy>(
     rt: R,
     shared: Arc<Shared<F>, Global>,
     charge: Charge<D, F>,
@@ -128,7 +132,7 @@ pub(crate) enum Turned {
 }
 
 // Meets the flusher's next need, or waits for memory.
-fn turn<D: SectorDisk, F: Name, R: Wait>(
+fn turn<D: SectorDisk, F: Name, R: Wait + Clock>(
     rt: &R,
     shared: &Shared<F>,
     flusher: &mut Flusher<D, F>,
@@ -148,9 +152,9 @@ fn turn<D: SectorDisk, F: Name, R: Wait>(
     }
 }
 
-// Waits for memory. After `MOST_WAITS` failures in a row all who wait for a command hear that it is not written. If the run is to end,
-// the flusher ends too, and leaves what waits.
-fn wait<D: SectorDisk, F: Name, R: Wait>(
+// Waits for memory. After `MOST_WAITS` waits in a row all who wait for a command hear that it is not written. If the run is to end,
+// the flusher ends too, and leaves what waits. Nothing tells when memory comes back, so that no notification ends a wait.
+fn wait<D: SectorDisk, F: Name, R: Wait + Clock>(
     rt: &R,
     shared: &Shared<F>,
     flusher: &mut Flusher<D, F>,
@@ -162,9 +166,9 @@ fn wait<D: SectorDisk, F: Name, R: Wait>(
     ensures leaves { LeavesWaiting result }
     ensures waited { HasWaited result waits.old waits.new }
 {
-    thread::yield_now();
     if *waits < MOST_WAITS {
         *waits += 1;
+        thread::sleep(rt, Duration::from_millis(WAIT_MILLISECONDS));
         return Turned::Waited;
     }
     *waits = 0;
@@ -235,26 +239,11 @@ fn publish<D: SectorDisk, F: Name, R: Wait>(
     Turned::Made
 }
 
-// What the flusher finds where it looks for a batch.
-enum Found {
-    Batch(Batch),
-    Nothing,
-    // Nothing, and no more comes.
-    Closed,
-    // A batch, and no memory for it.
-    NoMemory,
-}
-
-// Takes the first batch that fits, and lets go of the lock.
-fn find<F: Name>(mut guarded: MutexGuard<'_, Guarded<F>>, room: usize) -> Found
+// Looks for a batch, and lets go of the lock.
+fn look<F: Name>(mut guarded: MutexGuard<'_, Guarded<F>>, room: usize) -> Found
     requires { LARGEST_COMMAND_RECORD ≤ room }
 {
-    match guarded.take_batch(room) {
-        Ok(Some(batch)) => Found::Batch(batch),
-        Ok(None) if guarded.phase() == Phase::Closed => Found::Closed,
-        Ok(None) => Found::Nothing,
-        Err(_) => Found::NoMemory,
-    }
+    guarded.find(room)
 }
 
 // Waits for a batch, or for the end.
@@ -270,17 +259,14 @@ fn take<D: SectorDisk, F: Name, R: Wait>(
     let guarded = shared
         .work
         .wait_while(rt, shared.guarded.lock(rt), |guarded| guarded.is_idle());
-    match find(guarded, flusher.room()) {
+    match look(guarded, flusher.room()) {
         Found::Batch(batch) => {
             let _ = flusher.give(batch);
             Turned::Made
         }
-        Found::Nothing => {
-            thread::yield_now();
-            Turned::Made
-        }
         Found::Closed => Turned::Ended(Leaves::Nothing),
-        Found::NoMemory => Turned::Waited,
+        // (none is in flight here, so that a command that waits is found)
+        Found::Nothing | Found::NoMemory => Turned::Waited,
     }
 }
 
@@ -294,7 +280,7 @@ fn take_or_call<D: SectorDisk, F: Name, R: Wait>(
     ensures since { IsSince D.disk flusher.old.stage flusher.new.stage }
     ensures turned { MayTurn flusher.new.stage result }
 {
-    match find(shared.guarded.lock(rt), flusher.room()) {
+    match look(shared.guarded.lock(rt), flusher.room()) {
         Found::Batch(batch) => {
             let _ = flusher.give(batch);
             Turned::Made

@@ -22,6 +22,7 @@ ghost use Rattle.iol_headline.specs.Lists.{IsLawfulList};
 ghost use Rattle.iol_headline.specs.Statuses.{IsLastReported};
 ghost use Rattle.iol_master.specs.Callers.{AreCallersOf, asked, ends, given_up};
 ghost use Rattle.iol_master.specs.Faults.{IsUnknown};
+ghost use Rattle.iol_master.specs.Finding.{is_idle};
 ghost use Rattle.iol_master.specs.Wakes.{AreWoken, woken};
 ghost use Rattle.iol_master.specs.declared.guarded.Phase.TheVariants as phase;
 
@@ -210,6 +211,7 @@ impl<F: Name> Guarded<F> {
         requires { LARGEST_COMMAND_RECORD ≤ room }
         ensures take { IfOk result (λ batch. IsTake self.old.engine.core room self.new.engine.core batch) }
         ensures callers { self.new.callers ≡ self.old.callers }
+        ensures others { (self.new.wakes ≡ self.old.wakes) × (self.new.phase ≡ self.old.phase) }
         ensures unchanged { OnErr result ((has_batch self.old.engine.core ≡ true) × (self.new ≡ self.old)) }
     {
         self.engine.take_batch(room)
@@ -295,8 +297,10 @@ impl<F: Name> Guarded<F> {
         self.phase
     }
 
-    // Whether there is nothing to write, and more may come.
-    pub(crate) fn is_idle(&self) -> bool {
+    // Whether there is nothing to write, and more may come: the flusher sleeps.
+    pub(crate) fn is_idle(&self) -> bool
+        ensures { result ≡ is_idle self.now }
+    {
         self.phase != Phase::Closed && self.callers.is_empty()
     }
 

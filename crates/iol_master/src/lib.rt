@@ -11,16 +11,20 @@
 //! what holds of its whole trace: [`run_schedule`].
 //!
 //! Modules in reading order: `caller`, who waits and what is told; `guarded`, what the lock guards; `serving`, which ports sleep;
-//! `client`; `flushing` and `working`, the two kinds of thread; `ending`, how a master ends; `master`, which starts and ends them.
+//! `watching`, who waits for a status; `finding`, what the flusher finds; `client`; `flushing` and `working`, the two kinds of thread;
+//! `ending` and `settling`, how a master ends; `master`, which starts and ends them.
 #![tactic(auto)]
 
 mod caller;
 mod client;
 mod ending;
+mod finding;
 mod flushing;
 mod guarded;
 mod master;
 mod serving;
+mod settling;
+mod watching;
 mod working;
 
 pub use client::{CallFault, Client, ReadFault, Receipt};
@@ -29,3 +33,4 @@ pub use iol_engine::Event;
 pub use iol_headline::run_schedule;
 pub use iol_run::{Ended, RunFault, Step, Task, Trace};
 pub use master::Master;
+pub use watching::WatchFault;

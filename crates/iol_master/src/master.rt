@@ -1,9 +1,8 @@
 //! The master: it starts its threads, and ends them.
 
-ghost use Rattle.std.specs.Prelude.{◌≡◌, ◌≤◌, ◌+◌, ◌-◌, [], length, take, vec_capacity, vec_len, IfErr, IfOk, IsTrue};
+ghost use Rattle.std.specs.Prelude.{◌≡◌, ◌≤◌, [], length, vec_capacity, vec_len, IfErr, IfOk};
 ghost use Rattle.iol_flush.specs.Stages.{HasHistory};
 ghost use Rattle.iol_journal.specs.Journals.{JournalView};
-ghost use Rattle.iol_headline.specs.Lists.{IsLawfulList};
 ghost use Rattle.iol_master.specs.Endings.{IsEnding, IsLeft, IsStartFault};
 ghost use Rattle.iol_master.specs.Settled.{IsSettled};
 
@@ -11,6 +10,7 @@ use crate::client::{Client, Shared};
 use crate::ending::{Ending, StartFault};
 use crate::flushing::{Charge, FromCharge, flush_all};
 use crate::guarded::Guarded;
+use crate::settling::settle;
 use crate::working::{ServedPort, serve, served_ports};
 use iol_disk::SectorDisk;
 use iol_engine::Engine;
@@ -24,6 +24,7 @@ use std::snapshot::Snapshot;
 use std::sync::{Arc, Condvar, Mutex, Wait};
 use std::thread;
 use std::thread::{JoinHandle, PromisedHandle, Threads};
+use std::time::Clock;
 
 /// A running master. It is ended by `shutdown`: one that is let go leaves its threads running, and its disk with them. A contract sees
 /// the journal that it was started with.
@@ -37,15 +38,15 @@ pub struct Master<D: SectorDisk, F: Name> {
 }
 
 impl<D: SectorDisk, F: Name> Model for Master<D, F> {
-    ghost use Rattle.std.specs.Prelude.{◌≡◌, []};
+    ghost use Rattle.std.specs.Prelude.{◌≡◌, [], length, vec_len};
     ghost use Rattle.iol_journal.specs.Journals.{JournalView};
 
     ghost Value = { JournalView D };
 
     ghost view = { λ m. m.flusher.promise.0.value };
 
-    // What a client begins with has seen nothing of the run.
-    ghost invariant = { λ m. m.pass ≡ [] };
+    // What a client begins with has seen nothing of the run, and each port has a worker.
+    ghost invariant = { λ m. (m.pass ≡ []) × (vec_len m.workers ≡ length F.front.start.state) };
 }
 
 impl<D: SectorDisk + Drop + Send + 'static, F: Name + 'static> Master<D, F> {
@@ -55,7 +56,10 @@ impl<D: SectorDisk + Drop + Send + 'static, F: Name + 'static> Master<D, F> {
     /// # Errors
     /// `Ports` where there is not one link for each port, `Memory` and `Thread`, in this order, each with the disk. The links are
     /// gone then.
-    pub fn start<L: DeviceLink + Drop + Send + 'static, R: Threads + Wait + Copy + Send + 'static>(
+    pub fn start<
+        L: DeviceLink + Drop + Send + 'static,
+        R: Threads + Wait + Clock + Copy + Send + 'static,
+    >(
         rt: &R,
         alloc: Global,
         journal: Journal<D>,
@@ -93,7 +97,7 @@ impl<D: SectorDisk + Drop + Send + 'static, F: Name + 'static> Master<D, F> {
     }
 
     /// Ends the run: each port is woken once more and runs until it is settled, what waits is brought to the disk, and all threads
-    /// have ended. Where memory stays out for a second or so, what waits is not written, which `Unwritten` says; those who waited for it
+    /// have ended. Where memory stays out for a second, what waits is not written, which `Unwritten` says; those who waited for it
     /// heard so.
     pub fn shutdown<R: Threads + Wait>(self, rt: &R) -> Ending<D, F>
         ensures ending { IsEnding D.disk F.front.start self result }
@@ -107,58 +111,26 @@ impl<D: SectorDisk + Drop + Send + 'static, F: Name + 'static> Master<D, F> {
             workers,
             flusher,
         } = self;
-        shared.guarded.lock(rt).end_ports();
-        shared.woken.notify_all();
-        join_all(rt, workers);
-        shared.guarded.lock(rt).close();
-        shared.work.notify_all();
-        settle(rt, &shared, pass, flusher.join(rt))
+        settle(rt, &shared, pass, end(rt, &shared, workers, flusher))
     }
 }
 
-// A master is closed only where all that its flusher has published is acknowledged.
-fn settle<D: SectorDisk, F: Name, R: Wait>(
+// Ends the threads of a master: the workers, and then the flusher.
+fn end<D: SectorDisk, F: Name, R: Threads + Wait>(
     rt: &R,
     shared: &Shared<F>,
-    mut pass: Pass<F>,
-    ending: Ending<D, F>,
+    workers: Vec<JoinHandle<()>>,
+    flusher: PromisedHandle<Ending<D, F>, FromCharge<D, F>>,
 ) -> Ending<D, F>
-    ensures ending { (first : JournalView D) → IsEnding D.disk F.front.start first ending → IsEnding D.disk F.front.start first result }
-    ensures settled { IsSettled F.front.start result }
+    ensures { IsEnding D.disk F.front.start flusher.promise.0.value result }
 {
-    match ending {
-        Ending::Closed(journal, mut publisher) => {
-            if is_acknowledged(rt, shared, &mut pass, &mut publisher) {
-                Ending::Closed(journal, publisher)
-            } else {
-                Ending::Unwritten(journal, publisher)
-            }
-        }
-        other => other,
-    }
-}
-
-// Whether all that is published is acknowledged. If so, a lawful trace has accepted it.
-fn is_acknowledged<F: Name, R: Wait>(
-    rt: &R,
-    shared: &Shared<F>,
-    pass: &mut Pass<F>,
-    publisher: &mut Publisher<F>,
-) -> bool
-    ensures same { publisher.new ≡ publisher.old }
-    ensures lawful { IsTrue result → IsLawfulList F.front.start (F.front.start.number + length publisher.new) publisher.new }
-{
-    let number = acknowledged(rt, shared, pass);
-    publisher.covers(pass);
-    number == publisher.number()
-}
-
-// The number of the last durable command. The pass has then seen all of them.
-fn acknowledged<F: Name, R: Wait>(rt: &R, shared: &Shared<F>, pass: &mut Pass<F>) -> u64
-    ensures lawful { IsLawfulList F.front.start result (take (result - F.front.start.number) pass.new) }
-    ensures number { result ≤ F.front.start.number + length pass.new }
-{
-    shared.guarded.lock(rt).meet(pass)
+    shared.guarded.lock(rt).end_ports();
+    shared.woken.notify_all();
+    join_all(rt, workers);
+    shared.guarded.lock(rt).close();
+    shared.work.notify_all();
+    shared.reported.notify_all();
+    flusher.join(rt)
 }
 
 // All that a master needs memory for, made before its first thread.
@@ -170,6 +142,7 @@ struct Room<L: DeviceLink + Drop, F: Name> {
     theirs: Arc<Shared<F>, Global>,
     served: Vec<ServedPort<L, F>>,
     workers: Vec<JoinHandle<()>>,
+    ghost each: { vec_len served ≡ length F.front.start.state },
 }
 
 impl<L: DeviceLink + Drop, F: Name> Room<L, F> {
@@ -220,6 +193,7 @@ fn share<L: DeviceLink, F: Name>(
         guarded: Mutex::new(Guarded::new(alloc, engine, ports)?),
         work: Condvar::new(),
         woken: Condvar::new(),
+        reported: Condvar::new(),
     };
     match Arc::new(alloc, shared) {
         Ok(shared) => Ok(shared),
@@ -232,7 +206,7 @@ fn begin<
     D: SectorDisk + Drop + Send + 'static,
     L: DeviceLink + Drop + Send + 'static,
     F: Name + 'static,
-    R: Threads + Wait + Copy + Send + 'static,
+    R: Threads + Wait + Clock + Copy + Send + 'static,
 >(
     rt: &R,
     alloc: Global,
@@ -268,22 +242,22 @@ fn begin<
             return Err(StartFault::Thread(disk_of((refused.value)())));
         }
     };
-    let (workers, all) = start_workers(&rt, alloc, served, workers);
-    let master = Master {
-        alloc,
-        shared,
-        pass,
-        workers,
-        flusher,
-    };
-    if all {
-        Ok(master)
-    } else {
-        Err(StartFault::Thread(disk_of(master.shutdown(&rt))))
+    match start_workers(&rt, alloc, served, workers) {
+        Ok(workers) => Ok(Master {
+            alloc,
+            shared,
+            pass,
+            workers,
+            flusher,
+        }),
+        Err(workers) => Err(StartFault::Thread(disk_of(end(&rt, &shared, workers, flusher)))),
     }
 }
 
-// Starts a worker for each port, and says whether all were made.
+// Starts a worker for each port.
+//
+// # Errors
+// A thread was not made; the workers that were started come back.
 fn start_workers<
     L: DeviceLink + Drop + Send + 'static,
     F: Name + 'static,
@@ -293,9 +267,10 @@ fn start_workers<
     alloc: Global,
     served: Vec<ServedPort<L, F>>,
     workers: Vec<JoinHandle<()>>,
-) -> (Vec<JoinHandle<()>>, bool)
+) -> Result<Vec<JoinHandle<()>>, Vec<JoinHandle<()>>>
     requires room { vec_len served ≤ vec_capacity workers }
     requires empty { vec_len workers ≡ 0 }
+    ensures { IfOk result (λ started. vec_len started ≡ vec_len served) }
 {
     let rt = *rt;
     let mut workers = workers;
@@ -303,10 +278,10 @@ fn start_workers<
     while let Some(port) = served.pop() {
         match thread::spawn(&rt, move || serve(rt, alloc, port)) {
             Ok(worker) => workers.push_reserved(worker),
-            Err(_) => return (workers, false),
+            Err(_) => return Err(workers),
         }
     }
-    (workers, true)
+    Ok(workers)
 }
 
 // Waits until these threads have ended.

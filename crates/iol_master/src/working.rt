@@ -1,5 +1,8 @@
 //! The thread of a port.
 
+ghost use Rattle.std.specs.Prelude.{IfOk};
+ghost use Rattle.iol_master.specs.Served.{AreServed};
+
 use crate::client::Shared;
 use iol_engine::{Answered, Event, Exchanged, Handed, PortTold};
 use iol_front::Name;
@@ -26,7 +29,9 @@ pub(crate) fn served_ports<L: DeviceLink + Drop, F: Name>(
     alloc: Global,
     shared: &Arc<Shared<F>, Global>,
     links: Vec<L>,
-) -> Result<Vec<ServedPort<L, F>>, AllocError> {
+) -> Result<Vec<ServedPort<L, F>>, AllocError>
+    ensures { IfOk result (λ served. AreServed links.items served.items) }
+{
     let mut served = Vec::with_capacity(alloc, links.len())?;
     let mut number = 0;
     for link in links {
@@ -69,6 +74,7 @@ pub(crate) fn serve<L: DeviceLink + Drop, F: Name, R: Wait + Copy>(
         if let Some(buffer) = buffer_of(alloc, spare.take()) {
             spare = step(&rt, &shared, port, &mut link, buffer);
         }
+        // A link that answers at once is asked again at once, so that other threads have the processor first.
         thread::yield_now();
     }
     unreachable!()
@@ -97,7 +103,8 @@ fn goes_on<F: Name, R: Wait>(rt: &R, shared: &Shared<F>, port: PortId, answered:
     guarded.is_served(port, last)
 }
 
-// Makes one step of a port, and wakes the flusher for a Store that it takes. The buffer comes back.
+// Makes one step of a port. Wakes the flusher for a Store that it takes, and who waits for a status that it reports. The buffer comes
+// back.
 fn step<L: DeviceLink, F: Name, R: Wait>(
     rt: &R,
     shared: &Shared<F>,
@@ -115,6 +122,9 @@ fn step<L: DeviceLink, F: Name, R: Wait>(
         Ok(told) => {
             if has_stored(&told) {
                 shared.work.notify_all();
+            }
+            if told.status.is_some() {
+                shared.reported.notify_all();
             }
             spare_of(told)
         }

@@ -7,10 +7,11 @@ use std::alloc::Global;
 use std::io::{Input, Write};
 use std::sync::Wait;
 use std::thread::Threads;
+use std::time::Clock;
 
 /// Runs a master on a new disk of which one call of a kind fails, this one counted from its recovery, and a second master on the disk
 /// that it hands back, and gives that disk. Prints what the clients of each are answered, and how each ends.
-pub(crate) fn play_again<R: Threads + Wait + Input + Copy + Send + 'static, W: Write>(
+pub(crate) fn play_again<R: Threads + Wait + Clock + Input + Copy + Send + 'static, W: Write>(
     rt: &R,
     alloc: Global,
     kind: &str,
@@ -34,7 +35,7 @@ fn fault_named(kind: &str) -> DiskFault {
 }
 
 // Runs a master at whose ports no device is, and gives the disk that it hands back.
-fn serve<R: Threads + Wait + Input + Copy + Send + 'static, W: Write>(
+fn serve<R: Threads + Wait + Clock + Input + Copy + Send + 'static, W: Write>(
     rt: &R,
     alloc: Global,
     disk: FaultDisk<MemoryDisk>,

@@ -2,7 +2,8 @@
 
 use crossbeam_channel::{Receiver, Sender};
 use iol_front::Name;
-use iol_master::{CallFault, Client, ReadFault, Receipt};
+use iol_master::{CallFault, Client, ReadFault, Receipt, WatchFault};
+use iol_port::PortStatus;
 use iol_types::{DeviceId, Label, PortConfig, PortId, PortMode, Validation};
 use std::alloc::Global;
 use std::sync::Wait;
@@ -37,8 +38,10 @@ enum Answer {
         revision: u64,
         device: u32,
     },
+    Status(PortStatus),
     NoReceipt(CallFault),
     Unread(ReadFault),
+    Unwatched(WatchFault),
 }
 
 impl fmt::Display for Told {
@@ -52,8 +55,10 @@ impl fmt::Display for Told {
                 revision,
                 device,
             } => write!(f, "read {number} revision {revision} device {device}"),
+            Answer::Status(status) => write!(f, "status {status:?}"),
             Answer::NoReceipt(fault) => write!(f, "{fault}"),
             Answer::Unread(fault) => write!(f, "{fault}"),
+            Answer::Unwatched(fault) => write!(f, "{fault}"),
         }
     }
 }
@@ -80,6 +85,9 @@ impl<F: Name> Asking<F> {
             b'f' => self.configure(rt, port, u32::try_from(place).unwrap_or(0)),
             b's' => self.configure(rt, port, SENSOR),
             b'm' => self.meet(rt),
+            b'n' => self.wait(rt, port),
+            b't' => self.look(rt, port),
+            b'w' => self.watch(rt, port),
             _ => self.read(rt, port),
         }
     }
@@ -133,9 +141,47 @@ impl<F: Name> Asking<F> {
         }
     }
 
+    // Tells the status of a port.
+    fn look<R: Wait>(&mut self, rt: &R, port: PortId) {
+        match self.client.status(rt, port) {
+            Some(status) => self.tell(rt, Answer::Status(status)),
+            None => self.tell(rt, Answer::Unwatched(WatchFault::UnknownPort)),
+        }
+    }
+
+    // Tells the next status of a port that is off.
+    fn wait<R: Wait>(&mut self, rt: &R, port: PortId) {
+        match self.client.watch(rt, port, PortStatus::Off) {
+            Ok(status) => self.tell(rt, Answer::Status(status)),
+            Err(fault) => self.tell(rt, Answer::Unwatched(fault)),
+        }
+    }
+
+    // Watches a port until it has settled with its device, and tells its status then. A port that is off is watched on.
+    fn watch<R: Wait>(&mut self, rt: &R, port: PortId) {
+        let mut last = PortStatus::Off;
+        for _ in rt.forever() {
+            match self.client.watch(rt, port, last) {
+                Ok(status) if is_settled(status) => return self.tell(rt, Answer::Status(status)),
+                Ok(status) => last = status,
+                Err(fault) => return self.tell(rt, Answer::Unwatched(fault)),
+            }
+        }
+    }
+
     fn tell<R: Wait>(&mut self, rt: &R, answer: Answer) {
         let client = self.number;
         let _ = self.told.send(rt, Told { client, answer });
+    }
+}
+
+// Whether a port has done all that it has to with its device.
+fn is_settled(status: PortStatus) -> bool {
+    match status {
+        PortStatus::Ready | PortStatus::ReadyLocked | PortStatus::ReadyEmpty => true,
+        PortStatus::Mismatch(_) | PortStatus::Failed(_) => true,
+        PortStatus::Off | PortStatus::Lost | PortStatus::Starting => false,
+        PortStatus::Uploading | PortStatus::Storing | PortStatus::Downloading => false,
     }
 }
 

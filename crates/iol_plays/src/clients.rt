@@ -4,7 +4,7 @@ ghost use Rattle.std.specs.Prelude.{◌≡◌, []};
 ghost use Rattle.iol_flush.specs.Stages.{HasHistory};
 
 use crate::asking::{Asking, Told};
-use crate::meeting_link::MeetingLink;
+use crate::meeting_link::{MeetingLink, Meetings};
 use anyhow::bail;
 use crossbeam_channel::{Receiver, Sender};
 use iol_disk::SectorDisk;
@@ -20,12 +20,13 @@ use std::sync::atomic::AtomicU64;
 use std::sync::{Arc, Wait};
 use std::thread;
 use std::thread::{JoinHandle, Threads};
+use std::time::Clock;
 
 /// Runs a master on a disk with these links and a client for each word, and gives the disk. Prints what each is answered, as it
 /// comes; where the passes of all receipts stand, once each has met the one before; and how the master ends.
 pub(crate) fn play_clients<
     D: SectorDisk + Drop + Send + 'static,
-    R: Threads + Wait + Input + Copy + Send + 'static,
+    R: Threads + Wait + Clock + Input + Copy + Send + 'static,
     W: Write,
 >(
     rt: &R,
@@ -52,19 +53,23 @@ pub(crate) fn empty_links(alloc: Global, count: u8) -> anyhow::Result<Vec<SimLin
     Ok(links)
 }
 
-/// These links, none of which gives a page before so many were asked for.
+/// These links, none of which gives a page before so many were asked for, or answers a request before so many were made.
 pub(crate) fn meeting(
     alloc: Global,
     links: Vec<SimLink>,
-    pages: u64,
+    least: u64,
 ) -> anyhow::Result<Vec<MeetingLink<SimLink>>> {
-    let asked = Arc::new(alloc, AtomicU64::new(0))?;
+    let meetings = Meetings {
+        pages: AtomicU64::new(0),
+        requests: AtomicU64::new(0),
+    };
+    let asked = Arc::new(alloc, meetings)?;
     let mut made = Vec::new(alloc);
     for link in links {
         made.push(MeetingLink {
             link,
             asked: Arc::try_clone(&asked)?,
-            pages,
+            least,
         })?;
     }
     Ok(made)
@@ -74,7 +79,7 @@ pub(crate) fn meeting(
 fn play<
     D: SectorDisk + Drop + Send + 'static,
     F: Name + 'static,
-    R: Threads + Wait + Input + Copy + Send + 'static,
+    R: Threads + Wait + Clock + Input + Copy + Send + 'static,
     W: Write,
 >(
     rt: &R,

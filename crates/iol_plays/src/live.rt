@@ -8,9 +8,10 @@ use std::alloc::Global;
 use std::io::Write;
 use std::sync::Wait;
 use std::thread::Threads;
+use std::time::Clock;
 
 /// Runs a master of two ports and four slots, and says how many receipts there are and the state that is recovered.
-pub(crate) fn text_of_live<R: Threads + Wait + Copy + Send + 'static, E: Write>(
+pub(crate) fn text_of_live<R: Threads + Wait + Clock + Copy + Send + 'static, E: Write>(
     rt: &R,
     alloc: Global,
     script: &[u8],

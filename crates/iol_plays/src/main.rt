@@ -3,12 +3,13 @@
 //! - `iol_plays schedule SCRIPT` makes the steps of a script on a disk in memory, also where memory runs out, and prints how they
 //!   ended, what was told of them, and what a recovery with memory finds behind a power stop.
 //! - `iol_plays live SCRIPT` runs a master in threads on a disk in memory, and prints what `iolmaster live` prints of an image.
-//! - `iol_plays clients IMAGE LINKS PAGES CLIENT..` runs a master on an image, and prints what each call of each client is answered.
-//!   It has so many links, which give no page before so many were asked for. A client is a word of calls, two letters each: what
-//!   is asked (`c` for Clear, `f` and `s` for Configure, `r` for a read, `m` to meet another's receipt) and of which port; `s` is
-//!   for device 43981. In the place of a client, `-` waits for a line of standard input. Behind the last one, `end` ends the
-//!   master while they ask.
-//! - `iol_plays clients SCRIPT.toml 2 PAGES CLIENT..` runs it on a new disk in memory with the devices of a script, and prints what a
+//! - `iol_plays clients IMAGE LINKS LEAST CLIENT..` runs a master on an image, and prints what each call of each client is answered.
+//!   It has so many links, which give no page before so many were asked for, and answer no request before so many were made. A client
+//!   is a word of calls, two letters each: what is asked (`c` for Clear, `f` and `s` for Configure, `r` for a read, `t` for the status,
+//!   `n` for the next one while the port is off, `w` to watch until it has settled with its device, `m` to meet another's receipt) and of
+//!   which port; `s` is for device 43981. In the place of a client, `-` waits for a line of standard input. Behind the last one, `end`
+//!   ends the master while they ask.
+//! - `iol_plays clients SCRIPT.toml 2 LEAST CLIENT..` runs it on a new disk in memory with the devices of a script, and prints what a
 //!   recovery then finds behind a power stop.
 //! - `iol_plays again KIND N CLIENT..` runs a master on a new disk in memory of which the N-th `read`, `write` or `sync` fails, counted
 //!   from its recovery, and a second one on the disk that it hands back. Prints what a recovery then finds behind a power stop.
@@ -71,21 +72,21 @@ fn main(rt: HostRuntime) -> anyhow::Result<()> {
             }
             measure(&rt, folder.as_str(), count.as_str().parse()?)
         }
-        [_, _, path, links, pages, clients @ ..] => {
-            let pages = pages.as_str().parse()?;
+        [_, _, path, links, least, clients @ ..] => {
+            let least = least.as_str().parse()?;
             if path.as_str().ends_with(".toml") {
                 let script = std::fs::read(&rt, path.as_str())?;
                 let out = &mut rt.stdout();
                 return show(
                     &rt,
-                    play_in_memory(&rt, rt.alloc(), &script, pages, clients, out)?,
+                    play_in_memory(&rt, rt.alloc(), &script, least, clients, out)?,
                 );
             }
             let Ok(disk) = opened(&rt, path.as_str()) else {
                 bail!("no image")
             };
             let links = empty_links(rt.alloc(), links.as_str().parse()?)?;
-            let links = meeting(rt.alloc(), links, pages)?;
+            let links = meeting(rt.alloc(), links, least)?;
             let _disk = play_clients(&rt, rt.alloc(), disk, links, clients, &mut rt.stdout())?;
             Ok(())
         }

@@ -10,14 +10,15 @@ use std::alloc::Global;
 use std::io::{Input, Write};
 use std::sync::Wait;
 use std::thread::Threads;
+use std::time::Clock;
 
 /// Runs a master of two ports and four slots with the devices of a script and a client for each word, and gives its disk. Prints
 /// what each is answered, and how the master ends.
-pub(crate) fn play_in_memory<R: Threads + Wait + Input + Copy + Send + 'static, W: Write>(
+pub(crate) fn play_in_memory<R: Threads + Wait + Clock + Input + Copy + Send + 'static, W: Write>(
     rt: &R,
     alloc: Global,
     script: &[u8],
-    pages: u64,
+    least: u64,
     words: &[String],
     out: &mut W,
 ) -> anyhow::Result<MemoryDisk> {
@@ -29,5 +30,5 @@ pub(crate) fn play_in_memory<R: Threads + Wait + Input + Copy + Send + 'static, 
         return Ok(disk);
     }
     let links = links_of(alloc, &script.devices, geometry.ports())?;
-    play_clients(rt, alloc, disk, meeting(alloc, links, pages)?, words, out)
+    play_clients(rt, alloc, disk, meeting(alloc, links, least)?, words, out)
 }

@@ -8,12 +8,31 @@ use std::sync::Arc;
 use std::sync::atomic::{AtomicU64, Ordering};
 use std::thread;
 
-/// Another link, which gives no page before so many were asked for, of all links together.
+/// How many pages were asked for, and how many requests were made, of all links together.
+#[derive(Drop)]
+pub(crate) struct Meetings {
+    pub(crate) pages: AtomicU64,
+    pub(crate) requests: AtomicU64,
+}
+
+/// Another link, which gives no page before so many were asked for, and answers no request before so many were made, of all links
+/// together.
 #[derive(Drop)]
 pub(crate) struct MeetingLink<L: DeviceLink> {
     pub(crate) link: L,
-    pub(crate) asked: Arc<AtomicU64, Global>,
-    pub(crate) pages: u64,
+    pub(crate) asked: Arc<Meetings, Global>,
+    pub(crate) least: u64,
+}
+
+// Counts one more call, and waits until there are so many.
+fn meet(calls: &AtomicU64, least: u64) {
+    calls.fetch_add(1, Ordering::SeqCst);
+    for _turn in 0..u64::MAX {
+        if least <= calls.load(Ordering::SeqCst) {
+            break;
+        }
+        thread::yield_now();
+    }
 }
 
 impl<L: DeviceLink> DeviceLink for MeetingLink<L> {
@@ -32,17 +51,12 @@ impl<L: DeviceLink> DeviceLink for MeetingLink<L> {
     }
 
     fn read_page(&mut self) -> Result<[u8; PAGE_OCTETS], Lost> {
-        self.asked.fetch_add(1, Ordering::SeqCst);
-        for _turn in 0..u64::MAX {
-            if self.pages <= self.asked.load(Ordering::SeqCst) {
-                break;
-            }
-            thread::yield_now();
-        }
+        meet(&self.asked.pages, self.least);
         self.link.read_page()
     }
 
     fn exchange(&mut self, request: &[u8]) -> Result<ArrayVec<u8, ISDU_OCTETS>, Lost> {
+        meet(&self.asked.requests, self.least);
         self.link.exchange(request)
     }
 }

@@ -18,6 +18,7 @@ use std::io::Write;
 use std::marker::Brand;
 use std::sync::Wait;
 use std::thread::Threads;
+use std::time::Clock;
 
 const PORTS: u16 = 2;
 
@@ -41,7 +42,7 @@ fn unplugged(alloc: Global) -> anyhow::Result<Vec<SimLink>> {
 }
 
 // A master of these two ports runs, until its clients have their receipts and a third has read behind them.
-fn play<F: Name + 'static, R: Threads + Wait + Copy + Send + 'static, W: Write>(
+fn play<F: Name + 'static, R: Threads + Wait + Clock + Copy + Send + 'static, W: Write>(
     rt: &R,
     alloc: Global,
     front: Front,
@@ -119,7 +120,7 @@ fn tell<F: Name, R: Wait, W: Write>(
 }
 
 /// Plays the example on a disk in memory, and prints what the third client reads and how the master ends.
-pub(crate) fn play_two_clients<R: Threads + Wait + Copy + Send + 'static, W: Write>(
+pub(crate) fn play_two_clients<R: Threads + Wait + Clock + Copy + Send + 'static, W: Write>(
     rt: &R,
     alloc: Global,
     out: &mut W,

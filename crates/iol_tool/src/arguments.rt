@@ -18,13 +18,14 @@ use std::os::unix::fs::FileExt;
 use std::rt::{Env, Files};
 use std::sync::Wait;
 use std::thread::Threads;
+use std::time::Clock;
 
 // Carries out the command that the program's words name, and returns the exit status: 2 where the words are wrong, 0 for
 // help and the version, and else that of the command. Of a master that runs, `err` is told what `telling` says, unless the
 // words ask for receipts.
 pub(crate) fn run_program<
     F: FileExt + OpenFile + LockFile + Drop + Send + 'static,
-    R: Env + Files<File = F> + AllocGlobal + Threads + Wait + Copy + Send + 'static,
+    R: Env + Files<File = F> + AllocGlobal + Threads + Wait + Clock + Copy + Send + 'static,
     W: Write,
     E: Write,
 >(rt: &R, telling: Telling, out: &mut W, err: &mut E) -> u8
@@ -47,7 +48,7 @@ fn words<R: Env + AllocGlobal>(rt: &R) -> Result<Vec<String>, Fault<'static>> {
 // Carries out the command that these words name, the first of which is the name of the program.
 fn run_words<
     F: FileExt + OpenFile + LockFile + Drop + Send + 'static,
-    R: Files<File = F> + AllocGlobal + Threads + Wait + Copy + Send + 'static,
+    R: Files<File = F> + AllocGlobal + Threads + Wait + Clock + Copy + Send + 'static,
     W: Write,
     E: Write,
 >(rt: &R, words: &[String], telling: Telling, out: &mut W, err: &mut E) -> u8
@@ -64,7 +65,7 @@ fn run_words<
 
 fn carry_out<
     F: FileExt + OpenFile + LockFile + Drop + Send + 'static,
-    R: Files<File = F> + AllocGlobal + Threads + Wait + Copy + Send + 'static,
+    R: Files<File = F> + AllocGlobal + Threads + Wait + Clock + Copy + Send + 'static,
     W: Write,
     E: Write,
 >(rt: &R, asked: Asked<'_>, telling: Telling, out: &mut W, err: &mut E) -> u8
@@ -164,7 +165,7 @@ fn show_file<
 
 fn live_file<
     F: FileExt + OpenFile + LockFile + Drop + Send + 'static,
-    R: Files<File = F> + AllocGlobal + Threads + Wait + Copy + Send + 'static,
+    R: Files<File = F> + AllocGlobal + Threads + Wait + Clock + Copy + Send + 'static,
     W: Write,
     E: Write,
 >(rt: &R, image: &str, path: &str, telling: Telling, out: &mut W, err: &mut E) -> u8

@@ -15,18 +15,18 @@ returns-in-Err-clause-fault g c =
     )
 
 -- where a worker's thread is not made, those that were are ended as by `shutdown`
-pub returns-else-all-clause-fault : goal.returns-else-all-clause-fault
-returns-else-all-clause-fault g c =
+pub returns-in-Err-start_workers-clause-fault : goal.returns-in-Err-start_workers-clause-fault
+returns-in-Err-start_workers-clause-fault g c =
     let promise : c.in-Ok.flusher.promise.0.value ≡ c.args.charge =
     ap (λ (p : FromCharge g.row.D.Denot g.row.F.Denot). p.0.value) c.in-Ok.ensures.ok ∙ c.of.ensures in (
-      c.disk_of-else-all.ensures c.args.charge
-          (subst (λ (first : JournalView g.row.D.Denot). IsEnding g.D.SectorDisk.disk g.F.Name.front.start first c.shutdown.result) promise
-          c.shutdown.ensures),
+      c.disk_of-in-Err-start_workers.ensures c.args.charge
+          (subst (λ (first : JournalView g.row.D.Denot). IsEnding g.D.SectorDisk.disk g.F.Name.front.start first c.end.result) promise
+          c.end.ensures),
       refl,
     )
 
-pub returns-then-all-clause-started : goal.returns-then-all-clause-started
-returns-then-all-clause-started g c =
+pub returns-in-Ok-start_workers-clause-started : goal.returns-in-Ok-start_workers-clause-started
+returns-in-Ok-start_workers-clause-started g c =
     ap (λ (p : FromCharge g.row.D.Denot g.row.F.Denot). p.0.value) c.in-Ok.ensures.ok ∙ c.of.ensures
 
 pub spawn_with-started-requires-clause-keeps : goal.spawn_with-started-requires-clause-keeps

@@ -6,5 +6,5 @@ use Rattle.iol_master.proofs.master.Master.shutdown.Goals as goal
 pub returns-clause-ending : goal.returns-clause-ending
 returns-clause-ending g c =
     c.settle.ensures.ending c.args.self
-    (subst (λ (j : JournalView g.row.D.Denot). IsEnding g.D.SectorDisk.disk g.F.Name.front.start j c.join.result) c.self.view_is
-    c.join.ensures)
+    (subst (λ (j : JournalView g.row.D.Denot). IsEnding g.D.SectorDisk.disk g.F.Name.front.start j c.end.result) c.self.view_is
+    c.end.ensures)

@@ -1,6 +1,6 @@
 use Rattle.iol_core.proofs.Standing.{stands_later}
-use Rattle.iol_master.proofs.Settling.{seen_later}
-use Rattle.iol_master.proofs.master.acknowledged.Goals as goal
+use Rattle.iol_master.proofs.SeenLater.{seen_later}
+use Rattle.iol_master.proofs.settling.acknowledged.Goals as goal
 
 pub returns-clause-lawful : goal.returns-clause-lawful
 returns-clause-lawful g c =

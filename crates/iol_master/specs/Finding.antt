@@ -1,0 +1,26 @@
+-- What the flusher finds where it looks for a batch.
+use Rattle.std.specs.Prelude.{◌≡◌, ◌≢◌, ◌&&◌, not, nat_eq, ℕ, Bool, true, false, length}
+use Rattle.iol_core.specs.Batches.{IsTaken, has_batch}
+use Rattle.iol_master.specs.Callers.{GuardedView}
+use Rattle.iol_master.specs.declared.finding.Found.{Found}
+use Rattle.iol_master.specs.declared.finding.Found.TheVariants as found
+use Rattle.iol_master.specs.declared.guarded.Phase.{Phase}
+use Rattle.iol_master.specs.declared.guarded.Phase.TheVariants.{Running, Ending, Closed}
+
+-- no more commands come (own)
+abbrev pub is_closed : Phase → Bool
+is_closed Running = false
+is_closed Ending = false
+is_closed Closed = true
+
+-- the flusher sleeps: no command is in the queue, and more may come (own)
+abbrev pub is_idle : GuardedView → Bool
+is_idle guarded = not (is_closed guarded.phase) && nat_eq (length guarded.callers) 0
+
+-- the flusher finds the batch that may be taken, or no memory for it. Where there is none it finds that none comes any more only once
+-- the run is closed, and that one may come only before (own)
+abbrev pub Finds : GuardedView → ℕ → GuardedView → Found → Type 0
+Finds old room new (found.Batch batch) = IsTaken old.engine.core room new.engine.core batch
+Finds old room new found.Nothing = (has_batch old.engine.core ≡ false) × (old.phase ≢ Closed) × (new.engine.core ≡ old.engine.core)
+Finds old room new found.Closed = (has_batch old.engine.core ≡ false) × (old.phase ≡ Closed) × (new.engine.core ≡ old.engine.core)
+Finds old room new found.NoMemory = (has_batch old.engine.core ≡ true) × (new.engine.core ≡ old.engine.core)
