@@ -5,7 +5,7 @@
 //
 // Requests are counted from the program's own start on, not those of the loader and the C library before it, and each is
 // one, whether a block is new, grows or shrinks. At the one that is refused the file REFUSE_MET is made, which says that the
-// program has made so many. Threads count together.
+// program has made so many, and by its octet whether its first thread asked, `F`, or another one, `O`. Threads count together.
 //
 // With REFUSE_EACH, a folder, each request is refused in one run: there the program makes two copies of itself, one after the
 // other, in which the request is refused, alone and with all behind it. It waits until they end, and goes on with all memory.
@@ -28,6 +28,8 @@ extern int dup2(int file, int as);
 extern long lseek(int file, long place, int from);
 extern long write(int file, const void *octets, size_t count);
 extern int fork(void);
+extern int getpid(void);
+extern int gettid(void);
 extern int waitpid(int child, int *status, int options);
 extern unsigned alarm(unsigned seconds);
 extern int *__errno_location(void);
@@ -94,13 +96,21 @@ static int is_refused_in_copies(void) {
     return is_refused;
 }
 
+// Says that the request was made, and by which thread.
+static void say_met(void) {
+    const char *met = getenv("REFUSE_MET");
+    if (!met) return;
+    int file = open(met, WRITE_CREATE, OWNER_MAY_WRITE);
+    write(file, gettid() == getpid() ? "F" : "O", 1);
+    close(file);
+}
+
 static int is_refused(void) {
     if (refuses_each) return is_refused_in_copies();
     if (refused == 0) return 0;
     long request = __atomic_add_fetch(&made, 1, __ATOMIC_SEQ_CST);
     if (request < refused || (request > refused && !refuses_all)) return 0;
-    const char *met = getenv("REFUSE_MET");
-    if (met && request == refused) close(open(met, WRITE_CREATE, OWNER_MAY_WRITE));
+    if (request == refused) say_met();
     *__errno_location() = NO_MEMORY;
     return 1;
 }
