@@ -1,8 +1,7 @@
 //! Clients that wait for another status of a port.
 
-ghost use Rattle.std.specs.Prelude.{◌≡◌, ◌≢◌, IfErr, IfOk, IfSome};
-ghost use Rattle.iol_headline.specs.Statuses.{IsLastReported};
-ghost use Rattle.iol_master.specs.Watching.{IsHeard, IsWatchFault, heard_at};
+ghost use Rattle.std.specs.Prelude.{◌≡◌, IfSome};
+ghost use Rattle.iol_master.specs.Watching.{IsHeard, heard_at};
 
 use crate::client::Shared;
 use crate::guarded::{Guarded, Phase};
@@ -18,7 +17,7 @@ pub enum WatchFault {
     /// The master has no such port.
     #[error("no such port")]
     UnknownPort,
-    /// The master has ended, and the port still has the status that the client had seen.
+    /// The master ends and serves no port any more, and the port still has the status that the client had seen.
     #[error("the master has ended")]
     Ended,
 }
