@@ -13,7 +13,7 @@ returns-clause-lived g c =
     IfOk-weaker c.text_of.result _ (λ text. IsAfterWhatIsThere receipts c.args.master.standing (string_bytes text))
     (λ text told.
     told_of_left g.D.SectorDisk.disk start c.args.master master c.in_ok-disk.disk receipts told.0 (string_bytes text) honest rest
-    c.requires.start c.ask_all-asked.ensures.same (c.in_ok-disk.ensures.left start master c.shutdown.ensures) told.1
+    c.requires.start c.ask_all-asked.ensures.same (c.in_ok-disk.ensures.left start master c.shutdown.ensures.ending) told.1
     (told.2 ∙ ap (λ (n : ℕ). lived_text n told.0) c.len.ensures)) c.text_of.ensures.text
 
 pub returns-clause-text : goal.returns-clause-text
@@ -33,5 +33,5 @@ returns-clause-cause g c =
     IfErr-weaker c.text_of.result _ IsRunCause
     (λ fault tells.
     cause_of_left g.D.SectorDisk.disk start c.args.master master c.in_ok-disk.disk fault honest rest c.ask_all-asked.ensures.same
-    (c.in_ok-disk.ensures.left start master c.shutdown.ensures) tells)
+    (c.in_ok-disk.ensures.left start master c.shutdown.ensures.ending) tells)
     c.text_of.ensures.cause
