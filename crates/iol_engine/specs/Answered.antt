@@ -11,6 +11,11 @@ is_silent answered.Nothing = true
 is_silent answered.Gone = true
 is_silent _ = false
 
+-- the answer without its octets: a device that is asked on the last connection is gone (own)
+abbrev pub without_octets : Answered → Answered
+without_octets answered.Nothing = answered.Nothing
+without_octets _ = answered.Gone
+
 -- the answer is a page of these octets, or a device's answer of these octets (own)
 abbrev pub IsPage : Answered → List ℕ → Type 0
 IsPage (answered.Page page) octets = octets ≡ page

@@ -2,7 +2,7 @@
 
 ghost use Rattle.std.specs.Prelude.{◌≡◌, ◌+◌, ◌↔◌, min, true, IsTrue, None};
 ghost use Rattle.iol_link.specs.Link.{last_connection};
-ghost use Rattle.iol_engine.specs.Answered.{FitsWant, is_silent};
+ghost use Rattle.iol_engine.specs.Answered.{FitsWant, is_silent, without_octets};
 
 use arrayvec::ArrayVec;
 use iol_isdu::ISDU_OCTETS;
@@ -23,7 +23,7 @@ pub enum Answered {
 }
 
 /// What a link answered on one connection: an event of its device, if there was one, and the answer to what the engine wanted.
-/// A `Handed` is a link itself, which gives this answer once.
+/// A `Handed` is a link itself, whose calls give this answer.
 #[derive(Drop)]
 pub struct Handed {
     connection: u64,
@@ -36,6 +36,9 @@ impl Handed {
     /// Makes a link that answers so on this connection. On the last connection a device answers nothing any more.
     pub fn new(connection: u64, event: Option<u16>, answer: Answered) -> Handed
         ensures connection { result.connection ≡ connection }
+        ensures event { (connection ≡ last_connection → ⊥) → result.event ≡ event }
+        ensures answer { (connection ≡ last_connection → ⊥) → result.answer ≡ answer }
+        ensures last { connection ≡ last_connection → result.answer ≡ without_octets answer }
     {
         if connection == u64::MAX {
             Handed {
@@ -92,7 +95,8 @@ impl Handed {
 
 // Drops the octets of an answer, as on the last connection.
 fn silent(answer: Answered) -> Answered
-    ensures { is_silent result ≡ true }
+    ensures silent { is_silent result ≡ true }
+    ensures without { result ≡ without_octets answer }
 {
     match answer {
         Answered::Nothing => Answered::Nothing,
