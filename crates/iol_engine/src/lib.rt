@@ -11,11 +11,12 @@
 //! - `said`, `told_work` and `event` are what is reported, and `trail` is the list of it.
 //! - `port_machines` are the machines of the ports, and `port_step` is a step of one.
 //! - `handed` is what a link answered while nobody held the engine.
-//! - `engine` is all of them as one value.
+//! - `engine` is all of them as one value, and `examples` are facts with values.
 #![tactic(auto)]
 
 mod engine;
 mod event;
+pub mod examples;
 mod handed;
 mod port_machines;
 mod port_step;
