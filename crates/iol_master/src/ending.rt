@@ -9,7 +9,8 @@ use iol_journal::Journal;
 pub enum Ending<D: SectorDisk, F: Name> {
     /// All that was taken is durable, published and acknowledged.
     Closed(Journal<D>, Publisher<F>),
-    /// What was taken last is not known to be durable: memory ran out for it. All before it is durable and published.
+    /// What was taken last is not known to be durable: memory ran out for it, or the core has not acknowledged it. All before it is
+    /// durable and published.
     Unwritten(Journal<D>, Publisher<F>),
     /// A disk call failed. The disk may be recovered again, unless it was a sync: such a disk is not gone on with.
     Faulted(D, DiskFault),
