@@ -66,20 +66,12 @@ impl Handed {
     pub(crate) fn fits(&self, want: &Want) -> bool
         ensures { IsTrue result ↔ FitsWant want.now self.now.answer }
     {
-        match (want, &self.answer) {
-            (Want::Page, Answered::Page(_)) => true,
-            (Want::Page, Answered::Gone) => true,
-            (Want::Answer(_), Answered::Octets(_)) => true,
-            (Want::Answer(_), Answered::Gone) => true,
-            (Want::Nothing, Answered::Nothing) => true,
-            (Want::Page, Answered::Octets(_)) => false,
-            (Want::Page, Answered::Nothing) => false,
-            (Want::Answer(_), Answered::Page(_)) => false,
-            (Want::Answer(_), Answered::Nothing) => false,
-            (Want::Nothing, Answered::Page(_)) => false,
-            (Want::Nothing, Answered::Octets(_)) => false,
-            (Want::Nothing, Answered::Gone) => false,
-        }
+        matches!(
+            (want, &self.answer),
+            (Want::Page, Answered::Page(_) | Answered::Gone)
+                | (Want::Answer(_), Answered::Octets(_) | Answered::Gone)
+                | (Want::Nothing, Answered::Nothing)
+        )
     }
 
     // Loses the device.

@@ -200,38 +200,7 @@ fn filed(call: CoreCall) -> (CoreCall, Option<Said>)
             let (set, said) = stored(permit.grant(), set);
             (CoreCall::FinishUpload(permit, set), Some(said))
         }
-        CoreCall::Attend(port) => (CoreCall::Attend(port), None),
-        CoreCall::BeginUpload {
-            port,
-            vendor,
-            device,
-            connection,
-        } => (
-            CoreCall::BeginUpload {
-                port,
-                vendor,
-                device,
-                connection,
-            },
-            None,
-        ),
-        CoreCall::AbandonUpload(permit) => (CoreCall::AbandonUpload(permit), None),
-        CoreCall::AskTicket(ticket) => (CoreCall::AskTicket(ticket), None),
-        CoreCall::BeginDownload {
-            port,
-            vendor,
-            device,
-            checksum,
-        } => (
-            CoreCall::BeginDownload {
-                port,
-                vendor,
-                device,
-                checksum,
-            },
-            None,
-        ),
-        CoreCall::EndDownload(permit) => (CoreCall::EndDownload(permit), None),
+        call => (call, None),
     }
 }
 
