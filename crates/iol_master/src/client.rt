@@ -304,10 +304,10 @@ fn submit<F: Name, R: Wait>(
         let mut guard = shared.woken.wait_while(
             rt,
             shared.guarded.lock(rt),
-            |guarded| guarded.live_number() < seen,
+            |guarded| guarded.engine().live_number() < seen,
         );
         let guarded = &mut *guard;
-        if guarded.live_number() >= seen {
+        if guarded.engine().live_number() >= seen {
             let answer = guarded.submit(caller);
             drop(guard);
             if answer.is_ok() {

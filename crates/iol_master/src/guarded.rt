@@ -7,7 +7,6 @@ ghost use mathlib.Core.List.{IsPrefix};
 ghost use Rattle.iol_types.specs.Command.{command_of, port_asked};
 ghost use Rattle.iol_record.specs.declared.encode.TheConstants.{LARGEST_COMMAND_RECORD};
 ghost use Rattle.iol_core.specs.Batches.{IsInFlight, IsStranger, IsTake, acknowledged, has_batch};
-ghost use Rattle.iol_core.specs.Core.{IsCore, live_number};
 ghost use Rattle.iol_core.specs.Downloads.{durable_set};
 ghost use Rattle.iol_core.specs.Ports.{view_at};
 ghost use Rattle.iol_core.specs.Standing.{Stands};
@@ -15,8 +14,7 @@ ghost use Rattle.iol_core.specs.Submit.{IsSubmit, stopped_by};
 ghost use Rattle.iol_core.specs.declared.stop.StopCause.TheVariants.{Closed, DiskFailed};
 ghost use Rattle.iol_trace.specs.Events as trace;
 ghost use Rattle.iol_engine.specs.Events.{told_of};
-ghost use Rattle.iol_engine.specs.HandedSteps.{StepsHanded, settled_in, status_in};
-ghost use Rattle.iol_engine.specs.Waits.{waits_at};
+ghost use Rattle.iol_engine.specs.HandedSteps.{StepsHanded, status_in};
 ghost use Rattle.iol_engine.specs.Submitted.{submit_told};
 ghost use Rattle.iol_headline.specs.Lists.{IsLawfulList};
 ghost use Rattle.iol_headline.specs.Statuses.{IsLastReported};
@@ -31,7 +29,7 @@ use iol_core::{AckFault, QUEUE_COMMANDS, StopCause, SubmitFault, View};
 use iol_engine::{Engine, Exchanged, Handed, PortTold};
 use iol_front::{Committed, Name, Pass};
 use iol_journal::Batch;
-use iol_port::{PortStatus, Want};
+use iol_port::PortStatus;
 use iol_types::{Change, PortId};
 use std::alloc::{AllocError, Global};
 use std::collections::VecDeque;
@@ -94,12 +92,11 @@ impl<F: Name> Guarded<F> {
         })
     }
 
-    // The number of the last command that waits, or of the last durable one.
-    pub(crate) fn live_number(&self) -> u64
-        ensures number { result ≡ live_number self.now.engine.core }
-        ensures core { IsCore F.front.start self.now.engine.core }
+    // The engine, to read of.
+    pub(crate) fn engine(&self) -> &Engine<F>
+        ensures { result.now ≡ self.now.engine }
     {
-        self.engine.live_number()
+        &self.engine
     }
 
     // Takes a change, for which this caller waits; its port is woken, unless ports are to end. As `Core::submit`.
@@ -156,11 +153,6 @@ impl<F: Name> Guarded<F> {
         number
     }
 
-    // Returns what the engine wants of a port's link.
-    pub(crate) fn want(&self, port: PortId) -> Want {
-        self.engine.want(port)
-    }
-
     // Returns the status of a port that is there, which is the one that was reported last.
     pub(crate) fn status(&self, port: PortId) -> Option<PortStatus>
         ensures status { result ≡ status_in (slice_get self.now.engine.machines (port - 1)) }
@@ -168,20 +160,6 @@ impl<F: Name> Guarded<F> {
         ensures unknown { IfNone result (IsUnknown F.front.start.state port) }
     {
         iol_headline::engine::status(&self.engine, port)
-    }
-
-    // Whether a port waits for the disk.
-    pub(crate) fn waits(&self, port: PortId) -> bool
-        ensures { result ≡ waits_at self.now.engine port }
-    {
-        self.engine.waits(port)
-    }
-
-    // Whether a port is settled, or is not there.
-    pub(crate) fn is_settled(&self, port: PortId) -> bool
-        ensures { result ≡ settled_in (slice_get self.now.engine.machines (port - 1)) }
-    {
-        self.engine.is_settled(port)
     }
 
     // Makes a step of a port with what its link answered. Nobody waits for a Store that it takes.

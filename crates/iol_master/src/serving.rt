@@ -15,7 +15,7 @@ impl<F: Name> Guarded<F> {
         ensures { result ≡ sleeps self.now port answered }
     {
         let is_off = matches!(self.status(port), Some(PortStatus::Off));
-        self.waits(port)
+        self.engine().waits(port)
             || (is_off && self.phase() == Phase::Running && self.wakes(port) == answered)
     }
 
@@ -23,6 +23,8 @@ impl<F: Name> Guarded<F> {
     pub(crate) fn is_served(&self, port: PortId, answered: u64) -> bool
         ensures { result ≡ is_served self.now port answered }
     {
-        !self.is_settled(port) || self.phase() == Phase::Running || self.wakes(port) != answered
+        !self.engine().is_settled(port)
+            || self.phase() == Phase::Running
+            || self.wakes(port) != answered
     }
 }

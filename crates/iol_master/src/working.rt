@@ -97,7 +97,7 @@ fn goes_on<F: Name, R: Wait>(rt: &R, shared: &Shared<F>, port: PortId, answered:
         shared.guarded.lock(rt),
         |guarded| guarded.sleeps(port, last),
     );
-    if guarded.is_settled(port) {
+    if guarded.engine().is_settled(port) {
         *answered = guarded.wakes(port);
     }
     guarded.is_served(port, last)
@@ -113,7 +113,7 @@ fn step<L: DeviceLink, F: Name, R: Wait>(
     buffer: Box<Exchanged>,
 ) -> Option<Box<Exchanged>> {
     let event = link.take_event();
-    let want = shared.guarded.lock(rt).want(port);
+    let want = shared.guarded.lock(rt).engine().want(port);
     let connection = link.connection();
     let answer = answer_of(link, &want);
     let handed = Handed::new(connection, event, answer);
