@@ -3,7 +3,8 @@
 ghost use Rattle.std.specs.Prelude.{ℕ, IfOk};
 
 use std::fs::File;
-use std::io;
+use std::io::{self, Seek, SeekFrom};
+use std::os::unix::fs::FileTypeExt;
 
 /// A file that tells how long it is.
 pub trait FileLength {
@@ -22,6 +23,12 @@ impl FileLength for File {
     ghost tells = { λ _ _. Unit {0} };
 
     fn length(&self) -> io::Result<u64> {
-        Ok(self.metadata()?.len())
+        let metadata = self.metadata()?;
+        if metadata.file_type().is_block_device() {
+            // The length of a block device is not in its metadata. No read or write uses the position.
+            let mut file = self;
+            return file.seek(SeekFrom::End(0));
+        }
+        Ok(metadata.len())
     }
 }
