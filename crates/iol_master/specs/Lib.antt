@@ -10,3 +10,4 @@ pub mod Answers
 pub mod Watching
 pub mod Finding
 pub mod Served
+pub mod News

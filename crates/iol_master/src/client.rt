@@ -9,11 +9,13 @@ ghost use Rattle.iol_headline.specs.Lists.{IsLawfulList, SetsWereUploaded};
 ghost use Rattle.iol_headline.specs.Statuses.{IsLastReported};
 ghost use Rattle.iol_master.specs.Faults.{IsCallFault, IsReadFault, IsRefused, IsUnknown, IsUntold};
 ghost use Rattle.iol_master.specs.Answers.{IsToldBy};
+ghost use Rattle.iol_master.specs.News.{IsNew, IsSo, known_after};
 ghost use Rattle.iol_master.specs.Receipts.{IsReceiptFor};
 ghost use Rattle.iol_master.specs.Watching.{IsWatchFault};
 
 use crate::caller::{Answer, Caller, Notice};
 use crate::guarded::Guarded;
+use crate::news::{Known, News, wait_for_news};
 use crate::watching::{WatchFault, watch};
 use crossbeam_channel::Receiver;
 use iol_core::{SubmitFault, View};
@@ -33,7 +35,7 @@ pub(crate) struct Shared<F: Name> {
     pub(crate) work: Condvar,
     // a port was woken, what a port waits for is known, or the run ends
     pub(crate) woken: Condvar,
-    // a port has another status, or the run has ended
+    // a port has another status, more commands are durable, or the run has ended
     pub(crate) reported: Condvar,
 }
 
@@ -248,6 +250,20 @@ impl<F: Name> Client<F> {
         ensures refused { IfErr result (IsWatchFault F.front.start port last) }
     {
         watch(rt, &self.shared, port, last)
+    }
+
+    /// Waits until something is new since what is known, and returns it: a port has another status, or more commands are durable, which
+    /// the client has then seen. What is known is then with it. Of the statuses that a port has one after another a client that asks
+    /// late hears the last alone. Returns none once no port makes a step any more and nothing is new.
+    ///
+    /// It polls nothing: the threads of the ports and the flusher wake it. After `shutdown` it never waits.
+    pub fn news<R: Wait>(&mut self, rt: &R, known: &mut Known) -> Option<News>
+        ensures kept { IsPrefix self.old self.new }
+        ensures new { IfSome result (IsNew known.old) }
+        ensures so { IfSome result (IsSo F.front.start self.new) }
+        ensures known { known.new ≡ known_after known.old result }
+    {
+        wait_for_news(rt, &self.shared, &mut self.pass, known)
     }
 
     /// The client has then seen all that the pass has, and what the pass has seen begins what the client has. It waits for nobody,

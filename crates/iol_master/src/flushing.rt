@@ -235,6 +235,7 @@ fn publish<D: SectorDisk, F: Name, R: Wait>(
     if let Ok(committed) = flusher.publish() {
         let _ = shared.guarded.lock(rt).acknowledge(rt, committed);
         shared.woken.notify_all();
+        shared.reported.notify_all();
     }
     Turned::Made
 }

@@ -11,8 +11,8 @@
 //! what holds of its whole trace: [`run_schedule`].
 //!
 //! Modules in reading order: `caller`, who waits and what is told; `guarded`, what the lock guards; `serving`, which ports sleep;
-//! `watching`, who waits for a status; `finding`, what the flusher finds; `client`; `flushing` and `working`, the two kinds of thread;
-//! `ending` and `settling`, how a master ends; `master`, which starts and ends them.
+//! `watching` and `news`, who waits for a status, or for what is new; `finding`, what the flusher finds; `client`; `flushing` and
+//! `working`, the two kinds of thread; `ending` and `settling`, how a master ends; `master`, which starts and ends them.
 #![tactic(auto)]
 
 mod caller;
@@ -22,6 +22,7 @@ mod finding;
 mod flushing;
 mod guarded;
 mod master;
+mod news;
 mod serving;
 mod settling;
 mod watching;
@@ -33,4 +34,5 @@ pub use iol_engine::Event;
 pub use iol_headline::run_schedule;
 pub use iol_run::{Ended, RunFault, Step, Task, Trace};
 pub use master::Master;
+pub use news::{Known, News};
 pub use watching::WatchFault;
