@@ -3,7 +3,7 @@ use Rattle.std.specs.Prelude.{ℕ, List, ◌++◌, codes}
 use Rattle.std.specs.Fmt.{decimal}
 use Rattle.iol_commands.specs.declared.fault.Fault.{Fault}
 use Rattle.iol_commands.specs.declared.fault.Fault.TheVariants.{NotFormatted, AlreadyFormatted, TooSmall, Damaged, Disk, Memory}
-use Rattle.iol_commands.specs.declared.fault.Fault.TheVariants.{Words, File, InUse, Thread, Call, Fit, Script, Geometry}
+use Rattle.iol_commands.specs.declared.fault.Fault.TheVariants.{Words, File, InUse, Thread, Call, Fit, Drivers, Script, Geometry}
 use Rattle.iol_journal.specs.FormatFault.{FormatFault}
 use Rattle.iol_journal.specs.FormatFault.TheVariants as format
 use Rattle.iol_journal.specs.RecoverCause.{RecoverCause}
@@ -33,6 +33,7 @@ fault_text InUse = codes "the image is in use"
 fault_text Thread = codes "a thread could not start"
 fault_text Call = codes "a call failed"
 fault_text Fit = codes "the script does not fit the image"
+fault_text Drivers = codes "the drivers do not fit the image"
 fault_text Script = codes "the script is not valid"
 fault_text Geometry = codes "the geometry is not valid"
 

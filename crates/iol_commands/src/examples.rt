@@ -11,7 +11,7 @@ ghost use Rattle.iol_commands.specs.Fault.{fault_line};
 ghost use Rattle.iol_commands.specs.Lines.{event_text, lines_of, report_text};
 ghost use Rattle.iol_commands.specs.Recovered.{entry_line, port_line, port_text, recovered_text};
 ghost use Rattle.iol_commands.specs.declared.fault.Fault.TheVariants.{NotFormatted, AlreadyFormatted, TooSmall, Damaged, Disk};
-ghost use Rattle.iol_commands.specs.declared.fault.Fault.TheVariants.{Memory, Words, InUse, Thread, Call, Fit, Script, Geometry};
+ghost use Rattle.iol_commands.specs.declared.fault.Fault.TheVariants.{Memory, Words, InUse, Thread, Call, Fit, Drivers, Script, Geometry};
 ghost use Rattle.iol_commands.specs.Texts.{refusal_name, status_text};
 
 /// The ErrorCode and AdditionalCode of a refusal: two digits each, upper case.
@@ -118,7 +118,7 @@ pub fn faults()
     ensures others { map fault_line (Memory ∷ Words ∷ Script ∷ Geometry ∷ [])
         ≡ codes "error: out of memory\n" ∷ codes "error: a word is not UTF-8\n" ∷ codes "error: the script is not valid\n"
         ∷ codes "error: the geometry is not valid\n" ∷ [] }
-    ensures of_a_running_master { map fault_line (InUse ∷ Thread ∷ Call ∷ Fit ∷ [])
+    ensures of_a_running_master { map fault_line (InUse ∷ Thread ∷ Call ∷ Fit ∷ Drivers ∷ [])
         ≡ codes "error: the image is in use\n" ∷ codes "error: a thread could not start\n" ∷ codes "error: a call failed\n"
-        ∷ codes "error: the script does not fit the image\n" ∷ [] }
+        ∷ codes "error: the script does not fit the image\n" ∷ codes "error: the drivers do not fit the image\n" ∷ [] }
 {}

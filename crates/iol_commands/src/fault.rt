@@ -37,6 +37,8 @@ pub enum Fault<'a> {
     Call,
     /// The script has a device at a port that the image does not have.
     Fit,
+    /// A port has a driver and is not there, or has a simulated device too.
+    Drivers,
     /// The text is not a script.
     Script,
     /// The numbers of ports and slots are not a geometry.
@@ -65,6 +67,7 @@ impl fmt::Display for Fault<'_> {
             Fault::Thread => f.write_str("a thread could not start"),
             Fault::Call => f.write_str("a call failed"),
             Fault::Fit => f.write_str("the script does not fit the image"),
+            Fault::Drivers => f.write_str("the drivers do not fit the image"),
             Fault::Script => f.write_str("the script is not valid"),
             Fault::Geometry => f.write_str("the geometry is not valid"),
         }

@@ -16,7 +16,7 @@ use Rattle.iol_commands.specs.Images.{TellsWhy}
 use Rattle.iol_commands.specs.Recovered.{TellsState, recovered_text}
 use Rattle.iol_commands.specs.declared.fault.Fault.{Fault}
 use Rattle.iol_commands.specs.declared.fault.Fault.TheVariants.{NotFormatted, AlreadyFormatted, TooSmall, Damaged, Disk as OfDisk, Memory}
-use Rattle.iol_commands.specs.declared.fault.Fault.TheVariants.{Words, File, InUse, Thread, Call, Fit, Script, Geometry}
+use Rattle.iol_commands.specs.declared.fault.Fault.TheVariants.{Words, File, InUse, Thread, Call, Fit, Drivers, Script, Geometry}
 use Rattle.iol_master.specs.Endings.{IsWhole}
 use Rattle.iol_live.specs.Lived.{IsAfterWhatIsThere, IsLiveCause, IsRunCause, TellsReceipts, lived_text}
 
@@ -86,6 +86,7 @@ met read y InUse tells is = absurd tells
 met read y Thread tells is = absurd tells
 met read y Call tells is = absurd tells
 met read y Fit tells is = absurd tells
+met read y Drivers tells is = absurd tells
 met read y Script tells is = absurd tells
 met read y Geometry tells is = absurd tells
 
