@@ -23,7 +23,8 @@ set_shallow : (stored : Option Stored) → depth (set_data stored) ≤ 3
 set_shallow None = omega arith
 set_shallow (Some stored) = stored_shallow stored
 
-port_shallow : (number : ℕ) (port : Port) → depth (port_data number port) ≤ 4
+-- a port nests at most four deep
+pub port_shallow : (number : ℕ) (port : Port) → depth (port_data number port) ≤ 4
 port_shallow number port = let set = set_shallow port.stored in let previous = set_shallow port.previous in grind arith
 
 ports_shallow : (number : ℕ) (ports : List Port) → items_depth (items_of (ports_data number ports)) ≤ 4

@@ -1,2 +1,3 @@
 mod InOrder
-mod Depth
+pub mod Depth
+pub mod Plain

@@ -1,7 +1,7 @@
 //! A master's state as JSON (RFC 8259), for scripts of plant staff.
 //!
 //! In comes a state, and after how many commands it stands; out comes one object, or its text, whose members are those of
-//! docs/FORMATS.md, "JSON". Read as JSON, the text is the state (`specs/Json.antt`).
+//! docs/FORMATS.md, "JSON". Read as JSON, the text is the state (`specs/Json.antt`). One port alone has an object too.
 //!
 //! Modules in reading order: `members` adds a member to an object, `entries` has the parameters of a set, `ports` the ports of a
 //! state, `state` the state and its text, and `examples` states worked out.
@@ -9,8 +9,8 @@
 
 mod entries;
 pub mod examples;
-mod members;
+pub mod members;
 mod ports;
 mod state;
 
-pub use state::{json_of, json_text};
+pub use state::{json_of, json_of_port, json_text};

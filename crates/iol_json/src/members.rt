@@ -6,8 +6,8 @@ ghost use Rattle.serde_json.specs.View.{view, members_view};
 use serde_json::{Map, Value, put};
 use std::alloc::{AllocError, Global};
 
-// These members, and one with this name.
-pub(crate) fn with(
+/// These members, and one with this name. One of the same name is replaced.
+pub fn with(
     alloc: Global,
     members: Map<String, Value>,
     name: &str,

@@ -55,7 +55,7 @@ fn push_found(
 }
 
 // A port: its number, its revision, its configuration, the set that is stored for it, and the one before that.
-fn port_of(alloc: Global, number: u8, port: &PortState) -> Result<Value, AllocError>
+pub(crate) fn port_of(alloc: Global, number: u8, port: &PortState) -> Result<Value, AllocError>
     ensures { IfOk result (λ value. view value ≡ port_data number port.now) }
 {
     let members = with(alloc, Map::new(alloc), "port", Value::from(number))?;

@@ -2,10 +2,10 @@
 ghost use Rattle.std.specs.Prelude.{◌≡◌, IfOk, Some, string_bytes};
 ghost use Rattle.serde_json.specs.Read.{read};
 ghost use Rattle.serde_json.specs.View.{view};
-ghost use Rattle.iol_json.specs.Json.{state_data};
+ghost use Rattle.iol_json.specs.Json.{port_data, state_data};
 
-use crate::ports::ports_of;
-use iol_types::MasterState;
+use crate::ports::{port_of, ports_of};
+use iol_types::{MasterState, PortId, PortState};
 use serde_json::{Value, json};
 use std::alloc::{AllocError, Global};
 
@@ -15,6 +15,13 @@ pub fn json_of(alloc: Global, number: u64, state: &MasterState) -> Result<Value,
 {
     let ports = ports_of(alloc, state)?;
     json!(in alloc; {"ports": ports, "recovered": number})
+}
+
+/// One port of a state, with its number (docs/FORMATS.md, "JSON").
+pub fn json_of_port(alloc: Global, port: PortId, state: &PortState) -> Result<Value, AllocError>
+    ensures { IfOk result (λ value. view value ≡ port_data port state.now) }
+{
+    port_of(alloc, port.number(), state)
 }
 
 /// The text of a state after so many commands: one object, laid out in lines, with no line's end behind it.
