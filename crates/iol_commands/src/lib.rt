@@ -52,6 +52,6 @@ pub use octets::Spaced;
 pub use picture::write_picture;
 pub use recovery::recover;
 pub use run::{empty_disk, make_run, stop};
-pub use state_text::Recovered;
+pub use state_text::{PortText, Recovered};
 pub use status_text::StatusText;
 pub use trace_text::{is_said_loss, lost_port};

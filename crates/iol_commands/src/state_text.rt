@@ -74,12 +74,37 @@ fn write_port<W: fmt::Write>(
     ensures { WritesOnOk W.write_str_gives f.old result (option_map_or (port_text number) (port_numbered state.now number) []) f.new }
 {
     match state.port(number) {
-        Some(port) => {
-            write_port_line(f, number.number(), port)?;
-            write_stored(f, port)?;
-            write_previous(f, port)
-        }
+        Some(state) => write!(
+            f,
+            "{}",
+            PortText {
+                port: number,
+                state
+            }
+        ),
         None => Ok(()),
+    }
+}
+
+/// A port with its number, as `show` prints it: its line, that of each parameter of its set, and those of its previous set.
+#[derive(Clone, Copy)]
+pub struct PortText<'a> {
+    /// Its number.
+    pub port: PortId,
+    /// What is durable of it.
+    pub state: &'a PortState,
+}
+
+impl fmt::Display for PortText<'_> {
+    ghost use Rattle.std.specs.Prelude.{Some};
+    ghost use Rattle.iol_commands.specs.Recovered.{port_text};
+
+    ghost output = { λ text. Some (port_text text.port text.state.now) };
+
+    fn fmt<W: fmt::Write>(&self, f: &mut fmt::Formatter<W>) -> fmt::Result {
+        write_port_line(f, self.port.number(), self.state)?;
+        write_stored(f, self.state)?;
+        write_previous(f, self.state)
     }
 }
 

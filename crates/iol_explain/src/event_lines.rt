@@ -12,7 +12,7 @@ ghost use Rattle.iol_explain.specs.Refusals.{refusal_words};
 use crate::answer_words::AnswerWords;
 use crate::known::Known;
 use crate::page_words::PageWords;
-use crate::refusal_words::refusal_words;
+use crate::refusals::refusal_words;
 use crate::request_words::RequestWords;
 use crate::status_words::StatusWords;
 use iol_commands::{Spaced, StatusText, refusal_name};

@@ -6,7 +6,7 @@
 //! Modules in reading order:
 //! - `explain` is the command that explains a run, `explained` has its lines, and `telling` what they have told.
 //! - `event_lines` has the lines of an event. Its words are those of `page_words`, `request_words`, `answer_words` with
-//!   `value_words` and `list_words`, `refusal_words`, `status_words` and `failure_words`.
+//!   `value_words` and `list_words`, `refusals`, `status_words` and `failure_words`.
 //! - `row` and `known` say by which line of the table of decisions a port decides.
 //! - `told_disk` is a disk whose calls are told, `place` what stands in a sector, and `disk_lines` has the lines of disk calls.
 //! - `object`, `octets`, `hexadecimal` and `error_types` are words that the others use.
@@ -32,7 +32,7 @@ mod object;
 mod octets;
 mod page_words;
 mod place;
-mod refusal_words;
+mod refusals;
 mod request_words;
 mod row;
 mod status_words;
@@ -44,4 +44,6 @@ pub use disk_lines::{calls_between, calls_of_run};
 pub use explain::{explain_text, explained_run};
 pub use explained::Explained;
 pub use place::{Place, place_of};
+pub use refusals::refusal_words;
+pub use status_words::StatusMeaning;
 pub use told_disk::ToldCall;

@@ -6,8 +6,8 @@ ghost use Rattle.iol_explain.specs.Refusals.{command_words, refusal_words};
 use iol_core::SubmitFault;
 use iol_types::CommandFault;
 
-// Why a command is refused, and what to do.
-pub(crate) fn refusal_words(fault: SubmitFault) -> &'static str
+/// Why a command is refused, and what to do.
+pub fn refusal_words(fault: SubmitFault) -> &'static str
     ensures { result.now ≡ refusal_words (refusal_of fault) }
 {
     match fault {

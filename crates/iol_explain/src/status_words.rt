@@ -1,7 +1,8 @@
 //! The words for the status of a port (docs/FORMATS.md, "Explained runs").
 ghost use Rattle.std.specs.Prelude.{◌≡◌};
+ghost use Rattle.std.specs.Fmt.{WritesOnOk};
 ghost use Rattle.iol_port.specs.Telling.{status_told};
-ghost use Rattle.iol_explain.specs.Statuses.{decided_words, settled_words};
+ghost use Rattle.iol_explain.specs.Statuses.{decided_words, settled_words, status_words};
 
 use crate::failure_words::{FailureWords, mismatch_words};
 use crate::known::Known;
@@ -25,12 +26,38 @@ impl fmt::Display for StatusWords {
     ghost output = { λ words. Some (status_words (row_known words.known) (status_told words.status)) };
 
     fn fmt<W: fmt::Write>(&self, f: &mut fmt::Formatter<W>) -> fmt::Result {
-        let row = self.known.row();
-        match self.status {
-            PortStatus::Mismatch(fault) => f.write_str(mismatch_words(fault)),
-            PortStatus::Failed(fault) => write!(f, "{}", FailureWords(fault)),
-            status => f.write_str(settled_words(row, status)),
-        }
+        write_words(f, self.known.row(), self.status)
+    }
+}
+
+/// What the status of a port means and what to do, where nothing else is known of its device.
+#[derive(Clone, Copy)]
+pub struct StatusMeaning(pub PortStatus);
+
+impl fmt::Display for StatusMeaning {
+    ghost use Rattle.std.specs.Prelude.{Some, None};
+    ghost use Rattle.iol_port.specs.Telling.{status_told};
+    ghost use Rattle.iol_explain.specs.Statuses.{status_words};
+
+    ghost output = { λ meaning. Some (status_words None (status_told meaning.0)) };
+
+    fn fmt<W: fmt::Write>(&self, f: &mut fmt::Formatter<W>) -> fmt::Result {
+        write_words(f, None, self.0)
+    }
+}
+
+// The words for a status, by the line of the table, where that is known.
+fn write_words<W: fmt::Write>(
+    f: &mut fmt::Formatter<W>,
+    row: Option<Row>,
+    status: PortStatus,
+) -> fmt::Result
+    ensures { WritesOnOk W.write_str_gives f.old result (status_words row (status_told status)) f.new }
+{
+    match status {
+        PortStatus::Mismatch(fault) => f.write_str(mismatch_words(fault)),
+        PortStatus::Failed(fault) => write!(f, "{}", FailureWords(fault)),
+        status => f.write_str(settled_words(row, status)),
     }
 }
 
