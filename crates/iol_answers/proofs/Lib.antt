@@ -1,0 +1,4 @@
+pub mod TextsInOrder
+pub mod Printed
+pub mod Plain
+pub mod Shallow

@@ -1,0 +1,42 @@
+//! The lines that a serving master prints: answers to requests, and events.
+//!
+//! In comes an answer or an event; out comes its text, in words or as an object of JSON on one line. There is no thread here,
+//! no disk and no input: who serves reads the requests, asks the master, and prints these lines.
+//!
+//! Modules in reading order:
+//! - `answer`, `refusal`, `report`, `request_id` and `event` are what is printed.
+//! - `help` has the requests that there are.
+//! - `answer_text` and `event_text` have the lines in words, with `report_text` and `counted`.
+//! - `answer_object` and `event_object` have the objects, with `report_object`, and `json_line` the line of a value.
+//! - `examples` has a line of each kind, worked out.
+//!
+//! The lines in words are defined in `specs/AnswerLines.antt` and `specs/EventLines.antt`, the objects in
+//! `specs/Objects.antt` (docs/FORMATS.md, "Lines of a serving master").
+#![tactic(auto)]
+
+mod answer;
+mod answer_object;
+mod answer_text;
+mod event;
+mod event_object;
+mod event_text;
+pub mod examples;
+mod help;
+mod json_line;
+mod refusal;
+mod report;
+mod report_object;
+mod report_text;
+mod request_id;
+#[cfg(test)]
+mod tests;
+
+pub use answer::Answer;
+pub use answer_object::answer_json;
+pub use answer_text::answer_words;
+pub use event::Event;
+pub use event_object::event_json;
+pub use event_text::event_words;
+pub use refusal::Refusal;
+pub use report::PortReport;
+pub use request_id::RequestId;
