@@ -1,0 +1,4 @@
+pub mod Lines
+pub mod Numeral
+pub mod Requests
+pub mod Words
