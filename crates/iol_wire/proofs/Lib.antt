@@ -1,3 +1,6 @@
+mod HearingLemmas
 mod LineLemmas
 mod NumeralLemmas
+mod RunLemmas
+mod StepLemmas
 mod WordLemmas
