@@ -1,4 +1,5 @@
 pub mod Events
+pub mod Files
 pub mod Hearing
 pub mod Lines
 pub mod Numeral
