@@ -7,7 +7,7 @@ use Rattle.iol_types.specs.declared.command.Change.TheVariants as change
 use Rattle.iol_script.specs.Device.{SaidDevice}
 use Rattle.iol_script.specs.Devices.{devices_of, said_devices}
 use Rattle.iol_script.specs.Script.{script_keys}
-use Rattle.iol_script.specs.Step.{step_of}
+use Rattle.iol_script.specs.Step.{step_in, step_of}
 use Rattle.iol_script.specs.Table.{has_only_keys, values_at}
 use Rattle.iol_script.specs.declared.live_script.LiveScript.{LiveScript}
 use Rattle.iol_script.specs.declared.step.Step.{Step}
@@ -26,6 +26,10 @@ change_by (Rollback port) = Some (change.Rollback port)
 change_by (Port port times) = None
 change_by (Flush times) = None
 change_by Drain = None
+
+-- what the table of a step asks for, where it says a client's step (format, Scripts)
+abbrev pub change_in : Members → Option Change
+change_in table = option_and_then change_by (step_in table)
 
 -- what the value of a step asks for, where it says a client's step (format, Scripts)
 abbrev pub change_of : Data → Option Change

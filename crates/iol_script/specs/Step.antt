@@ -97,6 +97,10 @@ step_of_kind kind table =
     else if bytes_eq kind (codes "drain") then drain_in table
     else None
 
+-- the step that a table says, by its kind at the key `do` (format, Scripts)
+abbrev pub step_in : Members → Option Step
+step_in table = option_and_then (λ kind. step_of_kind kind table) (text_at (codes "do") table)
+
 -- the step that a value says (format, Scripts)
 abbrev pub step_of : Data → Option Step
 step_of value = option_and_then (λ table. option_and_then (λ kind. step_of_kind kind table) (text_at (codes "do") table)) (as_table value)

@@ -7,10 +7,11 @@
 //!
 //! Modules in reading order: `table` looks up a table's keys, and `number` reads the numbers there; `fail`, `parameter`,
 //! `device`, `step` and `stop` read one value, `parameters`, `devices` and `steps` all of them, `text`, `script` and
-//! `live_script` the whole text, and `examples` has values worked out. What a text says is defined in `specs/Script.antt` and
-//! `specs/LiveScript.antt`.
+//! `live_script` the whole text, `change` one table alone, and `examples` has values worked out. What a text says is
+//! defined in `specs/Script.antt` and `specs/LiveScript.antt`.
 #![tactic(auto)]
 
+mod change;
 mod device;
 mod devices;
 pub mod examples;
@@ -26,11 +27,13 @@ mod stop;
 mod table;
 mod text;
 
+pub use change::change_in;
 pub use device::{Device, USUAL_REVISION};
 pub use fail::{FailingCall, LAST_FAILING_CALL};
 pub use live_script::LiveScript;
-pub use number::MOST_TIMES;
+pub use number::{MOST_TIMES, device_in, port_in, vendor_in};
 pub use parameter::Parameter;
 pub use parameters::MOST_PARAMETERS;
 pub use script::{SCRIPT_OCTETS, Script, ScriptFault};
-pub use step::Step;
+pub use step::{Step, label_in, mode_in, validation_in};
+pub use table::{has_only_keys, text_at, value_at};

@@ -83,7 +83,8 @@ fn read_change(value: &Value) -> Option<Change>
     change_by(Step::read(value)?)
 }
 
-fn change_by(step: Step) -> Option<Change>
+// What a step asks for, if a client may make it.
+pub(crate) fn change_by(step: Step) -> Option<Change>
     ensures { result ≡ change_by step }
 {
     match step {

@@ -10,22 +10,22 @@ use toml::{Table, Value};
 /// The most times that one step is made.
 pub const MOST_TIMES: u16 = 10_000;
 
-// The port of a step or a device, at the key `port`.
-pub(crate) fn port_in(table: &Table) -> Option<PortId>
+/// The port of a step or a device, at the key `port`: a whole number of 1 to 32.
+pub fn port_in(table: &Table) -> Option<PortId>
     ensures { result ≡ port_in (table_view table.now) }
 {
     PortId::new(octet_at(table, "port")?)
 }
 
-// The VendorID at the key `vendor`.
-pub(crate) fn vendor_in(table: &Table) -> Option<u16>
+/// The VendorID at the key `vendor`: a whole number of 0 to 65,535.
+pub fn vendor_in(table: &Table) -> Option<u16>
     ensures { result ≡ vendor_in (table_view table.now) }
 {
     u16::try_from(integer_at(table, "vendor")?).ok()
 }
 
-// The DeviceID at the key `device`.
-pub(crate) fn device_in(table: &Table) -> Option<DeviceId>
+/// The DeviceID at the key `device`: a whole number of 0 to 16,777,215.
+pub fn device_in(table: &Table) -> Option<DeviceId>
     ensures { result ≡ device_in (table_view table.now) }
 {
     DeviceId::new(u32::try_from(integer_at(table, "device")?).ok()?)

@@ -28,8 +28,8 @@ pub enum Step {
 
 impl Step {
     ghost use Rattle.std.specs.Prelude.{◌≡◌};
-    ghost use Rattle.toml.specs.View.{view};
-    ghost use Rattle.iol_script.specs.Step.{step_of};
+    ghost use Rattle.toml.specs.View.{view, table_view};
+    ghost use Rattle.iol_script.specs.Step.{step_of, step_in};
 
     // The step that a value says: `{ do = "drain" }`, `{ do = "clear", .. }` or `{ do = "rollback", .. }` with its port,
     // `{ do = "configure", .. }` with its five whole numbers and perhaps a label, `{ do = "port", .. }` with its port, or
@@ -37,7 +37,13 @@ impl Step {
     pub(crate) fn read(value: &Value) -> Option<Step>
         ensures { result ≡ step_of (view value.now) }
     {
-        let table = value.as_table()?;
+        Step::in_table(value.as_table()?)
+    }
+
+    // The step that a table says, by its kind at the key `do`.
+    pub(crate) fn in_table(table: &Table) -> Option<Step>
+        ensures { result ≡ step_in (table_view table.now) }
+    {
         match text_at(table, "do")? {
             "configure" => configure_in(table),
             "clear" => clear_in(table),
@@ -138,8 +144,8 @@ fn config_in(table: &Table) -> Option<PortConfig>
     })
 }
 
-// The label of a port, which is empty where the key is missing.
-fn label_in(table: &Table) -> Option<Label>
+/// The label of a port at the key `label`: a text of 0 to 32 octets from 20 to 7E but 22. It is empty if the key is missing.
+pub fn label_in(table: &Table) -> Option<Label>
     ensures { result ≡ label_in (table_view table.now) }
 {
     match value_at(table, "label") {
@@ -148,13 +154,15 @@ fn label_in(table: &Table) -> Option<Label>
     }
 }
 
-fn mode_in(table: &Table) -> Option<PortMode>
+/// The mode of a port at the key `mode`: a whole number of 0 to 4.
+pub fn mode_in(table: &Table) -> Option<PortMode>
     ensures { result ≡ mode_in (table_view table.now) }
 {
     PortMode::from_octet(octet_at(table, "mode")?)
 }
 
-fn validation_in(table: &Table) -> Option<Validation>
+/// The validation of a port at the key `validation`: a whole number of 0 to 4.
+pub fn validation_in(table: &Table) -> Option<Validation>
     ensures { result ≡ validation_in (table_view table.now) }
 {
     Validation::from_octet(octet_at(table, "validation")?)

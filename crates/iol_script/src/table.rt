@@ -6,8 +6,8 @@ ghost use Rattle.iol_script.specs.Table.{has_only_keys, is_among, integer_at, te
 
 use toml::{Table, Value};
 
-// Whether the table has no key but these.
-pub(crate) fn has_only_keys(table: &Table, keys: &[&str]) -> bool
+/// Whether the table has no key but these.
+pub fn has_only_keys(table: &Table, keys: &[&str]) -> bool
     ensures { result ≡ has_only_keys (map (λ key. key.now) keys.now) (table_view table.now) }
 {
     for key in table.keys() {
@@ -24,15 +24,15 @@ fn is_among(key: &str, keys: &[&str]) -> bool
     keys.contains(&key)
 }
 
-// The value at a key, if there is one.
-pub(crate) fn value_at<'a>(table: &'a Table, key: &str) -> Option<&'a Value>
+/// The value at a key, if there is one.
+pub fn value_at<'a>(table: &'a Table, key: &str) -> Option<&'a Value>
     ensures { option_map (λ value. view value.now) result ≡ get_member key.now (table_view table.now) }
 {
     table.get(key)
 }
 
-// The text at a key, if there is one.
-pub(crate) fn text_at<'a>(table: &'a Table, key: &str) -> Option<&'a str>
+/// The text at a key, if there is one.
+pub fn text_at<'a>(table: &'a Table, key: &str) -> Option<&'a str>
     ensures { option_map (λ text. text.now) result ≡ text_at key.now (table_view table.now) }
 {
     value_at(table, key)?.as_str()

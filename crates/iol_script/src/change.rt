@@ -1,0 +1,17 @@
+//! The change that one table asks for, for readers of single requests.
+ghost use Rattle.std.specs.Prelude.{◌≡◌};
+ghost use Rattle.toml.specs.View.{table_view};
+ghost use Rattle.iol_script.specs.LiveScript.{change_in};
+
+use crate::live_script::change_by;
+use crate::step::Step;
+use iol_types::Change;
+use toml::Table;
+
+/// The change that a table asks for: it has the keys of a step `configure`, `clear` or `rollback` of a script, with `do`, and
+/// no other. `None` if the table says no such step.
+pub fn change_in(table: &Table) -> Option<Change>
+    ensures { result ≡ change_in (table_view table.now) }
+{
+    change_by(Step::in_table(table)?)
+}
