@@ -1,0 +1,5 @@
+pub mod Verb
+pub mod Request
+pub mod Key
+pub mod Words
+pub mod Line

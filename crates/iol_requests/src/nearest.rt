@@ -1,0 +1,45 @@
+//! The verb or the key that is meant by an unknown word.
+
+use crate::key::{KEYS, Key, Use};
+use crate::verb::{VERBS, Verb};
+use std::alloc::{AllocError, Global};
+use strsim::jaro;
+
+// How alike two words are at least if one may be meant for the other. Keys of scripts are compared the same way.
+const LEAST_ALIKE: f64 = 0.7;
+
+// The verb that is most like a word, if one is like it.
+pub(crate) fn nearest_verb(alloc: Global, word: &str) -> Result<Option<Verb>, AllocError> {
+    let mut nearest = None;
+    let mut most = LEAST_ALIKE;
+    for verb in VERBS {
+        let alike = jaro(alloc, word, verb.name())?;
+        if alike > most {
+            most = alike;
+            nearest = Some(verb);
+        }
+    }
+    Ok(nearest)
+}
+
+// The key of a verb that is most like a word, if one is like it. `do` is there where a verb is known, so it is not meant.
+pub(crate) fn nearest_key(
+    alloc: Global,
+    verb: Verb,
+    word: &str,
+) -> Result<Option<Key>, AllocError> {
+    let mut nearest = None;
+    let mut most = LEAST_ALIKE;
+    for key in KEYS {
+        let alike = if key != Key::Do && key.of(verb) != Use::Never {
+            jaro(alloc, word, key.name())?
+        } else {
+            0.0
+        };
+        if alike > most {
+            most = alike;
+            nearest = Some(key);
+        }
+    }
+    Ok(nearest)
+}

@@ -1,0 +1,32 @@
+//! Words of a line that are shown in a mistake.
+
+use arrayvec::ArrayString;
+
+/// The most octets of a word that are shown.
+pub const MOST_SHOWN: usize = 32;
+
+/// A word of a line as it is shown: at most 32 octets of ASCII, each from 21 to 7E. Other characters are shown as `?`, and
+/// what is longer ends in `..`.
+pub type Word = ArrayString<MOST_SHOWN>;
+
+// The word as it is shown.
+pub(crate) fn shown(word: &str) -> Word {
+    let mut text = Word::new();
+    for character in word.chars() {
+        if MOST_SHOWN < text.len() + 3 {
+            let _ = text.try_push_str("..");
+            break;
+        }
+        let _ = text.try_push(printed(character));
+    }
+    text
+}
+
+// A character as it is printed.
+fn printed(character: char) -> char {
+    if character.is_ascii_graphic() {
+        character
+    } else {
+        '?'
+    }
+}
