@@ -21,6 +21,7 @@ answer          what a driver does, which is the usual deed
 slow VALUE      an answer after VALUE seconds
 pieces VALUE    an answer in two pieces, VALUE seconds apart
 busy            the device answers Device busy to an ISDU
+raise           the device asks for an upload: its DS_UPLOAD_FLAG is set, and the event FF91 comes before the answer
 events VALUE    VALUE events before the answer; their EventCodes count up from 1
 replace         `lost`, and from then on the next device
 twice           the answer two times
@@ -43,7 +44,7 @@ import time
 import tty
 
 REQUEST = re.compile(rb"[0-9]+ (page|isdu( [0-9A-Fa-f]{2})*)\r?")
-DEEDS = "answer slow pieces busy events replace twice late ahead garbage half flood silent die".split()
+DEEDS = "answer slow pieces busy raise events replace twice late ahead garbage half flood silent die".split()
 # In these the device is not asked, and in those the master gets no answer that it may take.
 WITHOUT_DEVICE = ("garbage", "flood", "silent", "die")
 WITHOUT_ANSWER = (*WITHOUT_DEVICE, "half", "late", "ahead")
@@ -254,12 +255,12 @@ class Driver:
             self.kept += os.read(self.files.requests, 4096)
             while b"\n" in self.kept:
                 line, _, self.kept = self.kept.partition(b"\n")
-                # What is no request was written by no master, and is an echo of the line, say.
+                # What is no request was not written by a master. It may be an echo of the line.
                 if REQUEST.fullmatch(line):
                     self.take(line.decode("ascii"))
 
     def take(self, line):
-        """Does with a request what is to be done with it."""
+        """Does what is to be done at a request."""
         number, asked = line.split(maxsplit=1)
         self.count += 1
         deed, value = self.deed_at(self.count)
@@ -278,6 +279,7 @@ class Driver:
         """The words that answer a request."""
         kind, *digits = asked.split()
         device = self.devices[self.place]
+        device.upload_flag = device.upload_flag or deed == "raise"
         if is_lost:
             device.unplug()
             return "lost"
@@ -298,6 +300,8 @@ class Driver:
             write(whole[half:])
         elif deed == "half":
             write(whole[:half])
+        elif deed == "raise":
+            write(b"event FF91\n" + whole)
         elif deed == "events":
             write(b"".join(b"event %04X\n" % code for code in range(1, int(value) + 1)) + whole)
         elif deed == "twice":

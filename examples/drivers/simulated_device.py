@@ -119,7 +119,7 @@ def opened(words):
 
 def parameter(word):
     """The key and the octets that INDEX.SUBINDEX=OCTETS says."""
-    index, subindex, octets = re.fullmatch(r"(\w{4})\.(\w{2})=(\w*)", word).groups()
+    index, subindex, octets = re.split("[.=]", word)
     return (int(index, 16), int(subindex, 16)), bytes.fromhex(octets)
 
 
