@@ -24,7 +24,7 @@ def loaded(path):
     """A program as a module."""
     loader = importlib.machinery.SourceFileLoader(f"{os.path.basename(path)}_as_a_module", path)
     module = importlib.util.module_from_spec(importlib.util.spec_from_loader(loader.name, loader))
-    # (which dataclasses look for)
+    # A dataclass looks for the module that it is of.
     sys.modules[loader.name] = module
     loader.exec_module(module)
     return module
@@ -71,7 +71,7 @@ def runs():
                 continue
             for port in (1, 2):
                 with contextlib.suppress(json.JSONDecodeError):
-                    devices, trace = devices_of(case.files["script.toml"], port), trace_of(said, port)
+                    devices, trace = devices_of(case.files.get("script.toml", ""), port), trace_of(said, port)
                     if devices and trace:
                         yield f"port {port} of {os.path.basename(path)}, {case.title}", devices, trace
 
