@@ -7,7 +7,7 @@ It is written from docs/DRIVERS.md, docs/FORMATS.md ("ISDU", "Simulated devices"
 devices of this repository, so that a mistake of theirs is not also one of it.
 
 --fifos FOLDER  makes FOLDER/from_master, which requests are read from, and FOLDER/to_master, which answers are written to
---pty LINK      makes a pseudo-terminal in raw mode, and LINK to it
+--pty LINK      makes a pseudo-terminal in raw mode, and LINK to it; who kills the process removes LINK before
 --device JSON   is a device, the first that answers; further ones follow by `replace`. Each is an object such as
                 {"vendor": 500, "device": 43981, "flag": true, "parameters": {"0040.00": "0A64", "0041.01": "7F"}}
                 with `revision`, `isdu` and `locked` beside these, which are 17, true and false if they are missing
@@ -27,6 +27,9 @@ replace         `lost`, and from then on the next device
 twice           the answer two times
 late            nothing, and the answer comes right before that to the next request
 ahead           the answer under the next number
+other           an answer of the other kind: a page to an ISDU, an ISDU to the request for a page
+spoil           the answer with another last octet
+cut             the answer without its last octet
 garbage         a line that is no answer
 half            one half of the answer, without a line feed
 flood           10,000 octets without a line feed
@@ -44,10 +47,10 @@ import time
 import tty
 
 REQUEST = re.compile(rb"[0-9]+ (page|isdu( [0-9A-Fa-f]{2})*)\r?")
-DEEDS = "answer slow pieces busy raise events replace twice late ahead garbage half flood silent die".split()
+DEEDS = "answer slow pieces busy raise events replace twice late ahead other spoil cut garbage half flood silent die".split()
 # In these the device is not asked, and in those the master gets no answer that it may take.
 WITHOUT_DEVICE = ("garbage", "flood", "silent", "die")
-WITHOUT_ANSWER = (*WITHOUT_DEVICE, "half", "late", "ahead")
+WITHOUT_ANSWER = (*WITHOUT_DEVICE, "half", "late", "ahead", "other")
 # How long it waits for a master that does not read.
 WRITE_SECONDS = 5
 FLOOD_OCTETS = 10_000
@@ -283,15 +286,19 @@ class Driver:
         if is_lost:
             device.unplug()
             return "lost"
+        if deed == "other":
+            kind = "isdu" if kind == "page" else "page"
         if kind == "page":
-            return f"page {device.page().hex(' ').upper()}"
-        octets = b"\x01" if deed == "busy" else device.respond(bytes.fromhex("".join(digits)))
-        return f"isdu {octets.hex(' ').upper()}"
+            octets = device.page()
+        else:
+            octets = b"\x01" if deed == "busy" else device.respond(bytes.fromhex("".join(digits)))
+        last = {"cut": b"", "spoil": bytes([octets[-1] ^ 0xFF])}.get(deed, octets[-1:])
+        return f"{kind} {(octets[:-1] + last).hex(' ').upper()}"
 
     def do(self, deed, value, whole, number):
         """Does a deed, with the line that is the answer."""
         write, half = self.files.write, len(whole) // 2
-        if deed in ("answer", "busy", "replace", "slow"):
+        if deed in ("answer", "slow", "busy", "replace", "other", "spoil", "cut"):
             time.sleep(value)
             write(whole)
         elif deed == "pieces":
