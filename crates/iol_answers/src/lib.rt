@@ -28,8 +28,6 @@ mod report;
 mod report_object;
 mod report_text;
 mod request_id;
-#[cfg(test)]
-mod tests;
 
 pub use answer::Answer;
 pub use answer_object::answer_json;
