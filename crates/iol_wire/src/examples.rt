@@ -1,12 +1,17 @@
-//! Lines of a driver and of requests, worked out by the check.
+//! Lines of a driver and of requests, and what a link makes of them, worked out by the check.
 
 ghost use Rattle.std.specs.Prelude.{◌≡◌, ℕ, List, [], ◌∷◌, ◌++◌, codes, flat_map, length, map, replicate};
 ghost use Rattle.iol_wire.specs.Lines.{meaning};
-ghost use Rattle.iol_wire.specs.Requests.{Page, Isdu, request_line};
+ghost use Rattle.iol_wire.specs.Events.{kept};
+ghost use Rattle.iol_wire.specs.Hearing.{Passes, Fails, IsRest, position_after};
+ghost use Rattle.iol_wire.specs.Requests.{Page, Isdu, FitsLine, request_line};
+ghost use Rattle.iol_wire.specs.Wire.{lost, octets_of};
+ghost use Rattle.iol_wire.specs.declared.events.TheConstants.{KEPT_EVENTS};
 ghost use Rattle.iol_wire.specs.declared.reading.TheConstants.{LINE_OCTETS};
 ghost use Rattle.iol_wire.specs.declared.writing.TheConstants.{REQUEST_LINE_OCTETS};
 
 use crate::line::{Line, Reply};
+use crate::transport::Position;
 
 /// An event has its EventCode as four hexadecimal digits of either case.
 pub fn events()
@@ -84,4 +89,58 @@ pub fn longest_lines()
     ensures line { LINE_OCTETS ≡ 800 }
     ensures request { REQUEST_LINE_OCTETS ≡ 740 }
     ensures reached { length (request_line 18446744073709551615 (Isdu (replicate 238 0x00))) ≡ REQUEST_LINE_OCTETS }
+{}
+
+/// After request 5 events and answers to requests 0 to 4 are passed over, and the device is lost at an answer to request 6
+/// and at a malformed line. An answer to request 5 is neither.
+pub fn older_and_newer_answers()
+    ensures event { Passes 5 (Line.Event 0x8C40) }
+    ensures older { Passes 5 (Line.Answer 4 Reply.Lost) × Passes 5 (Line.Answer 0 Reply.Lost) }
+    ensures newer { Fails 5 (Line.Answer 6 Reply.Lost) }
+    ensures malformed { Fails 5 Line.Malformed }
+    ensures own_passes { Passes 5 (Line.Answer 5 Reply.Lost) → ⊥ }
+    ensures own_fails { Fails 5 (Line.Answer 5 Reply.Lost) → ⊥ }
+    ensures newer_passes { Passes 5 (Line.Answer 6 Reply.Lost) → ⊥ }
+    ensures malformed_passes { Passes 5 Line.Malformed → ⊥ }
+{}
+
+/// An answer of another kind than asked, and a loss, answer no octets.
+pub fn kinds_of_answers()
+    ensures page { octets_of Page (Some (Reply.Page (replicate 16 0x02))) ≡ Some (replicate 16 0x02) }
+    ensures isdu { octets_of (Isdu (0x93 ∷ [])) (Some (Reply.Isdu (record { items = 0x01 ∷ [] }))) ≡ Some (0x01 ∷ []) }
+    ensures isdu_for_page { octets_of Page (Some (Reply.Isdu (record { items = replicate 16 0x02 }))) ≡ None }
+    ensures page_for_isdu { octets_of (Isdu []) (Some (Reply.Page (replicate 16 0x02))) ≡ None }
+    ensures lost { octets_of Page (Some Reply.Lost) ≡ None }
+    ensures lost_isdu { octets_of (Isdu []) (Some Reply.Lost) ≡ None }
+    ensures no_answer { octets_of Page None ≡ None }
+{}
+
+/// Sixteen events are kept, oldest first, and further ones are dropped.
+pub fn kept_events()
+    ensures limit { KEPT_EVENTS ≡ 16 }
+    ensures in_order { kept (1 ∷ []) (2 ∷ 3 ∷ []) ≡ 1 ∷ 2 ∷ 3 ∷ [] }
+    ensures sixteenth { kept (replicate 15 7) (8 ∷ 9 ∷ []) ≡ replicate 15 7 ++ 8 ∷ [] }
+    ensures further { kept (replicate 16 7) (8 ∷ []) ≡ replicate 16 7 }
+{}
+
+/// With a loss the next connection begins, without the events of the last one. The number of the last request stays.
+pub fn a_loss()
+    ensures { lost (record { position = Position.LineStart; number = 7; connection = 3; events = 1 ∷ 2 ∷ [] })
+        ≡ record { position = Position.LineStart; number = 7; connection = 4; events = [] } }
+{}
+
+/// At a line's start nothing is dropped. Within a line its rest is, up to the line feed and no further.
+pub fn rests_of_lines()
+    ensures at_start { IsRest Position.LineStart [] }
+    ensures line_at_start { IsRest Position.LineStart (codes "00\n") → ⊥ }
+    ensures within { IsRest Position.WithinLine (codes "\n") }
+    ensures nothing_within { IsRest Position.WithinLine [] → ⊥ }
+    ensures after_none { position_after [] ≡ Position.LineStart }
+    ensures after_one { position_after (codes "1") ≡ Position.WithinLine }
+{}
+
+/// An ISDU of 238 octets fits a line, and one of 239 does not.
+pub fn longest_isdus()
+    ensures of_238 { FitsLine (Isdu (replicate 238 0x00)) }
+    ensures of_239 { FitsLine (Isdu (replicate 239 0x00)) → ⊥ }
 {}

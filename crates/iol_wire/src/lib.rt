@@ -1,15 +1,25 @@
-//! Links to a device over files, in lines of ASCII.
+//! Links to the devices of a port over a driver: a process at the other end of a character device, a
+//! pseudo-terminal or two FIFOs, which speaks with the hardware. Calls of a link come in; lines of
+//! ASCII go out, and the lines that come back are answers, events, or the loss of the device
+//! (docs/FORMATS.md, "Lines of a driver").
+//!
+//! In reading order: `line` (what a line means), `reading`, over `words` and `numeral`, and
+//! `writing`; `transport` (the trait of what carries octets), `stream` (lines out of octets),
+//! `events` and `wire_link` (the link); `file_transport` (the transport over files), over
+//! `driver_files` and `patience`; `examples` (lines and steps, worked out).
 #![tactic(auto)]
 
 mod driver_files;
 mod events;
-mod file_transport;
 pub mod examples;
+mod file_transport;
 mod line;
 mod numeral;
 mod patience;
 mod reading;
 mod stream;
+#[cfg(test)]
+mod tests;
 mod transport;
 mod wire_link;
 mod words;

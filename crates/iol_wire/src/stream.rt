@@ -31,6 +31,16 @@ impl<T: Transport> LineStream<T> {
         }
     }
 
+    pub(crate) fn into_transport(self) -> T
+        ensures { result ≡ self.transport }
+    {
+        let LineStream {
+            transport,
+            position: _,
+        } = self;
+        transport
+    }
+
     // Begins a request. Octets of a connection that was opened anew begin where the transport says.
     pub(crate) fn connect(&mut self) -> Result<(), TransportFault>
         ensures connected { OnOk result ((opening : TransportCall) × Connects self.old.position opening self.new.position

@@ -41,6 +41,19 @@ impl<T: Transport> WireLink<T> {
         }
     }
 
+    /// Hands the transport back.
+    pub fn into_transport(self) -> T
+        ensures { result ≡ transport_of self }
+    {
+        let WireLink {
+            stream,
+            number: _,
+            connection: _,
+            events: _,
+        } = self;
+        stream.into_transport()
+    }
+
     // What the driver answers to a request; `None` if no answer to it came.
     fn ask(&mut self, request: Request<'_>) -> Option<Reply>
         requires { self.old.connection < 18446744073709551615 }
