@@ -1,5 +1,6 @@
 -- A table of a verb is a request if it has no other key and each of its keys is right.
-use Rattle.std.proofs.Common.{◌≡◌, ℕ, Bool, true, false, not, ◌&&◌, cond, List, [], ◌∷◌, Option, Some, None, option_and_then, option_map, sym, ap, refl, subst}
+use Rattle.std.proofs.Common.{◌≡◌, ℕ, Bool, true, false, not, ◌&&◌, cond, List, [], ◌∷◌, Option, Some, None, option_and_then, option_map}
+use Rattle.std.proofs.Common.{sym, ap, refl, subst}
 use Rattle.std.specs.Prelude.{find, is_some, codes}
 use Rattle.std.proofs.lemmas.Option.{none-some}
 use Rattle.std.proofs.lemmas.Slice.Eq.{bytes_eq-Decides}
@@ -92,19 +93,22 @@ rolls_back table word only right none =
     let port = some_value (port_in table) all.1.0 in
     none-some _ (sym (rw (word, only, port.1) at none))
 
-reads : (table : Members) → has_only_keys (keys_of Read) table ≡ true → wrong_key Read table ≡ None → request_by Read table ≡ None → ⊥
+reads : (table : Members) → has_only_keys (keys_of Read) table ≡ true → wrong_key Read table ≡ None
+    → request_by Read table ≡ None → ⊥
 reads table only right none =
     let all = find_misses (is_wrong Read table) all_keys right in
     let port = some_value (port_in table) all.1.0 in
     none-some _ (sym (rw (only, port.1) at none))
 
-status : (table : Members) → has_only_keys (keys_of Status) table ≡ true → wrong_key Status table ≡ None → request_by Status table ≡ None → ⊥
+status : (table : Members) → has_only_keys (keys_of Status) table ≡ true → wrong_key Status table ≡ None
+    → request_by Status table ≡ None → ⊥
 status table only right none =
     let all = find_misses (is_wrong Status table) all_keys right in
     let port = port_there (get_member (codes "port") table) table all.1.0 in
     none-some _ (sym (rw (only, port.1) at none))
 
-alone : (table : Members) → has_only_keys (keys_of Help) table ≡ true → (request_by Help table ≡ None → ⊥) × (request_by Quit table ≡ None → ⊥)
+alone : (table : Members) → has_only_keys (keys_of Help) table ≡ true
+    → (request_by Help table ≡ None → ⊥) × (request_by Quit table ≡ None → ⊥)
 alone table only = ((λ none. none-some _ (sym (rw only at none))), (λ none. none-some _ (sym (rw only at none))))
 
 -- the keys of a table of a verb are not all right if it is no request

@@ -1,16 +1,15 @@
 -- What a line asks for.
 use Rattle.std.specs.Prelude.{◌≡◌, ℕ, Bool, true, false, ◌==◌, ◌||◌, ◌-◌, ◌≤◌, if◌then◌else◌, List, length, take, slice_index}
-use Rattle.std.specs.Prelude.{Option, Some, None, option_map, string_bytes, IsUtf8}
+use Rattle.std.specs.Prelude.{Option, Some, None, option_map, IsUtf8}
 use Rattle.std.specs.List.{list_all}
+use Rattle.iol_requests.specs.Id.{IdValue, id_value}
+use Rattle.iol_requests.specs.Json.{Asking, asked_in_json, id_in_json}
 use Rattle.iol_requests.specs.Words.{is_blank, asked_in_words}
-use Rattle.iol_requests.specs.declared.id.Id.{Id}
-use Rattle.iol_requests.specs.declared.id.Id.TheVariants as id
 use Rattle.iol_requests.specs.declared.line.Line.{Line}
 use Rattle.iol_requests.specs.declared.line.Line.TheVariants.{Nothing, Asked, Wrong}
 use Rattle.iol_requests.specs.declared.line.Spelling.{Spelling}
 use Rattle.iol_requests.specs.declared.line.Spelling.TheVariants.{Words, Json}
 use Rattle.iol_requests.specs.declared.line.TheConstants.{LINE_OCTETS}
-use Rattle.iol_requests.specs.declared.request.Request.{Request}
 
 -- the text of a line: a carriage return at its end is dropped (format, Requests)
 abbrev pub text_of : List ℕ → List ℕ
@@ -29,23 +28,22 @@ is_nothing text = list_all is_blank text || slice_index text 0 == 0x23
 abbrev pub spelling_of : List ℕ → Spelling
 spelling_of text = if slice_index text 0 == 0x7B then Json else Words
 
--- what an answer is given back with: a number, or the octets of a text (format, Requests)
-pub data IdValue : Type 0 where
-  id_number : ℕ → IdValue
-  id_text : List ℕ → IdValue
-
-abbrev pub id_value : Id → IdValue
-id_value (id.Number n) = id_number n
-id_value (id.Text octets) = id_text (string_bytes octets)
-
--- a request, with what its answer is given back with (own)
-pub record Asking : Type 0 where
-  pub id : Option IdValue
-  pub request : Request
+-- what a text that is spelled like this asks for (format, Requests)
+abbrev pub asked_as : Spelling → List ℕ → Option Asking
+asked_as Words text = option_map (λ request. record { id = None; request = request }) (asked_in_words text)
+asked_as Json text = asked_in_json text
 
 -- what a text asks for (format, Requests)
 abbrev pub asked_in : List ℕ → Option Asking
-asked_in text = option_map (λ request. record { id = None; request = request }) (asked_in_words text)
+asked_in text = asked_as (spelling_of text) text
+
+-- the id of a text that is wrong: one in JSON may have it (format, Requests)
+abbrev pub id_as : Spelling → List ℕ → Option IdValue
+id_as Words text = None
+id_as Json text = id_in_json text
+
+abbrev pub id_in : List ℕ → Option IdValue
+id_in text = id_as (spelling_of text) text
 
 -- the octets of a line are no request (format, Requests)
 pub record SaysNothing (octets : List ℕ) : Type 0 where

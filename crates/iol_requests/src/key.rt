@@ -75,8 +75,10 @@ impl Key {
             Key::Mode | Key::Validation => "a whole number of 0 to 4",
             Key::Vendor => "a whole number of 0 to 65,535",
             Key::Device => "a whole number of 0 to 16,777,215",
-            Key::Label => "a text of 0 to 32 printable characters of ASCII, without quotation marks",
-            Key::Id => "a whole number of 0 to 9,223,372,036,854,775,807 or a text of at most 64 octets",
+            Key::Label =>
+                "a text of 0 to 32 printable characters of ASCII, without quotation marks",
+            Key::Id =>
+                "a whole number of 0 to 9,223,372,036,854,775,807 or a text of at most 64 octets",
         }
     }
 
@@ -135,7 +137,15 @@ pub(crate) fn keys_of(verb: Verb) -> &'static [&'static str]
     ensures { map (λ key. key.now) result.now ≡ keys_of verb }
 {
     match verb {
-        Verb::Configure => &["do", "port", "mode", "validation", "vendor", "device", "label"],
+        Verb::Configure => &[
+            "do",
+            "port",
+            "mode",
+            "validation",
+            "vendor",
+            "device",
+            "label",
+        ],
         Verb::Clear | Verb::Rollback | Verb::Read | Verb::Status => &["do", "port"],
         Verb::Help | Verb::Quit => &["do"],
     }

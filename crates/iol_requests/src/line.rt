@@ -2,10 +2,11 @@
 ghost use Rattle.std.specs.Prelude.{◌≡◌, ◌<◌, ◌==◌, true, false, slice_index, Some, None, IfOk};
 ghost use Rattle.std.specs.List.{list_all};
 ghost use Rattle.iol_requests.specs.Words.{is_blank};
-ghost use Rattle.iol_requests.specs.Line.{asked_in, text_of, is_nothing, spelling_of, IfNothing, IfAsked, IfWrong};
+ghost use Rattle.iol_requests.specs.Line.{asked_as, id_as, text_of, is_nothing, spelling_of, IfNothing, IfAsked, IfWrong};
 
 use crate::id::Id;
 use crate::mistake::{Fault, Mistake};
+use crate::object::{Reading, read_json};
 use crate::part::column_of;
 use crate::quote::is_blank;
 use crate::request::Request;
@@ -46,7 +47,8 @@ pub enum Line {
 
 impl Line {
     ghost use Rattle.std.specs.Prelude.{◌≡◌, IfOk};
-    ghost use Rattle.iol_requests.specs.Line.{Says, SaysNothing, SaysWrong, IfNothing, IfAsked, IfWrong, spelling_of, text_of};
+    ghost use Rattle.iol_requests.specs.Line.{IsText, Says, SaysNothing, SaysWrong, IfNothing, IfAsked, IfWrong};
+    ghost use Rattle.iol_requests.specs.Line.{id_in, spelling_of, text_of};
 
     /// What the octets of a line are, without its line feed. A carriage return at their end is dropped.
     ///
@@ -58,6 +60,8 @@ impl Line {
             (λ asking spelling. Says octets.now asking × (spelling ≡ spelling_of (text_of octets.now)))) }
         ensures wrong { IfOk result (λ line. IfWrong line
             (λ id spelling. SaysWrong octets.now × (spelling ≡ spelling_of (text_of octets.now)))) }
+        ensures id { IfOk result (λ line. IfWrong line
+            (λ id spelling. IsText octets.now → id ≡ id_in (text_of octets.now))) }
     {
         let text = text_of(octets);
         let spelling = spelling_of(text);
@@ -78,21 +82,29 @@ impl Line {
 fn read_text(alloc: Global, text: &str, spelling: Spelling) -> Result<Line, AllocError>
     ensures nothing { IfOk result (λ line. IfNothing line (is_nothing text.now ≡ true)) }
     ensures asked { IfOk result (λ line. IfAsked line
-        (λ asking spelled. (is_nothing text.now ≡ false) × (asked_in text.now ≡ Some asking) × (spelled ≡ spelling))) }
+        (λ asking spelled. (is_nothing text.now ≡ false) × (asked_as spelling text.now ≡ Some asking) × (spelled ≡ spelling))) }
     ensures wrong { IfOk result (λ line. IfWrong line
-        (λ id spelled. (is_nothing text.now ≡ false) × (asked_in text.now ≡ None) × (spelled ≡ spelling))) }
+        (λ id spelled. (is_nothing text.now ≡ false) × (asked_as spelling text.now ≡ None) × (spelled ≡ spelling)
+        × (id ≡ id_as spelling text.now))) }
 {
     if is_nothing(text.as_bytes()) {
         return Ok(Line::Nothing);
     }
-    match read_words(alloc, text)? {
+    let (id, said) = match spelling {
+        Spelling::Words => (None, read_words(alloc, text)?),
+        Spelling::Json => {
+            let Reading { id, said } = read_json(alloc, text)?;
+            (id, said)
+        }
+    };
+    match said {
         Ok(request) => Ok(Line::Asked {
-            id: None,
+            id,
             spelling,
             request,
         }),
         Err(mistake) => Ok(Line::Wrong {
-            id: None,
+            id,
             spelling,
             mistake,
         }),
@@ -144,7 +156,8 @@ fn spelling_of(text: &[u8]) -> Spelling
     }
 }
 
-fn begins_with(text: &[u8], octet: u8) -> bool
+// Whether a text begins with an octet, which is not 00.
+pub(crate) fn begins_with(text: &[u8], octet: u8) -> bool
     requires { 0 < octet }
     ensures { result ≡ (slice_index text.now 0 == octet) }
 {

@@ -29,7 +29,10 @@ pub enum Fault {
     /// A value is none of TOML.
     NotToml,
     /// A word is no verb, and this one may be meant.
-    UnknownVerb { word: Word, meant: Option<Verb> },
+    UnknownVerb {
+        word: Word,
+        meant: Option<Verb>,
+    },
     /// A key is none of this verb, and this one may be meant.
     UnknownKey {
         verb: Verb,
@@ -37,11 +40,17 @@ pub enum Fault {
         meant: Option<Key>,
     },
     /// A key is there twice.
-    Twice { word: Word },
+    Twice {
+        word: Word,
+    },
     /// A key is missing.
-    Missing { key: Key },
+    Missing {
+        key: Key,
+    },
     /// The value at a key may not be there.
-    WrongValue { key: Key },
+    WrongValue {
+        key: Key,
+    },
 }
 
 /// It is printed as its column, if that is known, and what is wrong.

@@ -15,10 +15,7 @@ use std::alloc::{AllocError, Global};
 //
 // # Errors
 // `AllocError` if it is out of memory.
-pub(crate) fn read_words(
-    alloc: Global,
-    text: &str,
-) -> Result<Result<Request, Mistake>, AllocError>
+pub(crate) fn read_words(alloc: Global, text: &str) -> Result<Result<Request, Mistake>, AllocError>
     ensures request { IfOk result (λ read. IfOk read (λ request. asked_in_words text.now ≡ Some request)) }
     ensures mistake { IfOk result (λ read. OnErr read (asked_in_words text.now ≡ None)) }
 {
