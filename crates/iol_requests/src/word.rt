@@ -6,7 +6,7 @@ use arrayvec::ArrayString;
 pub const MOST_SHOWN: usize = 32;
 
 /// A word of a line as it is shown: at most 32 octets of ASCII, each from 21 to 7E. Other characters are shown as `?`, and
-/// what is longer ends in `..`.
+/// a word of more than 30 characters ends in `..`.
 pub type Word = ArrayString<MOST_SHOWN>;
 
 // The word as it is shown.
