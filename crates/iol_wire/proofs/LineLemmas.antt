@@ -1,15 +1,15 @@
 -- Octets that words write.
-use Rattle.std.proofs.Common.{◌≡◌, ◌≢◌, ℕ, ◌≤◌, ◌==◌, ◌&&◌, Bool, true, false, cond, leb, List, [], ◌∷◌, ◌++◌, Option, Some, None, length, filter_map, is_some, suc, ap, sym, ◌∙◌, refl, arith}
+use Rattle.std.proofs.Common.{◌≡◌, ◌≢◌, ℕ, ◌≤◌, ◌==◌, ◌&&◌, Bool, true, cond, leb, List, [], ◌∷◌, ◌++◌, Option, Some, None, length}
+use Rattle.std.proofs.Common.{filter_map, is_some, suc, ap, ◌∙◌, refl, arith}
 use Rattle.std.specs.List.{list_all, cons_option}
 use Rattle.std.specs.Option.{option_map}
 use Rattle.std.proofs.lemmas.Bool.{false≢true}
 use Rattle.std.proofs.lemmas.Bool.Decides.{nat_tests}
 use Rattle.std.proofs.lemmas.List.{append-nil}
 use Rattle.iol_link.specs.declared.link.TheConstants.{PAGE_OCTETS}
-use Rattle.iol_wire.specs.declared.line.Reply.{Reply}
 use Rattle.iol_wire.specs.declared.line.Reply.TheVariants.{Page}
 use Rattle.iol_wire.specs.Numeral.{hexadecimal}
-use Rattle.iol_wire.specs.Lines.{octets_in, octets_within, page_of}
+use Rattle.iol_wire.specs.Lines.{octets_within, page_of}
 
 abbrev pub is_octet : List ℕ → Bool
 is_octet word = is_some (hexadecimal 2 word)

@@ -1,13 +1,12 @@
 -- Runs of a transport's calls, and the octets that they receive.
-use Rattle.std.proofs.Common.{◌≡◌, ◌≢◌, ◌+◌, ◌<◌, ◌≤◌, ◌==◌, Bool, true, false, ℕ, List, [], ◌∷◌, ◌++◌, map, length, get_or, refl, sym, subst, ◌∙◌, arith}
-use Rattle.std.specs.List.{All}
+use Rattle.std.proofs.Common.{◌≡◌, ◌≢◌, ◌+◌, ◌≤◌, ◌==◌, true, false, ℕ, List, [], ◌∷◌, ◌++◌, length, refl, sym, subst, arith}
 use Rattle.std.proofs.lemmas.Bool.Decides.{nat_tests}
 use Rattle.std.proofs.lemmas.List.{map-append, length-append}
 use Rattle.std.proofs.lemmas.List.Elements.{All-push}
 use Rattle.iol_wire.specs.declared.transport.Position.TheVariants.{WithinLine}
 use Rattle.iol_wire.specs.declared.writing.TheConstants.{LINE_FEED}
 use Rattle.iol_wire.specs.Hearing.{HasNoFeed, ended, position_after, received}
-use Rattle.iol_wire.specs.Transport.{TransportCall, Received, Unheard, Run}
+use Rattle.iol_wire.specs.Transport.{TransportCall, Received, Run}
 
 module _ {T : Type 0} (moves : T → TransportCall → T → Type 0) where
   -- one run after another is one run

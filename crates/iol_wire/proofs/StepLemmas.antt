@@ -1,6 +1,6 @@
 -- How a call of a link ends.
 use Rattle.std.proofs.Common.{◌≡◌, ◌≢◌, ℕ, List, Some, None, Option, refl, sym, subst, inr}
-use Rattle.iol_link.specs.Link.{LinkAnswer, Octets, Gone, last_connection}
+use Rattle.iol_link.specs.Link.{Octets, Gone, last_connection}
 use Rattle.iol_wire.specs.declared.line.Reply.{Reply}
 use Rattle.iol_wire.specs.declared.wire_link.WireLink.{WireLink}
 use Rattle.iol_wire.specs.Requests.{Asked}

@@ -1,5 +1,6 @@
 -- The words of octets, from the first on.
-use Rattle.std.proofs.Common.{◌≡◌, ◌≢◌, ℕ, ◌<◌, ◌≤◌, Bool, true, false, cond, ltb, List, [], ◌∷◌, Some, None, get_or, length, take, drop, ◌+◌, ◌-◌, position, ap, sym, ◌∙◌, refl, rules, arith}
+use Rattle.std.proofs.Common.{◌≡◌, ◌≢◌, ℕ, ◌<◌, ◌≤◌, Bool, true, false, ltb, List, [], ◌∷◌, Some, None, get_or, length, take, drop, ◌+◌}
+use Rattle.std.proofs.Common.{◌-◌, position, ap, ◌∙◌, arith}
 use Rattle.std.specs.List.{slice_split, position_or_len, before_first, after_first, filter, All}
 use Rattle.std.proofs.lemmas.Bool.Decides.{nat_tests}
 use Rattle.std.proofs.lemmas.List.Splits.{slice_split-cons_yes, slice_split_first, slice_split_none}
@@ -60,4 +61,7 @@ words_cut_at octets place found some begins =
 -- octets without a blank are one word
 pub words_last : (octets : List ℕ) → None ≡ position is_blank octets → 0 < length octets → words octets ≡ octets ∷ []
 words_last octets none some =
-    ap (filter has_octet) (slice_split_none is_blank octets (λ k d within. fails_before_first is_blank octets k d (omega (arith, no_place is_blank octets none)))) ∙ keeps octets [] some
+    let past = no_place is_blank octets none in
+    let unlike : All (λ (octet : ℕ). is_blank octet ≡ false) octets =
+    λ k d within. fails_before_first is_blank octets k d (omega (arith, past)) in
+    ap (filter has_octet) (slice_split_none is_blank octets unlike) ∙ keeps octets [] some

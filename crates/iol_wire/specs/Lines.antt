@@ -1,6 +1,6 @@
 -- What a line of a driver means.
-use Rattle.std.specs.Prelude.{ℕ, ◌==◌, ◌&&◌, nat_le, if◌then◌else◌, List, [], ◌∷◌, length, filter_map, codes}
-use Rattle.std.specs.Prelude.{Option, Some, None, is_some, option_and_then, slice_get, take, ◌-◌, Bool, false}
+use Rattle.std.specs.Prelude.{ℕ, ◌==◌, nat_le, if◌then◌else◌, List, [], ◌∷◌, length, filter_map, codes}
+use Rattle.std.specs.Prelude.{Option, Some, None, is_some, slice_get, take, ◌-◌, false}
 use Rattle.std.specs.Option.{option_map, option_map_or}
 use Rattle.std.specs.List.{list_all}
 use Rattle.std.specs.Str.{bytes_eq}

@@ -1,9 +1,8 @@
 -- A link over a transport, call by call.
-use Rattle.std.specs.Prelude.{◌≡◌, ◌≢◌, ◌+◌, ◌-◌, ◌⊎◌, ℕ, List, [], ◌∷◌, ◌++◌, length, take, Option, Some, None, MatchOption}
+use Rattle.std.specs.Prelude.{◌≡◌, ◌≢◌, ◌+◌, ◌⊎◌, ℕ, List, [], ◌∷◌, Option, Some, None, MatchOption}
 use Rattle.iol_link.specs.Link.{LinkCall, TakeEvent, ReadPage, Exchange, LinkAnswer, NoEvent, Event, Octets, Gone, last_connection}
 use Rattle.iol_wire.specs.declared.line.Reply.{Reply}
 use Rattle.iol_wire.specs.declared.line.Reply.TheVariants as reply
-use Rattle.iol_wire.specs.declared.stream.LineStream.{LineStream}
 use Rattle.iol_wire.specs.declared.transport.Position.{Position}
 use Rattle.iol_wire.specs.declared.wire_link.WireLink.{WireLink}
 use Rattle.iol_wire.specs.Events.{kept}

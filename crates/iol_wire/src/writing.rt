@@ -1,6 +1,7 @@
 //! Lines of requests, written.
 
-ghost use Rattle.std.specs.Prelude.{◌≡◌, ◌≤◌, ◌<◌, ◌+◌, ◌*◌, ◌++◌, length, flat_map, slice_index, codes, IsTrue, IfSome, IsSome, ◌↔◌, decimal};
+ghost use Rattle.std.specs.Prelude.{◌≡◌, ◌≤◌, ◌<◌, ◌+◌, ◌*◌, ◌++◌, length, flat_map, slice_index, codes, IsTrue, IfSome, IsSome};
+ghost use Rattle.std.specs.Prelude.{◌↔◌, decimal};
 ghost use Rattle.arrayvec.specs.ArrayVec.{array_vec_len};
 ghost use Rattle.iol_wire.specs.Requests.{request_line, asked_of, asked_words, octet_word, hexadecimal_digit, FitsLine};
 

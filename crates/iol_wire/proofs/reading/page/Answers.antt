@@ -1,4 +1,4 @@
-use Rattle.std.proofs.Common.{◌≡◌, refl, rules}
+use Rattle.std.proofs.Common.{refl, rules}
 use Rattle.iol_wire.specs.Words.{words}
 use Rattle.iol_wire.proofs.LineLemmas.{page_found, page_missing}
 use Rattle.iol_wire.proofs.reading.page.Goals as goal

@@ -1,4 +1,3 @@
-use Rattle.std.proofs.Common.{◌≡◌, sym, ◌∙◌, arith}
 use Rattle.iol_wire.proofs.WordLemmas.{words_cut_at, words_last}
 use Rattle.iol_wire.proofs.words.cut_at_blank.Goals as goal
 

@@ -1,7 +1,8 @@
-use Rattle.std.proofs.Common.{◌≡◌, ◌+◌, ◌≤◌, List, [], ◌∷◌, ◌++◌, ℕ, length, refl, sym, subst, ◌∙◌, ap, inl, inr, arith}
+use Rattle.std.proofs.Common.{◌≡◌, ◌+◌, ◌≤◌, List, [], ◌∷◌, ◌++◌, ℕ, length, refl, sym, subst, ◌∙◌, ap, inl, inr}
 use Rattle.std.proofs.lemmas.List.{append-nil}
-use Rattle.iol_wire.specs.Hearing.{HasNoFeed, position_after, ended, received}
-use Rattle.iol_wire.specs.Transport.{TransportCall, Received, Unheard, Run}
+use Rattle.iol_wire.specs.declared.reading.TheConstants.{LINE_OCTETS}
+use Rattle.iol_wire.specs.Hearing.{HasNoFeed, position_after, received}
+use Rattle.iol_wire.specs.Transport.{Unheard, Run}
 use Rattle.iol_wire.proofs.RunLemmas.{run_more, run_receive, run_line, no_feed_more, one_longer, within_line, is_full, has_place}
 use Rattle.iol_wire.proofs.stream.LineStream.next_line.Goals as goal
 
@@ -23,7 +24,7 @@ returns-then-is_full-clause-unended g c =
       (
         no_feed_more line octet kept.no_feed c.in-Ok.octet-test.1,
         within_line line octet,
-        inr (refl, one_longer line octet ∙ ap (λ count. count + 1) (is_full (length line) 800 c.if-is_full.ensures.value)),
+        inr (refl, one_longer line octet ∙ ap (λ count. count + 1) (is_full (length line) LINE_OCTETS c.if-is_full.ensures.value)),
       ),
       rw (append-nil (received (line ++ octet ∷ [])))
           (run_receive g.T.Transport.moves c.args.self.now.transport c.loop.self.transport c.receive.new.self line octet kept.run
@@ -50,7 +51,10 @@ loop-preserved g c =
     record {
       no_feed = subst (λ (items : List ℕ). HasNoFeed items) (sym pushed) (no_feed_more line octet kept.no_feed c.in-Ok.octet-test.1);
       count = ap (λ (items : List ℕ). length items) pushed ∙ (one_longer line octet ∙ ap (λ count. count + 1) kept.count);
-      few = subst (λ (count : ℕ). count ≤ 800) (sym (ap (λ (items : List ℕ). length items) pushed ∙ one_longer line octet)) (has_place (length line) 800 c.if-is_full.ensures.value kept.few);
+      few =
+          subst (λ (count : ℕ). count ≤ LINE_OCTETS)
+          (sym (ap (λ (items : List ℕ). length items) pushed ∙ one_longer line octet))
+          (has_place (length line) LINE_OCTETS c.if-is_full.ensures.value kept.few);
       position = within_line line octet ∙ sym (ap position_after pushed);
       run =
           subst (λ (items : List ℕ). Run g.T.Transport.moves c.args.self.now.transport (received items) c.receive.new.self) (sym pushed)

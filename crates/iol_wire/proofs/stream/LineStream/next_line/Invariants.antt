@@ -1,4 +1,4 @@
-use Rattle.std.proofs.Common.{◌≡◌, ◌≤◌, List, ℕ, length}
+use Rattle.std.proofs.Common.{◌≡◌, ◌≤◌, length}
 use Rattle.iol_wire.specs.declared.reading.TheConstants.{LINE_OCTETS}
 use Rattle.iol_wire.specs.Hearing.{HasNoFeed, position_after, received}
 use Rattle.iol_wire.specs.Transport.{Run}

@@ -1,6 +1,6 @@
-use Rattle.std.proofs.Common.{◌≡◌, ◌+◌, List, [], ◌∷◌, ◌++◌, ℕ, length, refl, sym, subst, ◌∙◌, ap, inl, arith}
+use Rattle.std.proofs.Common.{◌+◌, List, [], ◌∷◌, ◌++◌, ℕ, refl, sym, subst, ◌∙◌, ap, inl}
 use Rattle.iol_wire.specs.Hearing.{IsRest, ended, received}
-use Rattle.iol_wire.specs.Transport.{Received, Unheard, Run}
+use Rattle.iol_wire.specs.Transport.{Unheard}
 use Rattle.iol_wire.specs.declared.transport.Position.{Position}
 use Rattle.iol_wire.proofs.RunLemmas.{run_more, run_receive, run_line, no_feed_more, one_longer}
 use Rattle.iol_wire.proofs.stream.LineStream.skip_rest.Goals as goal

@@ -1,8 +1,8 @@
-use Rattle.std.proofs.Common.{◌≡◌, ◌+◌, [], List, ℕ, ◌∷◌, ◌++◌, refl, sym, ap, subst, inl, inr, ◌∙◌}
+use Rattle.std.proofs.Common.{◌≡◌, ◌+◌, [], List, ℕ, ◌∷◌, refl, sym, ap, subst, inl, inr, ◌∙◌}
 use Rattle.iol_wire.specs.declared.transport.Position.{Position}
 use Rattle.iol_wire.specs.Hearing.{Connects}
 use Rattle.iol_wire.specs.Requests.{asked_of, request_line}
-use Rattle.iol_wire.specs.Transport.{TransportCall, Missing, Sent, Unsent, Run}
+use Rattle.iol_wire.specs.Transport.{Missing, Sent, Unsent, Run}
 use Rattle.iol_wire.specs.Wire.{Wire}
 use Rattle.iol_wire.proofs.RunLemmas.{run_join}
 use Rattle.iol_wire.proofs.wire_link.WireLink.ask.Goals as goal

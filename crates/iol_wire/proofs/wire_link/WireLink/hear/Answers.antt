@@ -1,16 +1,16 @@
-use Rattle.std.proofs.Common.{◌≡◌, ◌+◌, ◌^◌, ◌-◌, ◌<◌, ◌≤◌, [], List, ℕ, ◌∷◌, ◌++◌, length, refl, sym, ap, subst, inl, inr, ◌∙◌, arith}
+use Rattle.std.proofs.Common.{◌≡◌, ◌+◌, ◌<◌, [], List, ℕ, ◌∷◌, ◌++◌, refl, sym, ap, subst, inl, inr, ◌∙◌, arith}
 use Rattle.std.proofs.lemmas.List.{append-nil}
 use Rattle.iol_wire.specs.declared.line.Line.{Line}
-use Rattle.iol_wire.specs.declared.line.Line.TheVariants.{Event, Answer, Malformed}
-use Rattle.iol_wire.specs.declared.line.Reply.{Reply}
-use Rattle.iol_wire.specs.declared.transport.Position.TheVariants.{LineStart}
+use Rattle.iol_wire.specs.declared.line.Line.TheVariants.{Event, Answer}
 use Rattle.iol_wire.specs.Events.{kept}
 use Rattle.iol_wire.specs.Hearing.{Fails, Passes, codes_in, ended, received}
 use Rattle.iol_wire.specs.Lines.{meaning}
-use Rattle.iol_wire.specs.Transport.{TransportCall, Run}
-use Rattle.iol_wire.proofs.HearingLemmas.{kept_join, kept_none, no_lines, passing_none, passing_more, more_lines, run_received, run_part, run_no_part, event_codes, answer_codes}
+use Rattle.iol_wire.specs.Transport.{Run}
+use Rattle.iol_wire.proofs.HearingLemmas.{kept_join, kept_none, no_lines, passing_none, passing_more, more_lines, run_received}
+use Rattle.iol_wire.proofs.HearingLemmas.{run_part, run_no_part, event_codes, answer_codes}
 use Rattle.iol_wire.proofs.wire_link.WireLink.hear.Goals as goal
-use Rattle.iol_wire.proofs.wire_link.WireLink.hear.Goals.{in_default-via-in-Answer-2+else-same-number, in_default-via-in_default, in-Event, in-Answer}
+use Rattle.iol_wire.proofs.wire_link.WireLink.hear.Goals.{in_default-via-in-Answer-2+else-same-number, in_default-via-in_default}
+use Rattle.iol_wire.proofs.wire_link.WireLink.hear.Goals.{in-Event, in-Answer}
 
 pub loop-init : goal.loop-init
 loop-init g c =

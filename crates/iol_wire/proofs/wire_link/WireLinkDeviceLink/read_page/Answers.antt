@@ -1,4 +1,4 @@
-use Rattle.std.proofs.Common.{ap, sym, ◌∙◌}
+use Rattle.std.proofs.Common.{sym, ◌∙◌}
 use Rattle.iol_wire.specs.Requests.{Page}
 use Rattle.iol_wire.proofs.StepLemmas.{step_octets, step_lost}
 use Rattle.iol_wire.proofs.wire_link.WireLinkDeviceLink.read_page.Goals as goal
