@@ -19,7 +19,18 @@ use arrayvec::ArrayVec;
 use iol_isdu::ISDU_OCTETS;
 use iol_link::{DeviceLink, Lost, PAGE_OCTETS};
 
-/// A link to the devices of a port, over a transport to a driver.
+/// A link to the devices of a port, over a transport to a driver that speaks in lines of ASCII
+/// (docs/FORMATS.md, "Lines of a driver").
+///
+/// Requests are numbered from 1. An answer is that of a line with the request's number and of its
+/// kind. Events before it are kept, at most 16, until they are taken, oldest first; answers to
+/// earlier requests are dropped. At anything else, and where the transport fails, the device is
+/// `Lost`, and the next connection begins without events. The rest of a line that came to no end is
+/// dropped later. An ISDU request of over 238 octets is `Lost`, and nothing is sent; so is each
+/// request after number 2^64 - 1.
+///
+/// Its relation says which calls it makes of the transport. That one device answers on a connection
+/// is the driver's promise. A call ends in the time that its transport takes.
 #[derive(Drop)]
 pub struct WireLink<T: Transport> {
     stream: LineStream<T>,
