@@ -6,8 +6,8 @@
 //! Modules in reading order:
 //! - `answer`, `refusal`, `report`, `request_id` and `event` are what is printed.
 //! - `help` has the requests that there are.
-//! - `answer_text` and `event_text` have the lines in words, with `report_text` and `counted`.
-//! - `answer_object` and `event_object` have the objects, with `report_object`, and `json_line` the line of a value.
+//! - `answer_text`, `event_text` and `report_text` have the lines in words.
+//! - `answer_object`, `event_object` and `report_object` have the objects, and `json_line` the line of one.
 //! - `examples` has a line of each kind, worked out.
 //!
 //! The lines in words are defined in `specs/AnswerLines.antt` and `specs/EventLines.antt`, the objects in
