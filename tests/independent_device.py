@@ -1,7 +1,7 @@
 #!/usr/bin/env python3
 """A device and its driver for tests of a master, which can be told to misbehave.
 
-tests/independent_device.py --fifos FOLDER|--pty LINK --device JSON.. [--log FILE] [--at WHEN DEED [VALUE]]..
+tests/independent_device.py --fifos FOLDER|--pty LINK --device JSON.. [--log FILE] [--cycle MS] [--at WHEN DEED [VALUE]]..
 
 It is written from docs/DRIVERS.md, docs/FORMATS.md ("ISDU", "Simulated devices") and the standard. It shares no code with the other
 devices of this repository, so that a mistake of theirs is not also one of it.
@@ -13,6 +13,7 @@ devices of this repository, so that a mistake of theirs is not also one of it.
                 with `revision`, `isdu` and `locked` beside these, which are 17, true and false if they are missing
 --log FILE      gets a line of JSON for each request: its count in this process and its number, the device that is there, the deed,
                 the words that were asked, and those that were answered, or null if the master got no answer that it may take
+--cycle MS      answers each page only after this number of milliseconds: a master reads the page of a ready device again and again
 --at WHEN DEED  does this at request WHEN of this process, as `7`, `7-9` or `7-`; 0 is before the first one
 
 A deed is one of:
@@ -236,9 +237,9 @@ class Files:
 class Driver:
     """Answers requests, or does something else with them."""
 
-    def __init__(self, devices, files, deeds, log):
-        """The driver of these devices, the first of which answers."""
-        self.devices, self.files, self.deeds, self.log = devices, files, deeds, log
+    def __init__(self, devices, files, deeds, log, cycle=0):
+        """The driver of these devices, the first of which answers, each page after `cycle` seconds."""
+        self.devices, self.files, self.deeds, self.log, self.cycle = devices, files, deeds, log, cycle
         self.count, self.place, self.is_known = 0, 0, False
         self.kept = self.late = b""
 
@@ -267,6 +268,8 @@ class Driver:
         number, asked = line.split(maxsplit=1)
         self.count += 1
         deed, value = self.deed_at(self.count)
+        if asked == "page":
+            time.sleep(self.cycle)
         # Request 1 is the first of a new master. Before another one another device may have answered.
         is_lost = deed == "replace" or not self.is_known and number != "1"
         self.is_known = True
@@ -352,13 +355,15 @@ def main():
     parser.add_argument("--pty", metavar="LINK")
     parser.add_argument("--device", required=True, action="append", metavar="JSON")
     parser.add_argument("--log", metavar="FILE")
+    parser.add_argument("--cycle", type=float, default=0, metavar="MS")
     parser.add_argument("--at", action="append", nargs="+", default=[], metavar="WORD")
     words = parser.parse_args()
     if bool(words.fifos) == bool(words.pty):
         parser.error("one of --fifos and --pty has to be given")
     devices = [Device(json.loads(said)) for said in words.device]
     with open(words.log or os.devnull, "a", encoding="utf-8") as log:
-        Driver(devices, Files(words.fifos, words.pty), [deed_of(each) for each in words.at], log).serve()
+        deeds = [deed_of(each) for each in words.at]
+        Driver(devices, Files(words.fifos, words.pty), deeds, log, words.cycle / 1000).serve()
 
 
 if __name__ == "__main__":
