@@ -101,6 +101,8 @@ MALFORMED = [
 NOTHING = ["", " ", "\t \t", "#", "# clear port=1", "\r"]
 REQUESTS, SEED, PORTS, NAMED_PORTS = 2000, 1, 4, 6
 VERBS = {"configure": 30, "clear": 10, "rollback": 10, "read": 20, "status": 20, "help": 3, "wrong": 7}
+# How many requests for help are asked for whose answers nobody reads, and for how many seconds, twice.
+UNREAD, UNREAD_SECONDS = 2000, 1
 # How many statuses are asked for before and while the time is taken, how often, and how soon half of them have to be answered.
 WARM_UPS, MEASURED, ROUNDS, MOST_SECONDS = 50, 100, 3, 0.001
 
@@ -216,6 +218,26 @@ def lose_output(folder):
         raise Different(f"it ends with status {status} and leaves {state}")
 
 
+def outlast_readers(folder):
+    """A master whose output nobody reads goes on with its ports, and prints all once somebody reads."""
+    image, log = formatted(folder, 2), f"{folder}/1/log"
+    pipes = {"stdin": subprocess.PIPE, "stdout": subprocess.PIPE}
+    with drivers_of(folder, {1: []}) as words, subprocess.Popen([IOLMASTER, "serve", image, *words], **pipes) as process:
+        try:
+            os.write(process.stdin.fileno(), (in_words("configure", 1, MANUAL) + UNREAD * "help\n").encode())
+            time.sleep(UNREAD_SECONDS)
+            asked = len(read_log(log))
+            time.sleep(UNREAD_SECONDS)
+            heard = len(read_log(log))
+            said, _ = process.communicate(timeout=PATIENCE)
+        finally:
+            process.kill()
+    lines = said.decode().splitlines()
+    helped, last = sum(line.startswith("quit ") for line in lines), lines[-1:]
+    if process.returncode or helped != UNREAD or not lines[-1].startswith("ended ") or heard <= asked:
+        raise Different(f"it ends with status {process.returncode}, {last}, {helped} answers, and {heard - asked} requests to the driver")
+
+
 def end_in_upload(folder, word):
     """A master that is ended in the middle of an upload ends with status 0, and what had a receipt is found."""
     image = formatted(folder, 2)
@@ -295,6 +317,7 @@ def cases():
     yield "lines that are no requests are answered once each, and change nothing", refuse_malformed
     yield f"{REQUESTS} requests are answered once each", answer_many
     yield "a master whose output is closed ends", lose_output
+    yield "a master whose output nobody reads goes on", outlast_readers
     yield "quit ends a master in the middle of an upload", end_in_upload, "quit\n"
     yield "the end of input ends a master in the middle of an upload", end_in_upload, ""
     line = in_words("configure", 1, configuration(1, 1))[:-1]
