@@ -8,7 +8,7 @@ import time
 
 from driver_runs import INDEPENDENT, TOP, Different, Started, devices_of, trace_of, words_of
 from serving_judge import wrong_log
-from serving_master import Served, formatted, ran, shown
+from serving_master import Served, formatted, ran, shown, status_in
 
 MOST_PORTS = 32
 # How long the drivers of many ports wait before each page, in milliseconds, so that they leave the processors to others.
@@ -21,6 +21,8 @@ MANUAL = {"mode": 1, "validation": 3, "vendor": 500, "device": 43981}
 # port has a driver that does nothing wrong. Request 6 is in the middle of an upload.
 DEEDS = {
     "1- answer": True,
+    "0 events 300": True,
+    "0 flood": True,
     "1 cut": True,
     "1 slow 1": True,
     "6 slow 1": True,
@@ -42,8 +44,11 @@ DEEDS = {
     "1- silent": False,
     "1- garbage": False,
 }
-# How long a driver may be silent in these cases, in seconds, and how long a port that is ready has to stay so.
-SILENCE, CALM_SECONDS = 3, 1
+# Those that are tried over pseudo-terminals too.
+PTY_DEEDS = ("1- answer", "6 die 0.5", "6 garbage", "6 half", "6 flood", "6 silent", "1- silent")
+# How long a driver may be silent in these cases, in seconds. For how long a port that is ready has to stay so beside them, and how
+# often its driver is asked meanwhile at least.
+SILENCE, CALM_SECONDS, LEAST_ASKED = 3, 1, 5
 
 
 def parameters_of(port):
@@ -117,8 +122,8 @@ def follow_example(folder, files, example):
 
 
 @contextlib.contextmanager
-def drivers_of(folder, words):
-    """Drivers over FIFOs for each port, with the words of each. Gives the words for the master."""
+def drivers_of(folder, words, files="fifos"):
+    """Drivers for each port, with the words of each. Gives the words for the master."""
     folders = {port: f"{folder}/{port}" for port in words}
     for each in folders.values():
         os.mkdir(each)
@@ -127,7 +132,7 @@ def drivers_of(folder, words):
         """Starts the driver of a port."""
         device = json.dumps({**SENSOR, "parameters": parameters_of(port)})
         usual = ["--device", device, "--cycle", CYCLE, "--log", f"{folders[port]}/log"]
-        return Started(folders[port], "fifos", INDEPENDENT, [*usual, *words[port]])
+        return Started(folders[port], files, INDEPENDENT, [*usual, *words[port]])
 
     with concurrent.futures.ThreadPoolExecutor(STARTED_AT_ONCE) as pool:
         started = [pool.submit(start, port) for port in words]
@@ -169,13 +174,13 @@ def back_up_all_ports(folder):
         raise Different(wrong or f"{state['recovered']} commands, and it ended after {number}")
 
 
-def bear_misbehaviour(folder):
+def bear_misbehaviour(folder, files, tried):
     """Drivers misbehave beside one that does not: its port stays ready, theirs are ready once they answer, and no wrong set is stored."""
-    deeds = dict(enumerate(DEEDS, 1))
+    deeds = dict(enumerate(tried, 1))
     ready = {port for port, deed in deeds.items() if DEEDS[deed]}
     image = formatted(folder, len(deeds), 64)
     words = {port: ["--at", *deed.split()] for port, deed in deeds.items()}
-    with drivers_of(folder, words) as named, Served(image, "--json", "--silence", str(SILENCE), *named) as master:
+    with drivers_of(folder, words, files) as named, Served(image, "--json", "--silence", str(SILENCE), *named) as master:
         for port in deeds:
             master.send("configure", port, **MANUAL)
         places = {}
@@ -184,12 +189,13 @@ def bear_misbehaviour(folder):
                 places[port] = master.wait_status(port, *(["ready"] if port in ready else ["lost", "starting"]))
             except Different as late:
                 raise Different(f"after {deed}: {late}") from None
+        asked = len(read_log(f"{folder}/1/log"))
         time.sleep(CALM_SECONDS)
-        calm = list(master.lines[places[1] :])
+        asked, calm = len(read_log(f"{folder}/1/log")) - asked, list(master.lines[places[1] :])
         statuses = {each["port"]: each["status"] for each in master.ask("status")["statuses"]}
         master.end_well()
-    if any(line.get("event") == "status" and line["port"] == 1 for line in calm):
-        raise Different(f"the port of a driver that does nothing wrong does not stay ready: {calm}")
+    if asked < LEAST_ASKED or any(status_in(line) and line["port"] == 1 for line in calm):
+        raise Different(f"a driver that does nothing wrong is asked {asked} times in {CALM_SECONDS} s, and its port says {calm}")
     wrong = [deed for port, deed in deeds.items() if (statuses[port] == "ready") != (port in ready)]
     if wrong:
         raise Different(f"after {wrong} the statuses are {statuses}")
@@ -201,7 +207,8 @@ def bear_misbehaviour(folder):
 def cases():
     """Each case: its title, its function and the words for it."""
     yield "32 ports with a driver each are backed up", back_up_all_ports
-    yield "drivers that misbehave do no harm", bear_misbehaviour
+    yield "drivers over FIFOs that misbehave do no harm", bear_misbehaviour, "fifos", list(DEEDS)
+    yield "drivers over pseudo-terminals that misbehave do no harm", bear_misbehaviour, "pty", PTY_DEEDS
     for files in ("fifos", "pty"):
         for example in ("sensor_replaced", "rollback"):
             yield f"the drivers of {example} over {files} are asked what run prints", follow_example, files, example
