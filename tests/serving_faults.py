@@ -1,6 +1,7 @@
 """Cases of a serving master that is killed, finds no memory, or has a disk call fail: nothing that has a receipt is lost."""
 
 import concurrent.futures
+import dataclasses
 import json
 import math
 import os
@@ -19,7 +20,8 @@ from serving_master import IOLMASTER, PATIENCE, SHOWN_LINES, formatted, ran, rea
 KILLS, KILLED_PORTS, SEED = 30, 4, 1
 # How many requests of each port there are in a run that is killed, how soon it is at most, and behind how many receipts at most.
 ROUNDS, MOST_SECONDS, MOST_RECEIPTS = 60, 0.6, 120
-CAUSES = ("out of memory", "a call failed", "a thread could not start", "the disk failed")
+FAILED = ("the disk failed",)
+CAUSES = ("out of memory", "a thread could not start", *FAILED)
 # A file in memory is synced at once.
 MEMORY = "/dev/shm" if os.access("/dev/shm", os.W_OK) else None
 # A program asks for memory less often than this; and how many requests are tried past the last one that was found, since threads make
@@ -106,22 +108,38 @@ def script_of_requests():
     return asked, "".join(json.dumps(line) + "\n" for line in lines) + '{"id": 12, "do": "clear"}\n', {12: ("wrong", None)}
 
 
-def wrong_run(printed, status, errors, found, is_memory):
+@dataclasses.dataclass
+class Ran:
+    """A run with faults: whether it met one, the lines that it printed, its status, its errors, and the state that is then found."""
+
+    is_met: bool
+    printed: list
+    status: int
+    errors: str
+    found: dict
+
+
+def wrong_run(ran_so, is_memory):
     """What is wrong with a run with faults and with what is found behind it."""
     first, _, last = script_of_requests()
+    printed, status, found = ran_so.printed, ran_so.status, ran_so.found
     asked, answers = {**first, **last}, [line for line in printed if isinstance(line, dict)]
     words = [line for line in printed if isinstance(line, str)]
     if any(not (is_memory and line.startswith(NO_MEMORY)) for line in words):
         return f"it prints {words}"
-    wrong = wrong_end(status, errors, CAUSES) or wrong_answers(asked, answers, False) or wrong_order(asked, answers, 2)
+    wrong = wrong_end(status, ran_so.errors, CAUSES if is_memory else FAILED)
+    wrong = wrong or wrong_answers(asked, answers, False) or wrong_order(asked, answers, 2)
     # An event may find no memory.
     wrong = wrong or (None if is_memory else wrong_events(answers, False)) or wrong_receipts(answers, found)
+    if not wrong and (not ran_so.is_met and status or not is_memory and ran_so.is_met and not status):
+        wrong = f"it ends with status {status}, and it {'met' if ran_so.is_met else 'did not meet'} the fault"
     number = sum("event" not in line for line in answers) + len(words)
     if not wrong and (number > len(asked) or status == 0 and number < len(asked)):
         wrong = f"{number} of {len(asked)} requests are answered, and it ends with status {status}: {printed}"
     # Port 1 is configured once, port 2 twice; a Clear may be refused, and a Rollback is.
     for port, most in ((1, 1), (2, 2)):
-        revision, mine = found["ports"][port - 1]["revision"], [number for number, request in asked.items() if request == ("configure", port)]
+        revision = found["ports"][port - 1]["revision"]
+        mine = [number for number, request in asked.items() if request == ("configure", port)]
         least = sum(line.get("id") in mine for line in answers if "receipt" in line)
         if not wrong and not least <= revision <= most:
             wrong = f"port {port} had {least} receipts, and is found at revision {revision}"
@@ -131,8 +149,8 @@ def wrong_run(printed, status, errors, found, is_memory):
     return wrong
 
 
-def run_with(faults, is_memory):
-    """A run with faults on a new image: whether the fault was met, and what is wrong, if anything."""
+def run_with(faults):
+    """A run with faults on a new image."""
     with tempfile.TemporaryDirectory(dir=MEMORY) as folder:
         image, script, met = f"{folder}/a.img", f"{folder}/devices.toml", f"{folder}/met"
         ran("format", image, "--ports", "2", "--slots", "4")
@@ -144,17 +162,17 @@ def run_with(faults, is_memory):
         try:
             done = subprocess.run(words, input=lines, capture_output=True, env=environment, timeout=PATIENCE)
         except subprocess.TimeoutExpired as late:
-            return True, f"no end within {PATIENCE} seconds: {late.stdout}"
-        # What a program that crashes prints may be no line.
-        printed = read_lines(done.stdout)
-        return os.path.exists(met), wrong_run(printed, done.returncode, done.stderr.decode(errors="replace"), shown(image), is_memory)
+            return Ran(True, read_lines(late.stdout or b""), None, f"no end within {PATIENCE} seconds", shown(image))
+        errors = done.stderr.decode(errors="replace")
+        return Ran(os.path.exists(met), read_lines(done.stdout), done.returncode, errors, shown(image))
 
 
 def refused(shim, growth, behind=False):
     """A run in which this request for memory is refused, or also all behind it."""
     faults = {"LD_PRELOAD": shim, "REFUSE_GROWTH": str(growth), **({"REFUSE_ALL": "1"} if behind else {})}
-    is_met, wrong = run_with(faults, True)
-    return is_met, f"with request {growth}{' and all behind it' if behind else ''} refused: {wrong}" if wrong else None
+    ran_so = run_with(faults)
+    wrong = wrong_run(ran_so, True)
+    return ran_so.is_met, f"with request {growth}{' and all behind it' if behind else ''} refused: {wrong}" if wrong else None
 
 
 def last_growth(shim):
@@ -193,8 +211,9 @@ def refuse_growths(folder, seconds):
 def failed(shim, kind, number):
     """A run in which this disk call of a kind fails."""
     faults = {"LD_PRELOAD": shim, "FAIL_CALL": kind, "FAIL_NUMBER": str(number), "FAIL_HOW": str(DEVICE_FAILED), "HELD_CALLS": "lose"}
-    is_met, wrong = run_with(faults, False)
-    return is_met, f"{kind} {number} fails: {wrong}" if wrong else None
+    ran_so = run_with(faults)
+    wrong = wrong_run(ran_so, False)
+    return ran_so.is_met, f"{kind} {number} fails: {wrong}" if wrong else None
 
 
 def fail_calls(folder):

@@ -15,7 +15,8 @@ NO_ANSWERS = ("late", "ahead", "other", "garbage", "flood", "half", "silent", "d
 
 def configuration(port, revision):
     """The configuration that tests give a port at a revision. No two of them are alike, and none names a device that is there."""
-    return {"mode": 2 + revision % 3, "validation": revision % 5, "vendor": 1000 * port + revision % 1000, "device": 65536 * port + revision}
+    mode, validation = 2 + revision % 3, revision % 5
+    return {"mode": mode, "validation": validation, "vendor": 1000 * port + revision % 1000, "device": 65536 * port + revision}
 
 
 def is_right(request, line):
@@ -184,7 +185,9 @@ PLANTED = {
     "a configuration that nobody asked for": wrong_configurations(
         ASKED, SOUND, {"ports": [NEW]}, {"ports": [{"revision": 2, "configuration": configuration(1, 3)}]}
     ),
-    "a malformed line as an answer": wrong_log([{"deed": "garbage", "asked": "isdu A4 03 02 A5"}, {"deed": "answer", "asked": "isdu 93 40 D3"}]),
+    "a malformed line as an answer": wrong_log(
+        [{"deed": "garbage", "asked": "isdu 93 40 D3"}, {"deed": "answer", "asked": "isdu A4 41 01 E4"}]
+    ),
     "an end without a cause": wrong_end(1, "", ["out of memory"]),
     "an end by a signal": wrong_end(-11, "error: out of memory\n", ["out of memory"]),
 }
