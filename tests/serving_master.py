@@ -8,7 +8,7 @@ import time
 
 from driver_runs import TOP, Different
 
-IOLMASTER = os.environ.get("IOLMASTER") or f"{TOP}/out/iolmaster"
+IOLMASTER = os.path.abspath(os.environ.get("IOLMASTER") or f"{TOP}/out/iolmaster")
 # How many seconds a test waits for a line or an end that is to come, also where other programs keep the processors busy.
 PATIENCE = 40
 # How much of what was printed is shown if a test fails.
