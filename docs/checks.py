@@ -10,8 +10,8 @@ from sources import TOP, Functions, Names, crates, text_of
 MISTAKES = "## Mistakes, and what refuses them"
 MOST_WORDS = 50
 LINE_CHARACTERS = 140
-# Of these the one is written from the sources, and the other is of octets, scripts and texts.
-WITHOUT_NAMES = ("docs/DEFINITIONS.md", "docs/FORMATS.md")
+# Of these the first is written from the sources, and the others are of octets, scripts and texts.
+WITHOUT_NAMES = ("docs/DEFINITIONS.md", "docs/FORMATS.md", "docs/SERVING.md")
 # What documents name of the language, its library and the system.
 OUTSIDE = {"requires", "ensures", "Arc::try_clone", "u64::MAX", "WouldBlock", "flock", "fcntl", "iolmaster"}
 # The faults of the library that calls of ours answer.
