@@ -91,8 +91,8 @@ pub fn longest_lines()
     ensures reached { length (request_line 18446744073709551615 (Isdu (replicate 238 0x00))) ≡ REQUEST_LINE_OCTETS }
 {}
 
-/// After request 5 events and answers to requests 0 to 4 are passed over, and the device is lost at an answer to request 6
-/// and at a malformed line. An answer to request 5 is neither.
+/// After the request with number 5 events and answers with numbers 0 to 4 are passed over, and the device is lost at an answer
+/// with number 6 and at a malformed line. An answer with number 5 is neither.
 pub fn older_and_newer_answers()
     ensures event { Passes 5 (Line.Event 0x8C40) }
     ensures older { Passes 5 (Line.Answer 4 Reply.Lost) × Passes 5 (Line.Answer 0 Reply.Lost) }
