@@ -1,5 +1,4 @@
 pub mod Events
-pub mod Files
 pub mod Hearing
 pub mod Lines
 pub mod Numeral

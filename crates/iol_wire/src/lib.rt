@@ -5,17 +5,13 @@
 //!
 //! In reading order: `line` (what a line means), `reading`, over `words` and `numeral`, and
 //! `writing`; `transport` (the trait of what carries octets), `stream` (lines out of octets),
-//! `events` and `wire_link` (the link); `file_transport` (the transport over files), over
-//! `driver_files` and `patience`; `examples` (lines and steps, worked out).
+//! `events` and `wire_link` (the link); `examples` (lines and steps, worked out).
 #![tactic(auto)]
 
-mod driver_files;
 mod events;
 pub mod examples;
-mod file_transport;
 mod line;
 mod numeral;
-mod patience;
 mod reading;
 mod stream;
 #[cfg(test)]
@@ -25,9 +21,7 @@ mod wire_link;
 mod words;
 mod writing;
 
-pub use driver_files::DriverPaths;
 pub use events::KEPT_EVENTS;
-pub use file_transport::FileTransport;
 pub use line::{Line, Reply};
 pub use reading::{LINE_OCTETS, read_line};
 pub use transport::{Opening, Position, Transport, TransportFault};

@@ -1,14 +1,9 @@
 //! A link over a transport in memory.
 
-use crate::driver_files::DriverPaths;
-use crate::file_transport::FileTransport;
 use crate::transport::{Opening, Position, Transport, TransportFault};
 use crate::wire_link::WireLink;
 use iol_link::{DeviceLink, Lost};
 use std::alloc::Global;
-use std::sync::Arc;
-use std::sync::atomic::AtomicBool;
-use std::time::Duration;
 
 // What a driver does next.
 #[derive(Clone, Copy)]
@@ -248,18 +243,4 @@ fn sixteen_events_are_kept(rt: HostRuntime) {
         assert!(rt; link.take_event() == Some(code));
     }
     assert!(rt; link.take_event().is_none());
-}
-
-// A thread can have a link over files.
-fn needs_send<T: Send + Drop + 'static>(_link: T) {}
-
-#[test]
-fn a_link_over_files_can_be_sent(rt: HostRuntime) {
-    let ending = match Arc::new(rt.alloc(), AtomicBool::new(false)) {
-        Ok(ending) => ending,
-        Err(_) => panic!(&rt; "out of memory"),
-    };
-    let paths = DriverPaths::One(String::new(rt.alloc()));
-    let transport = FileTransport::new(rt, paths, Duration::from_millis(1), ending);
-    needs_send(WireLink::new(transport));
 }
