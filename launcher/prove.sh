@@ -118,7 +118,14 @@ give_back() {
 words_of() {
     case "$main $also " in
         "$1 "*) echo "run --jobs $2 -- --help" ;;
-        *" $1 "*) if [ -e "$top/crates/$1/src/main.rt" ]; then echo "run -- --help"; else echo test; fi ;;
+        *" $1 "*)
+            if [ -e "$top/crates/$1/src/main.rt" ]; then
+                echo "run -- --help"
+            elif grep -rqE '^ *#\[test\]' "$top/crates/$1/src"; then
+                echo test
+            else
+                echo lib
+            fi ;;
         *) echo "lib --jobs $2" ;;
     esac
 }
