@@ -23,7 +23,8 @@ def is_right(request, line):
     """Whether a line is an answer of a kind that a request may have, about its port."""
     do, port = request
     if "refused" in line:
-        return do in NAMED
+        # A line that is no request is refused only where memory is out for saying so.
+        return do in NAMED or line["refused"] == "Memory"
     if do in CHANGES:
         return isinstance(line.get("receipt"), int)
     if do == "read":
