@@ -1,0 +1,6 @@
+pub mod EitherLink
+pub mod News
+pub mod Outcomes
+pub mod Reports
+pub mod Spelled
+pub mod Waiting

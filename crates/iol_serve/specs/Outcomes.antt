@@ -1,0 +1,72 @@
+-- What comes of a request of a port.
+use Rattle.std.specs.Prelude.{◌≡◌, ◌+◌, ◌<◌, ◌≤◌, ℕ, List, length, Some}
+use Rattle.iol_types.specs.Command.{CommandValue, command_of, port_asked}
+use Rattle.iol_types.specs.State.{Port, port_numbered}
+use Rattle.iol_front.specs.Fronts.{Start}
+use Rattle.iol_core.specs.Standing.{state_at}
+use Rattle.iol_master.specs.Receipts.{StandsAt}
+use Rattle.iol_master.specs.Faults.{IsCallFault, IsReadFault}
+use Rattle.iol_master.specs.declared.client.CallFault.{CallFault}
+use Rattle.iol_master.specs.declared.client.CallFault.TheVariants as call
+use Rattle.iol_master.specs.declared.client.ReadFault.{ReadFault}
+use Rattle.iol_master.specs.declared.client.ReadFault.TheVariants as read
+use Rattle.iol_answers.specs.declared.refusal.Refusal.{Refusal}
+use Rattle.iol_answers.specs.declared.refusal.Refusal.TheVariants as refusal
+use Rattle.iol_answers.specs.declared.answer.Answer.{Answer}
+use Rattle.iol_answers.specs.declared.answer.Answer.TheVariants as answer
+use Rattle.iol_serve.specs.declared.asking.Outcome.{Outcome}
+use Rattle.iol_serve.specs.declared.asking.Outcome.TheVariants.{Durable, Found, Refused}
+use Rattle.iol_serve.specs.declared.asking.Task.{Task}
+use Rattle.iol_serve.specs.declared.asking.Task.TheVariants.{Ask, Read}
+
+-- why a change has no receipt, as it is answered (format, Lines of a serving master)
+abbrev pub call_refusal : CallFault → Refusal
+call_refusal call.Memory = refusal.Memory
+call_refusal (call.Submit fault) = refusal.Submit fault
+call_refusal call.Unsure = refusal.Unsure
+call_refusal call.Unwritten = refusal.Unwritten
+
+-- why a port was not read, as it is answered (format, Lines of a serving master)
+abbrev pub read_refusal : ReadFault → Refusal
+read_refusal read.UnknownPort = refusal.UnknownPort
+read_refusal read.Memory = refusal.Memory
+read_refusal (read.Behind seen) = refusal.Behind
+
+-- what comes of a change: it is durable, with a number above all that its client had seen, at which it stands in the list that is seen
+-- since; or it is refused for such a cause, and nothing more is seen (own)
+abbrev pub HasAsked : Start → List CommandValue → List CommandValue → CommandValue → Outcome → Type 0
+HasAsked start before after command (Durable number) = (start.number + length before < number) × StandsAt start after number command
+HasAsked start before after command (Found port view) = ⊥
+HasAsked start before after command (Refused why) =
+    (after ≡ before) × (fault : CallFault) × (why ≡ call_refusal fault) × IsCallFault start (start.number + length before) command fault
+
+-- what comes of a read: the port has its state after a number of commands, no fewer than were seen before, and of those that are seen
+-- since; or it is refused for such a cause (own)
+abbrev pub HasRead : Start → List CommandValue → List CommandValue → ℕ → Outcome → Type 0
+HasRead start before after port (Durable number) = ⊥
+HasRead start before after port (Found number view) =
+    (number ≡ port) × (start.number + length before ≤ view.number) × (view.number ≤ start.number + length after)
+    × (port_numbered (state_at start after view.number) port ≡ Some view.port)
+HasRead start before after port (Refused why) =
+    (fault : ReadFault) × (why ≡ read_refusal fault) × IsReadFault start.state port (start.number + length before) fault
+
+-- the port that is asked (own)
+abbrev pub port_of : Task → ℕ
+port_of (Ask change) = port_asked change
+port_of (Read port) = port
+
+-- what comes of a task (own)
+abbrev pub HasDone : Start → List CommandValue → List CommandValue → Task → Outcome → Type 0
+HasDone start before after (Ask change) outcome = HasAsked start before after (command_of change) outcome
+HasDone start before after (Read port) outcome = HasRead start before after port outcome
+
+-- the answer is this port in this state (own)
+abbrev pub IsPortAnswer : ℕ → Port → Answer → Type 0
+IsPortAnswer port state (answer.Port number told) = (number ≡ port) × (told.now ≡ state)
+IsPortAnswer port state other = ⊥
+
+-- the answer says what came of a task (own)
+abbrev pub SaysOutcome : Outcome → Answer → Type 0
+SaysOutcome (Durable number) said = said ≡ answer.Receipt number
+SaysOutcome (Found port view) said = IsPortAnswer port view.port said
+SaysOutcome (Refused refusal) said = said ≡ answer.Refused refusal

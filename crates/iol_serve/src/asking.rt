@@ -1,0 +1,164 @@
+//! The thread of a port: what is asked of the port, one request after another.
+
+ghost use Rattle.std.specs.Prelude.{◌≡◌, ◌+◌, IfErr, IfOk, length};
+ghost use mathlib.Core.List.{IsPrefix};
+ghost use Rattle.iol_types.specs.Command.{command_of};
+ghost use Rattle.iol_master.specs.Faults.{IsCallFault};
+ghost use Rattle.iol_master.specs.Receipts.{IsReceiptFor};
+ghost use Rattle.iol_serve.specs.Outcomes.{HasAsked, HasDone, HasRead, SaysOutcome, call_refusal, port_of, read_refusal};
+
+use crate::printing::Printer;
+use crate::spelling::Spelled;
+use crate::waiting::Waiting;
+use crossbeam_channel::Receiver;
+use iol_answers::{Answer, Refusal};
+use iol_core::View;
+use iol_front::Name;
+use iol_master::{CallFault, Client, ReadFault, Receipt};
+use iol_types::{Change, PortId};
+use std::alloc::Global;
+use std::sync::{Arc, Wait};
+use std::time::Clock;
+
+/// What is asked of a port.
+#[derive(Clone, Copy, Debug)]
+pub(crate) enum Task {
+    Ask(Change),
+    Read(PortId),
+}
+
+impl Task {
+    // The port that is asked.
+    pub(crate) fn port(&self) -> PortId
+        ensures { result ≡ port_of self.now }
+    {
+        match self {
+            Task::Ask(change) => change.port(),
+            Task::Read(port) => *port,
+        }
+    }
+}
+
+/// A request of a port, and how its answer is spelled.
+#[derive(Drop)]
+pub(crate) struct PortRequest {
+    pub(crate) task: Task,
+    pub(crate) spelled: Spelled,
+}
+
+// Answers the requests of a port, in their order, until no more come.
+pub(crate) fn answer_all<F: Name, R: Wait + Clock>(
+    rt: &R,
+    alloc: Global,
+    mut client: Client<F>,
+    requests: Receiver<PortRequest, Global>,
+    printer: &Printer,
+    waiting: &Waiting,
+) {
+    for request in requests.iter(rt) {
+        let PortRequest { task, spelled } = request;
+        let outcome = outcome_of(rt, &mut client, task);
+        printer.answer(rt, alloc, &spelled, &outcome.answer());
+        waiting.end(rt);
+    }
+}
+
+/// What comes of a request of a port.
+#[derive(Drop)]
+enum Outcome {
+    // A change is durable under this number.
+    Durable(u64),
+    // The port has this durable state.
+    Found(PortId, View),
+    Refused(Refusal),
+}
+
+impl Outcome {
+    // The answer that says so.
+    fn answer(&self) -> Answer<'_>
+        ensures { SaysOutcome self.now result }
+    {
+        match self {
+            Outcome::Durable(number) => Answer::Receipt(*number),
+            Outcome::Found(port, view) => Answer::Port {
+                port: *port,
+                state: &view.port,
+            },
+            Outcome::Refused(refusal) => Answer::Refused(*refusal),
+        }
+    }
+}
+
+// What comes of a task.
+fn outcome_of<F: Name, R: Wait>(rt: &R, client: &mut Client<F>, task: Task) -> Outcome
+    ensures kept { IsPrefix client.old client.new }
+    ensures outcome { HasDone F.front.start client.old client.new task result }
+{
+    match task {
+        Task::Ask(change) => ask(rt, client, change),
+        Task::Read(port) => read(rt, client, port),
+    }
+}
+
+// What comes of a change that is asked for.
+fn ask<F: Name, R: Wait>(rt: &R, client: &mut Client<F>, change: Change) -> Outcome
+    ensures kept { IsPrefix client.old client.new }
+    ensures outcome { HasAsked F.front.start client.old client.new (command_of change) result }
+{
+    match receipt_for(rt, client, change) {
+        Ok(receipt) => Outcome::Durable(receipt.number),
+        Err(fault) => Outcome::Refused(call_refusal(fault)),
+    }
+}
+
+// Asks for a change.
+fn receipt_for<F: Name, R: Wait>(
+    rt: &R,
+    client: &mut Client<F>,
+    change: Change,
+) -> Result<Receipt<F>, CallFault>
+    ensures kept { IsPrefix client.old client.new }
+    ensures receipt { IfOk result (IsReceiptFor F.front.start change client.old client.new) }
+    ensures refused { IfErr result (λ fault. (client.new ≡ client.old)
+        × IsCallFault F.front.start (F.front.start.number + length client.old) (command_of change) fault) }
+{
+    match change {
+        Change::Configure { port, config } => client.configure(rt, port, config),
+        Change::Clear { port } => client.clear(rt, port),
+        Change::Rollback { port } => client.rollback(rt, port),
+    }
+}
+
+// Why a change has no receipt, as it is answered.
+fn call_refusal(fault: CallFault) -> Refusal
+    ensures { result ≡ call_refusal fault }
+{
+    match fault {
+        CallFault::Memory => Refusal::Memory,
+        CallFault::Submit(fault) => Refusal::Submit(fault),
+        CallFault::Unsure => Refusal::Unsure,
+        CallFault::Unwritten => Refusal::Unwritten,
+    }
+}
+
+// Reads the durable state of a port.
+fn read<F: Name, R: Wait>(rt: &R, client: &mut Client<F>, port: PortId) -> Outcome
+    ensures kept { IsPrefix client.old client.new }
+    ensures outcome { HasRead F.front.start client.old client.new port result }
+{
+    match client.read(rt, port) {
+        Ok(view) => Outcome::Found(port, view),
+        Err(fault) => Outcome::Refused(read_refusal(fault)),
+    }
+}
+
+// Why a port was not read, as it is answered.
+fn read_refusal(fault: ReadFault) -> Refusal
+    ensures { result ≡ read_refusal fault }
+{
+    match fault {
+        ReadFault::UnknownPort => Refusal::UnknownPort,
+        ReadFault::Memory => Refusal::Memory,
+        ReadFault::Behind { .. } => Refusal::Behind,
+    }
+}

@@ -1,0 +1,100 @@
+//! The thread that reports what is new.
+
+ghost use Rattle.std.specs.Prelude.{◌↔◌, IfSome, IsTrue};
+ghost use Rattle.iol_serve.specs.News.{IsTold, SaysNews};
+
+use crate::printing::Printer;
+use iol_answers::Event;
+use iol_front::Name;
+use iol_master::{Client, Known, News};
+use iol_port::PortStatus;
+use iol_requests::Spelling;
+use iol_types::PortId;
+use std::alloc::{AllocError, Global};
+use std::sync::Wait;
+use std::time::Clock;
+
+/// A client that reports what is new to it.
+#[derive(Drop)]
+pub(crate) struct Reporter<F: Name> {
+    client: Client<F>,
+    known: Known,
+    // of each port, port 1 first, the status that was told last
+    told: Vec<PortStatus>,
+    spelling: Spelling,
+}
+
+impl<F: Name> Reporter<F> {
+    // A client of a master that starts with so many ports, after the command with this number.
+    pub(crate) fn new(
+        alloc: Global,
+        client: Client<F>,
+        ports: u8,
+        number: u64,
+        spelling: Spelling,
+    ) -> Result<Reporter<F>, AllocError> {
+        Ok(Reporter {
+            client,
+            known: Known::new(alloc, ports, number)?,
+            told: vec![in alloc; PortStatus::Off; usize::from(ports)]?,
+            spelling,
+        })
+    }
+
+    // The event that says what is new, unless it is that a port looks again for a device that it has lost.
+    fn event_of(&mut self, news: News) -> Option<Event>
+        ensures { IfSome result (SaysNews news) }
+    {
+        match news {
+            News::Durable { number } => Some(Event::Durable { number }),
+            News::Status { port, status } => {
+                if self.is_told(port, status) {
+                    Some(Event::Status { port, status })
+                } else {
+                    None
+                }
+            }
+        }
+    }
+
+    // Whether a new status of a port is to be told. It is then the one that was told last.
+    fn is_told(&mut self, port: PortId, status: PortStatus) -> bool {
+        match self.told.get_mut(port.place()) {
+            Some(last) if is_told(*last, status) => {
+                *last = status;
+                true
+            }
+            _ => false,
+        }
+    }
+}
+
+// Whether a status is told behind the one that was told last.
+fn is_told(last: PortStatus, status: PortStatus) -> bool
+    ensures { IsTrue result ↔ IsTold last status }
+{
+    match (last, status) {
+        (PortStatus::Lost, PortStatus::Starting) => false,
+        _ => status != last,
+    }
+}
+
+// Reports what is new until no port makes a step any more and nothing is. The reporter comes back, for what is new after that.
+pub(crate) fn report_all<F: Name, R: Wait + Clock>(
+    rt: &R,
+    alloc: Global,
+    mut reporter: Reporter<F>,
+    printer: &Printer,
+) -> Reporter<F> {
+    for _ in rt.forever() {
+        match reporter.client.news(rt, &mut reporter.known) {
+            Some(news) => {
+                if let Some(event) = reporter.event_of(news) {
+                    printer.event(rt, alloc, reporter.spelling, &event);
+                }
+            }
+            None => return reporter,
+        }
+    }
+    unreachable!()
+}
