@@ -3,7 +3,7 @@ use Rattle.std.specs.Prelude.{ℕ, List, ◌++◌, codes}
 use Rattle.std.specs.Fmt.{decimal}
 use Rattle.std.specs.List.{flat_map}
 use Rattle.iol_port.specs.Telling.{status_told}
-use Rattle.iol_commands.specs.Recovered.{port_text}
+use Rattle.iol_texts.specs.Recovered.{port_text}
 use Rattle.iol_answers.specs.Help.{help_texts}
 use Rattle.iol_answers.specs.Refusals.{name_of, words_of}
 use Rattle.iol_answers.specs.Statuses.{status_line}

@@ -5,7 +5,7 @@ use Rattle.serde_json.specs.View.{items_of}
 use Rattle.iol_json.specs.Json.{whole, port_data}
 use Rattle.iol_port.specs.Telling.{status_told}
 use Rattle.iol_trace.specs.Statuses.{Status}
-use Rattle.iol_commands.specs.Texts.{status_text}
+use Rattle.iol_texts.specs.Texts.{status_text}
 use Rattle.iol_answers.specs.Help.{help_texts}
 use Rattle.iol_answers.specs.Refusals.{name_of, words_of}
 use Rattle.iol_answers.specs.Statuses.{meaning_of}

@@ -2,8 +2,8 @@
 use Rattle.std.specs.Prelude.{ℕ, List, ◌++◌, codes, None}
 use Rattle.std.specs.Fmt.{decimal}
 use Rattle.iol_trace.specs.Statuses.{Status}
-use Rattle.iol_commands.specs.Texts.{status_text}
-use Rattle.iol_explain.specs.Statuses.{status_words}
+use Rattle.iol_texts.specs.Texts.{status_text}
+use Rattle.iol_texts.specs.Statuses.{status_words}
 
 -- the words for a status where nothing else is known of the port's device (format, Lines of a serving master)
 abbrev pub meaning_of : Status → List ℕ

@@ -2,14 +2,14 @@
 ghost use Rattle.std.specs.Prelude.{◌≡◌, IfOk, string_bytes};
 ghost use Rattle.std.specs.Fmt.{WritesOnOk};
 ghost use Rattle.std.specs.List.{flat_map};
-ghost use Rattle.iol_commands.specs.Recovered.{port_text};
+ghost use Rattle.iol_texts.specs.Recovered.{port_text};
 ghost use Rattle.iol_answers.specs.AnswerLines.{answer_lines, help_lines, refused_line, report_line};
 
 use crate::answer::Answer;
 use crate::help::help_texts;
 use crate::refusal::Refusal;
 use crate::report::PortReport;
-use iol_commands::PortText;
+use iol_texts::PortText;
 use iol_types::{PortId, PortState};
 use std::alloc::{AllocError, Global};
 use std::fmt;

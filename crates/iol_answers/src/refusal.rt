@@ -1,9 +1,8 @@
 //! Why a request is refused, or has failed.
 ghost use Rattle.std.specs.Prelude.{◌≡◌};
 
-use iol_commands::refusal_name;
 use iol_core::SubmitFault;
-use iol_explain::refusal_words;
+use iol_texts::{refusal_name, refusal_words};
 use iol_types::CommandFault;
 
 /// Why a request is refused, or has failed.

@@ -5,9 +5,8 @@ ghost use Rattle.iol_port.specs.Telling.{status_told};
 ghost use Rattle.iol_answers.specs.Objects.{status_members};
 
 use crate::report::PortReport;
-use iol_commands::StatusText;
-use iol_explain::StatusMeaning;
 use iol_json::members::with;
+use iol_texts::{StatusText, StatusWords};
 use serde_json::{Map, Value};
 use std::alloc::{AllocError, Global};
 
@@ -19,7 +18,11 @@ pub(crate) fn status_members(
     ensures { IfOk result (λ members. members_view members.entries ≡ status_members report.port (status_told report.status)) }
 {
     let status = Value::String(StatusText(report.status).to_string(alloc)?);
-    let words = Value::String(StatusMeaning(report.status).to_string(alloc)?);
+    let words = StatusWords {
+        status: report.status,
+        row: None,
+    };
+    let words = Value::String(words.to_string(alloc)?);
     let members = with(
         alloc,
         Map::new(alloc),

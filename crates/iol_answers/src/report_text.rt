@@ -1,8 +1,7 @@
 //! The line of a port's status.
 
 use crate::report::PortReport;
-use iol_commands::StatusText;
-use iol_explain::StatusMeaning;
+use iol_texts::{StatusText, StatusWords};
 use std::fmt;
 
 // The line of a port: its status, and its words.
@@ -13,7 +12,10 @@ impl fmt::Display for PortReport {
     ghost output = { λ report. Some (report_line report) };
 
     fn fmt<W: fmt::Write>(&self, f: &mut fmt::Formatter<W>) -> fmt::Result {
-        let words = StatusMeaning(self.status);
+        let words = StatusWords {
+            status: self.status,
+            row: None,
+        };
         writeln!(
             f,
             "port {} {} # {words}",

@@ -2,8 +2,5 @@ pub mod ImageLaws
 pub mod SaidParameters
 pub mod SaidDevices
 pub mod Accepted
-pub mod Hexadecimal
-pub mod OctetLines
-pub mod PortLines
 pub mod TraceLines
 pub mod Playing

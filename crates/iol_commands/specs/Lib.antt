@@ -5,7 +5,6 @@ pub mod Stop
 pub mod Devices
 pub mod Steps
 pub mod Images
-pub mod Texts
 pub mod Lines
 pub mod Recovered
 pub mod Played

@@ -1,19 +1,14 @@
 -- The lines of a trace.
 use Rattle.std.specs.Prelude.{ℕ, ◌==◌, Bool, false, if◌then◌else◌, List, [], ◌∷◌, ◌++◌, map, codes, Option, Some, None}
 use Rattle.std.specs.Option.{option_map_or}
-use Rattle.std.specs.List.{flat_map}
 use Rattle.std.specs.Fmt.{decimal}
 use Rattle.iol_types.specs.State.{State}
 use Rattle.iol_engine.specs.Events.{event_of}
 use Rattle.iol_run.specs.declared.run.Stamped.{Stamped}
 use Rattle.iol_trace.specs.Events.{Event, Accepted, Refused, Page, Exchange, Lost, Attended, Changed, Acknowledged, DiskFailed}
 use Rattle.iol_trace.specs.Statuses as trace
-use Rattle.iol_commands.specs.Texts.{hex_of, refusal_name, status_text}
-use Rattle.iol_commands.specs.Recovered.{recovered_text}
-
--- octets in hexadecimal, each behind a space (format, Texts)
-abbrev pub spaced : List ℕ → List ℕ
-spaced octets = flat_map (λ octet. codes " " ++ hex_of octet) octets
+use Rattle.iol_texts.specs.Texts.{refusal_name, spaced, status_text}
+use Rattle.iol_texts.specs.Recovered.{recovered_text}
 
 -- the line of a port with a word or a sign, and octets (format, Texts)
 abbrev pub octets_line : ℕ → List ℕ → List ℕ → List ℕ

@@ -4,10 +4,8 @@ ghost use Rattle.std.specs.Fmt.{WritesOnOk};
 ghost use Rattle.iol_engine.specs.Events.{event_of};
 ghost use Rattle.iol_commands.specs.Lines.{octets_line, event_text};
 
-use crate::names::refusal_name;
-use crate::octets::Spaced;
-use crate::status_text::StatusText;
 use iol_engine::Event;
+use iol_texts::{Spaced, StatusText, refusal_name};
 use iol_types::PortId;
 use std::fmt;
 

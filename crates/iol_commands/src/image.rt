@@ -11,9 +11,9 @@ ghost use Rattle.iol_commands.specs.Images.{IsFileCause, TellsWhy, formatted_tex
 ghost use Rattle.iol_commands.specs.Recovered.{TellsState};
 
 use crate::fault::Fault;
-use crate::state_text::Recovered;
 use iol_disk::{DiskFault, ImageFault, ImageFile, LockFile, SectorDisk};
 use iol_journal::{Geometry, Journal, RecoverFault};
+use iol_texts::Recovered;
 use std::alloc::Global;
 use std::fs::OpenFile;
 use std::os::unix::fs::FileExt;

@@ -4,7 +4,7 @@ ghost use Rattle.std.specs.Io.KnownBytes.{Appends};
 ghost use Rattle.iol_journal.specs.Geometry.{IsGeometry};
 ghost use Rattle.iol_commands.specs.Fault.{status_of};
 ghost use Rattle.iol_commands.specs.Images.{IsFormatCause, formatted_text};
-ghost use Rattle.iol_commands.specs.Recovered.{recovered_text};
+ghost use Rattle.iol_texts.specs.Recovered.{recovered_text};
 ghost use Rattle.iol_types.specs.State.{State};
 
 use crate::commands::{print, report};

@@ -11,10 +11,9 @@
 //! - `disk` has the disk of a run, `recovery` the journal on it, `devices` the devices at the ports, `steps` the steps of
 //!   a script, and `run` runs it.
 //! - `image` formats and shows the disk of an image file.
-//! - `trace_text`, `event_text`, `octets`, `status_text` and `names` have the lines of a trace, `state_text` and `entry_text` those of a
-//!   recovered state, and `fault` why a command fails.
+//! - `trace_text` and `event_text` have the lines of a trace, and `fault` why a command fails.
 //! - `commands` and `image_commands` are the commands over writers, and `picture` writes the file of a picture.
-//! - `examples` has words and lines of a trace and of a state, worked out.
+//! - `examples` has lines of a trace and of faults, worked out.
 //!
 //! Which texts can be run is defined in `specs/Runs.antt`, what the steps of a script are in `specs/Steps.antt`, the words
 //! of a trace in `specs/Texts.antt`, its lines in `specs/Lines.antt`, and those of a recovered state in
@@ -24,20 +23,15 @@
 mod commands;
 mod devices;
 mod disk;
-mod entry_text;
 mod event_text;
 pub mod examples;
 mod fault;
 mod geometry;
 mod image;
 mod image_commands;
-mod names;
-mod octets;
 mod picture;
 mod recovery;
 mod run;
-mod state_text;
-mod status_text;
 mod steps;
 mod trace_text;
 
@@ -47,11 +41,7 @@ pub use fault::Fault;
 pub use geometry::geometry_of;
 pub use image::{Shown, format_disk, opened, show_disk, text_of_disk};
 pub use image_commands::{format_image, show_image};
-pub use names::refusal_name;
-pub use octets::Spaced;
 pub use picture::write_picture;
 pub use recovery::recover;
 pub use run::{empty_disk, make_run, stop};
-pub use state_text::{PortText, Recovered};
-pub use status_text::StatusText;
 pub use trace_text::{is_said_loss, lost_port};

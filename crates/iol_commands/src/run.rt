@@ -10,7 +10,6 @@ use crate::devices::links_of;
 use crate::disk::failing;
 use crate::fault::Fault;
 use crate::recovery::recover;
-use crate::state_text::Recovered;
 use crate::steps::tasks_of;
 use iol_disk::{FaultDisk, MemoryDisk, Pick, SectorDisk};
 use iol_headline::run_schedule;
@@ -18,6 +17,7 @@ use iol_journal::Geometry;
 use iol_run::{Ended, RunFault, Stamped, Trace};
 use iol_script::{FailingCall, Script};
 use iol_sim::SimLink;
+use iol_texts::Recovered;
 use std::alloc::Global;
 
 // The events of a run, and what was recovered of its disk after the stop at its end.

@@ -4,8 +4,8 @@ use crate::look::look_of;
 use crate::mark::PortMark;
 use crate::scale::{LETTER, Scale};
 use crate::signs::{Sign, write_sign};
-use iol_commands::StatusText;
 use iol_port::PortStatus;
+use iol_texts::StatusText;
 use iol_types::PortId;
 use std::fmt;
 

@@ -3,7 +3,7 @@ use Rattle.std.specs.Prelude.{ℕ, Bool, true, false, if◌then◌else◌, List,
 use Rattle.iol_isdu.specs.declared.faults.IsduFault.{IsduFault}
 use Rattle.iol_isdu.specs.declared.messages.Answer.{Answer}
 use Rattle.iol_isdu.specs.declared.messages.Answer.TheVariants.{ReadOk, ReadFault, WriteOk, WriteFault, Busy}
-use Rattle.iol_explain.specs.ErrorTypes.{error_text}
+use Rattle.iol_texts.specs.ErrorTypes.{error_text}
 use Rattle.iol_explain.specs.Requests.{isdu_fault_words}
 use Rattle.iol_explain.specs.Values.{value_words}
 use Rattle.iol_explain.specs.declared.request_words.Asked.{Asked}

@@ -6,14 +6,14 @@ use Rattle.iol_ident.specs.Page.{page_of}
 use Rattle.iol_isdu.specs.Reading.{answer_of, request_of}
 use Rattle.iol_trace.specs.Events.{Event, Accepted, Refused, Page, Exchange, Lost, Attended, Changed, Acknowledged, DiskFailed}
 use Rattle.iol_trace.specs.Statuses.{Status}
-use Rattle.iol_commands.specs.Lines.{spaced}
-use Rattle.iol_commands.specs.Texts.{refusal_name, status_text}
+use Rattle.iol_texts.specs.Texts.{spaced}
+use Rattle.iol_texts.specs.Texts.{refusal_name, status_text}
 use Rattle.iol_explain.specs.Answers.{answer_words}
 use Rattle.iol_explain.specs.Known.{row_known}
 use Rattle.iol_explain.specs.Pages.{page_words}
-use Rattle.iol_explain.specs.Refusals.{refusal_words}
+use Rattle.iol_texts.specs.Refusals.{refusal_words}
 use Rattle.iol_explain.specs.Requests.{asked_by, request_words}
-use Rattle.iol_explain.specs.Statuses.{status_words}
+use Rattle.iol_texts.specs.Statuses.{status_words}
 use Rattle.iol_explain.specs.declared.known.Known.{Known}
 
 -- words behind a line (format, Explained runs)

@@ -6,7 +6,7 @@ use Rattle.iol_engine.specs.Events.{event_of}
 use Rattle.iol_run.specs.declared.run.Stamped.{Stamped}
 use Rattle.iol_trace.specs.Events.{Event}
 use Rattle.iol_commands.specs.Lines.{is_said}
-use Rattle.iol_commands.specs.Recovered.{recovered_text}
+use Rattle.iol_texts.specs.Recovered.{recovered_text}
 use Rattle.iol_explain.specs.DiskLines.{between, call_lines, of_run}
 use Rattle.iol_explain.specs.EventLines.{event_lines}
 use Rattle.iol_explain.specs.Telling.{after, first, known_for}

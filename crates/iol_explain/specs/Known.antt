@@ -8,13 +8,13 @@ use Rattle.iol_isdu.specs.declared.messages.Answer.{Answer}
 use Rattle.iol_isdu.specs.declared.messages.Answer.TheVariants.{ReadOk}
 use Rattle.iol_trace.specs.Statuses as trace
 use Rattle.iol_explain.specs.Objects.{one_octet, four_octets}
-use Rattle.iol_explain.specs.Rows.{row_of}
+use Rattle.iol_texts.specs.Rows.{row_of}
 use Rattle.iol_explain.specs.declared.known.Known.{Known}
 use Rattle.iol_explain.specs.declared.object.Object.TheVariants as object
 use Rattle.iol_explain.specs.declared.request_words.Asked.{Asked}
 use Rattle.iol_explain.specs.declared.request_words.Asked.TheVariants.{Read}
-use Rattle.iol_explain.specs.declared.row.Row.{Row}
-use Rattle.iol_explain.specs.declared.row.Row.TheVariants.{NotKept}
+use Rattle.iol_texts.specs.declared.row.Row.{Row}
+use Rattle.iol_texts.specs.declared.row.Row.TheVariants.{NotKept}
 
 -- nothing was told (own)
 abbrev pub blank : Known

@@ -1,13 +1,8 @@
 pub mod Objects
 pub mod Requests
-pub mod ErrorTypes
 pub mod Values
 pub mod Answers
 pub mod Pages
-pub mod Refusals
-pub mod Failures
-pub mod Rows
-pub mod Statuses
 pub mod Known
 pub mod Places
 pub mod ToldDisk

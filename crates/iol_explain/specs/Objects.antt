@@ -7,8 +7,8 @@ use Rattle.iol_types.specs.declared.key.TheConstants.{DATA_STORAGE}
 use Rattle.iol_dsindex.specs.Command.{ds_command_of}
 use Rattle.iol_dsindex.specs.declared.command.DsCommand.{DsCommand}
 use Rattle.iol_dsindex.specs.declared.object.TheConstants.{DS_COMMAND, STATE_PROPERTY, DATA_STORAGE_SIZE, PARAMETER_CHECKSUM, INDEX_LIST}
-use Rattle.iol_commands.specs.Lines.{spaced}
-use Rattle.iol_commands.specs.Texts.{hex_of, hex_digits}
+use Rattle.iol_texts.specs.Texts.{spaced}
+use Rattle.iol_texts.specs.Texts.{hex_of, hex_digits}
 use Rattle.iol_explain.specs.declared.object.Object.{Object}
 use Rattle.iol_explain.specs.declared.object.Object.TheVariants.{Parameter, Command, StateProperty, Size, Checksum, IndexList, Unnamed}
 

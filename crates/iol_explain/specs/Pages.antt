@@ -1,7 +1,7 @@
 -- The words for Direct Parameter page 1.
 use Rattle.std.specs.Prelude.{ℕ, Bool, true, false, List, ◌++◌, codes}
 use Rattle.iol_ident.specs.Page.{PageValue}
-use Rattle.iol_commands.specs.Texts.{hex_of, hex_digits}
+use Rattle.iol_texts.specs.Texts.{hex_of, hex_digits}
 
 -- whether a device knows ISDUs, in words (format, Explained runs)
 abbrev pub isdu_text : Bool → List ℕ

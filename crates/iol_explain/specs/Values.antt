@@ -13,7 +13,7 @@ use Rattle.iol_dsindex.specs.declared.list.Next.TheVariants as next
 use Rattle.iol_dsindex.specs.declared.property.State.{State}
 use Rattle.iol_dsindex.specs.declared.property.State.TheVariants.{Inactive, Upload, Download, Locked}
 use Rattle.iol_dsindex.specs.List.{reading_of}
-use Rattle.iol_commands.specs.Texts.{hex_digits}
+use Rattle.iol_texts.specs.Texts.{hex_digits}
 use Rattle.iol_explain.specs.Objects.{key_text, object_name, octet_words, one_octet, four_octets}
 use Rattle.iol_explain.specs.declared.object.Object.{Object}
 use Rattle.iol_explain.specs.declared.object.Object.TheVariants.{StateProperty, Size, Checksum, IndexList}

@@ -5,11 +5,11 @@ ghost use Rattle.iol_isdu.specs.Reading.{answer_of};
 ghost use Rattle.iol_explain.specs.Answers.{read_words, refused_words, unasked, written_well};
 ghost use Rattle.iol_explain.specs.Answers.{asks_read, asks_write};
 
-use crate::error_types::ErrorType;
 use crate::object::Object;
 use crate::request_words::{Asked, asked_by, isdu_fault_words};
 use crate::value_words::ValueWords;
 use iol_isdu::{Answer, IsduFault, read_answer};
+use iol_texts::ErrorType;
 use std::alloc::Global;
 use std::fmt;
 

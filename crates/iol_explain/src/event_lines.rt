@@ -2,24 +2,22 @@
 ghost use Rattle.std.specs.Prelude.{◌++◌, codes};
 ghost use Rattle.std.specs.Fmt.{WritesOnOk};
 ghost use Rattle.iol_core.specs.Telling.{refusal_of};
-ghost use Rattle.iol_commands.specs.Texts.{refusal_name};
+ghost use Rattle.iol_texts.specs.Texts.{refusal_name};
 ghost use Rattle.iol_port.specs.Telling.{status_told};
 ghost use Rattle.iol_engine.specs.Events.{event_of};
 ghost use Rattle.iol_explain.specs.EventLines.{acknowledged_line, event_lines, exchange_lines, loss_line};
 ghost use Rattle.iol_explain.specs.EventLines.{page_line, request_line, status_line, with_words};
-ghost use Rattle.iol_explain.specs.Refusals.{refusal_words};
+ghost use Rattle.iol_texts.specs.Refusals.{refusal_words};
 
 use crate::answer_words::AnswerWords;
 use crate::known::Known;
 use crate::page_words::PageWords;
-use crate::refusals::refusal_words;
 use crate::request_words::RequestWords;
-use crate::status_words::StatusWords;
-use iol_commands::{Spaced, StatusText, refusal_name};
 use iol_core::SubmitFault;
 use iol_engine::Event;
 use iol_ident::PAGE_OCTETS;
 use iol_port::PortStatus;
+use iol_texts::{Spaced, StatusText, StatusWords, refusal_name, refusal_words};
 use iol_types::PortId;
 use std::alloc::Global;
 use std::fmt;
@@ -116,7 +114,8 @@ fn write_status<W: fmt::Write>(
 ) -> fmt::Result
     ensures { WritesOnOk W.write_str_gives f.old result (status_line known port (status_told status)) f.new }
 {
-    let words = StatusWords { status, known };
+    let row = known.row();
+    let words = StatusWords { status, row };
     writeln!(
         f,
         "port {} {}  # {words}",

@@ -14,14 +14,13 @@ ghost use Rattle.iol_explain.specs.declared.explained.Explained.{Explained};
 
 use crate::explained::Explained;
 use crate::told_disk::{ToldCall, ToldDisk, ToldEnd};
-use iol_commands::{
-    Fault, Playable, Recovered, empty_disk, make_run, print, read_playable, report, stop,
-};
+use iol_commands::{Fault, Playable, empty_disk, make_run, print, read_playable, report, stop};
 use iol_disk::{FaultDisk, MemoryDisk, Pick};
 use iol_journal::Geometry;
 use iol_run::{Stamped, Trace};
 use iol_script::Script;
 use iol_sim::SimLink;
+use iol_texts::Recovered;
 use std::alloc::Global;
 use std::io::Write;
 

@@ -7,9 +7,10 @@ use crate::disk_lines::{calls_between, calls_of_run, write_calls};
 use crate::event_lines::write_event;
 use crate::telling::Telling;
 use crate::told_disk::ToldCall;
-use iol_commands::{Recovered, is_said_loss};
+use iol_commands::is_said_loss;
 use iol_journal::Geometry;
 use iol_run::Stamped;
+use iol_texts::Recovered;
 use std::alloc::Global;
 use std::fmt;
 

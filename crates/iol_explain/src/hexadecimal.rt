@@ -9,7 +9,7 @@ pub(crate) struct TwoDigits(pub(crate) u8);
 
 impl fmt::Display for TwoDigits {
     ghost use Rattle.std.specs.Prelude.{Some};
-    ghost use Rattle.iol_commands.specs.Texts.{hex_of};
+    ghost use Rattle.iol_texts.specs.Texts.{hex_of};
 
     ghost output = { λ digits. Some (hex_of digits.0) };
 
@@ -26,11 +26,11 @@ pub(crate) struct FourDigits(pub(crate) u16);
 
 impl fmt::Display for FourDigits {
     ghost use Rattle.std.specs.Prelude.{Some};
-    ghost use Rattle.iol_commands.specs.Texts.{hex_digits};
+    ghost use Rattle.iol_texts.specs.Texts.{hex_digits};
 
     ghost output = { λ digits. Some (hex_digits 4 digits.0) };
 
-    #[tactic(auto, using(iol_commands::proofs::Hexadecimal::hex_four))]
+    #[tactic(auto, using(iol_texts::proofs::Hexadecimal::hex_four))]
     fn fmt<W: fmt::Write>(&self, f: &mut fmt::Formatter<W>) -> fmt::Result {
         let number = self.0;
         write!(f, "{number:04X}")
@@ -43,11 +43,11 @@ pub(crate) struct SixDigits(pub(crate) DeviceId);
 
 impl fmt::Display for SixDigits {
     ghost use Rattle.std.specs.Prelude.{Some};
-    ghost use Rattle.iol_commands.specs.Texts.{hex_digits};
+    ghost use Rattle.iol_texts.specs.Texts.{hex_digits};
 
     ghost output = { λ digits. Some (hex_digits 6 digits.0) };
 
-    #[tactic(auto, using(iol_commands::proofs::Hexadecimal::hex_six))]
+    #[tactic(auto, using(iol_texts::proofs::Hexadecimal::hex_six))]
     fn fmt<W: fmt::Write>(&self, f: &mut fmt::Formatter<W>) -> fmt::Result {
         let number = self.0.number();
         write!(f, "{number:06X}")
@@ -60,11 +60,11 @@ pub(crate) struct EightDigits(pub(crate) u32);
 
 impl fmt::Display for EightDigits {
     ghost use Rattle.std.specs.Prelude.{Some};
-    ghost use Rattle.iol_commands.specs.Texts.{hex_digits};
+    ghost use Rattle.iol_texts.specs.Texts.{hex_digits};
 
     ghost output = { λ digits. Some (hex_digits 8 digits.0) };
 
-    #[tactic(auto, using(iol_commands::proofs::Hexadecimal::hex_eight))]
+    #[tactic(auto, using(iol_texts::proofs::Hexadecimal::hex_eight))]
     fn fmt<W: fmt::Write>(&self, f: &mut fmt::Formatter<W>) -> fmt::Result {
         let number = self.0;
         write!(f, "{number:08X}")

@@ -10,11 +10,11 @@ use crate::answer_words::answer_in;
 use crate::object::Object;
 use crate::octets::{four_octets, one_octet};
 use crate::request_words::{Asked, asked_by};
-use crate::row::{Row, row_of};
 use iol_dsindex::StateProperty;
 use iol_engine::ToldWork;
 use iol_isdu::Answer;
 use iol_port::PortStatus;
+use iol_texts::{Row, row_of};
 use iol_types::Validation;
 
 // What was told of a port so far: its work, and what it has read of its device since it began to look at it.

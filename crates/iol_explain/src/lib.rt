@@ -6,10 +6,10 @@
 //! Modules in reading order:
 //! - `explain` is the command that explains a run, `explained` has its lines, and `telling` what they have told.
 //! - `event_lines` has the lines of an event. Its words are those of `page_words`, `request_words`, `answer_words` with
-//!   `value_words` and `list_words`, `refusals`, `status_words` and `failure_words`.
-//! - `row` and `known` say by which line of the table of decisions a port decides.
+//!   `value_words` and `list_words`, and those of refusals and statuses of `iol_texts`.
+//! - `known` says what was told of a port, and so by which line of the table of decisions it decides.
 //! - `told_disk` is a disk whose calls are told, `place` what stands in a sector, and `disk_lines` has the lines of disk calls.
-//! - `object`, `octets`, `hexadecimal` and `error_types` are words that the others use.
+//! - `object`, `octets` and `hexadecimal` are words that the others use.
 //! - `examples` has lines and words worked out, and `laws` a law of words.
 //!
 //! What is printed is defined in `specs/Explained.antt`, the lines of an event in `specs/EventLines.antt`, those of a disk
@@ -18,12 +18,10 @@
 
 mod answer_words;
 mod disk_lines;
-mod error_types;
 mod event_lines;
 pub mod examples;
 mod explain;
 mod explained;
-mod failure_words;
 mod hexadecimal;
 mod known;
 pub mod laws;
@@ -32,10 +30,7 @@ mod object;
 mod octets;
 mod page_words;
 mod place;
-mod refusals;
 mod request_words;
-mod row;
-mod status_words;
 mod telling;
 mod told_disk;
 mod value_words;
@@ -44,6 +39,4 @@ pub use disk_lines::{calls_between, calls_of_run};
 pub use explain::{explain_text, explained_run};
 pub use explained::Explained;
 pub use place::{Place, place_of};
-pub use refusals::refusal_words;
-pub use status_words::StatusMeaning;
 pub use told_disk::ToldCall;

@@ -2,8 +2,8 @@
 ghost use Rattle.std.specs.Prelude.{◌≡◌};
 ghost use Rattle.iol_explain.specs.Objects.{command_in, four_octets, one_octet};
 
-use iol_commands::Spaced;
 use iol_dsindex::DsCommand;
+use iol_texts::Spaced;
 use std::fmt;
 
 // The octet, where there is one and no other.

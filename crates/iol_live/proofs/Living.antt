@@ -13,7 +13,8 @@ use Rattle.iol_journal.specs.Kept.{EachMeans, IsKept}
 use Rattle.iol_journal.specs.Meaning.{Cause, Meaning, unformatted, too_small, damaged, standing_in}
 use Rattle.iol_flush.specs.Flushing.{Rests}
 use Rattle.iol_commands.specs.Images.{TellsWhy}
-use Rattle.iol_commands.specs.Recovered.{TellsState, recovered_text}
+use Rattle.iol_texts.specs.Recovered.{recovered_text}
+use Rattle.iol_commands.specs.Recovered.{TellsState}
 use Rattle.iol_commands.specs.declared.fault.Fault.{Fault}
 use Rattle.iol_commands.specs.declared.fault.Fault.TheVariants.{NotFormatted, AlreadyFormatted, TooSmall, Damaged, Disk as OfDisk, Memory}
 use Rattle.iol_commands.specs.declared.fault.Fault.TheVariants.{Words, File, InUse, Thread, Call, Fit, Drivers, Script, Geometry}

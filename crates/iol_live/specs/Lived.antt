@@ -7,7 +7,7 @@ use Rattle.iol_types.specs.State.{State, after}
 use Rattle.iol_disk.specs.Disk.{Disk, Shows}
 use Rattle.iol_journal.specs.Meaning.{Standing, standing_in}
 use Rattle.iol_commands.specs.Fault.{status_of}
-use Rattle.iol_commands.specs.Recovered.{recovered_text}
+use Rattle.iol_texts.specs.Recovered.{recovered_text}
 use Rattle.iol_commands.specs.declared.fault.Fault.{Fault}
 use Rattle.iol_commands.specs.declared.fault.Fault.TheVariants.{Fit, Thread, Call, Disk as OfDisk, Memory, Script}
 use Rattle.iol_master.specs.declared.ending.StartFault.{StartFault}

@@ -1,7 +1,7 @@
 //! What is printed of a running master, worked out by the check: a text that is wrong in a definition and in the code alike is
 //! refused here.
 ghost use Rattle.std.specs.Prelude.{◌≡◌, true, false, [], ◌∷◌, codes};
-ghost use Rattle.iol_commands.specs.Recovered.{recovered_text};
+ghost use Rattle.iol_texts.specs.Recovered.{recovered_text};
 ghost use Rattle.iol_types.specs.declared.command.Change.TheVariants.{Clear, Rollback};
 ghost use Rattle.iol_live.specs.Asked.{changes_of};
 ghost use Rattle.iol_live.specs.Lived.{fits, lived_text};

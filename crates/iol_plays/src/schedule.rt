@@ -1,12 +1,13 @@
 //! The steps of a script, made on a new disk in memory, and what is found on the disk behind a power stop.
 
-use iol_commands::{Recovered, links_of, read_playable};
+use iol_commands::{links_of, read_playable};
 use iol_disk::{MemoryDisk, Pick};
 use iol_engine::Event;
 use iol_journal::{Journal, RecoverFault, format};
 use iol_run::{RunFault, Stamped, Task, Trace, run_schedule};
 use iol_script::Step;
 use iol_sim::SimLink;
+use iol_texts::Recovered;
 use iol_types::{Change, MasterState};
 use std::alloc::{AllocError, Global};
 

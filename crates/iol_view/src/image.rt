@@ -8,9 +8,10 @@ ghost use Rattle.iol_commands.specs.Fault.{status_of};
 ghost use Rattle.iol_commands.specs.Images.{TellsWhy};
 ghost use Rattle.iol_view.specs.Json.{IsSomeState, ReadsAs, TellsStateAsJson};
 
-use iol_commands::{Fault, Recovered, Shown, opened, print, report, show_disk};
+use iol_commands::{Fault, Shown, opened, print, report, show_disk};
 use iol_disk::{LockFile, SectorDisk};
 use iol_json::json_text;
+use iol_texts::Recovered;
 use std::alloc::Global;
 use std::fs::OpenFile;
 use std::io::Write;

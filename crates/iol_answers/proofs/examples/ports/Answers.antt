@@ -1,7 +1,7 @@
 use Rattle.std.proofs.Common.{refl}
 use Rattle.std.specs.Fmt.{digits}
 use Rattle.json.specs.Print.{escape_byte}
-use Rattle.iol_commands.specs.Texts.{hex_digits}
+use Rattle.iol_texts.specs.Texts.{hex_digits}
 use Rattle.iol_answers.proofs.examples.ports.Goals as goal
 
 pub returns-clause-words : goal.returns-clause-words

@@ -1,6 +1,6 @@
 use Rattle.std.proofs.Common.{refl}
 use Rattle.std.specs.Fmt.{digits}
-use Rattle.iol_commands.specs.Texts.{hex_digits}
+use Rattle.iol_texts.specs.Texts.{hex_digits}
 use Rattle.iol_explain.proofs.examples.values.Goals as goal
 
 pub returns-clause-upload : goal.returns-clause-upload

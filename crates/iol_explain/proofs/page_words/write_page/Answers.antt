@@ -1,7 +1,7 @@
 use Rattle.std.proofs.Common.{rules, ◌++◌, append_assoc}
 use Rattle.std.specs.Prelude.{codes}
 use Rattle.std.proofs.lemmas.Grind.{put_two}
-use Rattle.iol_commands.specs.Texts.{hex_of, hex_digits}
+use Rattle.iol_texts.specs.Texts.{hex_of, hex_digits}
 use Rattle.iol_explain.specs.Pages.{page_words}
 use Rattle.iol_explain.proofs.page_words.write_page.Goals as goal
 

@@ -1,7 +1,7 @@
 use Rattle.std.proofs.Common.{rules, ◌≡◌, ℕ, List, ◌++◌, ap, ◌∙◌}
 use Rattle.std.specs.Prelude.{codes}
 use Rattle.std.proofs.lemmas.Grind.{put_two}
-use Rattle.iol_commands.specs.Recovered.{recovered_text}
+use Rattle.iol_texts.specs.Recovered.{recovered_text}
 use Rattle.iol_run.specs.declared.run.Stamped.{Stamped}
 use Rattle.iol_explain.specs.DiskLines.{of_run}
 use Rattle.iol_explain.specs.Explained.{run_lines, explained_text}

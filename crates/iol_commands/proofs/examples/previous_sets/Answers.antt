@@ -1,8 +1,0 @@
-use Rattle.std.proofs.Common.{refl}
-use Rattle.std.specs.Fmt.{digits}
-use Rattle.iol_commands.specs.Texts.{hex_digits}
-use Rattle.iol_commands.proofs.examples.previous_sets.Goals as goal
-
-pub returns : goal.returns
-unfolding digits hex_digits
-returns c = refl
