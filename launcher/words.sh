@@ -30,8 +30,27 @@ is_number() {
     [ "$digits" -le 65535 ] 2>/dev/null
 }
 
-# Whether the words are a whole `draw`, `format`, `show`, `map` or `live`, which works on a file and so wants the proved program.
+# Whether the words are a whole `serve`, which works on a file too. Whether its drivers can be read is judged by the program.
+ask_to_serve() {
+    [ "${1-}" = serve ] || return 1
+    shift
+    options=yes paths=0
+    while [ $# -gt 0 ]; do
+        case $options,$1 in
+            yes,--) options=no ;;
+            yes,--json | yes,--port=* | yes,--devices=* | yes,--silence=*) ;;
+            yes,--port | yes,--devices | yes,--silence) [ $# -gt 1 ] && shift || return 1 ;;
+            yes,-?*) return 1 ;;
+            *) paths=$((paths + 1)) ;;
+        esac
+        shift
+    done
+    [ "$paths" -eq 1 ]
+}
+
+# Whether the words are a whole `draw`, `format`, `show`, `map`, `live` or `serve`, which works on a file and so wants the proved program.
 ask_for_file() {
+    ! ask_to_serve "$@" || return 0
     case ${1-} in draw | format | show | map | live) command=$1 ;; *) return 1 ;; esac
     shift
     options=yes paths=0 ports=0 slots=0 forces=0 receipts=0 jsons=0

@@ -86,7 +86,8 @@ def exchanges_in(log):
 
 
 def follow_example(folder, files, example):
-    """The drivers of an example's devices, one after another, are asked what `run` prints for the same devices and steps."""
+    """The drivers of an example's devices, one after another, are asked what `run` prints for the same devices and steps. Each time
+    that a driver ends its terminal hangs up."""
     script = f"{TOP}/examples/{example}.toml"
     with open(script, encoding="utf-8") as file:
         devices = devices_of(file.read(), 1)
@@ -99,7 +100,7 @@ def follow_example(folder, files, example):
 
     driver = start(devices[0])
     try:
-        with Served(image, "--json", "--port", f"1={driver.port}") as master:
+        with Served(image, "--json", "--port", f"1={driver.port}", is_service=files == "pty") as master:
             master.change("configure", 1, **MANUAL)
             if example == "rollback" and master.ask("rollback", 1).get("refused") != "NoPrevious":
                 raise Different("there is a previous set")

@@ -48,12 +48,13 @@ def read_lines(octets):
 class Served:
     """A master that serves an image, what was asked of it, and what it printed."""
 
-    def __init__(self, image, *words, folder=None):
-        """Starts the program in a folder. It prints events as JSON if `words` say so."""
+    def __init__(self, image, *words, folder=None, is_service=False):
+        """Starts the program in a folder, perhaps as a supervisor does (docs/DRIVERS.md). It prints events as JSON if `words` say so."""
         self.lines, self.asked, self.changed = [], {}, threading.Condition()
         self.is_ended = False
         pipes = {"stdin": subprocess.PIPE, "stdout": subprocess.PIPE, "stderr": subprocess.PIPE}
-        self.process = subprocess.Popen([IOLMASTER, "serve", image, *words], cwd=folder, **pipes)
+        start = ["sh", "-c", "trap '' HUP && exec \"$@\"", "sh"] if is_service else []
+        self.process = subprocess.Popen([*start, IOLMASTER, "serve", image, *words], cwd=folder, start_new_session=is_service, **pipes)
         self.reader = threading.Thread(target=self.read, daemon=True)
         self.reader.start()
 

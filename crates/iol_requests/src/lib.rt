@@ -30,8 +30,6 @@ mod part;
 mod place;
 mod quote;
 mod request;
-#[cfg(test)]
-mod tests;
 mod verb;
 mod word;
 mod words;

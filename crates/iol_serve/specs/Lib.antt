@@ -1,6 +1,7 @@
 pub mod EitherLink
 pub mod News
 pub mod Outcomes
+pub mod Patience
 pub mod Reports
 pub mod Spelled
 pub mod Waiting

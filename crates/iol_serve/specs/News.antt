@@ -1,5 +1,5 @@
 -- What is printed of news.
-use Rattle.std.specs.Prelude.{◌≡◌, ◌≢◌}
+use Rattle.std.specs.Prelude.{◌≡◌, ◌≢◌, ◌-◌, List, Option, Some, None, slice_get, slice_set}
 use Rattle.iol_port.specs.declared.status.PortStatus.{PortStatus}
 use Rattle.iol_port.specs.declared.status.PortStatus.TheVariants.{Lost, Starting}
 use Rattle.iol_master.specs.declared.news.News.{News}
@@ -17,3 +17,18 @@ SaysNews (news.Durable number) said = said ≡ event.Durable number
 pub record IsTold (last status : PortStatus) : Type 0 where
   pub other : status ≢ last
   pub no_look : last ≡ Lost → status ≢ Starting
+
+-- news are told, where these statuses of ports were told last, port 1 first: that more is durable always is (own)
+abbrev pub AreTold : List PortStatus → News → Type 0
+AreTold told (news.Status port status) = (last : PortStatus) × (slice_get told (port - 1) ≡ Some last) × IsTold last status
+AreTold told (news.Durable number) = Unit {0}
+
+-- the statuses that were told last, once news are told (own)
+abbrev pub told_with : List PortStatus → News → List PortStatus
+told_with told (news.Status port status) = slice_set told (port - 1) status
+told_with told (news.Durable number) = told
+
+-- news are told by an event that says them, or they are none that are told; and which statuses were told last before and since (own)
+abbrev pub Tells : List PortStatus → News → Option Event → List PortStatus → Type 0
+Tells before news (Some event) after = AreTold before news × SaysNews news event × (after ≡ told_with before news)
+Tells before news None after = (AreTold before news → ⊥) × (after ≡ before)

@@ -1,9 +1,10 @@
 -- What comes of a request of a port.
-use Rattle.std.specs.Prelude.{◌≡◌, ◌+◌, ◌<◌, ◌≤◌, ℕ, List, length, Some}
+use Rattle.std.specs.Prelude.{◌≡◌, ◌+◌, ◌-◌, ◌<◌, ◌≤◌, ℕ, List, length, take, Some}
 use Rattle.iol_types.specs.Command.{CommandValue, command_of, port_asked}
 use Rattle.iol_types.specs.State.{Port, port_numbered}
 use Rattle.iol_front.specs.Fronts.{Start}
 use Rattle.iol_core.specs.Standing.{state_at}
+use Rattle.iol_headline.specs.Lists.{IsLawfulList, SetsWereUploaded}
 use Rattle.iol_master.specs.Receipts.{StandsAt}
 use Rattle.iol_master.specs.Faults.{IsCallFault, IsReadFault}
 use Rattle.iol_master.specs.declared.client.CallFault.{CallFault}
@@ -41,12 +42,15 @@ HasAsked start before after command (Refused why) =
     (after ≡ before) × (fault : CallFault) × (why ≡ call_refusal fault) × IsCallFault start (start.number + length before) command fault
 
 -- what comes of a read: the port has its state after a number of commands, no fewer than were seen before, and of those that are seen
--- since; or it is refused for such a cause (own)
+-- since, which a lawful trace accepted; each set of it was there at the start or was uploaded whole. Or it is refused for such a
+-- cause (own)
 abbrev pub HasRead : Start → List CommandValue → List CommandValue → ℕ → Outcome → Type 0
 HasRead start before after port (Durable number) = ⊥
 HasRead start before after port (Found number view) =
     (number ≡ port) × (start.number + length before ≤ view.number) × (view.number ≤ start.number + length after)
     × (port_numbered (state_at start after view.number) port ≡ Some view.port)
+    × IsLawfulList start view.number (take (view.number - start.number) after)
+    × SetsWereUploaded start view.number (take (view.number - start.number) after) port view.port
 HasRead start before after port (Refused why) =
     (fault : ReadFault) × (why ≡ read_refusal fault) × IsReadFault start.state port (start.number + length before) fault
 

@@ -1,16 +1,20 @@
 //! Requests are read and answered, and then the master is ended.
 
+ghost use Rattle.std.specs.Prelude.{◌≡◌};
+ghost use Rattle.iol_commands.specs.Fault.{status_of};
+
 use crate::hearing::Heard;
 use crate::printing::Printer;
 use crate::reporting::{Reporter, report_all};
 use crate::responding::Responder;
 use crossbeam_channel::Receiver;
 use iol_answers::Event;
+use iol_commands::Fault;
 use iol_disk::SectorDisk;
 use iol_front::Name;
 use iol_master::{Ending, Master};
 use iol_requests::Spelling;
-use std::alloc::{AllocError, Global};
+use std::alloc::{AllocError, AllocFailed, Global};
 use std::sync::Wait;
 use std::sync::atomic::{AtomicBool, Ordering};
 use std::thread;
@@ -39,6 +43,23 @@ pub(crate) enum Unserved {
 impl From<AllocError> for Unserved {
     fn from(_: AllocError) -> Unserved {
         Unserved::Memory
+    }
+}
+
+impl<T: Drop> From<AllocFailed<T>> for Unserved {
+    fn from(_: AllocFailed<T>) -> Unserved {
+        Unserved::Memory
+    }
+}
+
+impl From<Unserved> for Fault<'_> {
+    ghost from_gives = { λ _ fault. status_of fault ≡ 1 };
+
+    fn from(unserved: Unserved) -> Self {
+        match unserved {
+            Unserved::Memory => Fault::Memory,
+            Unserved::Thread => Fault::Thread,
+        }
     }
 }
 

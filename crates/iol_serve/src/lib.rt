@@ -1,20 +1,27 @@
-//! A master that serves until it is told to end: requests come in line by line, and answers and events are printed.
+//! `iolmaster serve`: a master that runs until it is told to end, on an image file, with drivers at its ports.
 //!
-//! In come a journal, a link for each port, and lines of requests; out go lines of answers and events. A request of a port is asked
-//! by a thread of that port, so that requests of different ports do not wait for one another; a status is answered at once. One
-//! thread alone prints. No command of the program calls it so far.
+//! In come the path of an image, a link for each port, and lines of requests; out go lines of answers and events. A request of a
+//! port is asked by a thread of that port, so that requests of different ports do not wait for one another; a status is answered at
+//! once. One thread alone prints.
 //!
 //! Modules in reading order: `hearing`, the thread that reads lines; `spelling` and `printing`, what is printed and who prints it;
 //! `waiting`, how many requests wait; `asking`, the thread of a port; `responding`, who has requests answered; `reporting`, the
 //! thread that tells what is new; `conducting`, the thread that has requests answered and ends the master; `serving`, a master on
-//! any disk with any links; `either_link` and `paced_link`, links over links.
+//! any disk with any links; `either_link` and `paced_link`, links over links; `driver_files` and
+//! `driver_threads`, the files of a driver and who reads and writes them; `file_transport` and `patience`, a transport over these
+//! threads, and how long it waits; `command`, the command on an image file.
 #![tactic(auto)]
 
 mod asking;
+mod command;
 mod conducting;
+mod driver_files;
+mod driver_threads;
 mod either_link;
+mod file_transport;
 mod hearing;
 mod paced_link;
+mod patience;
 mod printing;
 mod reporting;
 mod responding;
@@ -22,6 +29,7 @@ mod serving;
 mod spelling;
 mod waiting;
 
+pub use command::{Driver, Serving, serve_image};
 pub use either_link::EitherLink;
 pub use paced_link::{CYCLE_MILLISECONDS, PacedLink};
 pub use printing::{Printed, Prompt};

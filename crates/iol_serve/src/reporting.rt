@@ -1,7 +1,8 @@
 //! The thread that reports what is new.
 
-ghost use Rattle.std.specs.Prelude.{◌↔◌, IfSome, IsTrue};
-ghost use Rattle.iol_serve.specs.News.{IsTold, SaysNews};
+ghost use Rattle.std.specs.Prelude.{◌↔◌, IsTrue};
+ghost use Rattle.iol_master.specs.declared.news.News.TheVariants.{Status};
+ghost use Rattle.iol_serve.specs.News.{IsTold, Tells};
 
 use crate::printing::Printer;
 use iol_answers::Event;
@@ -43,29 +44,25 @@ impl<F: Name> Reporter<F> {
 
     // The event that says what is new, unless it is that a port looks again for a device that it has lost.
     fn event_of(&mut self, news: News) -> Option<Event>
-        ensures { IfSome result (SaysNews news) }
+        ensures { Tells self.old.told.items news result self.new.told.items }
     {
         match news {
             News::Durable { number } => Some(Event::Durable { number }),
-            News::Status { port, status } => {
-                if self.is_told(port, status) {
-                    Some(Event::Status { port, status })
-                } else {
-                    None
-                }
-            }
+            News::Status { port, status } => self.status_event(port, status),
         }
     }
 
-    // Whether a new status of a port is to be told. It is then the one that was told last.
-    fn is_told(&mut self, port: PortId, status: PortStatus) -> bool {
-        match self.told.get_mut(port.place()) {
-            Some(last) if is_told(*last, status) => {
-                *last = status;
-                true
-            }
-            _ => false,
+    // The event that says a new status of a port, if it is told. It is then the one that was told last.
+    fn status_event(&mut self, port: PortId, status: PortStatus) -> Option<Event>
+        ensures { Tells self.old.told.items (Status port status) result self.new.told.items }
+    {
+        let place = port.place();
+        let last = self.told.get(place)?;
+        if !is_told(*last, status) {
+            return None;
         }
+        self.told[place] = status;
+        Some(Event::Status { port, status })
     }
 }
 

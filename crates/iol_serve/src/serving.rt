@@ -3,7 +3,7 @@
 ghost use Rattle.std.specs.Prelude.{◌≡◌, [], length, vec_len, IfErr};
 ghost use Rattle.iol_commands.specs.Fault.{status_of};
 
-use crate::conducting::{Conducted, Served, Unserved, conduct};
+use crate::conducting::{Conducted, Served, conduct};
 use crate::hearing::{Heard, Lines, hand_on};
 use crate::printing::{Printed, Printer, PrintingThread, Prompt, printing};
 use crossbeam_channel::{Receiver, Sender};
@@ -253,8 +253,7 @@ fn ended<D: SectorDisk + Drop, F: Name>(
     match (ending, started) {
         (Ending::Faulted(_, _), _) => Err(Fault::Disk),
         (Ending::Unwritten(_, _), _) => Err(Fault::Memory),
-        (Ending::Closed(_, _), Err(Unserved::Memory)) => Err(Fault::Memory),
-        (Ending::Closed(_, _), Err(Unserved::Thread)) => Err(Fault::Thread),
+        (Ending::Closed(_, _), Err(unserved)) => Err(Fault::from(unserved)),
         (Ending::Closed(_, _), Ok(())) => Ok(printed),
     }
 }

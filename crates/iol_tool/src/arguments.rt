@@ -3,6 +3,7 @@
 ghost use Rattle.std.specs.Prelude.{◌≤◌};
 
 use crate::script_file::{is_memory, read_script};
+use crate::serving::{Host, serve_file};
 use crate::version::version_text;
 use iol_check::check_text;
 use iol_commands::{Fault, format_image, print, report, run_text, show_image};
@@ -12,8 +13,8 @@ use iol_explain::explain_text;
 use iol_live::{Telling, live_image};
 use iol_view::{draw_map, json_image, map_image};
 use iol_words::{Asked, OnScript, Unasked, read_words};
-use std::fs::OpenFile;
-use std::io::Write;
+use std::fs::{File, OpenFile};
+use std::io::{Read, Write};
 use std::os::unix::fs::FileExt;
 use std::rt::{Env, Files};
 use std::sync::Wait;
@@ -24,15 +25,16 @@ use std::time::Clock;
 // help and the version, and else that of the command. Of a master that runs, `err` is told what `telling` says, unless the
 // words ask for receipts.
 pub(crate) fn run_program<
-    F: FileExt + OpenFile + LockFile + Drop + Send + 'static,
-    R: Env + Files<File = F> + AllocGlobal + Threads + Wait + Clock + Copy + Send + 'static,
+    R: Env + Files<File = File> + AllocGlobal + Threads + Wait + Clock + Copy + Send + 'static,
+    I: Read + Drop + Send + 'static,
+    P: Write + Drop + Send + 'static,
     W: Write,
     E: Write,
->(rt: &R, telling: Telling, out: &mut W, err: &mut E) -> u8
+>(rt: &R, telling: Telling, host: Host<I, P>, out: &mut W, err: &mut E) -> u8
     ensures { result ≤ 2 }
 {
     match words(rt) {
-        Ok(words) => run_words(rt, words.as_slice(), telling, out, err),
+        Ok(words) => run_words(rt, words.as_slice(), telling, host, out, err),
         Err(fault) => report(err, &fault),
     }
 }
@@ -47,28 +49,30 @@ fn words<R: Env + AllocGlobal>(rt: &R) -> Result<Vec<String>, Fault<'static>> {
 
 // Carries out the command that these words name, the first of which is the name of the program.
 fn run_words<
-    F: FileExt + OpenFile + LockFile + Drop + Send + 'static,
-    R: Files<File = F> + AllocGlobal + Threads + Wait + Clock + Copy + Send + 'static,
+    R: Files<File = File> + AllocGlobal + Threads + Wait + Clock + Copy + Send + 'static,
+    I: Read + Drop + Send + 'static,
+    P: Write + Drop + Send + 'static,
     W: Write,
     E: Write,
->(rt: &R, words: &[String], telling: Telling, out: &mut W, err: &mut E) -> u8
+>(rt: &R, words: &[String], telling: Telling, host: Host<I, P>, out: &mut W, err: &mut E) -> u8
     ensures { result ≤ 2 }
 {
     let Ok(version) = version_text(rt.alloc()) else {
         return report(err, &Fault::Memory);
     };
     match read_words(rt.alloc(), words, version.as_str()) {
-        Ok(asked) => carry_out(rt, asked, telling, out, err),
+        Ok(asked) => carry_out(rt, asked, telling, host, out, err),
         Err(unasked) => answer(&unasked, out, err),
     }
 }
 
 fn carry_out<
-    F: FileExt + OpenFile + LockFile + Drop + Send + 'static,
-    R: Files<File = F> + AllocGlobal + Threads + Wait + Clock + Copy + Send + 'static,
+    R: Files<File = File> + AllocGlobal + Threads + Wait + Clock + Copy + Send + 'static,
+    I: Read + Drop + Send + 'static,
+    P: Write + Drop + Send + 'static,
     W: Write,
     E: Write,
->(rt: &R, asked: Asked<'_>, telling: Telling, out: &mut W, err: &mut E) -> u8
+>(rt: &R, asked: Asked<'_>, telling: Telling, host: Host<I, P>, out: &mut W, err: &mut E) -> u8
     ensures { result ≤ 2 }
 {
     match asked {
@@ -88,6 +92,7 @@ fn carry_out<
             let telling = if receipts { Telling::Receipts } else { telling };
             live_file(rt, image, script, telling, out, err)
         }
+        Asked::Serve(words) => serve_file(rt, &words, host, err),
         Asked::Show { image, json } => show_file(rt, image, json, out, err),
         Asked::Map {
             image,

@@ -2,18 +2,21 @@
 //!
 //! In come the words of the program; out comes the exit status, with what the command writes to standard output and standard
 //! error. The words are read by `iol_words`; the commands themselves are those of `iol_commands`, `iol_check`, `iol_explain`,
-//! `iol_draw`, `iol_view` and `iol_live`.
+//! `iol_draw`, `iol_view`, `iol_live` and `iol_serve`.
 //!
-//! Modules in reading order: `arguments` carries out over writers what words ask for, `script_file` reads a script from its
-//! file, and `version` has what `--version` prints.
+//! Modules in reading order: `arguments` carries out over writers what words ask for, `serving` has what `serve` asks for,
+//! `script_file` reads a script from its file, and `version` has what `--version` prints.
 #![tactic(auto)]
 
 mod arguments;
 mod script_file;
+mod serving;
 mod version;
 
 use arguments::run_program;
 use iol_live::Telling;
+use iol_serve::Prompt;
+use serving::Host;
 use std::io::IsTerminal;
 use std::process::ExitCode;
 
@@ -23,5 +26,16 @@ fn main(rt: HostRuntime) -> ExitCode {
     } else {
         Telling::Nothing
     };
-    ExitCode::from(run_program(&rt, telling, &mut rt.stdout(), &mut rt.stderr()))
+    let prompt = if rt.stdin().is_terminal() {
+        Prompt::Shown
+    } else {
+        Prompt::Absent
+    };
+    let host = Host {
+        files: rt,
+        input: rt.stdin(),
+        output: rt.stdout(),
+        prompt,
+    };
+    ExitCode::from(run_program(&rt, telling, host, &mut rt.stdout(), &mut rt.stderr()))
 }

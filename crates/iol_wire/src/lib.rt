@@ -14,8 +14,6 @@ mod line;
 mod numeral;
 mod reading;
 mod stream;
-#[cfg(test)]
-mod tests;
 mod transport;
 mod wire_link;
 mod words;

@@ -1,5 +1,6 @@
 //! What the words of the command line ask for.
 
+use crate::serve_words::{ServeWords, asked_serve, serve};
 use clap::error::ErrorKind;
 use clap::{Arg, ArgAction, ArgMatches, Command, Error, value_parser};
 use std::alloc::{AllocError, Global};
@@ -16,7 +17,7 @@ pub enum OnScript {
 }
 
 /// A command, with what its words say.
-#[derive(Clone, Copy)]
+#[derive(Drop)]
 pub enum Asked<'a> {
     /// Something is done with the script at a path.
     Script {
@@ -41,6 +42,8 @@ pub enum Asked<'a> {
         script: &'a str,
         receipts: bool,
     },
+    /// A master serves on an image file.
+    Serve(ServeWords<'a>),
     /// The state on the image file at a path is shown, perhaps as JSON.
     Show {
         image: &'a str,
@@ -75,7 +78,7 @@ pub fn read_words<'a>(
     version: &'a str,
 ) -> Result<Asked<'a>, Unasked> {
     match matched_words(alloc, words, version) {
-        Ok(asked) => Ok(asked),
+        Ok(matches) => asked_by(alloc, &matches),
         Err(error) => Err(unasked_by(alloc, &error)),
     }
 }
@@ -96,9 +99,8 @@ fn matched_words<'a>(
     alloc: Global,
     words: &'a [String],
     version: &'a str,
-) -> Result<Asked<'a>, Error> {
-    let matches = program(alloc, version)?.try_get_matches_from(words)?;
-    Ok(asked_by(&matches))
+) -> Result<ArgMatches<'a>, Error> {
+    program(alloc, version)?.try_get_matches_from(words)
 }
 
 // The program, with this behind its name where the words ask for its version.
@@ -123,6 +125,7 @@ fn commands<'a>(alloc: Global) -> Result<Vec<Command<'a>>, AllocError> {
         draw(alloc),
         format(alloc),
         live(alloc),
+        serve(alloc),
         show(alloc),
         map(alloc),
     ] {
@@ -132,14 +135,15 @@ fn commands<'a>(alloc: Global) -> Result<Vec<Command<'a>>, AllocError> {
 }
 
 // The command that matched words ask for.
-fn asked_by<'a>(matches: &ArgMatches<'a>) -> Asked<'a> {
+fn asked_by<'a>(alloc: Global, matches: &ArgMatches<'a>) -> Result<Asked<'a>, Unasked> {
     match matches.subcommand() {
-        Some((name, matches)) => asked_of(name, matches),
+        Some(("serve", matches)) => asked_serve(alloc, matches),
+        Some((name, matches)) => Ok(asked_of(name, matches)),
         // clap refuses words without a command.
-        None => Asked::Script {
+        None => Ok(Asked::Script {
             path: "",
             what: OnScript::Run,
-        },
+        }),
     }
 }
 
@@ -304,12 +308,17 @@ fn map<'a>(alloc: Global) -> Result<Command<'a>, AllocError> {
 }
 
 // A command, with what is told of it before its options and behind them.
-fn command<'a>(alloc: Global, name: &'a str, about: &'a str, notes: &'a str) -> Command<'a> {
+pub(crate) fn command<'a>(
+    alloc: Global,
+    name: &'a str,
+    about: &'a str,
+    notes: &'a str,
+) -> Command<'a> {
     Command::new(alloc, name).about(about).after_help(notes)
 }
 
 // The path of an image file.
-fn image<'a>(alloc: Global) -> Arg<'a> {
+pub(crate) fn image<'a>(alloc: Global) -> Arg<'a> {
     word(alloc, "IMAGE", "The path of an image file")
 }
 
@@ -324,7 +333,7 @@ fn word<'a>(alloc: Global, name: &'a str, help: &'a str) -> Arg<'a> {
 }
 
 // An option that is there or not.
-fn flag<'a>(alloc: Global, name: &'a str, help: &'a str) -> Arg<'a> {
+pub(crate) fn flag<'a>(alloc: Global, name: &'a str, help: &'a str) -> Arg<'a> {
     Arg::new(alloc, name)
         .long(name)
         .action(ArgAction::SetTrue)
@@ -342,7 +351,7 @@ fn count<'a>(alloc: Global, name: &'a str, help: &'a str) -> Arg<'a> {
 }
 
 // The value of an argument without which clap refuses the words.
-fn text<'a>(matches: &ArgMatches<'a>, name: &str) -> &'a str {
+pub(crate) fn text<'a>(matches: &ArgMatches<'a>, name: &str) -> &'a str {
     matches.get_str(name).unwrap_or("")
 }
 

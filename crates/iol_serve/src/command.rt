@@ -1,0 +1,213 @@
+//! The command `serve`, over a writer for its output and one for its faults.
+
+ghost use Rattle.std.specs.Prelude.{◌≡◌, ◌≤◌, All, IfOk, vec_len};
+ghost use Rattle.iol_commands.specs.Devices.{MayVisit};
+
+use crate::conducting::Unserved;
+use crate::driver_files::DriverPaths;
+use crate::either_link::EitherLink;
+use crate::file_transport::FileTransport;
+use crate::paced_link::PacedLink;
+use crate::patience::Patience;
+use crate::printing::Printed;
+use crate::serving::{Conversation, serve};
+use iol_commands::{Fault, links_of, opened, recover, report};
+use iol_script::{Device, LiveScript};
+use iol_sim::SimLink;
+use iol_types::PortId;
+use iol_wire::WireLink;
+use std::alloc::Global;
+use std::io::{Read, Write};
+use std::sync::atomic::AtomicBool;
+use std::sync::{Arc, Wait};
+use std::thread::Threads;
+use std::time::{Clock, Duration};
+
+/// The driver at a port: where its answers are read, and where requests are written to it.
+#[derive(Clone, Copy, Debug)]
+pub struct Driver<'a> {
+    pub port: PortId,
+    pub from: &'a str,
+    pub to: &'a str,
+}
+
+/// What is served beside the image.
+#[derive(Clone, Copy, Debug)]
+pub struct Serving<'a> {
+    pub drivers: &'a [Driver<'a>],
+    /// The octets of a script whose simulated devices are at other ports.
+    pub devices: Option<&'a [u8]>,
+    /// How long a driver may be silent before its device is lost.
+    pub silence: Duration,
+}
+
+/// Serves a master on the image file at `path`, until no more is asked of it, and returns the exit status: 0 once it has ended and all
+/// is printed, 2 where the script of devices is not valid, and else 1. Where the command fails, a line on `err` says why. All files
+/// are those of `files`; two threads for each driver open its files, read and write them.
+pub fn serve_image<
+    R: AllocGlobal + Threads + Wait + Clock + Copy + Send + 'static,
+    I: Read + Drop + Send + 'static,
+    W: Write + Drop + Send + 'static,
+    E: Write,
+>(
+    rt: &R,
+    files: HostRuntime,
+    path: &str,
+    serving: &Serving<'_>,
+    conversation: Conversation<I, W>,
+    err: &mut E,
+) -> u8
+    ensures { result ≤ 2 }
+{
+    match serve_file(rt, files, path, serving, conversation) {
+        Ok(Printed::Whole) => 0,
+        Ok(Printed::Broken) => 1,
+        Err(fault) => report(err, &fault),
+    }
+}
+
+// Serves a master. The script of devices is judged before the image is opened.
+fn serve_file<
+    'a,
+    R: AllocGlobal + Threads + Wait + Clock + Copy + Send + 'static,
+    I: Read + Drop + Send + 'static,
+    W: Write + Drop + Send + 'static,
+>(
+    rt: &R,
+    files: HostRuntime,
+    path: &'a str,
+    serving: &Serving<'_>,
+    conversation: Conversation<I, W>,
+) -> Result<Printed, Fault<'a>> {
+    let alloc = rt.alloc();
+    let devices = devices_of(alloc, serving.devices)?;
+    let disk = opened(&files, path)?;
+    let (journal, state) = recover(alloc, disk)?;
+    let ports = state.ports();
+    if !devices.iter().all(|device| device.port.number() <= ports) {
+        return Err(Fault::Fit);
+    }
+    if !all_fit(serving.drivers, ports, &devices) {
+        return Err(Fault::Drivers);
+    }
+    let ending = Arc::new(alloc, AtomicBool::new(false))?;
+    let links = port_links(rt, files, alloc, serving, &devices, ports, &ending)?;
+    serve(rt, alloc, journal, state, links, conversation, &ending)
+}
+
+// The devices of a script, if there is one.
+fn devices_of(alloc: Global, script: Option<&[u8]>) -> Result<Vec<Device>, Fault<'static>>
+    ensures { IfOk result (λ devices. All MayVisit devices.items) }
+{
+    match script {
+        Some(script) => said_devices(alloc, script),
+        None => Ok(Vec::new(alloc)),
+    }
+}
+
+// The devices that a script says.
+fn said_devices(alloc: Global, script: &[u8]) -> Result<Vec<Device>, Fault<'static>>
+    ensures { IfOk result (λ devices. All MayVisit devices.items) }
+{
+    let script = LiveScript::read(alloc, script)?;
+    let LiveScript {
+        devices,
+        changes: _,
+    } = script;
+    Ok(devices)
+}
+
+// Whether the port of each driver is there, and has no simulated device.
+fn all_fit(drivers: &[Driver<'_>], ports: u8, devices: &[Device]) -> bool {
+    for driver in drivers {
+        if driver.port.number() > ports || has_device(devices, driver.port) {
+            return false;
+        }
+    }
+    true
+}
+
+// Whether a simulated device is at a port.
+fn has_device(devices: &[Device], port: PortId) -> bool {
+    for device in devices {
+        if device.port == port {
+            return true;
+        }
+    }
+    false
+}
+
+/// A link to a driver, or to simulated devices.
+type PortLink<R> = PacedLink<EitherLink<WireLink<FileTransport<R>>, SimLink>, R>;
+
+// The link of each port, port 1 first: to its driver, or else to the simulated devices that are there, which may be none.
+fn port_links<R: Threads + Wait + Clock + Copy + Send + 'static>(
+    rt: &R,
+    files: HostRuntime,
+    alloc: Global,
+    serving: &Serving<'_>,
+    devices: &[Device],
+    ports: u8,
+    ending: &Arc<AtomicBool>,
+) -> Result<Vec<PortLink<R>>, Unserved>
+    requires { All MayVisit devices.now }
+    ensures { IfOk result (λ links. vec_len links ≡ ports) }
+{
+    let mut simulated = links_of(alloc, devices, ports)?;
+    let mut links = Vec::with_capacity(alloc, usize::from(ports))?;
+    // The last port first, as a vector gives its last item.
+    for place in 0..ports {
+        if let Some(link) = simulated.pop() {
+            links.push(link_at(rt, files, alloc, serving, ports - place, link, ending)?)?;
+        }
+    }
+    links.reverse();
+    Ok(links)
+}
+
+// The driver at the port with this number, if there is one.
+fn driver_at<'a>(drivers: &'a [Driver<'a>], number: u8) -> Option<&'a Driver<'a>> {
+    for driver in drivers {
+        if driver.port.number() == number {
+            return Some(driver);
+        }
+    }
+    None
+}
+
+// The link of the port with this number.
+fn link_at<R: Threads + Wait + Clock + Copy + Send + 'static>(
+    rt: &R,
+    files: HostRuntime,
+    alloc: Global,
+    serving: &Serving<'_>,
+    number: u8,
+    simulated: SimLink,
+    ending: &Arc<AtomicBool>,
+) -> Result<PortLink<R>, Unserved> {
+    let link = match driver_at(serving.drivers, number) {
+        Some(driver) => {
+            EitherLink::First(link_to(rt, files, alloc, driver, serving.silence, ending)?)
+        }
+        None => EitherLink::Second(simulated),
+    };
+    Ok(PacedLink::new(link, *rt))
+}
+
+// The link to a driver.
+fn link_to<R: Threads + Wait + Clock + Copy + Send + 'static>(
+    rt: &R,
+    files: HostRuntime,
+    alloc: Global,
+    driver: &Driver<'_>,
+    silence: Duration,
+    ending: &Arc<AtomicBool>,
+) -> Result<WireLink<FileTransport<R>>, Unserved> {
+    let paths = DriverPaths {
+        from_driver: String::from_str(alloc, driver.from)?,
+        to_driver: String::from_str(alloc, driver.to)?,
+    };
+    let patience = Patience::new(silence, Arc::try_clone(ending)?);
+    let transport = FileTransport::start(*rt, files, alloc, paths, patience)?;
+    Ok(WireLink::new(transport))
+}

@@ -1,0 +1,115 @@
+//! The command `serve`, with the files that its words name.
+
+ghost use Rattle.std.specs.Prelude.{◌≤◌};
+
+use crate::script_file::read_script;
+use iol_commands::{Fault, report};
+use iol_requests::Spelling;
+use iol_serve::{Conversation, Driver, Prompt, Serving, serve_image};
+use iol_words::{PortFiles, ServeWords};
+use std::alloc::{AllocError, Global};
+use std::fs::File;
+use std::io::{Read, Write};
+use std::rt::Files;
+use std::sync::Wait;
+use std::thread::Threads;
+use std::time::{Clock, Duration};
+
+/// The files of drivers, where requests are read, and where answers and events are printed.
+#[derive(Drop)]
+pub(crate) struct Host<I, P> {
+    pub(crate) files: HostRuntime,
+    pub(crate) input: I,
+    pub(crate) output: P,
+    pub(crate) prompt: Prompt,
+}
+
+// Serves the master that these words name, and returns the exit status.
+pub(crate) fn serve_file<
+    R: Files<File = File> + AllocGlobal + Threads + Wait + Clock + Copy + Send + 'static,
+    I: Read + Drop + Send + 'static,
+    P: Write + Drop + Send + 'static,
+    E: Write,
+>(rt: &R, words: &ServeWords<'_>, host: Host<I, P>, err: &mut E) -> u8
+    ensures { result ≤ 2 }
+{
+    let devices = match devices_of(rt, words.devices) {
+        Ok(devices) => devices,
+        Err(fault) => return report(err, &fault),
+    };
+    let Ok(drivers) = drivers_of(rt.alloc(), &words.files) else {
+        return report(err, &Fault::Memory);
+    };
+    let silence = Duration::from_secs(u64::from(words.silence));
+    let serving = serving_of(drivers.as_slice(), octets_of(&devices), silence);
+    let Host {
+        files,
+        input,
+        output,
+        prompt,
+    } = host;
+    let conversation = Conversation {
+        input,
+        output,
+        spelling: if words.json {
+            Spelling::Json
+        } else {
+            Spelling::Words
+        },
+        prompt,
+    };
+    serve_image(rt, files, words.image, &serving, conversation, err)
+}
+
+// The octets of the script of devices, if there is one.
+fn devices_of<'a, R: Files + AllocGlobal>(
+    rt: &R,
+    path: Option<&'a str>,
+) -> Result<Option<Vec<u8>>, Fault<'a>> {
+    match path {
+        Some(path) => Ok(Some(read_script(rt, path)?)),
+        None => Ok(None),
+    }
+}
+
+// What is served beside the image.
+fn serving_of<'a>(
+    drivers: &'a [Driver<'a>],
+    devices: Option<&'a [u8]>,
+    silence: Duration,
+) -> Serving<'a> {
+    Serving {
+        drivers,
+        devices,
+        silence,
+    }
+}
+
+// The octets of a script, if there is one.
+fn octets_of(script: &Option<Vec<u8>>) -> Option<&[u8]> {
+    match script {
+        Some(script) => Some(script.as_slice()),
+        None => None,
+    }
+}
+
+// The drivers that words name.
+fn drivers_of<'a>(alloc: Global, files: &[PortFiles<'a>]) -> Result<Vec<Driver<'a>>, AllocError> {
+    let mut drivers = Vec::new(alloc);
+    for file in files {
+        let driver = driver_of(file);
+        if drivers.push(driver).is_err() {
+            return Err(AllocError);
+        }
+    }
+    Ok(drivers)
+}
+
+// The driver that has these files.
+fn driver_of<'a>(files: &PortFiles<'a>) -> Driver<'a> {
+    Driver {
+        port: files.port,
+        from: files.from,
+        to: files.to,
+    }
+}

@@ -1,0 +1,66 @@
+//! The files of the drivers at ports, as the words of `serve` name them.
+
+use iol_types::PortId;
+use std::alloc::Global;
+
+/// The files of the driver at a port.
+#[derive(Clone, Copy, Debug)]
+pub struct PortFiles<'a> {
+    pub port: PortId,
+    /// Where its answers are read.
+    pub from: &'a str,
+    /// Where requests are written to it; the same file where one is read and written.
+    pub to: &'a str,
+}
+
+/// Why words name no files of drivers.
+#[derive(Clone, Copy, Debug, PartialEq, Eq)]
+pub enum PortFilesFault<'a> {
+    /// This word is neither N=PATH nor N=FROM,TO, with N from 1 to 32.
+    Form(&'a str),
+    /// This port is named twice.
+    Twice(PortId),
+    /// Out of memory.
+    Memory,
+}
+
+impl<'a> PortFiles<'a> {
+    // The files that a word names: N=PATH, or N=FROM,TO.
+    fn read(word: &'a str) -> Option<PortFiles<'a>> {
+        let (number, paths) = word.split_once('=')?;
+        let port = PortId::new(number.parse::<u8>().ok()?)?;
+        let (from, to) = match paths.split_once(',') {
+            Some((from, to)) => (from, to),
+            None => (paths, paths),
+        };
+        if from.is_empty() || to.is_empty() {
+            return None;
+        }
+        Some(PortFiles { port, from, to })
+    }
+}
+
+// The files of all drivers, in the order of their words.
+pub(crate) fn all_port_files<'a>(
+    alloc: Global,
+    words: &[&'a str],
+) -> Result<Vec<PortFiles<'a>>, PortFilesFault<'a>> {
+    let mut files = Vec::new(alloc);
+    for word in words {
+        let Some(read) = PortFiles::read(word) else {
+            return Err(PortFilesFault::Form(word));
+        };
+        if is_named(&files, read.port) {
+            return Err(PortFilesFault::Twice(read.port));
+        }
+        if files.push(read).is_err() {
+            return Err(PortFilesFault::Memory);
+        }
+    }
+    Ok(files)
+}
+
+// Whether a port is among these.
+fn is_named(files: &[PortFiles<'_>], port: PortId) -> bool {
+    files.iter().any(|files| files.port == port)
+}
