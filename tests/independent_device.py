@@ -34,6 +34,7 @@ cut             the answer without its last octet
 garbage         a line that is no answer
 half            one half of the answer, without a line feed
 flood           10,000 octets without a line feed
+chatter VALUE   an event each 20 ms for VALUE seconds, and no answer
 silent          nothing
 die VALUE       the files are closed without an answer, and opened again after VALUE seconds
 """
@@ -48,13 +49,14 @@ import time
 import tty
 
 REQUEST = re.compile(rb"[0-9]+ (page|isdu( [0-9A-Fa-f]{2})*)\r?")
-DEEDS = "answer slow pieces busy raise events replace twice late ahead other spoil cut garbage half flood silent die".split()
+DEEDS = "answer slow pieces busy raise events replace twice late ahead other spoil cut garbage half flood chatter silent die".split()
 # In these the device is not asked, and in those the master gets no answer that it may take.
-WITHOUT_DEVICE = ("garbage", "flood", "silent", "die")
+WITHOUT_DEVICE = ("garbage", "flood", "chatter", "silent", "die")
 WITHOUT_ANSWER = (*WITHOUT_DEVICE, "half", "late", "ahead", "other")
 # How long it waits for a master that does not read.
 WRITE_SECONDS = 5
 FLOOD_OCTETS = 10_000
+CHATTER_SECONDS = 0.02
 INDEX_DATA_STORAGE = 3
 IDLE, UPLOADING, DOWNLOADING, LOCKED = 0, 1, 2, 3
 IDX_NOTAVAIL, SUBIDX_NOTAVAIL, ACCESS_DENIED = 0x8011, 0x8012, 0x8023
@@ -322,6 +324,11 @@ class Driver:
             write(b"?? what is this ??\n")
         elif deed == "flood":
             write(b"A" * FLOOD_OCTETS)
+        elif deed == "chatter":
+            end = time.monotonic() + value
+            while time.monotonic() < end:
+                write(b"event 1800\n")
+                time.sleep(CHATTER_SECONDS)
         elif deed == "die":
             self.die(value)
 

@@ -4,11 +4,12 @@ import concurrent.futures
 import contextlib
 import json
 import os
+import subprocess
 import time
 
 from driver_runs import INDEPENDENT, TOP, Different, Started, devices_of, trace_of, words_of
 from serving_judge import wrong_log
-from serving_master import Served, formatted, ran, shown, status_in
+from serving_master import PATIENCE, Served, formatted, ran, shown, status_in
 
 MOST_PORTS = 32
 # How long the drivers of many ports wait before each page, in milliseconds, so that they leave the processors to others.
@@ -49,6 +50,20 @@ PTY_DEEDS = ("1- answer", "6 die 0.5", "6 garbage", "6 half", "6 flood", "6 sile
 # How long a driver may be silent in these cases, in seconds. For how long a port that is ready has to stay so beside them, and how
 # often its driver is asked meanwhile at least.
 SILENCE, CALM_SECONDS, LEAST_ASKED = 3, 1, 5
+# How soon it is told that a driver has ended, or talks and does not answer, in seconds: less than a driver may be silent at first.
+LOST_SECONDS = 6
+# How soon a master ends beside a silent driver, in seconds. It is tried so often at most, as other programs may keep the processors.
+END_SECONDS, END_ROUNDS = 0.6, 3
+# A driver whose files a shell opens. It has one device, and answers with its page alone.
+FROM_SHELL = """
+import sys
+is_new = True
+for line in sys.stdin:
+    number, kind = line.split()[:2]
+    is_page = kind == "page" and (number == "1" or not is_new)
+    print(f"{number} page 00 00 17 01 11 00 00 01 F4 00 AB CD 00 00 00 00" if is_page else f"{number} lost", flush=True)
+    is_new = False
+"""
 
 
 def parameters_of(port):
@@ -109,7 +124,7 @@ def follow_example(folder, files, example):
                 if example == "rollback" and device is devices[-1]:
                     master.change("rollback", 1)
                 driver.end()
-                place = master.wait_status(1, "lost", begin=place)
+                place = master.wait_status(1, "lost", begin=place, seconds=LOST_SECONDS)
                 driver = start(device)
                 place = master.wait_status(1, "ready", begin=place)
             master.end_well()
@@ -205,10 +220,61 @@ def bear_misbehaviour(folder, files, tried):
         raise Different(told)
 
 
+def lose_talker(folder):
+    """A driver that tells events for ever and answers nothing is lost within its time, and holds up no end."""
+    image = formatted(folder, 1)
+    with drivers_of(folder, {1: ["--at", "1-", "chatter", "30"]}) as words:
+        with Served(image, "--json", "--silence", "2", *words) as master:
+            master.change("configure", 1, **MANUAL)
+            master.wait_status(1, "lost", seconds=LOST_SECONDS)
+            begun = time.monotonic()
+            master.end_well()
+            if time.monotonic() - begun > LOST_SECONDS:
+                raise Different(f"it ends after {time.monotonic() - begun} seconds")
+
+
+def end_beside_silence(folder):
+    """A master ends soon beside a driver that is silent, however long that may be."""
+    image, taken = formatted(folder, 2), []
+    with drivers_of(folder, {1: ["--at", "1-", "silent"]}) as words:
+        for _ in range(END_ROUNDS):
+            before = len(read_log(f"{folder}/1/log"))
+            with Served(image, "--json", "--silence", "60", *words) as master:
+                master.change("configure", 1, **MANUAL)
+                end = time.monotonic() + PATIENCE
+                while len(read_log(f"{folder}/1/log")) == before and time.monotonic() < end:
+                    time.sleep(0.02)
+                begun = time.monotonic()
+                master.end_well()
+                taken.append(time.monotonic() - begun)
+            if min(taken) <= END_SECONDS:
+                return
+    raise Different(f"it ends after {taken} seconds")
+
+
+def ask_from_shell(folder):
+    """A driver may have its files opened one after the other, each for one way, as a shell does."""
+    image, pages = formatted(folder, 1), f"{folder}/to_master"
+    requests = f"{folder}/from_master"
+    for fifo in (requests, pages):
+        os.mkfifo(fifo)
+    with Served(image, "--json", "--port", f"1={pages},{requests}") as master:
+        words = ["sh", "-c", 'exec python3 -c "$0" <"$1" >"$2"', FROM_SHELL, requests, pages]
+        with subprocess.Popen(words) as driver:
+            try:
+                master.change("configure", 1, **{**MANUAL, "validation": 1})
+                master.wait_status(1, "ready")
+                master.end_well()
+            finally:
+                driver.kill()
+
+
 def cases():
     """Each case: its title, its function and the words for it."""
     yield "32 ports with a driver each are backed up", back_up_all_ports
     yield "drivers over FIFOs that misbehave do no harm", bear_misbehaviour, "fifos", list(DEEDS)
+    yield "a driver that talks and does not answer is lost", lose_talker
+    yield "a driver whose files a shell opens is asked", ask_from_shell
     yield "drivers over pseudo-terminals that misbehave do no harm", bear_misbehaviour, "pty", PTY_DEEDS
     for files in ("fifos", "pty"):
         for example in ("sensor_replaced", "rollback"):

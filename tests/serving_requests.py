@@ -4,9 +4,11 @@ import collections
 import json
 import os
 import random
+import select
 import statistics
 import subprocess
 import time
+import tty
 
 from driver_runs import Different
 from serving_drivers import MANUAL, drivers_of, read_log, wrong_sets
@@ -103,6 +105,15 @@ REQUESTS, SEED, PORTS, NAMED_PORTS = 2000, 1, 4, 6
 VERBS = {"configure": 30, "clear": 10, "rollback": 10, "read": 20, "status": 20, "help": 3, "wrong": 7}
 # How many requests for help are asked for whose answers nobody reads, and for how many seconds, twice.
 UNREAD, UNREAD_SECONDS = 2000, 1
+# For how many seconds requests are written whose answers nobody reads, and how many octets of them are taken at most.
+WRITTEN_SECONDS, MOST_TAKEN = 3, 200_000
+# What is printed at a terminal, at first, for an empty line, for a read, and at the end.
+PROMPTED = [
+    b"\rserving 2 ports after 0 commands\n> ",
+    b"\r> ",
+    b"\rport 2 revision 0 mode 0 validation 0 vendor 0000 device 000000 set none\n> ",
+    b"\rended 0\n",
+]
 # How many statuses are asked for before and while the time is taken, how often, and how soon half of them have to be answered.
 WARM_UPS, MEASURED, ROUNDS, MOST_SECONDS = 50, 100, 3, 0.001
 
@@ -238,6 +249,58 @@ def outlast_readers(folder):
         raise Different(f"it ends with status {process.returncode}, {last}, {helped} answers, and {heard - asked} requests to the driver")
 
 
+def hold_writers(folder):
+    """A master whose output nobody reads takes no more requests than it has room for, and answers each one later."""
+    image, line, taken = formatted(folder, 2), b"read port=2\n", 0
+    with subprocess.Popen([IOLMASTER, "serve", image], stdin=subprocess.PIPE, stdout=subprocess.PIPE) as process:
+        try:
+            os.set_blocking(process.stdin.fileno(), False)
+            end = time.monotonic() + WRITTEN_SECONDS
+            while time.monotonic() < end:
+                try:
+                    taken += os.write(process.stdin.fileno(), 100 * line)
+                except BlockingIOError:
+                    time.sleep(0.01)
+            os.set_blocking(process.stdin.fileno(), True)
+            said, _ = process.communicate(line[taken % len(line) :] if taken % len(line) else b"", timeout=PATIENCE)
+        finally:
+            process.kill()
+    answers = sum(line.startswith("port 2 revision ") for line in said.decode().splitlines())
+    if process.returncode or taken > MOST_TAKEN or answers != -(-taken // len(line)):
+        raise Different(f"it ends with status {process.returncode}, took {taken} octets, and answered {answers} requests")
+
+
+def read_octets(file, count):
+    """So many octets of a file, or those that come in time."""
+    said, end = b"", time.monotonic() + PATIENCE
+    while len(said) < count and select.select([file], [], [], max(0, end - time.monotonic()))[0]:
+        octets = os.read(file, count - len(said))
+        if not octets:
+            break
+        said += octets
+    return said
+
+
+def prompt(folder):
+    """At a terminal a prompt stands after each line, and none after the last one."""
+    image = formatted(folder, 2)
+    person, terminal = os.openpty()
+    tty.setraw(terminal)
+    said = b""
+    with subprocess.Popen([IOLMASTER, "serve", image], stdin=terminal, stdout=subprocess.PIPE) as process:
+        try:
+            for line, answer in zip([b"", b"\n", b"read port=2\n", b"quit\n"], PROMPTED):
+                os.write(person, line)
+                said += read_octets(process.stdout.fileno(), len(answer))
+            said += process.communicate(timeout=PATIENCE)[0]
+        finally:
+            process.kill()
+            os.close(person)
+            os.close(terminal)
+    if process.returncode or said != b"".join(PROMPTED):
+        raise Different(f"it ends with status {process.returncode} and prints {said}")
+
+
 def end_in_upload(folder, word):
     """A master that is ended in the middle of an upload ends with status 0, and what had a receipt is found."""
     image = formatted(folder, 2)
@@ -318,6 +381,8 @@ def cases():
     yield f"{REQUESTS} requests are answered once each", answer_many
     yield "a master whose output is closed ends", lose_output
     yield "a master whose output nobody reads goes on", outlast_readers
+    yield "a master whose output nobody reads holds up who writes", hold_writers
+    yield "a prompt stands where it is to", prompt
     yield "quit ends a master in the middle of an upload", end_in_upload, "quit\n"
     yield "the end of input ends a master in the middle of an upload", end_in_upload, ""
     line = in_words("configure", 1, configuration(1, 1))[:-1]

@@ -1,4 +1,5 @@
 pub mod EitherLink
+pub mod Ended
 pub mod News
 pub mod Outcomes
 pub mod Patience

@@ -4,6 +4,7 @@ use Rattle.iol_types.specs.Command.{CommandValue, command_of, port_asked}
 use Rattle.iol_types.specs.State.{Port, port_numbered}
 use Rattle.iol_front.specs.Fronts.{Start}
 use Rattle.iol_core.specs.Standing.{state_at}
+use Rattle.iol_core.specs.declared.port.View.{View}
 use Rattle.iol_headline.specs.Lists.{IsLawfulList, SetsWereUploaded}
 use Rattle.iol_master.specs.Receipts.{StandsAt}
 use Rattle.iol_master.specs.Faults.{IsCallFault, IsReadFault}
@@ -41,18 +42,23 @@ HasAsked start before after command (Found port view) = ⊥
 HasAsked start before after command (Refused why) =
     (after ≡ before) × (fault : CallFault) × (why ≡ call_refusal fault) × IsCallFault start (start.number + length before) command fault
 
--- what comes of a read: the port has its state after a number of commands, no fewer than were seen before, and of those that are seen
--- since, which a lawful trace accepted; each set of it was there at the start or was uploaded whole. Or it is refused for such a
--- cause (own)
+-- a view is the state of a port after a number of commands: no fewer than a client had seen before, and of those that it has seen since,
+-- which a lawful trace accepted. Each set of the port was there at the start, or was uploaded whole (own)
+pub record IsRead (start : Start) (before after : List CommandValue) (port : ℕ) (view : View) : Type 0 where
+  pub seen_before : start.number + length before ≤ view.number
+  pub seen_since : view.number ≤ start.number + length after
+  pub state : port_numbered (state_at start after view.number) port ≡ Some view.port
+  pub lawful : IsLawfulList start view.number (take (view.number - start.number) after)
+  pub sets : SetsWereUploaded start view.number (take (view.number - start.number) after) port view.port
+
+-- what comes of a read: the port is read; or it is refused for a cause that a client hears which has seen no fewer commands than
+-- before (own)
 abbrev pub HasRead : Start → List CommandValue → List CommandValue → ℕ → Outcome → Type 0
 HasRead start before after port (Durable number) = ⊥
-HasRead start before after port (Found number view) =
-    (number ≡ port) × (start.number + length before ≤ view.number) × (view.number ≤ start.number + length after)
-    × (port_numbered (state_at start after view.number) port ≡ Some view.port)
-    × IsLawfulList start view.number (take (view.number - start.number) after)
-    × SetsWereUploaded start view.number (take (view.number - start.number) after) port view.port
+HasRead start before after port (Found number view) = (number ≡ port) × IsRead start before after port view
 HasRead start before after port (Refused why) =
-    (fault : ReadFault) × (why ≡ read_refusal fault) × IsReadFault start.state port (start.number + length before) fault
+    (seen : ℕ) × (start.number + length before ≤ seen) × (fault : ReadFault) × (why ≡ read_refusal fault)
+    × IsReadFault start.state port seen fault
 
 -- the port that is asked (own)
 abbrev pub port_of : Task → ℕ

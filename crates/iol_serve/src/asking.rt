@@ -9,7 +9,7 @@ ghost use Rattle.iol_serve.specs.Outcomes.{HasAsked, HasDone, HasRead, SaysOutco
 
 use crate::printing::Printer;
 use crate::spelling::Spelled;
-use crate::waiting::Waiting;
+use crate::waiting::{Counted, Waiting};
 use crossbeam_channel::Receiver;
 use iol_answers::{Answer, Refusal};
 use iol_core::View;
@@ -18,7 +18,11 @@ use iol_master::{CallFault, Client, ReadFault, Receipt};
 use iol_types::{Change, PortId};
 use std::alloc::Global;
 use std::sync::{Arc, Wait};
-use std::time::Clock;
+use std::thread;
+use std::time::{Clock, Duration};
+
+// How often a port is read at most, a millisecond apart, until what the client has seen is acknowledged.
+const MOST_READS: u32 = 1000;
 
 /// What is asked of a port.
 #[derive(Clone, Copy, Debug)]
@@ -39,11 +43,12 @@ impl Task {
     }
 }
 
-/// A request of a port, and how its answer is spelled.
+/// A request of a port that is counted among those that wait, and how its answer is spelled.
 #[derive(Drop)]
 pub(crate) struct PortRequest {
     pub(crate) task: Task,
     pub(crate) spelled: Spelled,
+    pub(crate) counted: Counted,
 }
 
 // Answers the requests of a port, in their order, until no more come.
@@ -56,10 +61,14 @@ pub(crate) fn answer_all<F: Name, R: Wait + Clock>(
     waiting: &Waiting,
 ) {
     for request in requests.iter(rt) {
-        let PortRequest { task, spelled } = request;
+        let PortRequest {
+            task,
+            spelled,
+            counted,
+        } = request;
         let outcome = outcome_of(rt, &mut client, task);
         printer.answer(rt, alloc, &spelled, &outcome.answer());
-        waiting.end(rt);
+        waiting.end(rt, counted);
     }
 }
 
@@ -74,6 +83,11 @@ enum Outcome {
 }
 
 impl Outcome {
+    // Whether a read is to be made again.
+    fn is_behind(&self) -> bool {
+        matches!(self, Outcome::Refused(Refusal::Behind))
+    }
+
     // The answer that says so.
     fn answer(&self) -> Answer<'_>
         ensures { SaysOutcome self.now result }
@@ -90,7 +104,7 @@ impl Outcome {
 }
 
 // What comes of a task.
-fn outcome_of<F: Name, R: Wait>(rt: &R, client: &mut Client<F>, task: Task) -> Outcome
+fn outcome_of<F: Name, R: Wait + Clock>(rt: &R, client: &mut Client<F>, task: Task) -> Outcome
     ensures kept { IsPrefix client.old client.new }
     ensures outcome { HasDone F.front.start client.old client.new task result }
 {
@@ -141,8 +155,23 @@ fn call_refusal(fault: CallFault) -> Refusal
     }
 }
 
+// Reads the durable state of a port, again for a second while fewer commands are acknowledged than the client has seen, which passes.
+fn read<F: Name, R: Wait + Clock>(rt: &R, client: &mut Client<F>, port: PortId) -> Outcome
+    ensures kept { IsPrefix client.old client.new }
+    ensures outcome { HasRead F.front.start client.old client.new port result }
+{
+    for _ in 0..MOST_READS {
+        let outcome = read_once(rt, client, port);
+        if !outcome.is_behind() {
+            return outcome;
+        }
+        thread::sleep(rt, Duration::from_millis(1));
+    }
+    Outcome::Refused(Refusal::Behind)
+}
+
 // Reads the durable state of a port.
-fn read<F: Name, R: Wait>(rt: &R, client: &mut Client<F>, port: PortId) -> Outcome
+fn read_once<F: Name, R: Wait>(rt: &R, client: &mut Client<F>, port: PortId) -> Outcome
     ensures kept { IsPrefix client.old client.new }
     ensures outcome { HasRead F.front.start client.old client.new port result }
 {

@@ -1,7 +1,7 @@
 //! Requests are read and answered, and then the master is ended.
 
 ghost use Rattle.std.specs.Prelude.{◌≡◌};
-ghost use Rattle.iol_commands.specs.Fault.{status_of};
+ghost use Rattle.iol_serve.specs.Ended.{fault_for};
 
 use crate::hearing::Heard;
 use crate::printing::Printer;
@@ -53,7 +53,7 @@ impl<T: Drop> From<AllocFailed<T>> for Unserved {
 }
 
 impl From<Unserved> for Fault<'_> {
-    ghost from_gives = { λ _ fault. status_of fault ≡ 1 };
+    ghost from_gives = { λ unserved fault. fault ≡ fault_for unserved };
 
     fn from(unserved: Unserved) -> Self {
         match unserved {

@@ -196,11 +196,19 @@ impl<F: Name> Responder<F> {
     ) {
         match self.requests.get(task.port().place()) {
             Some(requests) => {
-                self.waiting.begin(rt);
-                if let Err(unsent) = requests.send(rt, PortRequest { task, spelled }) {
-                    let PortRequest { task: _, spelled } = unsent.into_inner();
+                let request = PortRequest {
+                    task,
+                    spelled,
+                    counted: self.waiting.begin(rt),
+                };
+                if let Err(unsent) = requests.send(rt, request) {
+                    let PortRequest {
+                        task: _,
+                        spelled,
+                        counted,
+                    } = unsent.into_inner();
                     printer.answer(rt, alloc, &spelled, &Answer::Refused(Refusal::Memory));
-                    self.waiting.end(rt);
+                    self.waiting.end(rt, counted);
                 }
             }
             None => printer.answer(rt, alloc, &spelled, &Answer::Refused(Refusal::UnknownPort)),

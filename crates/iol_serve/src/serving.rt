@@ -2,6 +2,7 @@
 
 ghost use Rattle.std.specs.Prelude.{◌≡◌, [], length, vec_len, IfErr};
 ghost use Rattle.iol_commands.specs.Fault.{status_of};
+ghost use Rattle.iol_serve.specs.Ended.{answered};
 
 use crate::conducting::{Conducted, Served, conduct};
 use crate::hearing::{Heard, Lines, hand_on};
@@ -247,6 +248,7 @@ fn ended<D: SectorDisk + Drop, F: Name>(
     conducted: Conducted<D, F>,
     printed: Printed,
 ) -> Result<Printed, Fault<'static>>
+    ensures answer { result ≡ answered conducted.ending conducted.started printed }
     ensures status { IfErr result (λ fault. status_of fault ≡ 1) }
 {
     let Conducted { ending, started } = conducted;

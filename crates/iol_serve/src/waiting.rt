@@ -41,6 +41,10 @@ impl Count {
     }
 }
 
+/// A request that is counted, until its answer is there.
+#[derive(Drop)]
+pub(crate) struct Counted(());
+
 /// Counts the requests that wait for their answers.
 #[derive(Drop)]
 pub(crate) struct Waiting {
@@ -58,18 +62,19 @@ impl Waiting {
     }
 
     // Counts one more request, once fewer than `MOST_WAITING` wait.
-    pub(crate) fn begin<R: Wait>(&self, rt: &R) {
+    pub(crate) fn begin<R: Wait>(&self, rt: &R) -> Counted {
         let mut count = self.count.lock(rt);
         for _ in rt.forever() {
             if count.begin() {
-                return;
+                return Counted(());
             }
             count = self.fewer.wait(rt, count);
         }
+        unreachable!()
     }
 
-    // A request is answered.
-    pub(crate) fn end<R: Wait>(&self, rt: &R) {
+    // A request that was counted is answered.
+    pub(crate) fn end<R: Wait>(&self, rt: &R, _counted: Counted) {
         let mut count = self.count.lock(rt);
         count.end();
         drop(count);

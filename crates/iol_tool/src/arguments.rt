@@ -3,43 +3,36 @@
 ghost use Rattle.std.specs.Prelude.{◌≤◌};
 
 use crate::script_file::{is_memory, read_script};
-use crate::serving::{Host, serve_file};
+use crate::serving::serve_file;
 use crate::version::version_text;
 use iol_check::check_text;
 use iol_commands::{Fault, format_image, print, report, run_text, show_image};
-use iol_disk::LockFile;
 use iol_draw::draw_text;
 use iol_explain::explain_text;
 use iol_live::{Telling, live_image};
 use iol_view::{draw_map, json_image, map_image};
 use iol_words::{Asked, OnScript, Unasked, read_words};
-use std::fs::{File, OpenFile};
-use std::io::{Read, Write};
-use std::os::unix::fs::FileExt;
-use std::rt::{Env, Files};
+use std::fs::File;
+use std::io::{IsTerminal, Write};
+use std::rt::Files;
 use std::sync::Wait;
 use std::thread::Threads;
 use std::time::Clock;
 
 // Carries out the command that the program's words name, and returns the exit status: 2 where the words are wrong, 0 for
-// help and the version, and else that of the command. Of a master that runs, `err` is told what `telling` says, unless the
-// words ask for receipts.
+// help and the version, and else that of the command.
 pub(crate) fn run_program<
-    R: Env + Files<File = File> + AllocGlobal + Threads + Wait + Clock + Copy + Send + 'static,
-    I: Read + Drop + Send + 'static,
-    P: Write + Drop + Send + 'static,
-    W: Write,
-    E: Write,
->(rt: &R, telling: Telling, host: Host<I, P>, out: &mut W, err: &mut E) -> u8
+    R: Files<File = File> + AllocGlobal + Threads + Wait + Clock + Copy + Send + 'static,
+>(rt: &R, host: HostRuntime) -> u8
     ensures { result ≤ 2 }
 {
-    match words(rt) {
-        Ok(words) => run_words(rt, words.as_slice(), telling, host, out, err),
-        Err(fault) => report(err, &fault),
+    match words(&host) {
+        Ok(words) => run_words(rt, host, words.as_slice()),
+        Err(fault) => report(&mut host.stderr(), &fault),
     }
 }
 
-fn words<R: Env + AllocGlobal>(rt: &R) -> Result<Vec<String>, Fault<'static>> {
+fn words(rt: &HostRuntime) -> Result<Vec<String>, Fault<'static>> {
     match std::env::args(rt) {
         Ok(words) => Ok(words.collect(rt.alloc())?),
         Err(error) if is_memory(&error) => Err(Fault::Memory),
@@ -48,136 +41,117 @@ fn words<R: Env + AllocGlobal>(rt: &R) -> Result<Vec<String>, Fault<'static>> {
 }
 
 // Carries out the command that these words name, the first of which is the name of the program.
-fn run_words<
-    R: Files<File = File> + AllocGlobal + Threads + Wait + Clock + Copy + Send + 'static,
-    I: Read + Drop + Send + 'static,
-    P: Write + Drop + Send + 'static,
-    W: Write,
-    E: Write,
->(rt: &R, words: &[String], telling: Telling, host: Host<I, P>, out: &mut W, err: &mut E) -> u8
+fn run_words<R: Files<File = File> + AllocGlobal + Threads + Wait + Clock + Copy + Send + 'static>(
+    rt: &R,
+    host: HostRuntime,
+    words: &[String],
+) -> u8
     ensures { result ≤ 2 }
 {
-    let Ok(version) = version_text(rt.alloc()) else {
-        return report(err, &Fault::Memory);
+    let Ok(version) = version_text(host.alloc()) else {
+        return report(&mut host.stderr(), &Fault::Memory);
     };
-    match read_words(rt.alloc(), words, version.as_str()) {
-        Ok(asked) => carry_out(rt, asked, telling, host, out, err),
-        Err(unasked) => answer(&unasked, out, err),
+    match read_words(host.alloc(), words, version.as_str()) {
+        Ok(asked) => carry_out(rt, host, asked),
+        Err(unasked) => answer(&host, &unasked),
     }
 }
 
-fn carry_out<
-    R: Files<File = File> + AllocGlobal + Threads + Wait + Clock + Copy + Send + 'static,
-    I: Read + Drop + Send + 'static,
-    P: Write + Drop + Send + 'static,
-    W: Write,
-    E: Write,
->(rt: &R, asked: Asked<'_>, telling: Telling, host: Host<I, P>, out: &mut W, err: &mut E) -> u8
+// The commands that run threads take the handle for them.
+fn carry_out<R: Files<File = File> + AllocGlobal + Threads + Wait + Clock + Copy + Send + 'static>(
+    rt: &R,
+    host: HostRuntime,
+    asked: Asked<'_>,
+) -> u8
     ensures { result ≤ 2 }
 {
+    let (mut out, mut err) = (host.stdout(), host.stderr());
     match asked {
-        Asked::Script { path, what } => answer_script(rt, path, what, out, err),
-        Asked::Draw { script, picture } => draw_file(rt, script, picture, out, err),
+        Asked::Script { path, what } => answer_script(&host, path, what),
+        Asked::Draw { script, picture } => draw_file(&host, script, picture),
         Asked::Format {
             image,
             ports,
             slots,
             force,
-        } => format_image(rt, image, ports, slots, force, out, err),
+        } => format_image(&host, image, ports, slots, force, &mut out, &mut err),
         Asked::Live {
             image,
             script,
             receipts,
-        } => {
-            let telling = if receipts { Telling::Receipts } else { telling };
-            live_file(rt, image, script, telling, out, err)
-        }
-        Asked::Serve(words) => serve_file(rt, &words, host, err),
-        Asked::Show { image, json } => show_file(rt, image, json, out, err),
+        } => live_file(rt, host, image, script, receipts),
+        Asked::Serve(words) => serve_file(rt, host, &words),
+        Asked::Show { image, json: true } => json_image(&host, image, &mut out, &mut err),
+        Asked::Show { image, json: false } => show_image(&host, image, &mut out, &mut err),
         Asked::Map {
             image,
             picture: Some(picture),
-        } => draw_map(rt, image, picture, out, err),
+        } => draw_map(&host, image, picture, &mut out, &mut err),
         Asked::Map {
             image,
             picture: None,
-        } => map_image(rt, image, out, err),
+        } => map_image(&host, image, &mut out, &mut err),
     }
 }
 
 // Shows what stands in place of a command: the help or the version, or why the words are wrong.
-fn answer<W: Write, E: Write>(unasked: &Unasked, out: &mut W, err: &mut E) -> u8
+fn answer(rt: &HostRuntime, unasked: &Unasked) -> u8
     ensures { result ≤ 2 }
 {
     match unasked {
-        Unasked::Shown(text) => print(out, text.as_bytes()),
+        Unasked::Shown(text) => print(&mut rt.stdout(), text.as_bytes()),
         Unasked::Wrong(text) => {
-            let _ = err.write_all(text.as_bytes());
+            let _ = rt.stderr().write_all(text.as_bytes());
             2
         }
-        Unasked::Memory => report(err, &Fault::Memory),
+        Unasked::Memory => report(&mut rt.stderr(), &Fault::Memory),
     }
 }
 
-fn answer_script<R: Files + AllocGlobal, W: Write, E: Write>(
+fn answer_script(rt: &HostRuntime, path: &str, what: OnScript) -> u8
+    ensures { result ≤ 2 }
+{
+    let (alloc, mut out, mut err) = (rt.alloc(), rt.stdout(), rt.stderr());
+    let script = match read_script(rt, path) {
+        Ok(script) => script,
+        Err(fault) => return report(&mut err, &fault),
+    };
+    match what {
+        OnScript::Run => run_text(alloc, script.as_slice(), &mut out, &mut err),
+        OnScript::Explain => explain_text(alloc, script.as_slice(), &mut out, &mut err),
+        OnScript::Check => check_text(alloc, script.as_slice(), &mut out, &mut err),
+    }
+}
+
+fn draw_file(rt: &HostRuntime, path: &str, picture: &str) -> u8
+    ensures { result ≤ 2 }
+{
+    let (mut out, mut err) = (rt.stdout(), rt.stderr());
+    match read_script(rt, path) {
+        Ok(script) => draw_text(rt, script.as_slice(), picture, &mut out, &mut err),
+        Err(fault) => report(&mut err, &fault),
+    }
+}
+
+fn live_file<R: Files<File = File> + AllocGlobal + Threads + Wait + Clock + Copy + Send + 'static>(
     rt: &R,
+    host: HostRuntime,
+    image: &str,
     path: &str,
-    what: OnScript,
-    out: &mut W,
-    err: &mut E,
+    receipts: bool,
 ) -> u8
     ensures { result ≤ 2 }
 {
-    let script = match read_script(rt, path) {
-        Ok(script) => script,
-        Err(fault) => return report(err, &fault),
-    };
-    match what {
-        OnScript::Run => run_text(rt.alloc(), script.as_slice(), out, err),
-        OnScript::Explain => explain_text(rt.alloc(), script.as_slice(), out, err),
-        OnScript::Check => check_text(rt.alloc(), script.as_slice(), out, err),
-    }
-}
-
-fn draw_file<
-    F: FileExt + OpenFile + LockFile + Drop,
-    R: Files<File = F> + AllocGlobal,
-    W: Write,
-    E: Write,
->(rt: &R, path: &str, picture: &str, out: &mut W, err: &mut E) -> u8
-    ensures { result ≤ 2 }
-{
-    match read_script(rt, path) {
-        Ok(script) => draw_text(rt, script.as_slice(), picture, out, err),
-        Err(fault) => report(err, &fault),
-    }
-}
-
-fn show_file<
-    F: FileExt + OpenFile + LockFile + Drop,
-    R: Files<File = F> + AllocGlobal,
-    W: Write,
-    E: Write,
->(rt: &R, image: &str, json: bool, out: &mut W, err: &mut E) -> u8
-    ensures { result ≤ 2 }
-{
-    if json {
-        json_image(rt, image, out, err)
+    let (mut out, mut err) = (host.stdout(), host.stderr());
+    let telling = if receipts {
+        Telling::Receipts
+    } else if err.is_terminal() {
+        Telling::Progress
     } else {
-        show_image(rt, image, out, err)
-    }
-}
-
-fn live_file<
-    F: FileExt + OpenFile + LockFile + Drop + Send + 'static,
-    R: Files<File = F> + AllocGlobal + Threads + Wait + Clock + Copy + Send + 'static,
-    W: Write,
-    E: Write,
->(rt: &R, image: &str, path: &str, telling: Telling, out: &mut W, err: &mut E) -> u8
-    ensures { result ≤ 2 }
-{
-    match read_script(rt, path) {
-        Ok(script) => live_image(rt, image, script.as_slice(), telling, out, err),
-        Err(fault) => report(err, &fault),
+        Telling::Nothing
+    };
+    match read_script(&host, path) {
+        Ok(script) => live_image(rt, image, script.as_slice(), telling, &mut out, &mut err),
+        Err(fault) => report(&mut err, &fault),
     }
 }

@@ -4,7 +4,7 @@
 //! error. The words are read by `iol_words`; the commands themselves are those of `iol_commands`, `iol_check`, `iol_explain`,
 //! `iol_draw`, `iol_view`, `iol_live` and `iol_serve`.
 //!
-//! Modules in reading order: `arguments` carries out over writers what words ask for, `serving` has what `serve` asks for,
+//! Modules in reading order: `arguments` carries out what words ask for, `serving` has what `serve` asks for,
 //! `script_file` reads a script from its file, and `version` has what `--version` prints.
 #![tactic(auto)]
 
@@ -14,28 +14,8 @@ mod serving;
 mod version;
 
 use arguments::run_program;
-use iol_live::Telling;
-use iol_serve::Prompt;
-use serving::Host;
-use std::io::IsTerminal;
 use std::process::ExitCode;
 
 fn main(rt: HostRuntime) -> ExitCode {
-    let telling = if rt.stderr().is_terminal() {
-        Telling::Progress
-    } else {
-        Telling::Nothing
-    };
-    let prompt = if rt.stdin().is_terminal() {
-        Prompt::Shown
-    } else {
-        Prompt::Absent
-    };
-    let host = Host {
-        files: rt,
-        input: rt.stdin(),
-        output: rt.stdout(),
-        prompt,
-    };
-    ExitCode::from(run_program(&rt, telling, host, &mut rt.stdout(), &mut rt.stderr()))
+    ExitCode::from(run_program(&rt, rt))
 }

@@ -4,16 +4,12 @@ use iol_commands::Fault;
 use iol_script::SCRIPT_OCTETS;
 use std::fs::File;
 use std::io::{self, Read};
-use std::rt::Files;
 
 // The octets of a file: all, or as many as a script may have and one more.
 //
 // # Errors
 // `File` where it cannot be opened or read; `Memory` where there is none for its octets.
-pub(crate) fn read_script<'a, R: Files + AllocGlobal>(
-    rt: &R,
-    path: &'a str,
-) -> Result<Vec<u8>, Fault<'a>> {
+pub(crate) fn read_script<'a>(rt: &HostRuntime, path: &'a str) -> Result<Vec<u8>, Fault<'a>> {
     let mut octets = Vec::new(rt.alloc());
     match read_file(rt, path, &mut octets) {
         Ok(_) => Ok(octets),
@@ -22,7 +18,7 @@ pub(crate) fn read_script<'a, R: Files + AllocGlobal>(
     }
 }
 
-fn read_file<R: Files>(rt: &R, path: &str, octets: &mut Vec<u8>) -> io::Result<usize> {
+fn read_file(rt: &HostRuntime, path: &str, octets: &mut Vec<u8>) -> io::Result<usize> {
     let file = File::open(rt, path)?;
     file.take(SCRIPT_OCTETS as u64 + 1).read_to_end(octets)
 }

@@ -8,64 +8,58 @@ use iol_requests::Spelling;
 use iol_serve::{Conversation, Driver, Prompt, Serving, serve_image};
 use iol_words::{PortFiles, ServeWords};
 use std::alloc::{AllocError, Global};
-use std::fs::File;
-use std::io::{Read, Write};
-use std::rt::Files;
+use std::io::IsTerminal;
 use std::sync::Wait;
 use std::thread::Threads;
 use std::time::{Clock, Duration};
 
-/// The files of drivers, where requests are read, and where answers and events are printed.
-#[derive(Drop)]
-pub(crate) struct Host<I, P> {
-    pub(crate) files: HostRuntime,
-    pub(crate) input: I,
-    pub(crate) output: P,
-    pub(crate) prompt: Prompt,
-}
-
 // Serves the master that these words name, and returns the exit status.
-pub(crate) fn serve_file<
-    R: Files<File = File> + AllocGlobal + Threads + Wait + Clock + Copy + Send + 'static,
-    I: Read + Drop + Send + 'static,
-    P: Write + Drop + Send + 'static,
-    E: Write,
->(rt: &R, words: &ServeWords<'_>, host: Host<I, P>, err: &mut E) -> u8
+pub(crate) fn serve_file<R: AllocGlobal + Threads + Wait + Clock + Copy + Send + 'static>(
+    rt: &R,
+    host: HostRuntime,
+    words: &ServeWords<'_>,
+) -> u8
     ensures { result ≤ 2 }
 {
-    let devices = match devices_of(rt, words.devices) {
+    let mut err = host.stderr();
+    let devices = match devices_of(&host, words.devices) {
         Ok(devices) => devices,
-        Err(fault) => return report(err, &fault),
+        Err(fault) => return report(&mut err, &fault),
     };
-    let Ok(drivers) = drivers_of(rt.alloc(), &words.files) else {
-        return report(err, &Fault::Memory);
+    let Ok(drivers) = drivers_of(host.alloc(), &words.files) else {
+        return report(&mut err, &Fault::Memory);
     };
     let silence = Duration::from_secs(u64::from(words.silence));
     let serving = serving_of(drivers.as_slice(), octets_of(&devices), silence);
-    let Host {
-        files,
-        input,
-        output,
-        prompt,
-    } = host;
     let conversation = Conversation {
-        input,
-        output,
-        spelling: if words.json {
-            Spelling::Json
-        } else {
-            Spelling::Words
-        },
-        prompt,
+        input: host.stdin(),
+        output: host.stdout(),
+        spelling: spelling_of(words),
+        prompt: prompt_of(&host),
     };
-    serve_image(rt, files, words.image, &serving, conversation, err)
+    serve_image(rt, host, words.image, &serving, conversation, &mut err)
+}
+
+// How events are spelled.
+fn spelling_of(words: &ServeWords<'_>) -> Spelling {
+    if words.json {
+        Spelling::Json
+    } else {
+        Spelling::Words
+    }
+}
+
+// A prompt is for who enters requests at a terminal.
+fn prompt_of(rt: &HostRuntime) -> Prompt {
+    if rt.stdin().is_terminal() {
+        Prompt::Shown
+    } else {
+        Prompt::Absent
+    }
 }
 
 // The octets of the script of devices, if there is one.
-fn devices_of<'a, R: Files + AllocGlobal>(
-    rt: &R,
-    path: Option<&'a str>,
-) -> Result<Option<Vec<u8>>, Fault<'a>> {
+fn devices_of<'a>(rt: &HostRuntime, path: Option<&'a str>) -> Result<Option<Vec<u8>>, Fault<'a>> {
     match path {
         Some(path) => Ok(Some(read_script(rt, path)?)),
         None => Ok(None),
