@@ -7,7 +7,6 @@ use crate::patience::Patience;
 use crossbeam_channel::{Receiver, Sender};
 use iol_wire::{Opening, Position, REQUEST_LINE_OCTETS, Transport, TransportFault};
 use std::alloc::Global;
-use std::sync::atomic::AtomicBool;
 use std::sync::{Arc, Wait};
 use std::thread;
 use std::thread::Threads;
