@@ -112,6 +112,20 @@ impl<F: Name> Core<F> {
         self.number + self.queue.len() as u64
     }
 
+    /// The durable state.
+    pub fn durable(&self) -> &MasterState
+        ensures { result.now ≡ self.now.durable }
+    {
+        &self.durable
+    }
+
+    /// The number of the last durable command.
+    pub fn number(&self) -> u64
+        ensures { result ≡ self.now.number }
+    {
+        self.number
+    }
+
     /// A pass that has seen what the core's own has.
     ///
     /// # Errors

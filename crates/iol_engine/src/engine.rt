@@ -143,6 +143,20 @@ impl<F: Name> Engine<F> {
         self.core.live_number()
     }
 
+    /// Returns the durable state.
+    pub fn durable(&self) -> &MasterState
+        ensures { result.now ≡ self.now.core.durable }
+    {
+        self.core.durable()
+    }
+
+    /// Returns the number of the last durable command.
+    pub fn number(&self) -> u64
+        ensures { result ≡ self.now.core.number }
+    {
+        self.core.number()
+    }
+
     /// Takes a client's change, as `Core::submit` does, and reports the answer.
     ///
     /// # Errors
@@ -278,6 +292,13 @@ impl<F: Name> Engine<F> {
             Some(machine) => machine.want(),
             None => Want::Nothing,
         }
+    }
+
+    /// Returns the number of the connection of a port's link, if the port is there.
+    pub fn connection(&self, port: PortId) -> Option<u64>
+        ensures { result ≡ slice_get self.now.connections (port - 1) }
+    {
+        self.connections.get(port.place()).copied()
     }
 
     /// Whether a port is settled, or is not there.

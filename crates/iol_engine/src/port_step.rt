@@ -34,6 +34,27 @@ pub struct PortTold {
     pub room: Option<Box<Exchanged>>,
 }
 
+impl PortTold {
+    /// Returns the buffer of the step, which its event holds if the step made an exchange.
+    pub fn buffer(self) -> Option<Box<Exchanged>> {
+        let PortTold {
+            called,
+            status: _,
+            room,
+        } = self;
+        match called {
+            Some(Event::Exchange { octets, .. }) => Some(octets),
+            Some(
+                Event::Lost {
+                    octets: Some(octets),
+                    ..
+                },
+            ) => Some(octets),
+            _ => room,
+        }
+    }
+}
+
 // One step of a port: an event of its device is noted, a settled machine is woken, and what the machine then wants is
 // done once, by a call of the link or of the core. What is exchanged is told in the room that is handed in, so that a step
 // takes no memory of its own.

@@ -1,7 +1,7 @@
 //! The flusher, and its calls.
 
 ghost use Rattle.std.specs.Prelude.{◌≡◌, ◌≤◌, ◌⊎◌, true};
-ghost use Rattle.iol_flush.specs.Stages.{need_of, names_batch, names_disk, room_of, failure_of};
+ghost use Rattle.iol_flush.specs.Stages.{need_of, names_batch, names_disk, room_of, disk_of, failure_of};
 ghost use Rattle.iol_flush.specs.Stages.{FitsArea, HasHistory, HasFewCalls, IsInStep};
 ghost use Rattle.iol_flush.specs.Steps.{IsDiskStep, IsGift, HasGivenUp, IsPublished, IsEnd, IsWithdrawn};
 ghost use Rattle.iol_flush.specs.Flushing.{KeepsRun, IsSound};
@@ -84,6 +84,13 @@ impl<D: SectorDisk, F: Name> Flusher<D, F> {
             FlushStage::Resting(journal) => journal.room(),
             _ => MOST_RECORD_OCTETS,
         }
+    }
+
+    /// The disk as it is now.
+    pub fn disk_ref(&self) -> &D
+        ensures { result.now ≡ disk_of self.now.stage }
+    {
+        self.stage.disk_ref()
     }
 
     /// How the disk has failed, if it has.

@@ -1,7 +1,7 @@
 //! How far a flusher is.
 
 ghost use Rattle.std.specs.Prelude.{◌≡◌};
-ghost use Rattle.iol_flush.specs.Stages.{is_due, need_of, failure_of};
+ghost use Rattle.iol_flush.specs.Stages.{is_due, need_of, disk_of, failure_of};
 ghost use Rattle.iol_flush.specs.declared.stage.FlushStage.TheVariants.{Resting};
 
 use crate::need::Need;
@@ -38,6 +38,22 @@ impl<D: SectorDisk> FlushStage<D> {
             FlushStage::Checkpointing(..) | FlushStage::Writing(_) => Need::Disk,
             FlushStage::Publishing(..) => Need::Publish,
             FlushStage::Failed(..) => Need::Stopped,
+        }
+    }
+
+    // The disk as it is now.
+    pub(crate) fn disk_ref(&self) -> &D
+        ensures { result.now ≡ disk_of self.now }
+    {
+        match self {
+            FlushStage::Resting(journal)
+            | FlushStage::Given(journal, _)
+            | FlushStage::Publishing(journal, _) => journal.disk_ref(),
+            FlushStage::Opening(checkpointing) | FlushStage::Checkpointing(checkpointing, _) => {
+                checkpointing.disk_ref()
+            }
+            FlushStage::Writing(writing) => writing.disk_ref(),
+            FlushStage::Failed(disk, _) => disk,
         }
     }
 

@@ -81,6 +81,13 @@ impl<D: SectorDisk> Checkpointing<D> {
         Checkpointing { disk, parts, begun }
     }
 
+    /// The disk as it is now.
+    pub fn disk_ref(&self) -> &D
+        ensures { result.now ≡ self.now.disk }
+    {
+        &self.disk
+    }
+
     /// The disk, to be recovered again.
     pub fn disk(self) -> D
         ensures { result ≡ self.disk }

@@ -145,6 +145,13 @@ impl<D: SectorDisk> Journal<D> {
         BODY_OCTETS * free.max(1) - BODY_HEAD_OCTETS
     }
 
+    /// The disk as it is now.
+    pub fn disk_ref(&self) -> &D
+        ensures { result.now ≡ self.now.disk }
+    {
+        &self.disk
+    }
+
     /// The disk, to be recovered again.
     pub fn disk(self) -> D
         ensures { result ≡ self.disk }

@@ -148,6 +148,13 @@ impl<D: SectorDisk> Writing<D> {
         }
     }
 
+    /// The disk as it is now.
+    pub fn disk_ref(&self) -> &D
+        ensures { result.now ≡ self.now.disk }
+    {
+        &self.disk
+    }
+
     /// The disk, to be recovered again.
     pub fn disk(self) -> D
         ensures { result ≡ self.disk }

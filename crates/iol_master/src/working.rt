@@ -126,7 +126,7 @@ fn step<L: DeviceLink, F: Name, R: Wait>(
             if told.status.is_some() {
                 shared.reported.notify_all();
             }
-            spare_of(told)
+            told.buffer()
         }
         Err(buffer) => Some(buffer),
     }
@@ -135,25 +135,6 @@ fn step<L: DeviceLink, F: Name, R: Wait>(
 // Whether a step took a Store.
 fn has_stored(told: &PortTold) -> bool {
     matches!(&told.called, Some(Event::Accepted { .. }))
-}
-
-// The buffer of a step, which its event holds if the step made an exchange.
-fn spare_of(told: PortTold) -> Option<Box<Exchanged>> {
-    let PortTold {
-        called,
-        status: _,
-        room,
-    } = told;
-    match called {
-        Some(Event::Exchange { octets, .. }) => Some(octets),
-        Some(
-            Event::Lost {
-                octets: Some(octets),
-                ..
-            },
-        ) => Some(octets),
-        _ => room,
-    }
 }
 
 // Asks the link for what the engine wants.

@@ -1,6 +1,7 @@
 pub mod Stamps
 pub mod CoreOnDisk
 pub mod EngineOnDisk
+pub mod HandedOnDisk
 pub mod Turns
 pub mod Ports
 pub mod PortRuns

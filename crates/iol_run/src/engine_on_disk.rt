@@ -1,23 +1,26 @@
 //! An engine, and the flusher that brings its batches to the disk, on one thread.
 
 ghost use Rattle.std.specs.Prelude.{◌≡◌, ◌≤◌, ◌-◌, ◌⊎◌, ◌++◌, true, [], None, Some, is_some, length, map, replicate, slice_get, slice_set};
-ghost use Rattle.std.specs.Prelude.{IfOk, IfErr};
+ghost use Rattle.std.specs.Prelude.{IfOk, IfErr, OnErr};
 ghost use Rattle.iol_types.specs.Command.{command_of};
 ghost use Rattle.iol_core.specs.Submit.{IsSubmit};
 ghost use Rattle.iol_flush.specs.declared.stage.FlushStage.TheVariants as stage;
 ghost use Rattle.iol_flush.specs.Stages as flush;
 ghost use Rattle.iol_flush.specs.Stages.{need_of, names_batch, names_disk, disk_of};
 ghost use Rattle.iol_flush.specs.declared.need.Need.TheVariants as need;
+ghost use Rattle.iol_engine.specs.Answered.{FitsWant};
 ghost use Rattle.iol_engine.specs.Engine.{MakesStep};
 ghost use Rattle.iol_engine.specs.Events.{event_of, told_of};
+ghost use Rattle.iol_engine.specs.HandedSteps.{NeverFits, StepsHanded, want_at};
 ghost use Rattle.iol_engine.specs.Ports.{new_machines};
 ghost use Rattle.iol_run.specs.CoreOnDisk.{IsInStep, KeepsRunning};
+ghost use Rattle.iol_run.specs.HandedOnDisk.{engine_in};
 ghost use Rattle.iol_run.specs.Steps.{Submits};
-ghost use Rattle.iol_run.specs.Turns.{IsTurn, Takes, CallsDisk, Publishes, Serves, met_by};
+ghost use Rattle.iol_run.specs.Turns.{IsTurn, Takes, CallsDisk, Publishes, Serves, failed_core, met_by};
 
 use crate::turn::{Turn, Turned};
 use iol_disk::SectorDisk;
-use iol_engine::{Engine, Event, Exchanged, PortTold};
+use iol_engine::{Engine, Event, Exchanged, Handed, PortTold};
 use iol_flush::{FlushEnd, FlushFault, Flusher, Need};
 use iol_front::{Committed, Front, Name};
 use iol_journal::Journal;
@@ -144,6 +147,55 @@ impl<D: SectorDisk, F: Name> EngineOnDisk<D, F> {
         // The contract says that what waits is legal, so a Store that was just taken passes.
         let _number = self.engine.live_number();
         told
+    }
+
+    /// Makes one step of a port with what its link answered, as `Engine::step_handed` does.
+    ///
+    /// # Errors
+    /// The port is not there, the answer came on another connection, or it does not fit what is wanted of the link. Then nothing
+    /// changes, and the buffer comes back.
+    pub fn step_handed(
+        &mut self,
+        port: PortId,
+        handed: Handed,
+        room: Box<Exchanged>,
+    ) -> Result<PortTold, Box<Exchanged>>
+        ensures fits { IfOk result (λ _. FitsWant (want_at (engine_in self.old []) port) handed.answer) }
+        ensures steps { IfOk result (λ told. StepsHanded port handed (engine_in self.old [])
+            (engine_in self.new (told_of told.called ++ told_of told.status)) (told_of told.called ++ told_of told.status)) }
+        ensures others { (self.new.master.flusher ≡ self.old.master.flusher) × (self.new.master.committed ≡ self.old.master.committed) }
+        ensures run { KeepsRunning D.disk F.front.start self.old.master self.new.master }
+        ensures refused { OnErr result (NeverFits port handed (engine_in self.old [])) }
+        ensures unchanged { OnErr result (self.new ≡ self.old) }
+    {
+        let told = self.engine.step_handed(port, handed, room)?;
+        // The contract says that what waits is legal, so a Store that was just taken passes.
+        let _number = self.engine.live_number();
+        Ok(told)
+    }
+
+    /// Takes no more commands since a disk call has failed that was taken for made. No turn may follow.
+    pub fn fail(&mut self)
+        ensures core { self.new.master ≡ record self.old.master { core = failed_core self.old.master.core } }
+        ensures ports { (self.new.machines ≡ self.old.machines) × (self.new.connections ≡ self.old.connections) }
+        ensures run { KeepsRunning D.disk F.front.start self.old.master self.new.master }
+    {
+        self.engine.fail();
+    }
+
+    /// The engine.
+    pub fn engine(&self) -> &Engine<F>
+        ensures core { result.now.core ≡ self.now.master.core }
+        ensures ports { (result.now.machines ≡ self.now.machines) × (result.now.connections ≡ self.now.connections) }
+    {
+        &self.engine
+    }
+
+    /// The disk as it is now.
+    pub fn disk_ref(&self) -> &D
+        ensures { result.now ≡ disk_of self.now.master.flusher.stage }
+    {
+        self.flusher.disk_ref()
     }
 
     // How many disk calls its flusher has made, up to 2^64 - 1.

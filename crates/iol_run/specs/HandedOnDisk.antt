@@ -1,0 +1,14 @@
+-- An engine on a disk, whose links answer while it is not looking.
+use Rattle.std.specs.Prelude.{List}
+use Rattle.iol_engine.specs.Engine.{EngineView}
+use Rattle.iol_run.specs.EngineOnDisk.{EngineOnDiskView}
+use Rattle.iol_trace.specs.Events.{Event}
+
+-- its engine, as one that has reported these events (own)
+abbrev pub engine_in : {D : Type 0} → EngineOnDiskView D → List Event → EngineView
+engine_in made told = record {
+  core = made.master.core;
+  machines = made.machines;
+  connections = made.connections;
+  told = told;
+}
