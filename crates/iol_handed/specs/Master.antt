@@ -1,0 +1,42 @@
+-- A master whose disk and devices are in the hands of its caller.
+use Rattle.std.specs.Prelude.{◌≡◌, ◌==◌, ℕ, if◌then◌else◌, List, [], length, replicate, Option, None}
+use Rattle.iol_disk.specs.Calls.{Call}
+use Rattle.iol_flush.specs.Stages.{disk_of}
+use Rattle.iol_flush.specs.declared.stage.FlushStage.TheVariants.{Resting}
+use Rattle.iol_engine.specs.Ports.{new_machines}
+use Rattle.iol_run.specs.EngineOnDisk.{EngineOnDiskView}
+use Rattle.iol_handed.specs.Found.{FoundView}
+use Rattle.iol_handed.specs.HandedDisk.{HandedDiskView}
+use Rattle.iol_handed.specs.Notes.{no_notes}
+use Rattle.iol_handed.specs.declared.notes.PortNotes.{PortNotes}
+use Rattle.iol_handed.specs.declared.reports.Reports.{Reports}
+use Rattle.iol_handed.specs.declared.reports.Reports.TheVariants.{UpTo}
+
+-- a master as contracts see it: its engine and flusher, what was reported of its disk, and what was reported of its ports, port 1
+-- first, and was not used yet (own)
+pub record HandedMasterView : Type 0 where
+  pub made : EngineOnDiskView HandedDiskView
+  pub reports : Reports
+  pub notes : List PortNotes
+
+-- its disk (own)
+abbrev pub disk_in : HandedMasterView → HandedDiskView
+disk_in master = disk_of master.made.master.flusher.stage
+
+-- the call that its disk has handed out after so many, if any (own)
+abbrev pub call_after : ℕ → HandedDiskView → Option Call
+call_after calls disk = if disk.calls == calls then None else disk.call
+
+-- a master has begun with what was found: nothing waits, no call is in hand, and nothing was reported of its ports, which are new
+-- (own)
+pub record IsBegun (found : FoundView) (master : HandedMasterView) : Type 0 where
+  pub journal : master.made.master.flusher.stage ≡ Resting found.journal
+  pub published : master.made.master.flusher.published ≡ []
+  pub committed : master.made.master.committed ≡ None
+  pub number : master.made.master.core.number ≡ found.journal.standing.number
+  pub durable : master.made.master.core.durable ≡ found.journal.standing.state
+  pub queue : master.made.master.core.queue ≡ []
+  pub running : master.made.master.core.stopped ≡ None
+  pub ports : master.made.machines ≡ new_machines (length found.state)
+  pub reports : master.reports ≡ UpTo found.journal.disk.calls
+  pub notes : master.notes ≡ replicate (length found.state) no_notes

@@ -1,0 +1,62 @@
+-- What a flash that is being opened answers.
+use Rattle.std.specs.Prelude.{◌≡◌, ℕ, Bool, true, false, List, Result, Ok, Err}
+use Rattle.iol_disk.specs.declared.fault.DiskFault.TheVariants as fault
+use Rattle.iol_recovery.specs.declared.cause.RecoverCause.TheVariants as cause
+use Rattle.iol_handed.specs.Opening.{HandsIn, OpeningView, synced}
+use Rattle.iol_handed.specs.declared.opening.HandFault.{HandFault}
+use Rattle.iol_handed.specs.declared.opening.HandFault.TheVariants as hand
+use Rattle.iol_handed.specs.declared.opening.OpeningWant.{OpeningWant}
+use Rattle.iol_handed.specs.declared.opening.OpeningWant.TheVariants as want
+use Rattle.iol_handed.specs.Sessions.{SessionView, ended, opening}
+use Rattle.iol_handed.specs.declared.ask.Answer.{Answer}
+use Rattle.iol_handed.specs.declared.ask.Answer.TheVariants as answer
+use Rattle.iol_handed.specs.declared.ask.Ask.{Ask}
+use Rattle.iol_handed.specs.declared.ask.Ask.TheVariants as ask
+
+-- what an opening wants (own)
+abbrev pub want_answer : OpeningWant → Answer
+want_answer want.Sync = answer.Sync
+want_answer (want.Read sector) = answer.Read sector
+want_answer want.Nothing = answer.Memory
+
+-- the opening goes on, over as many sectors, and wants this (own)
+abbrev pub Wants : OpeningView → SessionView → Answer → Type 0
+Wants flash new said =
+    (more : OpeningView) × (new ≡ opening more) × (more.sectors ≡ flash.sectors) × (said ≡ want_answer more.want)
+
+-- an opening that wants nothing looks for its journal: it goes on, or it has ended (own)
+abbrev pub Looks : OpeningView → SessionView → Answer → Type 0
+Looks flash new (answer.Found found) = new ≡ ended
+Looks flash new (answer.NotOpened cause) = new ≡ ended
+Looks flash new said = Wants flash new said
+
+-- what is in hand is told again (own)
+abbrev pub AsksOpening : OpeningWant → OpeningView → SessionView → Answer → Type 0
+AsksOpening want.Nothing flash new said = Looks flash new said
+AsksOpening wanted flash new said = (said ≡ want_answer wanted) × (new ≡ opening flash)
+
+-- the sync that is wanted was made, or the call that is wanted has failed (own)
+abbrev pub Reports : OpeningWant → Bool → OpeningView → SessionView → Answer → Type 0
+Reports want.Sync true flash new said = (said ≡ answer.Done) × (new ≡ opening (synced want.Sync flash))
+Reports want.Sync false flash new said = (said ≡ answer.NotOpened (cause.Disk fault.Sync)) × (new ≡ ended)
+Reports (want.Read sector) false flash new said = (said ≡ answer.NotOpened (cause.Disk fault.Read)) × (new ≡ ended)
+Reports wanted made flash new said = (said ≡ answer.Misfit) × (new ≡ opening flash)
+
+-- what becomes of octets that are handed in (own)
+abbrev pub hand_answer : Result Unit HandFault → Answer
+hand_answer (Ok done) = answer.Done
+hand_answer (Err hand.Misfit) = answer.Misfit
+hand_answer (Err hand.Memory) = answer.Memory
+
+abbrev pub Reads : List ℕ → OpeningView → SessionView → Answer → Type 0
+Reads octets flash new said =
+    (told : Result Unit HandFault) × (after : OpeningView) × HandsIn flash.want octets flash after told
+    × (new ≡ opening after) × (said ≡ hand_answer told)
+
+-- what a flash that is being opened answers (own)
+abbrev pub OpeningServes : Ask → OpeningView → SessionView → Answer → Type 0
+OpeningServes ask.End flash new said = (said ≡ answer.Closed) × (new ≡ ended)
+OpeningServes ask.DiskNext flash new said = AsksOpening flash.want flash new said
+OpeningServes (ask.DiskDone made) flash new said = Reports flash.want made flash new said
+OpeningServes (ask.DiskRead octets) flash new said = Reads octets flash new said
+OpeningServes asked flash new said = (said ≡ answer.Opening) × (new ≡ opening flash)

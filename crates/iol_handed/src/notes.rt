@@ -1,0 +1,58 @@
+//! What a caller has reported of a port, and its next step has not used yet.
+
+ghost use Rattle.std.specs.Prelude.{◌≡◌};
+ghost use Rattle.iol_handed.specs.Notes.{event_kept, noted_after};
+
+use iol_port::UPLOAD_REQUEST;
+
+/// What calls a settled port.
+#[derive(Clone, Copy, PartialEq, Eq)]
+pub enum Attention {
+    /// Nothing does.
+    None,
+    /// It is to look at its device again.
+    Woken,
+    /// Its device is gone.
+    Gone,
+}
+
+/// What a caller has reported of a port, and its next step has not used yet.
+#[derive(Clone, Copy)]
+pub struct PortNotes {
+    /// The EventCode of an event of its device.
+    pub event: Option<u16>,
+    /// What calls it.
+    pub attention: Attention,
+}
+
+/// Nothing was reported.
+pub const NO_NOTES: PortNotes = PortNotes {
+    event: None,
+    attention: Attention::None,
+};
+
+// The event that is kept once one more comes: the last one, but that by which a device asks for an upload.
+pub(crate) fn event_kept(kept: Option<u16>, code: u16) -> Option<u16>
+    ensures { result ≡ event_kept kept code }
+{
+    if kept == Some(UPLOAD_REQUEST) {
+        kept
+    } else {
+        Some(code)
+    }
+}
+
+// What is left after a step: that a device is gone, until the port has heard it or is settled.
+pub(crate) fn noted_after(attention: Attention, heard: bool, settled: bool) -> PortNotes
+    ensures { result ≡ noted_after attention heard settled }
+{
+    let attention = if attention == Attention::Gone && !heard && !settled {
+        Attention::Gone
+    } else {
+        Attention::None
+    };
+    PortNotes {
+        event: None,
+        attention,
+    }
+}

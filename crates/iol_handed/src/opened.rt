@@ -1,0 +1,131 @@
+//! What becomes of an opening: the journal is looked for among the sectors that were handed in.
+
+ghost use Rattle.std.specs.Prelude.{◌≡◌, IsTrue, [], Ok};
+ghost use Rattle.iol_handed.specs.Opened.{IfFound, IfGoesOn, IfRefused};
+ghost use Rattle.iol_layout.specs.Meaning.{standing_in};
+ghost use Rattle.iol_recovery.specs.Reading.{SaysWhy};
+
+use crate::flash::Flash;
+use crate::found::Found;
+use crate::handed_disk::HandedDisk;
+use crate::opening::{Opening, OpeningWant};
+use iol_disk::{DiskFault, SectorDisk};
+use iol_front::Front;
+use iol_journal::{Journal, RecoverCause, RecoverFault};
+use iol_types::MasterState;
+use std::alloc::Global;
+use std::marker::PhantomData;
+
+/// What became of an opening.
+#[derive(Drop)]
+pub enum Opened<W: Flash> {
+    /// It goes on. Where it wants nothing it was out of memory.
+    GoesOn(Opening<W>),
+    /// The journal was found.
+    Found(Found<W>),
+    /// There is no journal that can be used.
+    Refused(RecoverCause),
+}
+
+impl<W: Flash> Opening<W> {
+    /// Looks for the journal among the sectors that were handed in, where it wants nothing.
+    pub fn go_on(self) -> Opened<W>
+        // What is found is what the flash meant.
+        ensures found { IfFound result (λ found. IsTrue W.truthful → standing_in self.sectors W.image ≡ Ok found.journal.standing) }
+        ensures refused { IfRefused result (λ cause. IsTrue W.truthful → SaysWhy (standing_in self.sectors W.image) cause) }
+        // What it wants it wants until it is reported.
+        ensures waits { (self.want ≡ OpeningWant.Nothing → ⊥) → result ≡ Opened.GoesOn self }
+        ensures sectors { IfGoesOn result (λ more. more.sectors ≡ self.sectors) }
+    {
+        if self.want != OpeningWant::Nothing {
+            return Opened::GoesOn(self);
+        }
+        let Opening {
+            alloc,
+            sectors,
+            held,
+            ..
+        } = self;
+        match HandedDisk::over(alloc, sectors, held) {
+            Ok(disk) => recovered(alloc, disk),
+            Err(held) => Opened::GoesOn(Opening {
+                alloc,
+                sectors,
+                held,
+                want: OpeningWant::Nothing,
+                flash: PhantomData,
+            }),
+        }
+    }
+}
+
+// Recovers a disk from what was handed in of it. A sector that is missing is asked for.
+fn recovered<W: Flash>(alloc: Global, disk: HandedDisk<W>) -> Opened<W>
+    requires fresh { (disk.log ≡ []) }
+    ensures found { IfFound result (λ found. IsTrue W.truthful → standing_in disk.sectors W.image ≡ Ok found.journal.standing) }
+    ensures refused { IfRefused result (λ cause. IsTrue W.truthful → SaysWhy (standing_in disk.sectors W.image) cause) }
+    ensures sectors { IfGoesOn result (λ more. more.sectors ≡ disk.sectors) }
+{
+    let sectors = disk.sectors();
+    match Journal::recover(alloc, disk) {
+        Ok((journal, state)) => found(alloc, sectors, journal, state),
+        Err(RecoverFault { cause, disk }) => match (cause, disk.missing()) {
+            (RecoverCause::Disk(DiskFault::Read), Some(sector)) => {
+                Opened::GoesOn(Opening::of_disk(alloc, sectors, disk).wanting(OpeningWant::Read(
+                    sector,
+                )))
+            }
+            (RecoverCause::Memory, _) => { Opened::GoesOn(Opening::of_disk(alloc, sectors, disk)) },
+            (cause, _) => Opened::Refused(cause),
+        },
+    }
+}
+
+// What was found, with a front, if there is memory for it.
+fn found<W: Flash>(
+    alloc: Global,
+    sectors: usize,
+    journal: Journal<HandedDisk<W>>,
+    state: MasterState,
+) -> Opened<W>
+    requires state { state ≡ journal.standing.state }
+    requires history { journal.history ≡ record { first = journal.standing.number; start = state; commands = [] } }
+    ensures found { IfFound result (λ found. found.journal ≡ journal) }
+    ensures no_cause { IfRefused result (λ _. ⊥) }
+    ensures sectors { IfGoesOn result (λ more. more.sectors ≡ sectors) }
+{
+    match Front::new(alloc, journal.number(), &state) {
+        Ok(front) => Opened::Found(Found {
+            front,
+            journal,
+            state,
+        }),
+        Err(_) => Opened::GoesOn(Opening::of_disk(alloc, sectors, journal.disk())),
+    }
+}
+
+impl<W: Flash> Opening<W> {
+    // The opening goes on with what was handed in of a disk, and wants nothing.
+    pub(crate) fn of_disk(alloc: Global, sectors: usize, disk: HandedDisk<W>) -> Opening<W>
+        ensures { (result.sectors ≡ sectors) × (result.want ≡ OpeningWant.Nothing) }
+    {
+        let held = match disk.into_held() {
+            Some(held) => held,
+            None => Vec::new(alloc),
+        };
+        Opening {
+            alloc,
+            sectors,
+            held,
+            want: OpeningWant::Nothing,
+            flash: PhantomData,
+        }
+    }
+
+    // The same, and it wants this.
+    fn wanting(self, want: OpeningWant) -> Opening<W>
+        ensures { result ≡ record self { want = want } }
+    {
+        Opening { want, ..self }
+    }
+}

@@ -1,0 +1,25 @@
+//! What a port answers its caller.
+
+use arrayvec::ArrayVec;
+use iol_isdu::ISDU_OCTETS;
+
+/// What a port answers its caller.
+#[derive(Drop)]
+pub enum PortAnswer {
+    /// The master does not have this port.
+    Absent,
+    /// Nothing like it is waited for.
+    Misfit,
+    /// Out of memory: nothing changed, and it may be asked again.
+    Memory,
+    /// It is noted for the port's next step.
+    Noted,
+    /// Nothing is to be done until the port is woken, or what it has stored is durable.
+    Nothing,
+    /// The port has made a step, and is to be asked again.
+    Again,
+    /// Direct Parameter page 1 of the device is to be read.
+    Page,
+    /// These octets are to be sent to the device.
+    Request(ArrayVec<u8, ISDU_OCTETS>),
+}

@@ -1,0 +1,35 @@
+//! A session: a flash that is being opened, or a master over it.
+
+use crate::flash::UnknownFlash;
+use crate::master::HandedMaster;
+use crate::opening::Opening;
+use iol_front::Name;
+use std::marker::Model;
+use std::mem::ManuallyDrop;
+
+// How far a session is.
+#[derive(Drop)]
+pub(crate) enum Stage<F: Name> {
+    // A flash is being opened.
+    Opening(Opening<UnknownFlash>),
+    // A master runs, which is ended by `Ask::End`.
+    Running(ManuallyDrop<HandedMaster<UnknownFlash, F>>),
+    // There is neither.
+    Ended,
+}
+
+/// A flash that is being opened, or a master over it under the name of its front. A contract sees the record `SessionView` of
+/// `specs/Sessions.antt`.
+#[derive(Drop)]
+pub struct Session<F: Name> {
+    pub(crate) stage: Stage<F>,
+}
+
+impl<F: Name> Model for Session<F> {
+    ghost use Rattle.iol_handed.specs.Sessions.{SessionView};
+    ghost use Rattle.iol_handed.specs.Stages.{seen};
+
+    ghost Value = { SessionView };
+
+    ghost view = { λ s. seen s.stage };
+}
