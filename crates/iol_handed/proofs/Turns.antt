@@ -1,5 +1,5 @@
 -- Turns of the flusher, as a master answers them.
-use Rattle.std.proofs.Common.{◌≡◌, ℕ, List, refl, subst}
+use Rattle.std.proofs.Common.{◌≡◌, ℕ, List, subst}
 use Rattle.iol_disk.specs.Disk.{Disk}
 use Rattle.iol_run.specs.Turns.{IsTurn}
 use Rattle.iol_run.specs.declared.turn.Turned.{Turned}

@@ -1,4 +1,4 @@
-use Rattle.std.proofs.Common.{◌≡◌, Bool, Option, refl, ap, sym, ◌∙◌, subst}
+use Rattle.std.proofs.Common.{Bool, Option, refl, ap, sym, ◌∙◌, subst}
 use Rattle.std.specs.Option.{option_map}
 use Rattle.iol_disk.specs.Calls.{Call}
 use Rattle.iol_engine.specs.Events.{told_of}
