@@ -21,7 +21,7 @@ impl<W: Flash, F: Name> HandedMaster<W, F> {
     /// hand until it is reported.
     pub fn disk_next(&mut self) -> DiskAnswer
         ensures asks { AsksDisk (handed_disk W.image W.truthful) self.old self.new result }
-        // Whatever a power stop leaves of the flash, while the call in hand is made or after it, has all that was acknowledged.
+        // Whatever a power stop leaves of the flash, while the call in hand is made, has all that was acknowledged.
         ensures run { KeepsRunning (handed_disk W.image W.truthful) F.front.start self.old.made.master self.new.made.master }
     {
         let Reports::UpTo(calls) = self.reports else {

@@ -2,7 +2,7 @@
 //!
 //! An [`Opening`] asks for a sync and for one sector after the other, until the journal on a flash is found. A [`HandedMaster`] then
 //! says which call of the disk it wants next, and what each port wants of its device; the caller makes that call and reports what
-//! became of it. A call that was handed out counts for nothing before it is reported. `iol_c` offers it to C.
+//! became of it. A call that was handed out counts for nothing before it is reported. No program stands on it yet.
 //!
 //! Modules in reading order:
 //! - `flash` is what contracts alone see of the caller's flash, `handed_call` a call that is handed out, `held` what was handed in, and
