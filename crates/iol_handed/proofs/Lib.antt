@@ -1,3 +1,4 @@
 pub mod Logs
 pub mod Openings
+pub mod Segments
 pub mod Turns

@@ -1,4 +1,4 @@
--- Answers of a master as those of a handle.
+-- Answers of a master as those of a session.
 use Rattle.std.specs.Prelude.{◌≡◌, ℕ, Option, None, Some, Result, Ok, Err, length, slice_get}
 use Rattle.std.specs.Option.{option_map}
 use Rattle.iol_types.specs.DataSet.{Entry, octets_of}

@@ -27,8 +27,8 @@ disk_in master = disk_of master.made.master.flusher.stage
 abbrev pub call_after : ℕ → HandedDiskView → Option Call
 call_after calls disk = if disk.calls == calls then None else disk.call
 
--- a master has begun with what was found: nothing waits, no call is in hand, and nothing was reported of its ports, which are new
--- (own)
+-- a master has begun with what was found: nothing waits, no call is in hand, and nothing was reported of its ports, which are new,
+-- each on its first connection (own)
 pub record IsBegun (found : FoundView) (master : HandedMasterView) : Type 0 where
   pub journal : master.made.master.flusher.stage ≡ Resting found.journal
   pub published : master.made.master.flusher.published ≡ []
@@ -38,5 +38,6 @@ pub record IsBegun (found : FoundView) (master : HandedMasterView) : Type 0 wher
   pub queue : master.made.master.core.queue ≡ []
   pub running : master.made.master.core.stopped ≡ None
   pub ports : master.made.machines ≡ new_machines (length found.state)
+  pub connections : master.made.connections ≡ replicate (length found.state) 0
   pub reports : master.reports ≡ UpTo found.journal.disk.calls
   pub notes : master.notes ≡ replicate (length found.state) no_notes

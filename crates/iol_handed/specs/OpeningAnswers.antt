@@ -27,7 +27,7 @@ Wants flash new said =
 -- an opening that wants nothing looks for its journal: it goes on, or it has ended (own)
 abbrev pub Looks : OpeningView → SessionView → Answer → Type 0
 Looks flash new (answer.Found found) = new ≡ ended
-Looks flash new (answer.NotOpened cause) = new ≡ ended
+Looks flash new (answer.NotOpened why) = (new ≡ ended) × (why ≡ cause.Memory → ⊥)
 Looks flash new said = Wants flash new said
 
 -- what is in hand is told again (own)

@@ -55,7 +55,7 @@ Answers (ask.View number) old new said =
     (said ≡ view_answer (port_numbered old.made.master.core.durable number)) × (new ≡ old)
 Answers (ask.Entry number which place) old new said =
     IsEntryOf (port_numbered old.made.master.core.durable number) which place said × (new ≡ old)
-Answers (ask.Open sectors) old new said = (said ≡ answer.Misfit) × (new ≡ old)
+Answers (ask.Open flash) old new said = (said ≡ answer.Misfit) × (new ≡ old)
 Answers ask.End old new said = (said ≡ answer.Misfit) × (new ≡ old)
 
 -- a session is to end (own)

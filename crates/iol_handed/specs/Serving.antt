@@ -1,8 +1,7 @@
 -- What a session answers.
-use Rattle.std.specs.Prelude.{◌≡◌, ℕ, [], Option, None, Some}
+use Rattle.std.specs.Prelude.{◌≡◌, Option, None, Some, Result, Ok, Err}
 use Rattle.iol_handed.specs.Master.{HandedMasterView}
 use Rattle.iol_handed.specs.Opening.{OpeningView}
-use Rattle.iol_handed.specs.declared.opening.OpeningWant.TheVariants as want
 use Rattle.iol_handed.specs.OpeningAnswers.{OpeningServes}
 use Rattle.iol_handed.specs.Running.{RunningServes}
 use Rattle.iol_handed.specs.Sessions.{SessionView, ended, opening}
@@ -17,21 +16,20 @@ ServesAt (Some flash) master asked new said = OpeningServes asked flash new said
 ServesAt None (Some master) asked new said = RunningServes asked master new said
 ServesAt None None asked new said = (said ≡ answer.Closed) × (new ≡ ended)
 
--- a flash of so many sectors is opened from its beginning, or memory for it ran out (own)
-abbrev pub Opens : ℕ → SessionView → Answer → Type 0
-Opens sectors new answer.Done = new ≡ opening (record { sectors = sectors; held = []; want = want.Sync })
-Opens sectors new answer.Memory = new ≡ ended
-Opens sectors new said = ⊥
-
--- the size of the flash that is to be opened, if one is (own)
-abbrev pub opened_by : Ask → Option ℕ
-opened_by (ask.Open sectors) = Some sectors
+-- the flash that is to be opened, if one is (own)
+abbrev pub opened_by : Ask → Option OpeningView
+opened_by (ask.Open flash) = Some flash
 opened_by asked = None
 
-abbrev pub OpensOrServes : Option ℕ → Ask → SessionView → SessionView → Answer → Type 0
-OpensOrServes (Some sectors) asked old new said = Opens sectors new said
+-- it is a flash that is to be opened, or something else is asked (own)
+abbrev pub OpensOrIs : Ask → Result OpeningView Ask → Type 0
+OpensOrIs asked (Ok flash) = opened_by asked ≡ Some flash
+OpensOrIs asked (Err same) = (same ≡ asked) × (opened_by asked ≡ None)
+
+abbrev pub OpensOrServes : Option OpeningView → Ask → SessionView → SessionView → Answer → Type 0
+OpensOrServes (Some flash) asked old new said = (said ≡ answer.Done) × (new ≡ opening flash)
 OpensOrServes None asked old new said = ServesAt old.opening old.running asked new said
 
--- what a session answers to what is asked of it: whatever it is, a flash is opened anew (own)
+-- what a session answers to what is asked of it: whatever it is, it opens a flash that it is handed (own)
 abbrev pub Serves : Ask → SessionView → SessionView → Answer → Type 0
 Serves asked old new said = OpensOrServes (opened_by asked) asked old new said

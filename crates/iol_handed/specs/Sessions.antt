@@ -1,4 +1,4 @@
--- What a handle keeps.
+-- A session: a flash that is being opened, or a master.
 use Rattle.std.specs.Prelude.{Option, None, Some}
 use Rattle.iol_handed.specs.Master.{HandedMasterView}
 use Rattle.iol_handed.specs.Opening.{OpeningView}

@@ -2,6 +2,7 @@
 
 use crate::flash::UnknownFlash;
 use crate::found::Found;
+use crate::opening::Opening;
 use arrayvec::ArrayVec;
 use iol_core::SubmitFault;
 use iol_disk::SECTOR_OCTETS;
@@ -32,8 +33,8 @@ pub enum Ask {
     View(PortId),
     /// An entry of a stored set, from 0.
     Entry(PortId, WhichSet, usize),
-    /// A flash of so many sectors is to be opened.
-    Open(usize),
+    /// A flash is to be opened, from its beginning or further on.
+    Open(Opening<UnknownFlash>),
     /// It is to end.
     End,
 }

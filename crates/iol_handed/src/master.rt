@@ -1,8 +1,9 @@
 //! A master whose disk and devices are in the hands of its caller.
 
-ghost use Rattle.std.specs.Prelude.{◌≡◌, ◌-◌, length, replicate, slice_get, IfOk};
+ghost use Rattle.std.specs.Prelude.{◌≡◌, ◌-◌, length, map, replicate, slice_get, IfOk, IfErr};
 ghost use Rattle.iol_types.specs.Command.{command_of};
 ghost use Rattle.iol_core.specs.Core.{live_number};
+ghost use Rattle.iol_engine.specs.Handed.{handed_number};
 ghost use Rattle.iol_engine.specs.HandedSteps.{status_in};
 ghost use Rattle.iol_handed.specs.Master.{IsBegun};
 ghost use Rattle.iol_handed.specs.Notes.{no_notes};
@@ -12,7 +13,7 @@ use crate::flash::Flash;
 use crate::found::Found;
 use crate::handed_disk::HandedDisk;
 use crate::notes::{NO_NOTES, PortNotes};
-use crate::opening::Opening;
+use crate::opening::{Opening, OpeningWant};
 use crate::reports::Reports;
 use iol_core::SubmitFault;
 use iol_disk::SectorDisk;
@@ -55,6 +56,7 @@ struct Buffers {
 // The buffers of so many ports. Each link is on its first connection.
 fn buffers_for(alloc: Global, ports: u8) -> Result<Buffers, AllocError>
     ensures links { IfOk result (λ buffers. length buffers.links.items ≡ ports) }
+    ensures connections { IfOk result (λ buffers. map handed_number buffers.links.items ≡ replicate ports 0) }
     ensures notes { IfOk result (λ buffers. buffers.notes.items ≡ replicate ports no_notes) }
 {
     let mut links = Vec::with_capacity(alloc, usize::from(ports))?;
@@ -76,6 +78,7 @@ impl<W: Flash, F: Name> HandedMaster<W, F> {
     pub fn begin(alloc: Global, found: Found<W>) -> Result<HandedMaster<W, F>, Opening<W>>
         requires name { found.front ≡ F.front }
         ensures begun { IfOk result (IsBegun found) }
+        ensures refused { IfErr result (λ opening. (opening.sectors ≡ found.journal.disk.sectors) × (opening.want ≡ OpeningWant.Nothing)) }
     {
         let Found {
             front,

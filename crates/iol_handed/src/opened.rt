@@ -33,6 +33,8 @@ impl<W: Flash> Opening<W> {
         // What is found is what the flash meant.
         ensures found { IfFound result (λ found. IsTrue W.truthful → standing_in self.sectors W.image ≡ Ok found.journal.standing) }
         ensures refused { IfRefused result (λ cause. IsTrue W.truthful → SaysWhy (standing_in self.sectors W.image) cause) }
+        // Where memory runs out it goes on.
+        ensures remembers { IfRefused result (λ cause. cause ≡ RecoverCause.Memory → ⊥) }
         // What it wants it wants until it is reported.
         ensures waits { (self.want ≡ OpeningWant.Nothing → ⊥) → result ≡ Opened.GoesOn self }
         ensures sectors { IfGoesOn result (λ more. more.sectors ≡ self.sectors) }
@@ -64,6 +66,7 @@ fn recovered<W: Flash>(alloc: Global, disk: HandedDisk<W>) -> Opened<W>
     requires fresh { (disk.log ≡ []) }
     ensures found { IfFound result (λ found. IsTrue W.truthful → standing_in disk.sectors W.image ≡ Ok found.journal.standing) }
     ensures refused { IfRefused result (λ cause. IsTrue W.truthful → SaysWhy (standing_in disk.sectors W.image) cause) }
+    ensures remembers { IfRefused result (λ cause. cause ≡ RecoverCause.Memory → ⊥) }
     ensures sectors { IfGoesOn result (λ more. more.sectors ≡ disk.sectors) }
 {
     let sectors = disk.sectors();
@@ -75,7 +78,7 @@ fn recovered<W: Flash>(alloc: Global, disk: HandedDisk<W>) -> Opened<W>
                     sector,
                 )))
             }
-            (RecoverCause::Memory, _) => { Opened::GoesOn(Opening::of_disk(alloc, sectors, disk)) },
+            (RecoverCause::Memory, _) => Opened::GoesOn(Opening::of_disk(alloc, sectors, disk)),
             (cause, _) => Opened::Refused(cause),
         },
     }
@@ -127,5 +130,16 @@ impl<W: Flash> Opening<W> {
         ensures { result ≡ record self { want = want } }
     {
         Opening { want, ..self }
+    }
+}
+
+impl<W: Flash> Found<W> {
+    /// The opening that has found it, which is to be asked again.
+    pub fn into_opening(self, alloc: Global) -> Opening<W>
+        ensures { (result.sectors ≡ self.journal.disk.sectors) × (result.want ≡ OpeningWant.Nothing) }
+    {
+        let Found { journal, .. } = self;
+        let sectors = journal.disk_ref().sectors();
+        Opening::of_disk(alloc, sectors, journal.disk())
     }
 }

@@ -1,12 +1,12 @@
 //! What a session answers.
 
-ghost use Rattle.std.specs.Prelude.{◌≡◌, true};
+ghost use Rattle.std.specs.Prelude.{◌≡◌};
 ghost use Rattle.std.specs.Option.{option_map};
 ghost use Rattle.iol_types.specs.Port.{stored_of};
 ghost use Rattle.iol_handed.specs.Answering.{IsEntryAt, disk_answer, port_answer, set_in, set_view, view_of};
 ghost use Rattle.iol_handed.specs.OpeningAnswers.{AsksOpening, OpeningServes, Reports, want_answer};
 ghost use Rattle.iol_handed.specs.Running.{Answers, PortServes, RunningServes, is_end};
-ghost use Rattle.iol_handed.specs.Serving.{Serves, ServesAt, opened_by};
+ghost use Rattle.iol_handed.specs.Serving.{OpensOrIs, Serves, ServesAt};
 ghost use Rattle.iol_handed.specs.Sessions.{ended, opening, running};
 
 use crate::ask::{Answer, Ask, PortAsk, SetView, View, WhichSet};
@@ -23,7 +23,6 @@ use iol_disk::DiskFault;
 use iol_front::Name;
 use iol_journal::RecoverCause;
 use iol_types::{PortId, PortState, StoredSet};
-use std::alloc::Global;
 use std::mem::ManuallyDrop;
 
 impl<F: Name> Session<F> {
@@ -64,26 +63,16 @@ impl<F: Name> Session<F> {
         }
     }
 
-    /// Whether it has neither a flash nor a master.
-    pub fn is_ended(&self) -> bool
-        ensures { result ≡ true → self.now ≡ ended }
-    {
-        match &self.stage {
-            Stage::Ended => true,
-            Stage::Opening(_) | Stage::Running(_) => false,
-        }
-    }
-
     /// Serves what is asked. `Ask::Open` ends what the session has, and opens a flash; `Ask::End` ends it.
-    pub fn serve(self, alloc: Global, ask: Ask) -> (Session<F>, Answer)
+    pub fn serve(self, ask: Ask) -> (Session<F>, Answer)
         ensures { Serves ask self result.0 result.1 }
     {
-        match opened_by(&ask) {
-            Some(sectors) => {
+        match opened_by(ask) {
+            Ok(flash) => {
                 self.end();
-                (Session::opening(Opening::new(alloc, sectors)), Answer::Done)
+                (Session::opening(flash), Answer::Done)
             }
-            None => self.serve_asked(ask),
+            Err(ask) => self.serve_asked(ask),
         }
     }
 
@@ -104,13 +93,13 @@ fn end_master<F: Name>(master: HandedMaster<UnknownFlash, F>) {
     master.end();
 }
 
-/// The number of sectors of the flash that is to be opened, if one is.
-pub fn opened_by(ask: &Ask) -> Option<usize>
-    ensures { result ≡ opened_by ask.now }
+// The flash that is to be opened, or else what is asked.
+fn opened_by(ask: Ask) -> Result<Opening<UnknownFlash>, Ask>
+    ensures { OpensOrIs ask result }
 {
     match ask {
-        Ask::Open(sectors) => Some(*sectors),
-        _ => None,
+        Ask::Open(flash) => Ok(flash),
+        asked => Err(asked),
     }
 }
 
@@ -207,8 +196,8 @@ fn serve_running<F: Name>(master: HandedMaster<UnknownFlash, F>, ask: Ask) -> (S
     (Session::running(master), answer)
 }
 
-// Whether a session is to end.
-fn is_end(ask: &Ask) -> bool
+/// Whether a session is to end.
+pub fn is_end(ask: &Ask) -> bool
     ensures { result ≡ is_end ask.now }
 {
     matches!(ask, Ask::End)
@@ -231,7 +220,8 @@ fn answer_running<F: Name>(master: &mut HandedMaster<UnknownFlash, F>, ask: Ask)
                 Answer::Misfit
             }
         }
-        Ask::DiskRead(_) | Ask::Open(_) | Ask::End => Answer::Misfit,
+        Ask::Open(_flash) => Answer::Misfit,
+        Ask::DiskRead(_) | Ask::End => Answer::Misfit,
         Ask::Port(port, ask) => port_answer(serve_port(master, port, ask)),
         Ask::Status(port) => match master.status(port) {
             Some(status) => Answer::Status(status),

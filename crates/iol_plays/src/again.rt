@@ -4,20 +4,21 @@ use crate::clients::{empty_links, meeting, play_clients};
 use crate::two_clients::formatted;
 use iol_disk::{DiskFault, FaultDisk, MemoryDisk};
 use std::alloc::Global;
-use std::io::{Input, Write};
+use std::io::Input;
+use std::rt::Stdout;
 use std::sync::Wait;
 use std::thread::Threads;
 use std::time::Clock;
 
 /// Runs a master on a new disk of which one call of a kind fails, this one counted from its recovery, and a second master on the disk
 /// that it hands back, and gives that disk. Prints what the clients of each are answered, and how each ends.
-pub(crate) fn play_again<R: Threads + Wait + Clock + Input + Copy + Send + 'static, W: Write>(
+pub(crate) fn play_again<R: Threads + Wait + Clock + Input + Copy + Send + 'static>(
     rt: &R,
     alloc: Global,
     kind: &str,
     nth: u64,
     words: &[String],
-    out: &mut W,
+    out: &mut Stdout,
 ) -> anyhow::Result<MemoryDisk> {
     let disk = FaultDisk::new(formatted(alloc)?, fault_named(kind), nth);
     let disk = serve(rt, alloc, disk, words, out)?;
@@ -35,12 +36,12 @@ fn fault_named(kind: &str) -> DiskFault {
 }
 
 // Runs a master at whose ports no device is, and gives the disk that it hands back.
-fn serve<R: Threads + Wait + Clock + Input + Copy + Send + 'static, W: Write>(
+fn serve<R: Threads + Wait + Clock + Input + Copy + Send + 'static>(
     rt: &R,
     alloc: Global,
     disk: FaultDisk<MemoryDisk>,
     words: &[String],
-    out: &mut W,
+    out: &mut Stdout,
 ) -> anyhow::Result<FaultDisk<MemoryDisk>> {
     let links = meeting(alloc, empty_links(alloc, 2)?, 0)?;
     play_clients(rt, alloc, disk, links, words, out)

@@ -16,6 +16,7 @@ use iol_types::MasterState;
 use std::alloc::{AllocError, Global};
 use std::io::{Input, Write};
 use std::marker::Brand;
+use std::rt::Stdout;
 use std::sync::atomic::AtomicU64;
 use std::sync::{Arc, Wait};
 use std::thread;
@@ -27,21 +28,20 @@ use std::time::Clock;
 pub(crate) fn play_clients<
     D: SectorDisk + Drop + Send + 'static,
     R: Threads + Wait + Clock + Input + Copy + Send + 'static,
-    W: Write,
 >(
     rt: &R,
     alloc: Global,
     disk: D,
     links: Vec<MeetingLink<SimLink>>,
     words: &[String],
-    out: &mut W,
+    out: &mut Stdout,
 ) -> anyhow::Result<D> {
     let (journal, state) = match Journal::recover(alloc, disk) {
         Ok(found) => found,
         Err(_) => bail!("no recovery"),
     };
     let front = Front::new(alloc, journal.number(), &state)?;
-    play::<_, Brand, _, _>(rt, alloc, front, journal, state, links, words, out)
+    play::<D, Brand, R>(rt, alloc, front, journal, state, links, words, out)
 }
 
 /// So many links, at which no device ever is.
@@ -80,7 +80,6 @@ fn play<
     D: SectorDisk + Drop + Send + 'static,
     F: Name + 'static,
     R: Threads + Wait + Clock + Input + Copy + Send + 'static,
-    W: Write,
 >(
     rt: &R,
     alloc: Global,
@@ -89,7 +88,7 @@ fn play<
     state: MasterState,
     links: Vec<MeetingLink<SimLink>>,
     words: &[String],
-    out: &mut W,
+    out: &mut Stdout,
 ) -> anyhow::Result<D>
     requires name { front ≡ F.front }
     requires state { state ≡ front.start.state }
@@ -106,7 +105,7 @@ fn play<
     {
         return end_beside(rt, alloc, master, words, out);
     }
-    let asked = ask::<D, F, R, W>(rt, alloc, &mut master, words, out);
+    let asked = ask::<D, F, R>(rt, alloc, &mut master, words, out);
     let disk = end(rt, master, out)?;
     if asked.is_err() {
         writeln!(out, "not all was asked")?;
@@ -115,10 +114,10 @@ fn play<
 }
 
 // Ends the master, prints how, and gives its disk.
-fn end<D: SectorDisk + Drop + Send + 'static, F: Name + 'static, R: Threads + Wait, W: Write>(
+fn end<D: SectorDisk + Drop + Send + 'static, F: Name + 'static, R: Threads + Wait>(
     rt: &R,
     master: Master<D, F>,
-    out: &mut W,
+    out: &mut Stdout,
 ) -> anyhow::Result<D> {
     match master.shutdown(rt) {
         Ending::Closed(journal, _publisher) => {
@@ -141,13 +140,12 @@ fn ask<
     D: SectorDisk + Drop + Send + 'static,
     F: Name + 'static,
     R: Threads + Wait + Input + Copy + Send + 'static,
-    W: Write,
 >(
     rt: &R,
     alloc: Global,
     master: &mut Master<D, F>,
     words: &[String],
-    out: &mut W,
+    out: &mut Stdout,
 ) -> anyhow::Result<()> {
     let (told, heard) = crossbeam_channel::unbounded(alloc)?;
     let (granted, receipts) = crossbeam_channel::unbounded(alloc)?;
@@ -169,13 +167,12 @@ fn end_beside<
     D: SectorDisk + Drop + Send + 'static,
     F: Name + 'static,
     R: Threads + Wait + Input + Copy + Send + 'static,
-    W: Write,
 >(
     rt: &R,
     alloc: Global,
     mut master: Master<D, F>,
     words: &[String],
-    out: &mut W,
+    out: &mut Stdout,
 ) -> anyhow::Result<D> {
     let (told, heard) = crossbeam_channel::unbounded(alloc)?;
     let (granted, receipts) = crossbeam_channel::unbounded(alloc)?;
@@ -264,11 +261,7 @@ fn start<F: Name + 'static, R: Threads + Wait + Copy + Send + 'static>(
 }
 
 // Prints each answer as it comes, until all clients have ended.
-fn hear<R: Wait, W: Write>(
-    rt: &R,
-    heard: &Receiver<Told, Global>,
-    out: &mut W,
-) -> anyhow::Result<()> {
+fn hear<R: Wait>(rt: &R, heard: &Receiver<Told, Global>, out: &mut Stdout) -> anyhow::Result<()> {
     for told in heard.iter(rt) {
         writeln!(out, "{told}")?;
         out.flush()?;

@@ -5,17 +5,17 @@ use iol_commands::{empty_disk, geometry_of};
 use iol_live::{Telling, live_on_disk};
 use iol_script::LiveScript;
 use std::alloc::Global;
-use std::io::Write;
+use std::rt::Stderr;
 use std::sync::Wait;
 use std::thread::Threads;
 use std::time::Clock;
 
 /// Runs a master of two ports and four slots, and says how many receipts there are and the state that is recovered.
-pub(crate) fn text_of_live<R: Threads + Wait + Clock + Copy + Send + 'static, E: Write>(
+pub(crate) fn text_of_live<R: Threads + Wait + Clock + Copy + Send + 'static>(
     rt: &R,
     alloc: Global,
     script: &[u8],
-    err: &mut E,
+    err: &mut Stderr,
 ) -> anyhow::Result<String> {
     let script = LiveScript::read(alloc, script)?;
     let geometry = geometry_of(2, 4).context("no geometry")?;

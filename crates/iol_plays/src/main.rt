@@ -41,55 +41,131 @@ use master::play_in_memory;
 use measures::{measure, time_commits};
 use misfit::play_misfit;
 use schedule::{play_schedule, show};
+use std::io::Input;
+use std::sync::Wait;
+use std::thread::Threads;
+use std::time::Clock;
 use two_clients::play_two_clients;
 
 fn main(rt: HostRuntime) -> anyhow::Result<()> {
     let words: Vec<String> = std::env::args(&rt)?.collect(rt.alloc())?;
-    match words.as_slice() {
-        [_, play] => {
-            if play.as_str() == "misfit" {
-                return play_misfit(rt.alloc(), &mut rt.stdout());
-            }
-            play_two_clients(&rt, rt.alloc(), &mut rt.stdout())
-        }
+    play(&rt, &rt, words.as_slice())
+}
+
+// Plays what the words of the program name. What runs threads takes the handle for them.
+fn play<R: Threads + Wait + Clock + Input + Copy + Send + 'static>(
+    rt: &R,
+    host: &HostRuntime,
+    words: &[String],
+) -> anyhow::Result<()> {
+    match words {
+        [_, play] => play_alone(rt, host, play.as_str()),
         [_, play, kind, nth, clients @ ..] if play.as_str() == "again" => {
-            let (kind, nth) = (kind.as_str(), nth.as_str().parse()?);
-            let out = &mut rt.stdout();
-            show(&rt, play_again(&rt, rt.alloc(), kind, nth, clients, out)?)
+            play_twice(rt, host, kind.as_str(), nth.as_str(), clients)
         }
-        [_, play, path] => {
-            let script = std::fs::read(&rt, path.as_str())?;
-            if play.as_str() == "schedule" {
-                return play_schedule(&rt, &script);
-            }
-            let text = text_of_live(&rt, rt.alloc(), &script, &mut rt.stderr())?;
-            print!(&rt; "{text}")?;
-            Ok(())
-        }
-        [_, play, folder, count] => {
-            if play.as_str() == "longest" {
-                return time_commits(&rt, folder.as_str(), count.as_str().parse()?);
-            }
-            measure(&rt, folder.as_str(), count.as_str().parse()?)
-        }
+        [_, play, path] => play_script(rt, host, play.as_str(), path.as_str()),
+        [_, play, folder, count] => play_in(host, play.as_str(), folder.as_str(), count.as_str()),
         [_, _, path, links, least, clients @ ..] => {
-            let least = least.as_str().parse()?;
-            if path.as_str().ends_with(".toml") {
-                let script = std::fs::read(&rt, path.as_str())?;
-                let out = &mut rt.stdout();
-                return show(
-                    &rt,
-                    play_in_memory(&rt, rt.alloc(), &script, least, clients, out)?,
-                );
-            }
-            let Ok(disk) = opened(&rt, path.as_str()) else {
-                bail!("no image")
-            };
-            let links = empty_links(rt.alloc(), links.as_str().parse()?)?;
-            let links = meeting(rt.alloc(), links, least)?;
-            let _disk = play_clients(&rt, rt.alloc(), disk, links, clients, &mut rt.stdout())?;
-            Ok(())
+            play_with(
+                rt,
+                host,
+                path.as_str(),
+                links.as_str(),
+                least.as_str(),
+                clients,
+            )
         }
         _ => Ok(()),
     }
+}
+
+// Plays what names no file.
+fn play_alone<R: Threads + Wait + Clock + Copy + Send + 'static>(
+    rt: &R,
+    host: &HostRuntime,
+    play: &str,
+) -> anyhow::Result<()> {
+    if play == "misfit" {
+        return play_misfit(host.alloc(), &mut host.stdout());
+    }
+    play_two_clients(rt, host.alloc(), &mut host.stdout())
+}
+
+// Plays two masters, one after another, on a disk whose call of this number fails.
+fn play_twice<R: Threads + Wait + Clock + Input + Copy + Send + 'static>(
+    rt: &R,
+    host: &HostRuntime,
+    kind: &str,
+    nth: &str,
+    clients: &[String],
+) -> anyhow::Result<()> {
+    let nth = nth.parse()?;
+    let disk = play_again(rt, host.alloc(), kind, nth, clients, &mut host.stdout())?;
+    show(host, disk)
+}
+
+// Plays the script at a path.
+fn play_script<R: Threads + Wait + Clock + Copy + Send + 'static>(
+    rt: &R,
+    host: &HostRuntime,
+    play: &str,
+    path: &str,
+) -> anyhow::Result<()> {
+    let script = std::fs::read(host, path)?;
+    if play == "schedule" {
+        return play_schedule(host, &script);
+    }
+    let text = text_of_live(rt, host.alloc(), &script, &mut host.stderr())?;
+    print!(host; "{text}")?;
+    Ok(())
+}
+
+// Measures in a folder.
+fn play_in(host: &HostRuntime, play: &str, folder: &str, count: &str) -> anyhow::Result<()> {
+    if play == "longest" {
+        return time_commits(host, folder, count.parse()?);
+    }
+    measure(host, folder, count.parse()?)
+}
+
+// Plays the clients of a master, on an image or with the devices of a script.
+fn play_with<R: Threads + Wait + Clock + Input + Copy + Send + 'static>(
+    rt: &R,
+    host: &HostRuntime,
+    path: &str,
+    links: &str,
+    least: &str,
+    clients: &[String],
+) -> anyhow::Result<()> {
+    let least = least.parse()?;
+    if path.ends_with(".toml") {
+        return play_devices(rt, host, path, least, clients);
+    }
+    let Ok(disk) = opened(host, path) else {
+        bail!("no image")
+    };
+    let links = empty_links(host.alloc(), links.parse()?)?;
+    let links = meeting(host.alloc(), links, least)?;
+    let _disk = play_clients(rt, host.alloc(), disk, links, clients, &mut host.stdout())?;
+    Ok(())
+}
+
+// Plays the clients of a master in memory, with the devices of the script at a path.
+fn play_devices<R: Threads + Wait + Clock + Input + Copy + Send + 'static>(
+    rt: &R,
+    host: &HostRuntime,
+    path: &str,
+    least: u64,
+    clients: &[String],
+) -> anyhow::Result<()> {
+    let script = std::fs::read(host, path)?;
+    let disk = play_in_memory(
+        rt,
+        host.alloc(),
+        &script,
+        least,
+        clients,
+        &mut host.stdout(),
+    )?;
+    show(host, disk)
 }

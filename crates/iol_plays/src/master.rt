@@ -8,19 +8,20 @@ use iol_journal::format;
 use iol_script::LiveScript;
 use std::alloc::Global;
 use std::io::{Input, Write};
+use std::rt::Stdout;
 use std::sync::Wait;
 use std::thread::Threads;
 use std::time::Clock;
 
 /// Runs a master of two ports and four slots with the devices of a script and a client for each word, and gives its disk. Prints
 /// what each is answered, and how the master ends.
-pub(crate) fn play_in_memory<R: Threads + Wait + Clock + Input + Copy + Send + 'static, W: Write>(
+pub(crate) fn play_in_memory<R: Threads + Wait + Clock + Input + Copy + Send + 'static>(
     rt: &R,
     alloc: Global,
     script: &[u8],
     least: u64,
     words: &[String],
-    out: &mut W,
+    out: &mut Stdout,
 ) -> anyhow::Result<MemoryDisk> {
     let script = LiveScript::read(alloc, script)?;
     let geometry = geometry_of(2, 4).context("no geometry")?;

@@ -16,6 +16,7 @@ use iol_types::MasterState;
 use std::alloc::Global;
 use std::io::Write;
 use std::marker::Brand;
+use std::rt::Stdout;
 use std::sync::Wait;
 use std::thread::Threads;
 use std::time::Clock;
@@ -42,13 +43,13 @@ fn unplugged(alloc: Global) -> anyhow::Result<Vec<SimLink>> {
 }
 
 // A master of these two ports runs, until its clients have their receipts and a third has read behind them.
-fn play<F: Name + 'static, R: Threads + Wait + Clock + Copy + Send + 'static, W: Write>(
+fn play<F: Name + 'static, R: Threads + Wait + Clock + Copy + Send + 'static>(
     rt: &R,
     alloc: Global,
     front: Front,
     journal: Journal<MemoryDisk>,
     state: MasterState,
-    out: &mut W,
+    out: &mut Stdout,
 ) -> anyhow::Result<()>
     requires name { front ≡ F.front }
     requires state { state ≡ front.start.state }
@@ -59,16 +60,16 @@ fn play<F: Name + 'static, R: Threads + Wait + Clock + Copy + Send + 'static, W:
     let Ok(mut master) = Master::start(rt, alloc, journal, state, publisher, links) else {
         bail!("no master")
     };
-    let read = ask::<F, R, W>(rt, &mut master, out);
+    let read = ask::<F, R>(rt, &mut master, out);
     end(rt, master, out)?;
     read
 }
 
 // Ends the master, and tells behind how many commands.
-fn end<F: Name + 'static, R: Threads + Wait, W: Write>(
+fn end<F: Name + 'static, R: Threads + Wait>(
     rt: &R,
     master: Master<MemoryDisk, F>,
-    out: &mut W,
+    out: &mut Stdout,
 ) -> anyhow::Result<()> {
     let number = match master.shutdown(rt) {
         Ending::Closed(journal, _) => journal.number(),
@@ -80,10 +81,10 @@ fn end<F: Name + 'static, R: Threads + Wait, W: Write>(
 }
 
 // Two clients configure a port each, at once, and a third reads both ports behind their receipts.
-fn ask<F: Name + 'static, R: Threads + Wait + Copy + Send + 'static, W: Write>(
+fn ask<F: Name + 'static, R: Threads + Wait + Copy + Send + 'static>(
     rt: &R,
     master: &mut Master<MemoryDisk, F>,
-    out: &mut W,
+    out: &mut Stdout,
 ) -> anyhow::Result<()> {
     let (first, second) = configured::<F, R>(rt, master)?;
     let mut third = master.client()?;
@@ -105,11 +106,11 @@ fn configured<F: Name + 'static, R: Threads + Wait + Copy + Send + 'static>(
 }
 
 // Tells what a client reads of the port of a receipt, once it has met that.
-fn tell<F: Name, R: Wait, W: Write>(
+fn tell<F: Name, R: Wait>(
     rt: &R,
     client: &mut Client<F>,
     granted: Granted<F>,
-    out: &mut W,
+    out: &mut Stdout,
 ) -> anyhow::Result<()> {
     let mut granted = granted;
     let port = granted.port();
@@ -120,15 +121,15 @@ fn tell<F: Name, R: Wait, W: Write>(
 }
 
 /// Plays the example on a disk in memory, and prints what the third client reads and how the master ends.
-pub(crate) fn play_two_clients<R: Threads + Wait + Clock + Copy + Send + 'static, W: Write>(
+pub(crate) fn play_two_clients<R: Threads + Wait + Clock + Copy + Send + 'static>(
     rt: &R,
     alloc: Global,
-    out: &mut W,
+    out: &mut Stdout,
 ) -> anyhow::Result<()> {
     let (journal, state) = match Journal::recover(alloc, formatted(alloc)?) {
         Ok(found) => found,
         Err(_) => bail!("no recovery"),
     };
     let front = Front::new(alloc, journal.number(), &state)?;
-    play::<Brand, _, _>(rt, alloc, front, journal, state, out)
+    play::<Brand, R>(rt, alloc, front, journal, state, out)
 }

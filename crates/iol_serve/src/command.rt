@@ -1,6 +1,6 @@
 //! The command `serve`, over a writer for its output and one for its faults.
 
-ghost use Rattle.std.specs.Prelude.{◌≡◌, ◌≤◌, All, IfOk, vec_len};
+ghost use Rattle.std.specs.Prelude.{◌≡◌, ◌≤◌, [], All, IfOk, vec_len};
 ghost use Rattle.iol_commands.specs.Devices.{MayVisit};
 
 use crate::conducting::Unserved;
@@ -12,9 +12,11 @@ use crate::patience::Patience;
 use crate::printing::Printed;
 use crate::serving::{Conversation, serve};
 use iol_commands::{Fault, links_of, opened, recover, report};
+use iol_disk::SectorDisk;
+use iol_journal::Journal;
 use iol_script::{Device, LiveScript};
 use iol_sim::SimLink;
-use iol_types::PortId;
+use iol_types::{MasterState, PortId};
 use iol_wire::WireLink;
 use std::alloc::Global;
 use std::io::{Read, Write};
@@ -79,20 +81,125 @@ fn serve_file<
     serving: &Serving<'_>,
     conversation: Conversation<I, W>,
 ) -> Result<Printed, Fault<'a>> {
-    let alloc = rt.alloc();
-    let devices = devices_of(alloc, serving.devices)?;
-    let disk = opened(&files, path)?;
-    let (journal, state) = recover(alloc, disk)?;
-    let ports = state.ports();
+    match devices_of(rt.alloc(), serving.devices) {
+        Ok(devices) => serve_with(rt, files, path, serving, &devices, conversation),
+        Err(fault) => Err(fault),
+    }
+}
+
+// Serves a master on the image file at a path, with these simulated devices.
+fn serve_with<
+    'a,
+    R: AllocGlobal + Threads + Wait + Clock + Copy + Send + 'static,
+    I: Read + Drop + Send + 'static,
+    W: Write + Drop + Send + 'static,
+>(
+    rt: &R,
+    files: HostRuntime,
+    path: &'a str,
+    serving: &Serving<'_>,
+    devices: &[Device],
+    conversation: Conversation<I, W>,
+) -> Result<Printed, Fault<'a>>
+    requires { All MayVisit devices.now }
+{
+    match opened(&files, path) {
+        Ok(disk) => serve_disk(rt, files, disk, serving, devices, conversation),
+        Err(fault) => Err(fault),
+    }
+}
+
+// Serves a master on a disk.
+fn serve_disk<
+    D: SectorDisk + Drop + Send + 'static,
+    R: AllocGlobal + Threads + Wait + Clock + Copy + Send + 'static,
+    I: Read + Drop + Send + 'static,
+    W: Write + Drop + Send + 'static,
+>(
+    rt: &R,
+    files: HostRuntime,
+    disk: D,
+    serving: &Serving<'_>,
+    devices: &[Device],
+    conversation: Conversation<I, W>,
+) -> Result<Printed, Fault<'static>>
+    requires { All MayVisit devices.now }
+{
+    match recover(rt.alloc(), disk) {
+        Ok((journal, state)) => {
+            serve_recovered::<D, R, I, W>(rt, files, journal, state, serving, devices, conversation)
+        }
+        Err(fault) => Err(fault),
+    }
+}
+
+// Serves a master over a journal that was just recovered, where the devices and the drivers fit its ports.
+fn serve_recovered<
+    D: SectorDisk + Drop + Send + 'static,
+    R: AllocGlobal + Threads + Wait + Clock + Copy + Send + 'static,
+    I: Read + Drop + Send + 'static,
+    W: Write + Drop + Send + 'static,
+>(
+    rt: &R,
+    files: HostRuntime,
+    journal: Journal<D>,
+    state: MasterState,
+    serving: &Serving<'_>,
+    devices: &[Device],
+    conversation: Conversation<I, W>,
+) -> Result<Printed, Fault<'static>>
+    requires devices { All MayVisit devices.now }
+    requires state { state ≡ journal.standing.state }
+    requires history { journal.history
+        ≡ record { first = journal.standing.number; start = journal.standing.state; commands = [] } }
+{
+    match linked::<R>(rt, files, serving, devices, state.ports()) {
+        Ok((links, ending)) => serve::<D, PortLink<R>, I, W, R>(
+            rt,
+            rt.alloc(),
+            journal,
+            state,
+            links,
+            conversation,
+            &ending,
+        ),
+        Err(fault) => Err(fault),
+    }
+}
+
+// The link of each port, and what tells the drivers that the ports are to settle.
+//
+// # Errors
+// `Fit` and `Drivers` where a device or a driver is at another port; `Memory` and `Thread`.
+fn linked<R: AllocGlobal + Threads + Wait + Clock + Copy + Send + 'static>(
+    rt: &R,
+    files: HostRuntime,
+    serving: &Serving<'_>,
+    devices: &[Device],
+    ports: u8,
+) -> Result<(Vec<PortLink<R>>, Arc<AtomicBool>), Fault<'static>>
+    requires { All MayVisit devices.now }
+    ensures { IfOk result (λ linked. vec_len linked.0 ≡ ports) }
+{
+    if let Some(fault) = misfit(serving.drivers, ports, devices) {
+        return Err(fault);
+    }
+    let ending = Arc::new(rt.alloc(), AtomicBool::new(false))?;
+    match port_links(rt, files, rt.alloc(), serving, devices, ports, &ending) {
+        Ok(links) => Ok((links, ending)),
+        Err(unserved) => Err(Fault::from(unserved)),
+    }
+}
+
+// Why devices and drivers do not fit so many ports, if they do not.
+fn misfit(drivers: &[Driver<'_>], ports: u8, devices: &[Device]) -> Option<Fault<'static>> {
     if !devices.iter().all(|device| device.port.number() <= ports) {
-        return Err(Fault::Fit);
+        return Some(Fault::Fit);
     }
-    if !all_fit(serving.drivers, ports, &devices) {
-        return Err(Fault::Drivers);
+    if !all_fit(drivers, ports, devices) {
+        return Some(Fault::Drivers);
     }
-    let ending = Arc::new(alloc, AtomicBool::new(false))?;
-    let links = port_links(rt, files, alloc, serving, &devices, ports, &ending)?;
-    serve(rt, alloc, journal, state, links, conversation, &ending)
+    None
 }
 
 // The devices of a script, if there is one.

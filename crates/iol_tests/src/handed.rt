@@ -6,19 +6,15 @@ use crate::blank::config;
 use crate::example_store::store_of;
 use iol_disk::{MemoryDisk, SECTOR_OCTETS, SectorDisk};
 use iol_front::Name;
-use iol_handed::{Answer, Ask, Found, HandedMaster, Session, UnknownFlash};
+use iol_handed::{Answer, Ask, Found, HandedMaster, Opening, Session, UnknownFlash};
 use iol_types::{Change, PortId};
 use std::alloc::Global;
 use std::marker::Brand;
 use std::process::Abort;
 
 // Makes the call of the disk that a session wants, and reports it. Returns the answer where it wants none.
-fn serve_disk<F: Name>(
-    alloc: Global,
-    session: Session<F>,
-    disk: &mut MemoryDisk,
-) -> (Session<F>, Option<Answer>) {
-    let (session, answer) = session.serve(alloc, Ask::DiskNext);
+fn serve_disk<F: Name>(session: Session<F>, disk: &mut MemoryDisk) -> (Session<F>, Option<Answer>) {
+    let (session, answer) = session.serve(Ask::DiskNext);
     let report = match answer {
         Answer::Sync => Ask::DiskDone(disk.sync().is_ok()),
         Answer::Read(sector) if sector < disk.sectors() => {
@@ -31,14 +27,17 @@ fn serve_disk<F: Name>(
         }
         other => return (session, Some(other)),
     };
-    (session.serve(alloc, report).0, None)
+    (session.serve(report).0, None)
 }
 
 // What is found on a disk.
 fn found_on<R: Abort>(rt: &R, alloc: Global, disk: &mut MemoryDisk) -> Found<UnknownFlash> {
-    let (mut session, _) = Session::<Brand>::ended().serve(alloc, Ask::Open(disk.sectors()));
+    let (mut session, _) = Session::<Brand>::ended().serve(Ask::Open(Opening::new(
+        alloc,
+        disk.sectors(),
+    )));
     for _ in 0..500 {
-        let (next, answer) = serve_disk(alloc, session, disk);
+        let (next, answer) = serve_disk(session, disk);
         session = next;
         match answer {
             Some(Answer::Found(found)) => return found,
@@ -60,8 +59,8 @@ fn begun<F: Name, R: Abort>(rt: &R, alloc: Global, found: Found<UnknownFlash>) -
 }
 
 // The numbers of the last durable and of the last accepted command.
-fn numbers_of<F: Name>(alloc: Global, session: Session<F>) -> Option<(u64, u64)> {
-    let (session, answer) = session.serve(alloc, Ask::Numbers);
+fn numbers_of<F: Name>(session: Session<F>) -> Option<(u64, u64)> {
+    let (session, answer) = session.serve(Ask::Numbers);
     session.end();
     match answer {
         Answer::Numbers(durable, accepted) => Some((durable, accepted)),
@@ -82,15 +81,15 @@ fn configured<F: Name, R: Abort>(
         port: PortId::new(1)?,
         config: config(),
     };
-    let (mut session, _) = begun::<F, _>(rt, alloc, found).serve(alloc, Ask::Submit(change));
+    let (mut session, _) = begun::<F, _>(rt, alloc, found).serve(Ask::Submit(change));
     for _ in 0..500 {
-        let (next, answer) = serve_disk(alloc, session, disk);
+        let (next, answer) = serve_disk(session, disk);
         session = next;
         if let Some(Answer::Nothing) = answer {
             break;
         }
     }
-    numbers_of(alloc, session)
+    numbers_of(session)
 }
 
 // The numbers of a master that begins with what was found.
@@ -101,7 +100,7 @@ fn numbers_found<F: Name, R: Abort>(
 ) -> Option<(u64, u64)>
     requires { found.front ≡ F.front }
 {
-    numbers_of(alloc, begun::<F, _>(rt, alloc, found))
+    numbers_of(begun::<F, _>(rt, alloc, found))
 }
 
 #[test]
