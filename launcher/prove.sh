@@ -240,12 +240,14 @@ say_what_it_takes() {
 
 build() {
     sum=$(sum_of_sources)
+    library_sources=$(sum_of_library)
     rm -rf "$out/built" && mkdir "$out/built" && build_crates </dev/null || return 1
     if [ "$(sum_of_sources)" != "$sum" ]; then
         say "a source has changed meanwhile, so the program is not kept."
         return 1
     fi
-    keep "$sum"
+    keep "$sum" || return
+    case " $also " in *" iol_c "*) keep_library "$library_sources" ;; esac
 }
 
 # Proves and builds the program where that is not done. A second start waits for the first: the system lets go of the lock

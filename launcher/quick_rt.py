@@ -2,9 +2,11 @@
 """Runs `rt` with the words given, and makes the sum of each crate's sources once.
 
 `rt` compares sums to see what is built already. It makes the sum of a crate anew for each way that leads down to the crate: there are
-some 61,000 ways down from the program, so that most of a proof's time went there. Nothing else is changed: behind each call of the
-prover or the compiler all sums are made anew, so that a source that was changed meanwhile is seen. An `rt` that is another program than
-this one knows is run as it is.
+some 61,000 ways down from the program, so that most of a proof's time went there. Behind each call of the prover or the compiler all
+sums are made anew, so that a source that was changed meanwhile is seen.
+
+A program and a crate with no must-fail/ are proved by one process, where memory allows it, and no parts of their proofs are kept. Nothing
+else is changed. An `rt` that is another program than this one knows is run as it is.
 """
 
 import functools
@@ -12,16 +14,31 @@ import importlib.machinery
 import importlib.util
 import os
 import shutil
+import signal
 import sys
 
 sys.dont_write_bytecode = True
+# That of `iol_plays` took 6.4 GB, and another proof may run beside it.
+ROOM_FOR_ONE_PROCESS = 12_000_000_000
 
 
 def load():
     """The module of the command `rt`, with the sum of a crate kept until a build."""
+    rt = module_of_rt()
+    keep_sums(rt)
+    prove_at_once(rt)
+    return rt
+
+
+def module_of_rt():
     loader = importlib.machinery.SourceFileLoader("rt", os.path.realpath(shutil.which("rt")))
     rt = importlib.util.module_from_spec(importlib.util.spec_from_loader("rt", loader))
     loader.exec_module(rt)
+    return rt
+
+
+def keep_sums(rt):
+    """Has the sum of a crate made once until the next call of the prover or the compiler."""
     crate, sums = rt.rtlib.Crate, {}
     make_sum = crate.stamp
 
@@ -44,7 +61,37 @@ def load():
     crate.stamp = stamp
     for name in ("call", "prove"):
         setattr(crate, name, forgetting(getattr(crate, name)))
-    return rt
+
+
+def prove_at_once(rt):
+    """Has one process build a crate of whose proof nobody needs the parts.
+
+    Where the parts are kept, the prover proves a long crate in copies of itself, some functions in each, and each copy reads all that is
+    known of the crates below anew.
+    """
+    crate, call = rt.rtlib.Crate, rt.rtlib.Crate.call
+
+    @functools.wraps(call)
+    def at_once(self, *words):
+        without = without_parts(rt.rtlib.KEPT, words)
+        if words[1:2] != ("build",) or without == words or needs_parts(self) or not rt.rtlib.fits(ROOM_FOR_ONE_PROCESS):
+            return call(self, *words)
+        status = call(self, *without)
+        # It was most likely killed for memory, of which the copies take less.
+        return call(self, *words) if status == -signal.SIGKILL else status
+
+    crate.call = at_once
+
+
+def needs_parts(crate):
+    """Whether the parts of a crate's proof are needed: wrong bodies of a library are tried over them, and earlier ones save most of it."""
+    return crate.has_kept() or (os.path.isdir(f"{crate.folder}/must-fail") and not crate.is_program)
+
+
+def without_parts(kept, words):
+    """The words for the prover without those that have it keep the parts of a proof."""
+    at = words.index(kept[0]) if kept[0] in words else len(words)
+    return words[:at] + words[at + len(kept) :]
 
 
 def main(words):
