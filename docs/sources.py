@@ -4,7 +4,7 @@ import os
 import re
 
 TOP = os.path.dirname(os.path.dirname(os.path.abspath(__file__)))
-ITEM = re.compile(r"(?m)^\s*(?:pub(?:\(\w+\))? )?(?:fn|struct|enum|trait|const|static|type|mod|ghost) (\w+)")
+ITEM = re.compile(r"(?m)^\s*(?:pub(?:\(\w+\))? )?(?:extern \"C\" )?(?:fn|struct|enum|trait|const|static|type|mod|ghost) (\w+)")
 ENUM = re.compile(r"(?ms)^(?:pub(?:\(\w+\))? )?enum (\w+)[^{]*\{\n(.*?)^\}")
 STRUCT = re.compile(r"(?ms)^(?:pub(?:\(\w+\))? )?struct (\w+)[^{;]*\{\n(.*?)^\}")
 WORD = re.compile(r"(?m)^ *(?:abbrev |unfoldable )?pub (?:record |data )?([^\s:({]+)")
@@ -45,7 +45,7 @@ class Functions:
         module = os.path.basename(path)[: -len(".rt")]
         for line in text_of(path).splitlines():
             owner = re.match(r"(?:pub )?(?:impl|trait)\b(.*)", line)
-            name = re.match(r"\s*(?:pub(?:\(\w+\))? )?fn (\w+)", line)
+            name = re.match(r"\s*(?:pub(?:\(\w+\))? )?(?:extern \"C\" )?fn (\w+)", line)
             clause = re.match(r"\s*ensures (\w+)? ?\{", line)
             if owner:
                 owners = re.findall(r"\w+", re.sub(r"<[^{]*?>(?= |\{|$)", " ", owner.group(1)))

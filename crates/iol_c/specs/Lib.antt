@@ -1,0 +1,12 @@
+pub mod Asks
+pub mod Boxes
+pub mod Codes
+pub mod Configs
+pub mod DiskExports
+pub mod Filled
+pub mod FormatExports
+pub mod Handles
+pub mod Hosting
+pub mod PortExports
+pub mod Shown
+pub mod StateExports

@@ -1,0 +1,63 @@
+//! What becomes of a kept session.
+
+ghost use Rattle.std.specs.Prelude.{◌≡◌, IfSome};
+ghost use Rattle.iol_c.specs.Hosting.{Hosts, IsBegunIn, IsMade};
+
+use crate::apart::Apart;
+use crate::kept::Kept;
+use iol_front::Name;
+use iol_handed::{Answer, Ask, Found, HandedMaster, Opening, Session, UnknownFlash, is_end};
+use std::alloc::Global;
+
+/// Has a session serve what is asked. Its box is freed where it is to end.
+pub(crate) fn serve<F: Name>(kept: Kept<F>, alloc: Global, ask: Ask) -> (Kept<F>, Answer)
+    ensures { Hosts ask kept.is_open kept.session result.0.is_open result.0.session result.1 }
+{
+    let Some(session) = kept.into_apart(alloc) else {
+        return (Kept::none(), Answer::Closed);
+    };
+    let ends = is_end(&ask);
+    let mut session = session.into_box();
+    let (after, answer) = Box::replace(&mut session, Session::ended()).serve(ask);
+    if ends {
+        return (Kept::none(), answer);
+    }
+    let _ended = Box::replace(&mut session, after);
+    (Kept::of(Apart::of(session)), answer)
+}
+
+/// A new box: with a master over what was found, or with an ended session where nothing was. Where memory runs out there is no
+/// box, and what was found is handed back as the opening that found it.
+pub(crate) fn make<F: Name>(
+    alloc: Global,
+    found: Option<Found<UnknownFlash>>,
+) -> (Kept<F>, Option<Opening<UnknownFlash>>)
+    requires name { IfSome found (λ found. found.front ≡ F.front) }
+    ensures made { IsMade found result.0.is_open result.0.session result.1 }
+{
+    match (Box::new(alloc, Session::<F>::ended()), found) {
+        (Ok(session), Some(found)) => begin(alloc, session, found),
+        (Ok(session), None) => (Kept::of(Apart::of(session)), None),
+        (Err(_), Some(found)) => (Kept::none(), Some(found.into_opening(alloc))),
+        (Err(_), None) => (Kept::none(), None),
+    }
+}
+
+// A master over what was found begins in this box.
+fn begin<F: Name>(
+    alloc: Global,
+    session: Box<Session<F>>,
+    found: Found<UnknownFlash>,
+) -> (Kept<F>, Option<Opening<UnknownFlash>>)
+    requires name { found.front ≡ F.front }
+    ensures begun { IsBegunIn found result.0.is_open result.0.session result.1 }
+{
+    match HandedMaster::begin(alloc, found) {
+        Ok(master) => {
+            let mut session = session;
+            let _ended = Box::replace(&mut session, Session::running(master));
+            (Kept::of(Apart::of(session)), None)
+        }
+        Err(opening) => (Kept::none(), Some(opening)),
+    }
+}

@@ -1,0 +1,24 @@
+//! The master for C: a static library that makes no call of a disk or a device itself (include/iolmaster.h).
+//!
+//! C keeps a handle. Each call asks its session something, writes what is answered to structs of C, and returns its number.
+//!
+//! Modules in reading order:
+//! - `apart` is a box that is taken apart, `kept` a session in one, `hosting` what becomes of it, and `handle` what C keeps.
+//! - `codes`, `structs`, `arguments`, `configs` and `shown` are what crosses to C and back.
+//! - `format_exports`, `disk_exports`, `command_exports`, `port_exports` and `state_exports` are the calls.
+#![tactic(auto)]
+
+mod apart;
+mod arguments;
+mod codes;
+mod command_exports;
+mod configs;
+mod disk_exports;
+mod format_exports;
+mod handle;
+mod hosting;
+mod kept;
+mod port_exports;
+mod shown;
+mod state_exports;
+mod structs;
