@@ -1,5 +1,7 @@
-# Proves and builds the program, two crates at a time where neither waits for the other. Part of `iolmaster`.
+# Proves and builds the program, two or three crates at a time where none waits for another. Part of `iolmaster`.
+# Four processors are often two, which do more by four threads.
 at_once=2
+[ "$(nproc)" -lt 4 ] || at_once=3
 usual_gigabytes=6
 # Crates of tests and of other programs that are proved beside the program, where `tests/proofs` asks for them.
 also=${PROVED_TOO:-}

@@ -5,8 +5,8 @@
 some 61,000 ways down from the program, so that most of a proof's time went there. Behind each call of the prover or the compiler all
 sums are made anew, so that a source that was changed meanwhile is seen.
 
-A program and a crate with no must-fail/ are proved by one process, where memory allows it, and no parts of their proofs are kept. Nothing
-else is changed. An `rt` that is another program than this one knows is run as it is.
+A crate of whose proof no earlier parts are kept is proved by one process, and keeps none; a program where memory allows it. A library is
+built with its statements alone, of which a crate above reads far less than of its proofs. Nothing else is changed. An `rt` that is another program than this one knows is run as it is.
 """
 
 import functools
@@ -64,17 +64,22 @@ def keep_sums(rt):
 
 
 def prove_at_once(rt):
-    """Has one process build a crate of whose proof nobody needs the parts.
+    """Has one process build a crate of whose proof no earlier parts are there, and a library with its statements alone.
 
     Where the parts are kept, the prover proves a long crate in copies of itself, some functions in each, and each copy reads all that is
-    known of the crates below anew.
+    known of the crates below anew. What a crate above reads of a library with its proofs is several times what it needs.
     """
     crate, call = rt.rtlib.Crate, rt.rtlib.Crate.call
+    statements = ["--statements"] if "--statements" in rt.rtlib.help_of("build") else []
 
     @functools.wraps(call)
     def at_once(self, *words):
         without = without_parts(rt.rtlib.KEPT, words)
-        if words[1:2] != ("build",) or without == words or needs_parts(self) or not rt.rtlib.fits(ROOM_FOR_ONE_PROCESS):
+        if words[1:2] != ("build",) or without == words or self.has_kept():
+            return call(self, *words)
+        if is_library(self, words):
+            return call(self, *without, *statements)
+        if not rt.rtlib.fits(ROOM_FOR_ONE_PROCESS):
             return call(self, *words)
         status = call(self, *without)
         # It was most likely killed for memory, of which the copies take less.
@@ -83,9 +88,9 @@ def prove_at_once(rt):
     crate.call = at_once
 
 
-def needs_parts(crate):
-    """Whether the parts of a crate's proof are needed: wrong bodies of a library are tried over them, and earlier ones save most of it."""
-    return crate.has_kept() or (os.path.isdir(f"{crate.folder}/must-fail") and not crate.is_program)
+def is_library(crate, words):
+    """Whether these words build a library for the crates above it."""
+    return not crate.is_program and not crate.is_static and "--test" not in words
 
 
 def without_parts(kept, words):
