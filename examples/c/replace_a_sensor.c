@@ -4,6 +4,7 @@
  *     make && ./replace_a_sensor
  */
 #include "iolmaster.h"
+#include "iolmaster_text.h"
 
 #include <stdio.h>
 #include <stdlib.h>
@@ -201,15 +202,13 @@ static void serve(struct iolm *master, struct device *device) {
 }
 
 static void show(struct iolm *master, const char *when) {
-    static const char *const names[] = {"off",       "lost",    "starting",    "ready",    "ready locked", "ready empty",
-                                        "uploading", "storing", "downloading", "mismatch", "failed"};
     struct iolm_status status;
     struct iolm_port_view view;
     uint64_t number;
     iolm_port_status(master, 1, &status);
     iolm_port_view(master, 1, &view);
     iolm_durable(master, &number);
-    printf("%s: port 1 %s, %u parameters stored, command %u durable\n", when, names[status.status], (unsigned)view.present.entries,
+    printf("%s: port 1 %s, %u parameters stored, command %u durable\n", when, iolm_status_name(&status), (unsigned)view.present.entries,
            (unsigned)number);
 }
 
