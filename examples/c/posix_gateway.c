@@ -7,10 +7,10 @@
  * Lines of standard input are `configure PORT VENDOR DEVICE`, `status PORT` and `quit`.
  */
 #define _POSIX_C_SOURCE 200809L
+#include "iolmaster_file.h"
 #include "iolmaster_text.h"
 #include "line_driver.h"
 
-#include <errno.h>
 #include <fcntl.h>
 #include <inttypes.h>
 #include <poll.h>
@@ -50,67 +50,6 @@ static void fail(const char *what) {
 
 /* ---- The image ---- */
 
-/* Whether a transfer of a sector goes on, of which so many octets were moved now and before. */
-static bool goes_on(ssize_t count, size_t *done) {
-    *done += count > 0 ? (size_t)count : 0;
-    return *done < IOLM_SECTOR_OCTETS && (count > 0 || (count < 0 && errno == EINTR));
-}
-
-static bool write_sector(int file, const struct iolm_disk_call *call) {
-    off_t at = (off_t)(call->sector * IOLM_SECTOR_OCTETS);
-    size_t done = 0;
-    while (goes_on(pwrite(file, call->octets + done, IOLM_SECTOR_OCTETS - done, at + (off_t)done), &done)) {
-    }
-    return done == IOLM_SECTOR_OCTETS;
-}
-
-static bool read_sector(int file, uint64_t sector, uint8_t *octets) {
-    off_t at = (off_t)(sector * IOLM_SECTOR_OCTETS);
-    size_t done = 0;
-    while (goes_on(pread(file, octets + done, IOLM_SECTOR_OCTETS - done, at + (off_t)done), &done)) {
-    }
-    return done == IOLM_SECTOR_OCTETS;
-}
-
-/* Makes a write or a sync; whether it was made. A sync that fails is not tried again: what it lost may be reported as written. */
-static bool make_call(int image, uint32_t what, const struct iolm_disk_call *call) {
-    return what == IOLM_WRITE ? write_sector(image, call) : fdatasync(image) == 0;
-}
-
-static void format_image(int image, uint16_t ports, uint16_t slots) {
-    struct iolm_disk_call call;
-    uint64_t sectors;
-    uint32_t what;
-    size_t number;
-    if (iolm_format_sectors(ports, slots, &sectors) != IOLM_OK || ftruncate(image, (off_t)(sectors * IOLM_SECTOR_OCTETS))) {
-        fail("no image can be made for so many ports and slots");
-    }
-    for (number = 0; (what = iolm_format_next(ports, slots, number, &call)) != IOLM_NOTHING; number++) {
-        if ((what != IOLM_WRITE && what != IOLM_SYNC) || !make_call(image, what, &call)) {
-            fail("the image is not formatted");
-        }
-    }
-}
-
-static void open_image(struct gateway *gateway) {
-    struct iolm_disk_call call;
-    uint8_t octets[IOLM_SECTOR_OCTETS];
-    uint32_t what;
-    off_t length = lseek(gateway->image, 0, SEEK_END);
-    if (length < 0 || iolm_open(&gateway->master, (size_t)length / IOLM_SECTOR_OCTETS) != IOLM_OK) {
-        fail("the image is not opened");
-    }
-    while ((what = iolm_disk_next(&gateway->master, &call)) != IOLM_OPENED) {
-        if (what == IOLM_SYNC) {
-            iolm_disk_done(&gateway->master, fdatasync(gateway->image) == 0);
-        } else if (what == IOLM_READ && read_sector(gateway->image, call.sector, octets)) {
-            iolm_disk_read(&gateway->master, octets);
-        } else {
-            fail("the image holds no journal that can be opened");
-        }
-    }
-}
-
 static void wake_ports(struct gateway *gateway) {
     unsigned number;
     for (number = 1; number <= IOLM_PORTS; number++) {
@@ -131,7 +70,7 @@ static bool serve_disk(struct gateway *gateway) {
     case IOLM_WRITE:
     case IOLM_SYNC:
         pthread_mutex_unlock(&gateway->lock);
-        made = make_call(gateway->image, what, &call);
+        made = iolm_file_make(gateway->image, what, &call);
         pthread_mutex_lock(&gateway->lock);
         iolm_disk_done(&gateway->master, made);
         break;
@@ -359,14 +298,20 @@ static void end(struct gateway *gateway, pthread_t disk) {
 /* Opens an image, which is made where it is not there. */
 static void take_image(struct gateway *gateway, const char *path, uint16_t ports, uint16_t slots) {
     bool is_new = access(path, F_OK) != 0;
+    uint32_t answer = IOLM_OK;
     gateway->image = open(path, O_RDWR | O_CREAT, 0644);
     if (gateway->image < 0) {
         fail("the image is not opened");
     }
     if (is_new) {
-        format_image(gateway->image, ports, slots);
+        answer = iolm_file_format(gateway->image, ports, slots);
     }
-    open_image(gateway);
+    if (answer == IOLM_OK) {
+        answer = iolm_file_open(&gateway->master, gateway->image);
+    }
+    if (answer != IOLM_OK) {
+        fail(answer == IOLM_INVALID ? "there is no disk for so many ports and slots" : iolm_result_name(answer));
+    }
 }
 
 int main(int count, char **words) {
