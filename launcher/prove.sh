@@ -167,15 +167,15 @@ ready() {
     done
 }
 
-# Starts the first crate that waits for no other; fails where there is none now. A crate beside which nothing else can be proved
-# gets both processors.
+# Starts the first crate that waits for no other; fails where there is none now. The last that can be started now gets the processors
+# that are left.
 start_next() {
     set -- $(ready)
     [ $# -gt 0 ] || return 1
     # A crate that has ended may not be collected yet.
-    beside=$(for other in $running; do ended "$other" || echo "$other"; done)
+    beside=$(for other in $running; do ended "$other" || echo "$other"; done | wc -w)
     jobs=1
-    [ $# -gt 1 ] || [ -n "$beside" ] || jobs=$at_once
+    [ $# -gt 1 ] || jobs=$((at_once - beside))
     number=$((number + 1))
     say "crate $number of $count: $1"
     (exec 9>&-; build_crate "$1" "$jobs") &

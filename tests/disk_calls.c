@@ -2,7 +2,8 @@
 //
 // Each call is a record behind the others in the file DISK_CALLS: its kind, the octet of the file that it begins at, how many
 // octets it has, and, of a write, the octets. Kinds are `r`, `w` and `s` of a read, a write and a sync, and `R`, `W` and `S` of
-// one that fails. What is told on standard error is a record `t`. DISK_FAIL, such as `write 3`, fails the third write, once: it
+// one that fails. What is told on standard error is a record `t`, or on the descriptor DISK_TOLD. With DISK_ENDS a sync that was made is
+// followed by a record `e`. DISK_FAIL, such as `write 3`, fails the third write, once: it
 // answers as the system does where a device fails, and leaves the first half of what it was to write and 11 behind it. A read
 // or a sync that fails is not made. No header is included, so that the toolchain's compiler alone can make this.
 
@@ -19,14 +20,16 @@ extern void *memcpy(void *to, const void *from, size_t octets);
 extern void *memset(void *to, int octet, size_t octets);
 extern long syscall(long number, ...);
 
-static int records = -1;
+static int records = -1, told = STDERR, ends;
 // The kind of the call that fails, and how many of it are left up to that one.
 static char kind;
 static long left;
 
 __attribute__((constructor)) static void begin(void) {
-    const char *calls = getenv("DISK_CALLS"), *fail = getenv("DISK_FAIL");
+    const char *calls = getenv("DISK_CALLS"), *fail = getenv("DISK_FAIL"), *descriptor = getenv("DISK_TOLD");
     if (calls) records = open(calls, WRITE_CREATE_APPEND, OWNER_MAY_WRITE);
+    if (descriptor) told = (int)atol(descriptor);
+    ends = getenv("DISK_ENDS") != 0;
     if (!fail) return;
     kind = fail[0];
     while (*fail && *fail++ != ' ') {}
@@ -72,11 +75,13 @@ long pwrite64(int file, const void *octets, size_t count, long place) {
 int fsync(int file) {
     int is_failed = fails('s');
     record(is_failed ? 'S' : 's', 0, 0, 0);
-    return is_failed ? -1 : (int)syscall(SYS_FSYNC, file);
+    if (is_failed || syscall(SYS_FSYNC, file)) return -1;
+    if (ends) record('e', 0, 0, 0);
+    return 0;
 }
 
 long write(int file, const void *octets, size_t count) {
-    if (file == STDERR) record('t', 0, count, octets);
+    if (file == told) record('t', 0, count, octets);
     return syscall(SYS_WRITE, file, octets, count);
 }
 

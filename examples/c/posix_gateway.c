@@ -30,6 +30,7 @@ struct gateway {
     struct iolm master;
     struct port *ports[IOLM_PORTS + 1]; /* by number, from 1 */
     int image;
+    uint64_t durable; /* the number that was printed last */
     bool ports_end, disk_ends;
 };
 
@@ -76,8 +77,11 @@ static bool serve_disk(struct gateway *gateway) {
         break;
     case IOLM_AGAIN:
         iolm_durable(&gateway->master, &number);
-        printf("durable %" PRIu64 "\n", number);
-        wake_ports(gateway);
+        if (number != gateway->durable) {
+            gateway->durable = number;
+            printf("durable %" PRIu64 "\n", number);
+            wake_ports(gateway);
+        }
         break;
     case IOLM_MEMORY:
     case IOLM_NOTHING:
@@ -141,11 +145,16 @@ static enum driver_says exchange(struct port *port, const struct iolm_request *i
     return says;
 }
 
+/* Whether a status is told: not where it is the same, nor while a lost device is looked for again and again. */
+static bool is_new(const struct iolm_status *status, const struct iolm_status *shown) {
+    bool is_same = status->status == shown->status && status->detail == shown->detail;
+    return !is_same && !(status->status == IOLM_STARTING && shown->status == IOLM_LOST);
+}
+
 /* Prints how the port is, where that has changed. */
 static void show_status(struct port *port) {
     struct iolm_status status;
-    if (iolm_port_status(&port->gateway->master, port->number, &status) == IOLM_OK &&
-        (status.status != port->shown.status || status.detail != port->shown.detail)) {
+    if (iolm_port_status(&port->gateway->master, port->number, &status) == IOLM_OK && is_new(&status, &port->shown)) {
         const char *detail = iolm_detail_name(&status);
         port->shown = status;
         printf("port %u %s%s%s\n", port->number, iolm_status_name(&status), *detail ? " " : "", detail);
@@ -197,6 +206,8 @@ static void *run_port(void *of) {
     struct gateway *gateway = port->gateway;
     struct iolm_request request;
     pthread_mutex_lock(&gateway->lock);
+    /* A port that has a configuration since before looks at its device. */
+    iolm_port_wake(&gateway->master, port->number);
     while (!gateway->ports_end) {
         switch (iolm_port_next(&gateway->master, port->number, &request)) {
         case IOLM_PAGE:
@@ -316,7 +327,7 @@ static void take_image(struct gateway *gateway, const char *path, uint16_t ports
 
 int main(int count, char **words) {
     static struct port ports[IOLM_PORTS];
-    static struct gateway gateway = {PTHREAD_MUTEX_INITIALIZER, PTHREAD_COND_INITIALIZER, IOLM_INIT, {NULL}, -1, false, false};
+    static struct gateway gateway = {PTHREAD_MUTEX_INITIALIZER, PTHREAD_COND_INITIALIZER, IOLM_INIT, {NULL}, -1, 0, false, false};
     pthread_t disk;
     char line[128];
     bool more = true;

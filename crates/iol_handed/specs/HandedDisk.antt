@@ -1,5 +1,5 @@
 -- A disk whose calls are handed out, as contracts see it.
-use Rattle.std.specs.Prelude.{◌≡◌, ℕ, Bool, IsTrue, List, Option, Some, None}
+use Rattle.std.specs.Prelude.{◌≡◌, ◌<◌, ℕ, Bool, IsTrue, List, Option, Some, None}
 use Rattle.iol_disk.specs.Calls.{Call, write, sync}
 use Rattle.iol_disk.specs.Content.{Image, reads}
 use Rattle.iol_disk.specs.Disk.{Disk}
@@ -53,3 +53,8 @@ abbrev pub IsHanded : Image → Bool → Option (List HeldSector) → List ℕ �
 IsHanded image truthful None log = Unit {0}
 IsHanded image truthful (Some held) log =
     (IsTrue truthful → Agree image held) × ((sector : ℕ) → reads (content_of image log) sector ≡ image sector)
+
+-- where a call has failed, a read has, and the sector that it did not find is one that the disk has (own)
+abbrev pub HasMissed : (sectors failures : ℕ) → Option ℕ → Type 0
+HasMissed sectors failures None = failures ≡ 0
+HasMissed sectors failures (Some missing) = missing < sectors

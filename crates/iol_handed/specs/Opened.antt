@@ -1,5 +1,6 @@
 -- What becomes of an opening.
 use Rattle.iol_recovery.specs.declared.cause.RecoverCause.{RecoverCause}
+use Rattle.iol_recovery.specs.declared.cause.RecoverCause.TheVariants as cause
 use Rattle.iol_handed.specs.Found.{FoundView}
 use Rattle.iol_handed.specs.Opening.{OpeningView}
 use Rattle.iol_handed.specs.declared.opened.Opened.{Opened}
@@ -22,3 +23,9 @@ abbrev pub IfGoesOn : {W : Type 0} → Opened W → (OpeningView → Type 0) →
 IfGoesOn (GoesOn opening) fact = fact opening
 IfGoesOn (Found found) fact = Unit {0}
 IfGoesOn (Refused cause) fact = Unit {0}
+
+-- a flash is refused for what it holds, and not for a call that has failed or for want of memory (own)
+abbrev pub IsOfFlash : RecoverCause → Type 0
+IsOfFlash (cause.Disk fault) = ⊥
+IsOfFlash cause.Memory = ⊥
+IsOfFlash why = Unit {0}

@@ -1,5 +1,5 @@
 -- A disk that is being opened.
-use Rattle.std.specs.Prelude.{◌≡◌, ◌++◌, ◌∷◌, ℕ, List, [], Result, Ok, Err}
+use Rattle.std.specs.Prelude.{◌≡◌, ◌<◌, ◌++◌, ◌∷◌, ℕ, List, [], Result, Ok, Err}
 use Rattle.iol_handed.specs.declared.held.HeldSector.{HeldSector}
 use Rattle.iol_handed.specs.declared.opening.HandFault.{HandFault}
 use Rattle.iol_handed.specs.declared.opening.HandFault.TheVariants.{Misfit, Memory}
@@ -32,3 +32,8 @@ HandsIn want octets old new (Err Misfit) = new ≡ old
 abbrev pub synced : OpeningWant → OpeningView → OpeningView
 synced Sync opening = record opening { want = Nothing }
 synced want opening = opening
+
+-- a sector that is wanted is one that the disk has (own)
+abbrev pub WantsBelow : ℕ → OpeningWant → Type 0
+WantsBelow sectors (Read sector) = sector < sectors
+WantsBelow sectors want = Unit {0}

@@ -2,7 +2,8 @@
 use Rattle.std.specs.Prelude.{◌≡◌, ℕ, Bool, true, false, List, Result, Ok, Err}
 use Rattle.iol_disk.specs.declared.fault.DiskFault.TheVariants as fault
 use Rattle.iol_recovery.specs.declared.cause.RecoverCause.TheVariants as cause
-use Rattle.iol_handed.specs.Opening.{HandsIn, OpeningView, synced}
+use Rattle.iol_handed.specs.Opened.{IsOfFlash}
+use Rattle.iol_handed.specs.Opening.{HandsIn, OpeningView, WantsBelow, synced}
 use Rattle.iol_handed.specs.declared.opening.HandFault.{HandFault}
 use Rattle.iol_handed.specs.declared.opening.HandFault.TheVariants as hand
 use Rattle.iol_handed.specs.declared.opening.OpeningWant.{OpeningWant}
@@ -19,15 +20,16 @@ want_answer want.Sync = answer.Sync
 want_answer (want.Read sector) = answer.Read sector
 want_answer want.Nothing = answer.Memory
 
--- the opening goes on, over as many sectors, and wants this (own)
+-- the opening goes on, over as many sectors, and wants this; a sector that it wants is one of these (own)
 abbrev pub Wants : OpeningView → SessionView → Answer → Type 0
 Wants flash new said =
-    (more : OpeningView) × (new ≡ opening more) × (more.sectors ≡ flash.sectors) × (said ≡ want_answer more.want)
+    (more : OpeningView) × (new ≡ opening more) × (more.sectors ≡ flash.sectors) × WantsBelow more.sectors more.want
+    × (said ≡ want_answer more.want)
 
 -- an opening that wants nothing looks for its journal: it goes on, or it has ended (own)
 abbrev pub Looks : OpeningView → SessionView → Answer → Type 0
 Looks flash new (answer.Found found) = new ≡ ended
-Looks flash new (answer.NotOpened why) = (new ≡ ended) × (why ≡ cause.Memory → ⊥)
+Looks flash new (answer.NotOpened why) = (new ≡ ended) × IsOfFlash why
 Looks flash new said = Wants flash new said
 
 -- what is in hand is told again (own)

@@ -38,7 +38,7 @@ pub struct HandedDisk<W: Flash> {
 
 impl<W: Flash> Model for HandedDisk<W> {
     ghost use Rattle.std.specs.Option.{option_map};
-    ghost use Rattle.iol_handed.specs.HandedDisk.{HandedDiskView, IsHanded, handed_out};
+    ghost use Rattle.iol_handed.specs.HandedDisk.{HandedDiskView, HasMissed, IsHanded, handed_out};
 
     ghost Value = { HandedDiskView };
 
@@ -52,7 +52,8 @@ impl<W: Flash> Model for HandedDisk<W> {
       log = d.log.numbers;
     } };
 
-    ghost invariant = { λ d. IsHanded W.image W.truthful (option_map (λ held. held.items) d.held) d.log.numbers };
+    ghost invariant = { λ d. IsHanded W.image W.truthful (option_map (λ held. held.items) d.held) d.log.numbers
+        × HasMissed d.sectors d.failures d.missing };
 }
 
 // A log with the last call of its disk added.
@@ -67,7 +68,7 @@ impl<W: Flash> Names<HandedDisk<W>> for WithCall {
 impl<W: Flash> HandedDisk<W> {
     ghost use Rattle.std.specs.Prelude.{◌≡◌, IsTrue, Some, None, [], IfSome, IfOk, IfErr};
     ghost use Rattle.std.specs.Option.{option_map};
-    ghost use Rattle.iol_handed.specs.HandedDisk.{call_of};
+    ghost use Rattle.iol_handed.specs.HandedDisk.{HasMissed, call_of};
     ghost use Rattle.iol_handed.specs.Held.{Agree};
 
     /// A disk of so many sectors, of which these were handed in.
@@ -107,9 +108,10 @@ impl<W: Flash> HandedDisk<W> {
         })
     }
 
-    // The sector that a read did not find last, if any.
+    // The sector that a read did not find last, if any. There is one where a call has failed, and the disk has it.
     pub(crate) fn missing(&self) -> Option<usize>
-        ensures { result ≡ self.now.missing }
+        ensures is { result ≡ self.now.missing }
+        ensures missed { HasMissed self.now.sectors self.now.failures result }
     {
         self.missing
     }

@@ -1,7 +1,8 @@
 //! What becomes of an opening: the journal is looked for among the sectors that were handed in.
 
-ghost use Rattle.std.specs.Prelude.{◌≡◌, IsTrue, [], Ok};
-ghost use Rattle.iol_handed.specs.Opened.{IfFound, IfGoesOn, IfRefused};
+ghost use Rattle.std.specs.Prelude.{◌≡◌, IsTrue, [], Ok, Some};
+ghost use Rattle.std.specs.Option.{option_map};
+ghost use Rattle.iol_handed.specs.Opened.{IfFound, IfGoesOn, IfRefused, IsOfFlash};
 ghost use Rattle.iol_layout.specs.Meaning.{standing_in};
 ghost use Rattle.iol_recovery.specs.Reading.{SaysWhy};
 
@@ -9,7 +10,7 @@ use crate::flash::Flash;
 use crate::found::Found;
 use crate::handed_disk::HandedDisk;
 use crate::opening::{Opening, OpeningWant};
-use iol_disk::{DiskFault, SectorDisk};
+use iol_disk::SectorDisk;
 use iol_front::Front;
 use iol_journal::{Journal, RecoverCause, RecoverFault};
 use iol_types::MasterState;
@@ -33,8 +34,8 @@ impl<W: Flash> Opening<W> {
         // What is found is what the flash meant.
         ensures found { IfFound result (λ found. IsTrue W.truthful → standing_in self.sectors W.image ≡ Ok found.journal.standing) }
         ensures refused { IfRefused result (λ cause. IsTrue W.truthful → SaysWhy (standing_in self.sectors W.image) cause) }
-        // Where memory runs out it goes on.
-        ensures remembers { IfRefused result (λ cause. cause ≡ RecoverCause.Memory → ⊥) }
+        // Where a sector is missing, or memory runs out, it goes on.
+        ensures remembers { IfRefused result IsOfFlash }
         // What it wants it wants until it is reported.
         ensures waits { (self.want ≡ OpeningWant.Nothing → ⊥) → result ≡ Opened.GoesOn self }
         ensures sectors { IfGoesOn result (λ more. more.sectors ≡ self.sectors) }
@@ -66,21 +67,32 @@ fn recovered<W: Flash>(alloc: Global, disk: HandedDisk<W>) -> Opened<W>
     requires fresh { (disk.log ≡ []) }
     ensures found { IfFound result (λ found. IsTrue W.truthful → standing_in disk.sectors W.image ≡ Ok found.journal.standing) }
     ensures refused { IfRefused result (λ cause. IsTrue W.truthful → SaysWhy (standing_in disk.sectors W.image) cause) }
-    ensures remembers { IfRefused result (λ cause. cause ≡ RecoverCause.Memory → ⊥) }
+    ensures remembers { IfRefused result IsOfFlash }
     ensures sectors { IfGoesOn result (λ more. more.sectors ≡ disk.sectors) }
 {
     let sectors = disk.sectors();
     match Journal::recover(alloc, disk) {
         Ok((journal, state)) => found(alloc, sectors, journal, state),
-        Err(RecoverFault { cause, disk }) => match (cause, disk.missing()) {
-            (RecoverCause::Disk(DiskFault::Read), Some(sector)) => {
-                Opened::GoesOn(Opening::of_disk(alloc, sectors, disk).wanting(OpeningWant::Read(
-                    sector,
-                )))
-            }
-            (RecoverCause::Memory, _) => Opened::GoesOn(Opening::of_disk(alloc, sectors, disk)),
-            (cause, _) => Opened::Refused(cause),
+        Err(RecoverFault { cause, disk }) => match cause {
+            RecoverCause::Disk(_) => Opened::GoesOn(wanting_missing(alloc, disk)),
+            RecoverCause::Memory => Opened::GoesOn(Opening::of_disk(alloc, sectors, disk)),
+            cause => Opened::Refused(cause),
         },
+    }
+}
+
+// The opening goes on with what was handed in of a disk, and wants the sector that a read did not find.
+fn wanting_missing<W: Flash>(alloc: Global, disk: HandedDisk<W>) -> Opening<W>
+    requires failed { disk.failures ≡ 0 → ⊥ }
+    ensures { (result.sectors ≡ disk.sectors) × (option_map OpeningWant.Read disk.missing ≡ Some result.want) }
+{
+    let sectors = disk.sectors();
+    let Some(sector) = disk.missing() else {
+        unreachable!()
+    };
+    Opening {
+        want: OpeningWant::Read(sector),
+        ..Opening::of_disk(alloc, sectors, disk)
     }
 }
 
@@ -123,13 +135,6 @@ impl<W: Flash> Opening<W> {
             want: OpeningWant::Nothing,
             flash: PhantomData,
         }
-    }
-
-    // The same, and it wants this.
-    fn wanting(self, want: OpeningWant) -> Opening<W>
-        ensures { result ≡ record self { want = want } }
-    {
-        Opening { want, ..self }
     }
 }
 

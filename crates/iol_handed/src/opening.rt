@@ -1,7 +1,7 @@
 //! A disk is opened: its caller is asked for a sync, and for one sector after the other, until the journal on it is found.
 
 ghost use Rattle.std.specs.Prelude.{◌≡◌, ℕ, IsTrue, []};
-ghost use Rattle.iol_handed.specs.Opening.{HandsIn, synced};
+ghost use Rattle.iol_handed.specs.Opening.{HandsIn, WantsBelow, synced};
 
 use crate::flash::Flash;
 use crate::held::HeldSector;
@@ -43,13 +43,13 @@ pub enum HandFault {
 impl<W: Flash> Model for Opening<W> {
     ghost use Rattle.std.specs.Prelude.{IsTrue};
     ghost use Rattle.iol_handed.specs.Held.{Agree};
-    ghost use Rattle.iol_handed.specs.Opening.{OpeningView};
+    ghost use Rattle.iol_handed.specs.Opening.{OpeningView, WantsBelow};
 
     ghost Value = { OpeningView };
 
     ghost view = { λ o. record { sectors = o.sectors; held = o.held.items; want = o.want } };
 
-    ghost invariant = { λ o. IsTrue W.truthful → Agree W.image o.held.items };
+    ghost invariant = { λ o. (IsTrue W.truthful → Agree W.image o.held.items) × WantsBelow o.sectors o.want };
 }
 
 impl<W: Flash> Opening<W> {
@@ -66,9 +66,10 @@ impl<W: Flash> Opening<W> {
         }
     }
 
-    /// What it wants of its caller.
+    /// What it wants of its caller. A sector that it wants is below the number of its sectors.
     pub fn want(&self) -> OpeningWant
-        ensures { result ≡ self.now.want }
+        ensures is { result ≡ self.now.want }
+        ensures below { WantsBelow self.now.sectors result }
     {
         self.want
     }
