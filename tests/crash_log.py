@@ -9,6 +9,7 @@ import reader
 
 SECTOR = reader.SECTOR
 HEAD = struct.Struct("=qqq")
+SHOWN_RECORDS = 40
 PATTERN = bytes.fromhex("A55A") * (SECTOR // 2)
 # In words, and in JSON.
 TOLD = re.compile(rb'(?:receipt|durable|ended)(?: |":|","number":)(\d+)')
@@ -92,19 +93,21 @@ class Sweep:
 
 
 def states_of(image, log):
-    """Each state that is on the disk when a sync has ended, and at the end, by its number; and what is wrong with them, if anything."""
-    sweep, states, last = Sweep(image, log), {}, state_of(image)
-    states[last.number] = last
+    """Each state that is on the disk when a sync has ended, and at the end, by its number; the place of the log behind which it is durable;
+    and what is wrong with them, if anything."""
+    sweep, last = Sweep(image, log), state_of(image)
+    states, places = {last.number: last}, {}
     while sweep.place < len(log):
         sweep.step()
         if log[sweep.place - 1].kind == "synced" or sweep.place == len(log):
             state = state_of(sweep.newest())
             if state.number < last.number:
-                return states, f"a sync leaves {state.number} commands of {last.number}"
+                return states, places, f"a sync leaves {state.number} commands of {last.number}"
             if states.setdefault(state.number, state) != state:
-                return states, f"two states are the one behind {state.number} commands"
+                return states, places, f"two states are the one behind {state.number} commands"
             last = state
-    return states, None
+            places.setdefault(state.number, sweep.place - 1)
+    return states, places, None
 
 
 class Judge:
@@ -150,6 +153,7 @@ def least(image, log, judge, seed):
 
 
 def lines_of(log):
-    """A log as lines, of which those up to each sync stand together."""
+    """The end of a log as lines, of which those up to each sync stand together."""
+    log = log[-SHOWN_RECORDS:]
     said = {"write": "write {}", "sync": "sync begins", "synced": "sync ended\n", "told": "told {}\n"}
     return ", ".join(said[its.kind].format(its.sector if its.kind == "write" else its.number) for its in log).replace("\n, ", "\n")

@@ -1,4 +1,4 @@
-"""Runs of a master for tests/crashes: scripts from a seed, the run under the library that logs its disk calls, and what each state has to be."""
+"""Runs of a master for tests/crashes: scripts from a seed, runs under the library that logs disk calls, and what each state has to be."""
 
 import json
 import os
@@ -12,6 +12,8 @@ IOLMASTER = f"{TOP}/out/iolmaster"
 SECONDS = 120
 MOST_OCTETS = 65_536
 IOL_MANUAL, BACKUP_AND_RESTORE, RESTORE = 1, 3, 4
+# Half of the configurations keep sets.
+MODES = (*[(IOL_MANUAL, BACKUP_AND_RESTORE)] * 2, (IOL_MANUAL, RESTORE), (0, 0))
 LABELS = ("", "", "Pump 3", "x" * 32, "~ !#")
 # A device of a script, and a step of a port: `configure` with its numbers and its label, `clear` or `rollback`.
 Device = namedtuple("Device", "port vendor device flag keys values")
@@ -79,11 +81,11 @@ def steps_of(choices, port, devices):
     numbers = [(its.vendor, its.device) for its in devices if its.port == port] or [(1, 1)]
     steps = []
     for _ in range(choices.choice((1, 2, 4, 8, 20))):
-        do = choices.choice(("configure", "configure", "configure", "clear", "rollback", "rollback"))
+        do = choices.choice((*["configure"] * 7, "clear", "rollback"))
         if do != "configure":
             steps.append(Step(do, port))
             continue
-        mode, validation = choices.choice(((IOL_MANUAL, BACKUP_AND_RESTORE), (IOL_MANUAL, BACKUP_AND_RESTORE), (IOL_MANUAL, RESTORE), (0, 0)))
+        mode, validation = choices.choice(MODES)
         steps.append(Step(do, port, mode, validation, *choices.choice(numbers), choices.choice(LABELS)))
     return steps
 
