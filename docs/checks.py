@@ -33,7 +33,7 @@ class Judge:
 
 
 def documents():
-    return ["README.md"] + sorted(os.path.relpath(path, TOP) for path in glob.glob(os.path.join(TOP, "docs", "*.md")))
+    return ["README.md", "CONTRIBUTING.md"] + sorted(os.path.relpath(path, TOP) for path in glob.glob(os.path.join(TOP, "docs", "*.md")))
 
 
 def check_words(judge, rows):
@@ -48,16 +48,16 @@ def check_words(judge, rows):
             judge.wants(section in headings, f"{place} comes from a section of docs/FORMATS.md that is not there: {section}")
 
 
-def check_readme(judge, functions):
+def check_clauses(judge, functions):
     """Lines such as '- `Writing::step`, `durable` and `done`: ..': a call, and clauses of it."""
-    for number, line in enumerate(text_of("README.md").splitlines(), 1):
+    for number, line in enumerate(text_of("docs/PROOFS.md").splitlines(), 1):
         named = re.match(r"- (`[\w:]+`(?:(?:, | and )`\w+`)+): ", line)
         if named:
             call, *clauses = re.findall(r"`([^`]+)`", named.group(1))
             meant = functions.named(call, None)
             for clause in clauses:
                 has = any(clause in function["clauses"] for function in meant)
-                judge.wants(has, f"README.md:{number}: `{call}` has no clause `{clause}`")
+                judge.wants(has, f"docs/PROOFS.md:{number}: `{call}` has no clause `{clause}`")
 
 
 def quoted_in(text):
@@ -251,7 +251,7 @@ def check_documents(judge):
     names = Names(functions)
     check_widths(judge)
     check_clauses(judge, functions)
-    check_readme(judge, functions)
+    check_clauses(judge, functions)
     check_faults(judge, names)
     check_names(judge, names)
     check_paths(judge)
