@@ -6,7 +6,8 @@ some 61,000 ways down from the program, so that most of a proof's time went ther
 sums are made anew, so that a source that was changed meanwhile is seen.
 
 A crate of whose proof no earlier parts are kept is proved by one process, and keeps none; a program where memory allows it. A library is
-built with its statements alone, of which a crate above reads far less than of its proofs. Nothing else is changed. An `rt` that is another program than this one knows is run as it is.
+built with its statements alone, so that a crate above reads none of its proofs. Nothing else is changed. An `rt` that is another program
+than this one knows is run as it is.
 """
 
 import functools
@@ -67,7 +68,7 @@ def prove_at_once(rt):
     """Has one process build a crate of whose proof no earlier parts are there, and a library with its statements alone.
 
     Where the parts are kept, the prover proves a long crate in copies of itself, some functions in each, and each copy reads all that is
-    known of the crates below anew. What a crate above reads of a library with its proofs is several times what it needs.
+    known of the crates below anew. Of a library that was built over such parts a crate above reads the proofs too.
     """
     crate, call = rt.rtlib.Crate, rt.rtlib.Crate.call
     statements = ["--statements"] if "--statements" in rt.rtlib.help_of("build") else []
