@@ -7,8 +7,8 @@
 //!
 //! A record is spelled by the [`Version`] of the layout that it stands in.
 //!
-//! Modules in reading order: `version`, `fault`, `reader` (fields), `records` (sets, commands and ports), `decode`,
-//! `encode`, `laws`, `examples` (records worked out).
+//! Modules in reading order: `version`, `fault`, `reader` (fields), `records` (sets, commands and ports), `decode`, `reach`
+//! (how far a record goes), `encode`, `laws`, `examples` (records worked out).
 //!
 //! Proofs of other crates cite the laws of `proofs/RecordLaws.antt`.
 #![tactic(auto)]
@@ -18,6 +18,7 @@ mod encode;
 pub mod examples;
 mod fault;
 mod laws;
+mod reach;
 mod reader;
 mod records;
 mod version;
@@ -29,4 +30,5 @@ pub use encode::{
 };
 pub use fault::RecordFault;
 pub use laws::no_record_begins_another;
+pub use reach::port_goes_on;
 pub use version::Version;

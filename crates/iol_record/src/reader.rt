@@ -70,7 +70,7 @@ impl<'a> Reader<'a> {
     }
 
     // The next `N` octets.
-    fn front<const N: usize>(&mut self) -> Result<[u8; N], RecordFault>
+    pub(crate) fn front<const N: usize>(&mut self) -> Result<[u8; N], RecordFault>
         ensures front { IfOk result (λ front. (N ≤ length self.old) × (front ≡ take N self.old)) }
         ensures rest { OnOk result (self.new ≡ drop N self.old) }
         ensures short { IfErr result (λ fault. (length self.old < N) × (fault ≡ RecordFault.Short)) }

@@ -13,7 +13,7 @@ ghost use Rattle.iol_record.specs.declared.version.Version.TheVariants.{One};
 use crate::fault::RecordFault;
 use crate::reader::{Reader, Tag};
 use crate::version::Version;
-use iol_types::{Command, DataSet, DeviceId, PortState, SetBuilder, StoredSet};
+use iol_types::{Command, DataSet, DeviceId, ENTRY_HEAD_OCTETS, PortState, SetBuilder, StoredSet};
 use std::alloc::Global;
 use std::sync::Arc;
 
@@ -34,9 +34,9 @@ struct PortSets {
 }
 
 impl<'a> Reader<'a> {
-    // An entry, which is added behind the others.
+    // An entry, which is put behind the others. There is room then for so many, this one too, if the octets that are left have them.
     #[tactic(auto, unfolding(crate::specs::Reading::entry_at))]
-    fn entry(&mut self, others: &mut SetBuilder) -> Result<(), RecordFault>
+    fn entry(&mut self, others: &mut SetBuilder, left: u16) -> Result<(), RecordFault>
         ensures read { OnOk result ((entry : Entry) × (entry_at others.old self.old ≡ Ok (entry, self.new))
             × (others.new ≡ others.old ++ entry ∷ [])) }
         ensures fault { IfErr result (λ fault. IsReadFault (entry_at others.old self.old) fault (entry_at others.old self.old)) }
@@ -45,7 +45,8 @@ impl<'a> Reader<'a> {
         let key = self.key(index, others)?;
         let count = self.length(others)?;
         let octets = self.octets(count)?;
-        match others.add(key, octets) {
+        let room = usize::from(left).min(1 + self.len() / ENTRY_HEAD_OCTETS);
+        match others.append(key, octets, room) {
             Ok(()) => Ok(()),
             Err(_) => Err(RecordFault::Memory),
         }
@@ -58,15 +59,15 @@ impl<'a> Reader<'a> {
         ensures begun { OnOk result (IsOk (entries_at (min 1 count) [] self.old)) }
     {
         let mut entries = SetBuilder::new(alloc);
-        for _ in 0..count {
-            self.entry(&mut entries)?;
+        for done in 0..count {
+            self.entry(&mut entries, count - done)?;
         }
         Ok(entries)
     }
 
     // The numbers in front of the entries of a set.
     #[tactic(auto, unfolding(crate::specs::Reading::set_head_at))]
-    fn set_head(&mut self) -> Result<SetHead, RecordFault>
+    pub(crate) fn set_head(&mut self) -> Result<SetHead, RecordFault>
         ensures { Reads (λ head. (head, self.new)) result (set_head_at self.old) }
     {
         Ok(SetHead {

@@ -1,17 +1,18 @@
 //! The state that an area's port records say.
 
-ghost use Rattle.std.specs.Prelude.{◌≡◌, ◌<◌, ◌≤◌, ◌+◌, ◌*◌, length, vec_capacity, IfOk, Err};
+ghost use Rattle.std.specs.Prelude.{◌≡◌, ◌<◌, ◌≤◌, ◌+◌, ◌*◌, ℕ, length, vec_capacity, IfOk, IfErr, IfSome, OnOk, Ok, Err};
 ghost use Rattle.iol_disk.specs.Disk.{Same, Shows};
-ghost use Rattle.iol_recovery.specs.Faults.{Counted};
+ghost use Rattle.iol_recovery.specs.Faults.{Counted, IsFault};
 ghost use Rattle.iol_layout.specs.Layout.{total};
 ghost use Rattle.iol_layout.specs.Meaning.{port_in, ports_from};
-ghost use Rattle.iol_recovery.specs.Reading.{Finds};
+ghost use Rattle.iol_layout.specs.Octets.{octets_at};
+ghost use Rattle.iol_recovery.specs.Reading.{Finds, SaysWhy};
 ghost use Rattle.iol_recovery.specs.Wants.{PortWants, PortsWant};
 
 use crate::cause::RecoverCause;
 use iol_disk::{SECTOR_OCTETS, SectorDisk};
 use iol_layout::{Area, Layout, PORT_SECTORS, read_sector};
-use iol_record::{RecordFault, Version, decode_port};
+use iol_record::{RecordFault, Version, decode_port, port_goes_on};
 use iol_types::{MasterState, PortId, PortState};
 use std::alloc::Global;
 
@@ -22,6 +23,90 @@ use std::alloc::Global;
 /// `Damaged` with the first sector, where its sectors hold no record of a port; `Disk` of `Read` where the disk fails;
 /// `Memory` where it is out of memory.
 pub fn read_port<D: SectorDisk>(
+    alloc: Global,
+    disk: &mut D,
+    version: Version,
+    sector: usize,
+    sectors: usize,
+    octets: &mut Vec<u8>,
+) -> Result<PortState, RecoverCause>
+    requires fits { sector + sectors ≤ (D.disk disk.old).sectors }
+    requires bound { sector + sectors < 1000000 }
+    ensures finds { Finds (λ port. port) (D.disk disk.old) (λ image. port_in version image sector sectors) result }
+    ensures memory { result ≡ Err RecoverCause.Memory
+        → Shows (D.disk disk.old) (λ image. PortWants (vec_capacity octets.old) version image sector sectors) }
+    ensures room { vec_capacity octets.old ≤ vec_capacity octets.new }
+    ensures counted { Counted (D.disk disk.old) (D.disk disk.new) result }
+    ensures same { Same (D.disk disk.old) (D.disk disk.new) }
+{
+    match read_at_once(alloc, disk, version, sector, sectors, octets)? {
+        Some(port) => Ok(port),
+        None => read_by_sectors(alloc, disk, version, sector, sectors, octets),
+    }
+}
+
+// The port, if its record is decoded with all sectors that its lengths reach. None where it is short all the same, or where memory is
+// out: when that may be is said of a record that is decoded sector by sector.
+fn read_at_once<D: SectorDisk>(
+    alloc: Global,
+    disk: &mut D,
+    version: Version,
+    sector: usize,
+    sectors: usize,
+    octets: &mut Vec<u8>,
+) -> Result<Option<PortState>, RecoverCause>
+    requires fits { sector + sectors ≤ (D.disk disk.old).sectors }
+    requires bound { sector + sectors < 1000000 }
+    ensures port { IfOk result (λ port. IfSome port (λ port. Shows (D.disk disk.old) (λ image. port_in version image sector sectors
+        ≡ Ok port))) }
+    ensures cause { IfErr result (λ told. Shows (D.disk disk.old) (λ image. SaysWhy (port_in version image sector sectors) told)) }
+    ensures takes_no_memory { result ≡ Err RecoverCause.Memory → ⊥ }
+    ensures room { vec_capacity octets.old ≤ vec_capacity octets.new }
+    ensures counted { Counted (D.disk disk.old) (D.disk disk.new) result }
+    ensures same { Same (D.disk disk.old) (D.disk disk.new) }
+{
+    match read_reached(disk, version, sector, sectors, octets) {
+        Ok(()) => {}
+        Err(RecoverCause::Memory) => return Ok(None),
+        Err(told) => return Err(told),
+    }
+    match decode_port(alloc, version, octets) {
+        Ok((port, _)) => Ok(Some(port)),
+        Err(RecordFault::Short | RecordFault::Memory) => Ok(None),
+        Err(RecordFault::BadTag) => Err(RecoverCause::Damaged { sector }),
+        Err(RecordFault::BadField) => Err(RecoverCause::Damaged { sector }),
+    }
+}
+
+// Reads the sectors that a record's lengths reach.
+fn read_reached<D: SectorDisk>(
+    disk: &mut D,
+    version: Version,
+    sector: usize,
+    sectors: usize,
+    octets: &mut Vec<u8>,
+) -> Result<(), RecoverCause>
+    requires fits { sector + sectors ≤ (D.disk disk.old).sectors }
+    requires bound { sector + sectors < 1000000 }
+    ensures read { OnOk result (Shows (D.disk disk.old) (λ image. (j : ℕ) × (j ≤ sectors)
+        × (octets.new.items ≡ octets_at image sector j))) }
+    ensures fault { IfErr result IsFault }
+    ensures room { vec_capacity octets.old ≤ vec_capacity octets.new }
+    ensures counted { Counted (D.disk disk.old) (D.disk disk.new) result }
+    ensures same { Same (D.disk disk.old) (D.disk disk.new) }
+{
+    octets.clear();
+    for j in 0..sectors {
+        octets.extend_from_slice(&read_sector(disk, sector + j)?)?;
+        if !port_goes_on(version, octets) {
+            return Ok(());
+        }
+    }
+    Ok(())
+}
+
+// The port, its record decoded sector by sector.
+fn read_by_sectors<D: SectorDisk>(
     alloc: Global,
     disk: &mut D,
     version: Version,

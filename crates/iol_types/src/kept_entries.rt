@@ -34,6 +34,7 @@ impl Model for Entries {
 
 impl Entries {
     ghost use Rattle.iol_types.specs.DataSet.{octets_of, data_at, add_fault};
+    ghost use Rattle.iol_types.specs.Key.{IsKey};
     ghost use Rattle.iol_types.specs.Parts.{parts_of};
 
     // No entries. It takes no memory.
@@ -110,13 +111,14 @@ impl Entries {
         }
     }
 
-    // Puts an entry behind the others.
-    pub(crate) fn push(&mut self, key: Key, octets: &[u8]) -> Result<(), AllocError>
+    // Puts an entry behind the others, and makes room for so many, this one too.
+    pub(crate) fn push(&mut self, key: Key, octets: &[u8], room: usize) -> Result<(), AllocError>
         requires { add_fault self.old key octets.now ≡ None }
+        ensures range { IsKey key }
         ensures pushed { OnOk result (self.new ≡ self.old ++ (key, octets.now) ∷ []) }
         ensures kept { OnErr result (self.new ≡ self.old) }
     {
-        self.places.reserve(1)?;
+        self.places.reserve(room.max(1))?;
         let place = self.parts.push(head_of(key, octets), octets)?;
         // There is room now, so it goes in.
         let _ = self.places.insert(key, place);

@@ -6,7 +6,7 @@ use crate::data_set::{DataSet, ENTRY_HEAD_OCTETS, MOST_ENTRY_OCTETS, MOST_SET_OC
 use crate::device_id::DeviceId;
 use crate::kept_entries::Entries;
 use crate::key::Key;
-use std::alloc::Global;
+use std::alloc::{AllocError, Global};
 use std::marker::Model;
 use thiserror::Error;
 
@@ -74,10 +74,23 @@ impl SetBuilder {
         if let Some(fault) = self.fault(key, octets) {
             return Err(fault);
         }
-        match self.entries.push(key, octets) {
+        match self.append(key, octets, 1) {
             Ok(()) => Ok(()),
             Err(_) => Err(AddFault::Memory),
         }
+    }
+
+    /// Puts an entry behind the others for which there is no cause of an [`AddFault`] but memory. Where `room` is more than 1 it makes
+    /// room for so many entries at once, so that the further ones take no memory but for their octets.
+    ///
+    /// # Errors
+    /// Memory ran out; the entries are as they were.
+    pub fn append(&mut self, key: Key, octets: &[u8], room: usize) -> Result<(), AllocError>
+        requires { add_fault self.old key octets.now ≡ None }
+        ensures added { OnOk result (self.new ≡ self.old ++ (key, octets.now) ∷ []) }
+        ensures kept { OnErr result (self.new ≡ self.old) }
+    {
+        self.entries.push(key, octets, room)
     }
 
     // Why an entry is not added.

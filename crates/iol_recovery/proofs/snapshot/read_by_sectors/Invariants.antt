@@ -4,7 +4,7 @@ use Rattle.iol_disk.specs.declared.disk.TheConstants.{SECTOR_OCTETS}
 use Rattle.iol_record.specs.Reading.{port_record_at}
 use Rattle.iol_record.specs.declared.fault.RecordFault.TheVariants.{Short}
 use Rattle.iol_layout.specs.Octets.{octets_at}
-use Rattle.iol_recovery.proofs.snapshot.read_port.Given as goal
+use Rattle.iol_recovery.proofs.snapshot.read_by_sectors.Given as goal
 
 abbrev pub invariant-loop-j : goal.invariant-loop-j
 invariant-loop-j g l = record {

@@ -7,7 +7,7 @@ use Rattle.iol_record.proofs.RecordLaws.{port_record_at-nothing}
 use Rattle.iol_recovery.proofs.PortReadings.{none-read, port-read, port-damaged}
 use Rattle.iol_layout.proofs.ReachedBodies.{one_more}
 use Rattle.iol_disk.proofs.Unchanged.{same-then}
-use Rattle.iol_recovery.proofs.snapshot.read_port.Goals as goal
+use Rattle.iol_recovery.proofs.snapshot.read_by_sectors.Goals as goal
 
 pub loop-j-init : goal.loop-j-init
 loop-j-init g c = record {
