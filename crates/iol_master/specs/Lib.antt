@@ -9,5 +9,6 @@ pub mod Serving
 pub mod Answers
 pub mod Watching
 pub mod Finding
+pub mod Delays
 pub mod Served
 pub mod News

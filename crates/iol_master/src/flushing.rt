@@ -7,9 +7,11 @@ ghost use Rattle.iol_flush.specs.declared.need.Need.TheVariants as need;
 ghost use Rattle.iol_flush.specs.declared.stage.FlushStage.TheVariants as stage;
 ghost use Rattle.iol_master.specs.Endings.{EndsFrom, HasWaited, IsEnding, LeavesAs, LeavesWaiting, MayEnd, MayTurn, MayWait, NeverMidway};
 ghost use Rattle.iol_journal.specs.Journals.{JournalView};
+ghost use Rattle.iol_master.specs.Delays.{IsSpent};
 ghost use Rattle.iol_master.specs.Since.{IsSince};
 
 use crate::client::Shared;
+use crate::delay::Delay;
 use crate::ending::Ending;
 use crate::finding::Found;
 use crate::guarded::Guarded;
@@ -88,8 +90,9 @@ pub(crate) fn flush_all<D: SectorDisk, F: Name, R: Wait + Clock + Copy>(
 {
     let mut flusher = charge.flusher();
     let mut waits = 0;
+    let mut delay = Delay::new();
     for _ in rt.forever() {
-        if let Turned::Ended(leaves) = turn(&rt, &shared, &mut flusher, &mut waits) {
+        if let Turned::Ended(leaves) = turn(&rt, &shared, &mut flusher, &mut waits, &mut delay) {
             return ending_of(flusher.end(), leaves);
         }
     }
@@ -137,12 +140,13 @@ fn turn<D: SectorDisk, F: Name, R: Wait + Clock>(
     shared: &Shared<F>,
     flusher: &mut Flusher<D, F>,
     waits: &mut u32,
+    delay: &mut Delay,
 ) -> Turned
     ensures since { IsSince D.disk flusher.old.stage flusher.new.stage }
     ensures ended { MayEnd flusher.new.stage result }
     ensures waited { HasWaited result waits.old waits.new }
 {
-    match meet_need(rt, shared, flusher) {
+    match meet_need(rt, shared, flusher, delay) {
         Turned::Waited => wait(rt, shared, flusher, waits),
         Turned::Made => {
             *waits = 0;
@@ -182,19 +186,20 @@ fn wait<D: SectorDisk, F: Name, R: Wait + Clock>(
 }
 
 // Meets the flusher's next need.
-fn meet_need<D: SectorDisk, F: Name, R: Wait>(
+fn meet_need<D: SectorDisk, F: Name, R: Wait + Clock>(
     rt: &R,
     shared: &Shared<F>,
     flusher: &mut Flusher<D, F>,
+    delay: &mut Delay,
 ) -> Turned
     ensures since { IsSince D.disk flusher.old.stage flusher.new.stage }
     ensures turned { MayTurn flusher.new.stage result }
 {
     match flusher.needs() {
-        Need::Batch => take(rt, shared, flusher),
-        Need::BatchOrDisk => take_or_call(rt, shared, flusher),
+        Need::Batch => take(rt, shared, flusher, delay),
+        Need::BatchOrDisk => take_or_call(rt, shared, flusher, delay),
         Need::Disk => call_disk(rt, shared, flusher),
-        Need::Publish => publish(rt, shared, flusher),
+        Need::Publish => publish(rt, shared, flusher, delay),
         Need::Stopped => Turned::Ended(Leaves::Nothing),
     }
 }
@@ -223,16 +228,18 @@ fn call_disk<D: SectorDisk, F: Name, R: Wait>(
 }
 
 // Publishes the batch that is durable, and has it acknowledged.
-fn publish<D: SectorDisk, F: Name, R: Wait>(
+fn publish<D: SectorDisk, F: Name, R: Wait + Clock>(
     rt: &R,
     shared: &Shared<F>,
     flusher: &mut Flusher<D, F>,
+    delay: &mut Delay,
 ) -> Turned
     requires { need_of flusher.old.stage ≡ need.Publish }
     ensures since { IsSince D.disk flusher.old.stage flusher.new.stage }
     ensures turned { MayTurn flusher.new.stage result }
 {
     if let Ok(committed) = flusher.publish() {
+        delay.end(rt);
         let _ = shared.guarded.lock(rt).acknowledge(rt, committed);
         shared.woken.notify_all();
         shared.reported.notify_all();
@@ -247,11 +254,37 @@ fn look<F: Name>(mut guarded: MutexGuard<'_, Guarded<F>>, room: usize) -> Found
     guarded.find(room)
 }
 
+// Looks for a batch for a while, and not again where none comes.
+fn look_again<F: Name, R: Wait + Clock>(
+    rt: &R,
+    shared: &Shared<F>,
+    room: usize,
+    delay: &mut Delay,
+) -> Found
+    requires { LARGEST_COMMAND_RECORD ≤ room }
+    ensures spent { IsSpent result delay.new }
+{
+    let mut guarded = shared.guarded.lock(rt);
+    if let Some(limit) = delay.limit() {
+        let is_idle = |guarded: &mut Guarded<F>| guarded.is_idle();
+        guarded = shared
+            .work
+            .wait_timeout_while(rt, guarded, limit, is_idle)
+            .0;
+    }
+    let found = look(guarded, room);
+    if matches!(&found, Found::Nothing) {
+        delay.spend();
+    }
+    found
+}
+
 // Waits for a batch, or for the end.
-fn take<D: SectorDisk, F: Name, R: Wait>(
+fn take<D: SectorDisk, F: Name, R: Wait + Clock>(
     rt: &R,
     shared: &Shared<F>,
     flusher: &mut Flusher<D, F>,
+    delay: &mut Delay,
 ) -> Turned
     requires { need_of flusher.old.stage ≡ need.Batch }
     ensures since { IsSince D.disk flusher.old.stage flusher.new.stage }
@@ -262,6 +295,7 @@ fn take<D: SectorDisk, F: Name, R: Wait>(
         .wait_while(rt, shared.guarded.lock(rt), |guarded| guarded.is_idle());
     match look(guarded, flusher.room()) {
         Found::Batch(batch) => {
+            delay.begin(rt);
             let _ = flusher.give(batch);
             Turned::Made
         }
@@ -271,18 +305,20 @@ fn take<D: SectorDisk, F: Name, R: Wait>(
     }
 }
 
-// Takes a batch, or where there is none makes the next disk call of the checkpoint that is due. At the end it is left paused.
-fn take_or_call<D: SectorDisk, F: Name, R: Wait>(
+// Takes a batch, or where none comes in a while makes the next disk call of the checkpoint that is due. At the end it is left paused.
+fn take_or_call<D: SectorDisk, F: Name, R: Wait + Clock>(
     rt: &R,
     shared: &Shared<F>,
     flusher: &mut Flusher<D, F>,
+    delay: &mut Delay,
 ) -> Turned
     requires { need_of flusher.old.stage ≡ need.BatchOrDisk }
     ensures since { IsSince D.disk flusher.old.stage flusher.new.stage }
     ensures turned { MayTurn flusher.new.stage result }
 {
-    match look(shared.guarded.lock(rt), flusher.room()) {
+    match look_again(rt, shared, flusher.room(), delay) {
         Found::Batch(batch) => {
+            delay.begin(rt);
             let _ = flusher.give(batch);
             Turned::Made
         }
