@@ -10,7 +10,6 @@
 //!   checkpoint of ports with the largest sets.
 //! - `front`, `core_reads`, `flush`: passes of two threads, a view of a port with a set, batches that do not fit. `stranger`: a batch
 //!   that a core did not take.
-//! - `handed`: a master whose disk is in the hands of its caller.
 //! - `cut_file`: a file of which a read has failed. `no_link`: a run of a port without a link. `texts`: the texts of faults.
 //!
 //! `blank` and `scene` have what they begin with.
@@ -34,8 +33,6 @@ mod flush;
 mod front;
 #[cfg(test)]
 mod full_ports;
-#[cfg(test)]
-mod handed;
 #[cfg(test)]
 mod isdu;
 #[cfg(test)]
