@@ -132,10 +132,22 @@ words_of() {
     esac
 }
 
-# Proves and builds a crate with so many jobs; `built/CRATE` then holds the status, which is 0 where it worked.
+# Proves and builds a crate with so many jobs, unless this machine has kept what was built of the same texts; `built/CRATE` then holds
+# the status, which is 0 where it worked.
 build_crate() {
     crate=$1
-    set -- $(words_of "$crate" "$2")
+    if "$top/launcher/proved.py" take "$crate" >"$out/build.$crate.log" 2>&1; then
+        status=0
+    else
+        prove_crate "$crate" "$2"
+    fi
+    echo "$status" >"$out/built/$crate.new" && mv "$out/built/$crate.new" "$out/built/$crate"
+}
+
+prove_crate() {
+    texts=$("$top/launcher/proved.py" sum "$1")
+    set -- "$1" $(words_of "$1" "$2")
+    shift
     (make_room "$crate" && cd "$(room_of "$crate")/crates/$crate" && exec "$top/launcher/quick_rt.py" "$@") </dev/null >"$out/build.$crate.log" 2>&1 &
     child=$!
     # (the shell says `Terminated` where it is not yet waiting for the child)
@@ -143,7 +155,8 @@ build_crate() {
     wait "$child"
     status=$?
     give_back "$crate"
-    echo "$status" >"$out/built/$crate.new" && mv "$out/built/$crate.new" "$out/built/$crate"
+    # (what cannot be kept is proved again, and no more)
+    [ "$status" -ne 0 ] || grep '^logic=' "$out/build.$crate.log" | tail -n 1 | "$top/launcher/proved.py" put "$crate" "$texts" || true
 }
 
 ended() {
