@@ -149,7 +149,7 @@ def is_named(quoted, names, places):
     """A name of these crates, a word of the command line, a file or folder, or a name that is none of ours."""
     is_file = os.path.exists(os.path.join(TOP, quoted)) or quoted in ("src", "specs", "proofs")
     is_of_c = quoted.startswith("IOLM_") and re.search(rf"\b{quoted}\b", text_of("include/iolmaster.h"))
-    return names.has(quoted, places) or quoted in names.of_crate["iol_words"] or is_file or is_of_c or quoted in OUTSIDE
+    return names.has(quoted, places) or quoted in names.of_crate["iol_tool"] or is_file or is_of_c or quoted in OUTSIDE
 
 
 def check_row(judge, place, names, line):

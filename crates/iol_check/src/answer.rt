@@ -5,9 +5,9 @@ ghost use Rattle.iol_check.specs.Answer.{IsAnswer};
 ghost use Rattle.iol_check.specs.Fine.{TellsFine};
 
 use crate::fine::fine_line;
-use crate::mistakes::mistakes_of;
+use crate::listing::mistakes_of;
+use crate::notes::notes_of;
 use iol_commands::{Fault, read_playable};
-use iol_mistakes::notes_of;
 use iol_script::Script;
 use std::alloc::{AllocError, Global};
 

@@ -1,21 +1,70 @@
-//! The lines of a text that cannot be run.
-ghost use Rattle.std.specs.Prelude.{◌<◌, IfOk, string_len};
+//! The mistakes of a text.
 
-use iol_mistakes::write_mistakes;
+use crate::judge::Judge;
+use crate::line::write_at;
+use crate::place::Place;
+use iol_script::SCRIPT_OCTETS;
 use std::alloc::{AllocError, Global};
+use std::str;
+use toml::de::Error;
+use toml_parser::ErrorKind;
 
-// The line of a text whose mistake is not found.
-const NOT_FOUND: &str = "line 1, column 1: script: not valid\n";
-
-// The lines of the mistakes of a text that cannot be run: one at least.
-pub(crate) fn mistakes_of(alloc: Global, text: &[u8]) -> Result<String, AllocError>
-    ensures { IfOk result (λ lines. 0 < string_len lines) }
-{
-    let mut lines = String::new(alloc);
-    write_mistakes(alloc, text, &mut lines)?;
-    if lines.is_empty() {
-        lines.push_str(NOT_FOUND)?;
-        return Ok(lines);
+/// Writes a line for each mistake of a text behind those that are there (docs/FORMATS.md, "Check").
+///
+/// Nothing more is looked for in what is too long, or is no text.
+pub(crate) fn write_mistakes(
+    alloc: Global,
+    text: &[u8],
+    lines: &mut String,
+) -> Result<(), AllocError> {
+    let octets = text.len();
+    if SCRIPT_OCTETS < octets {
+        return writeln!(
+            lines,
+            "line 1, column 1: script: {octets} octets: {SCRIPT_OCTETS} at most"
+        );
     }
-    Ok(lines)
+    match str::from_utf8(text) {
+        Ok(text) => write_of_text(alloc, text, lines),
+        Err(error) => {
+            let place = Place::at(text, error.valid_up_to());
+            writeln!(lines, "{place}: script: not UTF-8")
+        }
+    }
+}
+
+// Where a text is no TOML the parser's fault is the mistake; but a key that stands twice is one among others.
+fn write_of_text(alloc: Global, text: &str, lines: &mut String) -> Result<(), AllocError> {
+    match toml::table_from_str(alloc, text) {
+        Ok(_) => write_judged(alloc, text, lines),
+        Err(error) if error.is_memory() => Err(AllocError),
+        Err(error) if is_double(&error) => {
+            write_judged(alloc, text, lines)?;
+            if lines.is_empty() {
+                write_fault(text, &error, lines)?;
+            }
+            Ok(())
+        }
+        Err(error) => write_fault(text, &error, lines),
+    }
+}
+
+fn write_judged(alloc: Global, text: &str, lines: &mut String) -> Result<(), AllocError> {
+    let judge = Judge::new(alloc, text)?;
+    judge.write_mistakes(lines)
+}
+
+fn is_double(error: &Error) -> bool {
+    error.message() == ErrorKind::DuplicateKey.description()
+}
+
+// The fault of a text that is no TOML.
+fn write_fault(text: &str, error: &Error, lines: &mut String) -> Result<(), AllocError> {
+    let at = match error.span() {
+        Some(span) => span.start,
+        None => 0,
+    };
+    write_at(lines, text, at, "script")?;
+    let message = error.message();
+    writeln!(lines, ": no TOML: {message}")
 }

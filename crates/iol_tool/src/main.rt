@@ -1,17 +1,23 @@
 //! `iolmaster`, the program: the command that the words of the command line name, carried out.
 //!
 //! In come the words of the program; out comes the exit status, with what the command writes to standard output and standard
-//! error. The words are read by `iol_words`; the commands themselves are those of `iol_commands`, `iol_check`, `iol_explain`,
-//! `iol_draw`, `iol_view`, `iol_live` and `iol_serve`.
+//! error. The commands themselves are those of `iol_commands`, `iol_check`, `iol_explain`, `iol_draw`, `iol_view`, `iol_live` and
+//! `iol_serve`.
 //!
-//! Modules in reading order: `arguments` carries out what words ask for, `serving` has what `serve` asks for,
-//! `script_file` reads a script from its file, and `version` has what `--version` prints.
+//! Modules in reading order:
+//! - `words` reads the words of all commands, `serve_words` those of `serve`, and `port_files` the files of drivers among them. What
+//!   words ask for is tested (`tests/words.cases`): the words of `clap` are not repeated in a contract.
+//! - `arguments` carries out what words ask for, `serving` has what `serve` asks for, `script_file` reads a script from its file, and
+//!   `version` has what `--version` prints.
 #![tactic(auto)]
 
 mod arguments;
+mod port_files;
 mod script_file;
+mod serve_words;
 mod serving;
 mod version;
+mod words;
 
 use arguments::run_program;
 use std::process::ExitCode;

@@ -2,11 +2,12 @@
 
 ghost use Rattle.std.specs.Prelude.{◌≤◌};
 
+use crate::port_files::PortFiles;
 use crate::script_file::read_script;
+use crate::serve_words::ServeWords;
 use iol_commands::{Fault, report};
 use iol_requests::Spelling;
 use iol_serve::{Conversation, Driver, Prompt, Serving, serve_image};
-use iol_words::{PortFiles, ServeWords};
 use std::alloc::{AllocError, Global};
 use std::io::IsTerminal;
 use std::sync::Wait;

@@ -5,17 +5,17 @@ use std::alloc::Global;
 
 /// The files of the driver at a port.
 #[derive(Clone, Copy, Debug)]
-pub struct PortFiles<'a> {
-    pub port: PortId,
+pub(crate) struct PortFiles<'a> {
+    pub(crate) port: PortId,
     /// Where its answers are read.
-    pub from: &'a str,
+    pub(crate) from: &'a str,
     /// Where requests are written to it; the same file where one is read and written.
-    pub to: &'a str,
+    pub(crate) to: &'a str,
 }
 
 /// Why words name no files of drivers.
 #[derive(Clone, Copy, Debug, PartialEq, Eq)]
-pub enum PortFilesFault<'a> {
+pub(crate) enum PortFilesFault<'a> {
     /// This word is neither N=PATH nor N=FROM,TO, with N from 1 to 32.
     Form(&'a str),
     /// This port is named twice.

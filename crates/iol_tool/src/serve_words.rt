@@ -7,17 +7,17 @@ use std::alloc::{AllocError, Global};
 
 /// What the words of `serve` say.
 #[derive(Drop)]
-pub struct ServeWords<'a> {
+pub(crate) struct ServeWords<'a> {
     /// The path of an image file.
-    pub image: &'a str,
+    pub(crate) image: &'a str,
     /// The drivers at ports, each port once.
-    pub files: Vec<PortFiles<'a>>,
+    pub(crate) files: Vec<PortFiles<'a>>,
     /// The path of a script whose simulated devices are at other ports, if one is named.
-    pub devices: Option<&'a str>,
+    pub(crate) devices: Option<&'a str>,
     /// Events are printed as JSON.
-    pub json: bool,
+    pub(crate) json: bool,
     /// How many seconds a driver may be silent, 1 to 3,600.
-    pub silence: u16,
+    pub(crate) silence: u16,
 }
 
 // How many seconds a driver may be silent where the words do not say it.

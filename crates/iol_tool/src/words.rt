@@ -7,7 +7,7 @@ use std::alloc::{AllocError, Global};
 
 /// What is done with a script.
 #[derive(Clone, Copy)]
-pub enum OnScript {
+pub(crate) enum OnScript {
     /// It is run on a disk in memory.
     Run,
     /// It is run so, and each line is followed by what it says in words.
@@ -18,7 +18,7 @@ pub enum OnScript {
 
 /// A command, with what its words say.
 #[derive(Drop)]
-pub enum Asked<'a> {
+pub(crate) enum Asked<'a> {
     /// Something is done with the script at a path.
     Script {
         path: &'a str,
@@ -58,7 +58,7 @@ pub enum Asked<'a> {
 
 /// What stands in place of a command.
 #[derive(Drop)]
-pub enum Unasked {
+pub(crate) enum Unasked {
     /// The help or the version, which the words ask for.
     Shown(String),
     /// Why the words are wrong.
@@ -72,7 +72,7 @@ pub enum Unasked {
 ///
 /// # Errors
 /// What is wrong with the words, or the help or version that they ask for; `Memory` where there is none.
-pub fn read_words<'a>(
+pub(crate) fn read_words<'a>(
     alloc: Global,
     words: &'a [String],
     version: &'a str,
@@ -108,10 +108,18 @@ fn program<'a>(alloc: Global, version: &'a str) -> Result<Command<'a>, AllocErro
     titled(alloc, version).subcommands(commands(alloc)?)
 }
 
+// Where a reader of the help goes on.
+const DOORS: &str = "\
+Three doors:
+  At a machine     iolmaster serve IMAGE    examples/serve.md, docs/SERVING.md, docs/DRIVERS.md
+  In your program  include/iolmaster.h      docs/C.md, docs/USING.md
+  The proof        ./check                  docs/THEOREM.md, docs/PROOFS.md";
+
 // The program without its commands, one of which has to be named.
 fn titled<'a>(alloc: Global, version: &'a str) -> Command<'a> {
     Command::new(alloc, "iolmaster")
         .about("The data storage of an IO-Link master")
+        .after_help(DOORS)
         .version(version)
         .subcommand_required(true)
 }

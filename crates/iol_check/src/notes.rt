@@ -8,7 +8,7 @@ use std::alloc::{AllocError, Global};
 use std::str;
 
 /// The notes on a script, which a text says: a device at a port that makes no step is never spoken with.
-pub fn notes_of(alloc: Global, text: &[u8], script: &Script) -> Result<String, AllocError> {
+pub(crate) fn notes_of(alloc: Global, text: &[u8], script: &Script) -> Result<String, AllocError> {
     let mut notes = String::new(alloc);
     if let Ok(text) = str::from_utf8(text) {
         let tables = device_tables(alloc, text)?;

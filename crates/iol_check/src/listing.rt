@@ -1,0 +1,21 @@
+//! The lines of a text that cannot be run.
+ghost use Rattle.std.specs.Prelude.{◌<◌, IfOk, string_len};
+
+use crate::mistakes::write_mistakes;
+use std::alloc::{AllocError, Global};
+
+// The line of a text whose mistake is not found.
+const NOT_FOUND: &str = "line 1, column 1: script: not valid\n";
+
+// The lines of the mistakes of a text that cannot be run: one at least.
+pub(crate) fn mistakes_of(alloc: Global, text: &[u8]) -> Result<String, AllocError>
+    ensures { IfOk result (λ lines. 0 < string_len lines) }
+{
+    let mut lines = String::new(alloc);
+    write_mistakes(alloc, text, &mut lines)?;
+    if lines.is_empty() {
+        lines.push_str(NOT_FOUND)?;
+        return Ok(lines);
+    }
+    Ok(lines)
+}
