@@ -24,6 +24,8 @@ progress_of() {
     fi
     case " $waiting " in *" $1 "*) checked=0 ;; esac
     if worked "$1"; then checked=$all; fi
+    # What was taken took no time, so it says nothing of the time that is left.
+    if [ -e "$out/built/$1.taken" ]; then usual="$all 0"; fi
     echo "$checked $all ${usual#* }"
 }
 
@@ -137,6 +139,7 @@ words_of() {
 build_crate() {
     crate=$1
     if "$top/launcher/proved.py" take "$crate" >"$out/build.$crate.log" 2>&1; then
+        : >"$out/built/$crate.taken"
         status=0
     else
         prove_crate "$crate" "$2"
