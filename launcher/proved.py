@@ -92,8 +92,8 @@ def take(rt, crate):
 
 
 def put(rt, crate, texts, verdict):
-    """Keeps what was built. Parts of an earlier check may have gone into what was built over them, so that is not kept."""
-    if not folder() or sum_of(rt, crate) != texts or crate.has_kept():
+    """Keeps what was built. A library that was built over the parts of an earlier check may have its proofs in it, so it is not kept."""
+    if not folder() or sum_of(rt, crate) != texts or (crate.has_kept() and os.path.isdir(crate.rlib)):
         return
     os.makedirs(folder(), exist_ok=True)
     with tempfile.TemporaryDirectory(dir=folder(), prefix="built.") as room:
