@@ -7,7 +7,7 @@
 //! - `image` is the state on an image file as JSON.
 //! - `map_commands` has the commands that map an image file, and `map_disk` the map of a disk: `map_outcome` recovers it, and
 //!   `map_survey` reads it part by part, with `map_layouts`, `map_areas`, `map_front`, `map_ports` and `map_slots`, into the lines
-//!   of `map_lines`. `map_text` has them as text, `map_drawing` and `map_cells` as a picture.
+//!   of `map_lines`. `map_text` has them as text, `map_drawing`, `map_legend` and `map_cells` as a picture.
 //! - `map_examples` has lines and words worked out.
 //!
 //! What the JSON says is defined in `specs/Json.antt`, and what a map keeps in `specs/Map.antt`.
@@ -22,6 +22,7 @@ mod map_drawing;
 pub mod map_examples;
 mod map_front;
 mod map_layouts;
+mod map_legend;
 mod map_lines;
 mod map_outcome;
 mod map_ports;

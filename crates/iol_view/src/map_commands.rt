@@ -6,7 +6,6 @@ ghost use Rattle.iol_view.specs.Map.{IsMapCause, IsSomeMap, TellsMap, mapped_tex
 
 use crate::map_disk::{Mapped, map_disk};
 use crate::map_drawing::Drawing;
-use crate::map_text::Map;
 use iol_commands::{Fault, opened, print, report, write_picture};
 use iol_disk::{LockFile, SectorDisk};
 use std::alloc::{AllocError, Global};
@@ -92,23 +91,31 @@ fn draw<'a, F: FileExt + OpenFile + LockFile + Drop, R: Files<File = F> + AllocG
     ensures text { IfOk result (λ text. (sectors : ℕ) × (string_bytes text ≡ mapped_text sectors)) }
     ensures status { IfErr result (λ fault. status_of fault ≡ 1) }
 {
-    draw_disk(rt, opened(rt, path)?, picture)
+    draw_disk(rt, opened(rt, path)?, name_of(path), picture)
 }
 
-// Draws the map of a disk into the file at `picture`; what is printed of that.
+// The last part of a path.
+fn name_of(path: &str) -> &str {
+    match path.rsplit_once('/') {
+        Some((_, name)) => name,
+        None => path,
+    }
+}
+
+// Draws the map of a disk with this name into the file at `picture`; what is printed of that.
 fn draw_disk<
     'a,
     D: SectorDisk + Drop,
     F: FileExt + OpenFile + LockFile + Drop,
     R: Files<File = F> + AllocGlobal,
->(rt: &R, disk: D, picture: &'a str) -> Result<String, Fault<'a>>
+>(rt: &R, disk: D, name: &str, picture: &'a str) -> Result<String, Fault<'a>>
     ensures text { IfOk result (λ text. (sectors : ℕ) × (string_bytes text ≡ mapped_text sectors)) }
     ensures status { IfErr result (λ fault. status_of fault ≡ 1) }
 {
     // The disk stays open, and an image locked, while the picture is written.
     let Mapped { map, disk: _open } = map_disk(rt.alloc(), disk);
     match map {
-        Ok(map) => draw_into(rt, &map, picture),
+        Ok(map) => draw_into(rt, &Drawing { map: &map, name }, picture),
         Err(fault) => Err(fault),
     }
 }
@@ -116,26 +123,26 @@ fn draw_disk<
 // Draws a map into the file at `picture`; what is printed of that.
 fn draw_into<'a, F: FileExt + OpenFile + LockFile + Drop, R: Files<File = F> + AllocGlobal>(
     rt: &R,
-    map: &Map,
+    drawing: &Drawing<'_>,
     picture: &'a str,
 ) -> Result<String, Fault<'a>>
     ensures text { IfOk result (λ text. (sectors : ℕ) × (string_bytes text ≡ mapped_text sectors)) }
     ensures status { IfErr result (λ fault. status_of fault ≡ 1) }
 {
-    write_drawing(rt, map, picture)?;
-    Ok(mapped(rt.alloc(), map.sectors)?)
+    write_drawing(rt, drawing, picture)?;
+    Ok(mapped(rt.alloc(), drawing.map.sectors)?)
 }
 
 // Makes the drawing of a map all that the file at `picture` holds.
 fn write_drawing<'a, F: FileExt + OpenFile + LockFile + Drop, R: Files<File = F> + AllocGlobal>(
     rt: &R,
-    map: &Map,
+    drawing: &Drawing<'_>,
     picture: &'a str,
 ) -> Result<(), Fault<'a>>
     ensures { IfErr result (λ fault. status_of fault ≡ 1) }
 {
-    let drawing = Drawing { map }.to_string(rt.alloc())?;
-    write_picture(rt, picture, drawing.as_str())
+    let text = drawing.to_string(rt.alloc())?;
+    write_picture(rt, picture, text.as_str())
 }
 
 // What is printed of a picture.
