@@ -48,7 +48,7 @@ def check_words(judge, rows):
             judge.wants(section in headings, f"{place} comes from a section of docs/FORMATS.md that is not there: {section}")
 
 
-def check_clauses(judge, functions):
+def check_listed_clauses(judge, functions):
     """Lines such as '- `Writing::step`, `durable` and `done`: ..': a call, and clauses of it."""
     for number, line in enumerate(text_of("docs/PROOFS.md").splitlines(), 1):
         named = re.match(r"- (`[\w:]+`(?:(?:, | and )`\w+`)+): ", line)
@@ -250,7 +250,7 @@ def check_documents(judge):
     functions = Functions()
     names = Names(functions)
     check_widths(judge)
-    check_clauses(judge, functions)
+    check_listed_clauses(judge, functions)
     check_clauses(judge, functions)
     check_faults(judge, names)
     check_names(judge, names)
