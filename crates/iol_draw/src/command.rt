@@ -8,8 +8,9 @@ use crate::numbers::numbers_of;
 use crate::picture::picture_of;
 use crate::stop_text::Numbers;
 use iol_commands::{Fault, print, read_playable, report, write_picture};
-use iol_disk::{LockFile, Pick};
+use iol_disk::LockFile;
 use iol_explain::{Explained, explained_run};
+use iol_script::Script;
 use std::alloc::{AllocError, Global};
 use std::fs::OpenFile;
 use std::io::Write;
@@ -79,14 +80,14 @@ fn drawn_run(alloc: Global, script: &[u8]) -> Result<Drawn, Fault<'static>>
     let ready = read_playable(alloc, script)?;
     let explained = explained_run(alloc, ready.geometry, &ready.script)?;
     let numbers = numbers_of(alloc, ready.geometry, &ready.script)?;
-    drawing_of(alloc, &explained, ready.script.keep, numbers)
+    drawing_of(alloc, &explained, &ready.script, numbers)
 }
 
-// The picture of a run whose stop keeps this.
+// The picture of a script's run.
 fn drawing_of(
     alloc: Global,
     explained: &Explained,
-    keep: Pick,
+    script: &Script,
     numbers: Numbers,
 ) -> Result<Drawn, Fault<'static>>
     ensures printed { IfOk result (λ drawn. string_bytes drawn.line ≡ drawn_text (length explained.now.events.items)) }
@@ -94,7 +95,7 @@ fn drawing_of(
 {
     Ok(Drawn {
         line: line_of(alloc, explained.events.len())?,
-        picture: picture_of(alloc, explained, keep, numbers)?,
+        picture: picture_of(alloc, explained, script, numbers)?,
     })
 }
 

@@ -1,87 +1,100 @@
-//! What each sign of a picture means.
+//! The legend says what each sign means that a picture has.
 
-use crate::scale::LINE_STEP;
-use crate::signs::{Sign, write_sign};
+use crate::marks::Marks;
+use crate::scale::{EDGE, LETTER, LINE_STEP};
+use crate::sign::{SIGNS, Sign, write_small_sign};
+use std::alloc::{AllocError, Global};
 use std::fmt;
 
-// How many lines there are, and where their signs and words begin.
-const LINES: usize = 6;
+// The first sign of a line is so far from the edge, and words are so far after their sign.
+const LEFT: usize = EDGE + 6;
 
-const LEFT: usize = 86;
+const WORDS: usize = 11;
+// The words of a sign and the next sign are so far apart.
+const APART: usize = 16;
+// A sign is so far above the lower edge of its words.
+const ABOVE: usize = 4;
 
-const NEXT: usize = 330;
-
-// How high the legend is.
-pub(crate) const HEIGHT: usize = LINE_STEP * (LINES + 1);
-
-// A sign, on a line of a column of the legend, and what it means.
-const SIGNS: [(Sign, usize, usize, &str); 10] = [
-    (Sign::Accepted, LEFT, 1, "a command is accepted"),
-    (Sign::Acknowledged, LEFT, 2, "commands are acknowledged"),
-    (Sign::Refused, LEFT, 3, "a command is refused"),
-    (Sign::Page, LEFT, 4, "a page is read"),
-    (Sign::Exchange, LEFT, 5, "an exchange"),
-    (Sign::Loss, LEFT, 6, "a device is lost"),
-    (
-        Sign::Write,
-        NEXT,
-        1,
-        "a sector is written: above by a batch, below by a checkpoint",
-    ),
-    (Sign::Opened, NEXT, 2, "a gate is opened"),
-    (Sign::Closed, NEXT, 3, "a gate is closed"),
-    (Sign::Failed, NEXT, 4, "a call of the disk fails"),
-];
-
-// What is told without a sign, on a line of the second column.
-const TEXTS: [(usize, &str); 2] = [
-    (5, "a line through the lane of the disk is a sync"),
-    (
-        6,
-        "a line between clients' signs is a command that waits for the disk",
-    ),
-];
-
-// The legend, below this place.
-pub(crate) fn write_legend<W: fmt::Write>(f: &mut fmt::Formatter<W>, top: usize) -> fmt::Result {
-    for (sign, left, number, meaning) in SIGNS {
-        write_meaning(f, sign, left, line(top, number), meaning)?;
-    }
-    write_texts(f, top)
+// It holds the signs that a picture has, in lines.
+#[derive(Drop)]
+pub(crate) struct Legend {
+    entries: Vec<Entry>,
+    lines: usize,
 }
 
-fn write_texts<W: fmt::Write>(f: &mut fmt::Formatter<W>, top: usize) -> fmt::Result {
-    for (number, text) in TEXTS {
-        write_text(f, NEXT, line(top, number), text)?;
+// It is a sign in a line of the legend, which counts from 1.
+#[derive(Clone, Copy)]
+struct Entry {
+    sign: Sign,
+    left: usize,
+    line: usize,
+}
+
+impl Legend {
+    // It makes the legend of these marks, in lines of this width.
+    pub(crate) fn of(alloc: Global, marks: &Marks, width: usize) -> Result<Legend, AllocError> {
+        let mut entries = Vec::new(alloc);
+        let (mut left, mut lines) = (LEFT, 1usize);
+        for sign in SIGNS {
+            if !occurs(marks, sign) {
+                continue;
+            }
+            if width < after(left, sign) {
+                left = LEFT;
+                lines = lines.saturating_add(1);
+            }
+            entries.push(Entry {
+                sign,
+                left,
+                line: lines,
+            })?;
+            left = after(left, sign).saturating_add(APART);
+        }
+        Ok(Legend { entries, lines })
+    }
+
+    // It is so high.
+    pub(crate) fn height(&self) -> usize {
+        LINE_STEP.saturating_mul(self.lines)
+    }
+}
+
+// It says whether a picture of these marks has this sign.
+fn occurs(marks: &Marks, sign: Sign) -> bool {
+    match sign {
+        Sign::Waits => !marks.waits.is_empty(),
+        _ => marks.signs.iter().any(|mark| mark.what.sign() == sign),
+    }
+}
+
+// The words of a sign that is here end there.
+fn after(left: usize, sign: Sign) -> usize {
+    let (_, meaning) = sign.name();
+    left.saturating_add(WORDS)
+        .saturating_add(LETTER.saturating_mul(meaning.len()))
+}
+
+// It writes the legend, below this height.
+pub(crate) fn write_legend<W: fmt::Write>(
+    f: &mut fmt::Formatter<W>,
+    top: usize,
+    legend: &Legend,
+) -> fmt::Result {
+    for entry in &legend.entries {
+        let line = LINE_STEP.saturating_mul(entry.line);
+        write_entry(f, *entry, top.saturating_add(line))?;
     }
     Ok(())
 }
 
-// Where a line of the legend is, from 1 on.
-fn line(top: usize, number: usize) -> usize {
-    top.saturating_add(LINE_STEP.saturating_mul(number))
-}
-
-// A sign and what it means.
-fn write_meaning<W: fmt::Write>(
-    f: &mut fmt::Formatter<W>,
-    sign: Sign,
-    left: usize,
-    top: usize,
-    meaning: &str,
-) -> fmt::Result {
+// It writes a sign and what it means, on the line at this height.
+fn write_entry<W: fmt::Write>(f: &mut fmt::Formatter<W>, entry: Entry, top: usize) -> fmt::Result {
+    let (_, meaning) = entry.sign.name();
     f.write_str("<g class='legend'>")?;
-    write_sign(f, sign, left, top.saturating_sub(4))?;
-    f.write_str("</path></g>\n")?;
-    write_text(f, left, top, meaning)
-}
-
-fn write_text<W: fmt::Write>(
-    f: &mut fmt::Formatter<W>,
-    left: usize,
-    top: usize,
-    text: &str,
-) -> fmt::Result {
-    let left = left.saturating_add(12);
-    writeln!(f, "<text x='{left}' y='{top}'>{text}</text>")
+    write_small_sign(f, entry.sign, entry.left, top.saturating_sub(ABOVE))?;
+    let left = entry.left.saturating_add(WORDS);
+    writeln!(
+        f,
+        "</path><text x='{left}' y='{top}' font-size='10'>{meaning}</text></g>"
+    )
 }

@@ -1,75 +1,99 @@
-//! What a picture shows of a run. A column is a place in the order of the run, from 0 on.
+//! Marks are what a picture shows of a run. A column is a place in the order of the run, from 0 on.
 
+use crate::lines::Lines;
+use crate::sign::Sign;
 use iol_explain::Place;
 use iol_port::PortStatus;
 use iol_types::PortId;
 
+// This happened in one column, with what an explained run says of it.
 #[derive(Clone, Copy)]
-pub(crate) enum Mark {
+pub(crate) struct Mark {
+    pub what: What,
+    pub column: usize,
+    pub said: Lines,
+}
+
+#[derive(Clone, Copy)]
+pub(crate) enum What {
     // A command was accepted under this number.
-    Accepted {
-        number: u64,
-        column: usize,
-    },
+    Accepted { number: u64 },
     // A command was refused.
-    Refused {
-        column: usize,
-    },
-    // A command was accepted in one column, and acknowledged in another.
-    Durable {
-        number: u64,
-        accepted: usize,
-        column: usize,
-    },
-    // All commands up to this number were acknowledged.
-    Acknowledged {
-        number: u64,
-        column: usize,
-    },
-    // What happened at a port.
-    Port {
-        port: PortId,
-        mark: PortMark,
-    },
-    // What happened at the disk.
-    Disk {
-        mark: DiskMark,
-        column: usize,
-    },
-}
-
-#[derive(Clone, Copy)]
-pub(crate) enum PortMark {
-    // The port has had this status up to another column.
-    Had {
-        status: PortStatus,
-        from: usize,
-        to: usize,
-    },
-    // It has read the page of its device.
-    Page {
-        column: usize,
-    },
-    // It has had an answer of its device.
-    Exchange {
-        column: usize,
-    },
-    // It has lost its device.
-    Loss {
-        column: usize,
-    },
-}
-
-#[derive(Clone, Copy)]
-pub(crate) enum DiskMark {
+    Refused,
+    // All commands up to a number were acknowledged.
+    Acknowledged,
+    // A port has read the page of its device.
+    Page { port: PortId },
+    // A port has had an answer of its device.
+    Exchange { port: PortId },
+    // A port has lost its device.
+    Loss { port: PortId },
     // A sector was written in this place, with the octets of an open gate or with others.
-    Wrote {
-        place: Place,
-        sector: usize,
-        is_gate_open: bool,
-    },
+    Wrote { place: Place, is_gate_open: bool },
     // The disk was synced.
     Synced,
-    // The call before failed.
-    Failed,
+    // The disk call before failed.
+    DiskFailed,
+}
+
+impl What {
+    // This sign shows it.
+    pub(crate) fn sign(self) -> Sign {
+        match self {
+            What::Accepted { .. } => Sign::Accepted,
+            What::Refused => Sign::Refused,
+            What::Acknowledged => Sign::Acknowledged,
+            What::Page { .. } => Sign::Page,
+            What::Exchange { .. } => Sign::Exchange,
+            What::Loss { .. } => Sign::Loss,
+            What::Wrote {
+                place,
+                is_gate_open,
+            } => sign_of_write(place, is_gate_open),
+            What::Synced => Sign::Sync,
+            What::DiskFailed => Sign::Failed,
+        }
+    }
+}
+
+// It returns the sign of a write, by which a gate may be opened or closed.
+fn sign_of_write(place: Place, is_gate_open: bool) -> Sign {
+    match place {
+        Place::DiskGate | Place::AreaGate(_) | Place::SlotGate(_, _) if is_gate_open =>
+            Sign::Opened,
+        Place::DiskGate | Place::AreaGate(_) | Place::SlotGate(_, _) => Sign::Closed,
+        _ => Sign::Write,
+    }
+}
+
+// A command was accepted in one column, and acknowledged in another.
+#[derive(Clone, Copy)]
+pub(crate) struct Wait {
+    pub number: u64,
+    pub from: usize,
+    pub to: usize,
+}
+
+// A port has had this status from one column up to another.
+#[derive(Clone, Copy)]
+pub(crate) struct Bar {
+    pub status: PortStatus,
+    pub from: usize,
+    pub to: usize,
+    pub said: Lines,
+}
+
+// A port has found a device with these numbers.
+#[derive(Clone, Copy)]
+pub(crate) struct Device<'a> {
+    pub column: usize,
+    pub numbers: &'a str,
+    pub arrival: Arrival,
+}
+
+// It says whether a port has found another device before.
+#[derive(Clone, Copy)]
+pub(crate) enum Arrival {
+    First,
+    Anew,
 }

@@ -1,125 +1,143 @@
-//! The marks of what is told of a run, one after another.
+//! Marks are made of what happens in a run, one after another.
 
-use crate::mark::{DiskMark, Mark, PortMark};
+use crate::lines::{Lines, Told};
+use crate::mark::{Mark, Wait, What};
+use crate::port_marks::PortMarks;
 use crate::waiting::Waiting;
 use iol_engine::Event;
-use iol_explain::{Place, ToldCall, place_of};
+use iol_explain::{ToldCall, place_of};
 use iol_journal::Geometry;
 use iol_port::PortStatus;
-use iol_types::{PORTS, PortId};
+use iol_types::PortId;
 use std::alloc::{AllocError, Global};
 
-// The numbers of ports, and 0, which is that of none.
-const NUMBERS: usize = PORTS as usize + 1;
-
-// The marks so far, and what they are made of.
+// It holds the marks so far, and what they are made of.
 #[derive(Drop)]
-pub(crate) struct Marking {
+pub(crate) struct Marking<'a> {
     geometry: Geometry,
-    pub marks: Vec<Mark>,
-    pub column: usize,
+    told: Told<'a>,
     waiting: Waiting,
-    // The status of each port since a column, by the port's number.
-    statuses: [Option<(PortStatus, usize)>; NUMBERS],
+    pub column: usize,
+    pub signs: Vec<Mark>,
+    pub waits: Vec<Wait>,
+    // They are ordered by the port's place.
+    pub ports: Vec<PortMarks<'a>>,
 }
 
-impl Marking {
-    pub(crate) fn new(alloc: Global, geometry: Geometry) -> Marking {
-        Marking {
+impl<'a> Marking<'a> {
+    // It has no mark yet; titles are taken from these lines of the explained run.
+    pub(crate) fn new(
+        alloc: Global,
+        geometry: Geometry,
+        lines: &'a [&'a str],
+    ) -> Result<Marking<'a>, AllocError> {
+        Ok(Marking {
             geometry,
-            marks: Vec::new(alloc),
-            column: 0,
+            told: Told::new(lines),
             waiting: Waiting::new(alloc),
-            statuses: [None; NUMBERS],
-        }
+            column: 0,
+            signs: Vec::new(alloc),
+            waits: Vec::new(alloc),
+            ports: ports_of(alloc, geometry)?,
+        })
     }
 
     // The disk was called.
     pub(crate) fn call(&mut self, call: ToldCall) -> Result<(), AllocError> {
-        let mark = match call {
-            ToldCall::Sync => DiskMark::Synced,
+        let said = self.told.call();
+        match call {
+            ToldCall::Sync => self.add(What::Synced, said),
             ToldCall::Write {
                 sector,
                 is_gate_open,
-            } => DiskMark::Wrote {
-                place: place_of(self.geometry.layout(), sector),
-                sector,
-                is_gate_open,
-            },
-        };
-        self.add(Mark::Disk {
-            mark,
-            column: self.column,
-        })
+            } => {
+                let place = place_of(self.geometry.layout(), sector);
+                self.add(
+                    What::Wrote {
+                        place,
+                        is_gate_open,
+                    },
+                    said,
+                )
+            }
+        }
     }
 
     // This happened.
     pub(crate) fn event(&mut self, event: &Event) -> Result<(), AllocError> {
-        let column = self.column;
+        let said = self.told.event(event);
         match event {
-            Event::Accepted { number, .. } => {
-                self.waiting.accept(*number, column)?;
-                self.add(Mark::Accepted {
-                    number: *number,
-                    column,
-                })
-            }
-            Event::Refused(_) => self.add(Mark::Refused { column }),
-            Event::Page { port, .. } => self.at_port(*port, PortMark::Page { column }),
-            Event::Exchange { port, .. } => self.at_port(*port, PortMark::Exchange { column }),
-            Event::Lost { port, .. } => self.at_port(*port, PortMark::Loss { column }),
+            Event::Accepted { number, .. } => self.accepted(*number, said),
+            Event::Refused(_) => self.add(What::Refused, said),
+            Event::Page {
+                port,
+                connection,
+                ..
+            } => self.page(*port, *connection, said),
+            Event::Exchange { port, .. } => self.add(What::Exchange { port: *port }, said),
+            Event::Lost { port, .. } => self.add(What::Loss { port: *port }, said),
             Event::Attended { .. } => Ok(()),
-            Event::Status { port, status } => self.status(*port, *status),
-            Event::Acknowledged { number } => self.acknowledged(*number),
-            Event::DiskFailed => self.add(Mark::Disk {
-                mark: DiskMark::Failed,
-                column,
-            }),
+            Event::Status { port, status } => self.status(*port, *status, said),
+            Event::Acknowledged { number } => self.acknowledged(*number, said),
+            Event::DiskFailed => self.add(What::DiskFailed, said),
         }
     }
 
     // Nothing more happens: each port has had its status up to here.
     pub(crate) fn end(&mut self) -> Result<(), AllocError> {
-        for number in 1..=PORTS {
-            if let Some(port) = PortId::new(number) {
-                self.end_status(port)?;
-            }
+        for marks in self.ports.iter_mut() {
+            marks.end(self.column)?;
         }
         Ok(())
     }
 
-    // Adds a mark, and goes on to the next column.
-    fn add(&mut self, mark: Mark) -> Result<(), AllocError> {
-        self.marks.push(mark)?;
+    // It adds a mark, and goes on to the next column.
+    fn add(&mut self, what: What, said: Lines) -> Result<(), AllocError> {
+        self.signs.push(Mark {
+            what,
+            column: self.column,
+            said,
+        })?;
         self.column = self.column.saturating_add(1);
         Ok(())
     }
 
-    fn at_port(&mut self, port: PortId, mark: PortMark) -> Result<(), AllocError> {
-        self.add(Mark::Port { port, mark })
+    fn accepted(&mut self, number: u64, said: Lines) -> Result<(), AllocError> {
+        self.waiting.accept(number, self.column)?;
+        self.add(What::Accepted { number }, said)
     }
 
-    fn acknowledged(&mut self, number: u64) -> Result<(), AllocError> {
+    fn acknowledged(&mut self, number: u64, said: Lines) -> Result<(), AllocError> {
         let column = self.column;
-        self.waiting.acknowledge(number, column, &mut self.marks)?;
-        self.add(Mark::Acknowledged { number, column })
+        self.waiting.acknowledge(number, column, &mut self.waits)?;
+        self.add(What::Acknowledged, said)
+    }
+
+    fn page(&mut self, port: PortId, connection: u64, said: Lines) -> Result<(), AllocError> {
+        let numbers = self.told.numbers(said);
+        if let Some(marks) = self.ports.get_mut(port.place()) {
+            marks.find(connection, numbers, self.column)?;
+        }
+        self.add(What::Page { port }, said)
     }
 
     // A port has another status from here on, which takes a column.
-    fn status(&mut self, port: PortId, status: PortStatus) -> Result<(), AllocError> {
-        self.end_status(port)?;
-        self.statuses[usize::from(port.number())] = Some((status, self.column));
+    fn status(&mut self, port: PortId, status: PortStatus, said: Lines) -> Result<(), AllocError> {
+        if let Some(marks) = self.ports.get_mut(port.place()) {
+            marks.begin(status, self.column, said)?;
+        }
         self.column = self.column.saturating_add(1);
         Ok(())
     }
+}
 
-    // A port has had its status up to here.
-    fn end_status(&mut self, port: PortId) -> Result<(), AllocError> {
-        if let Some((status, from)) = self.statuses[usize::from(port.number())] {
-            let to = self.column;
-            let mark = PortMark::Had { status, from, to };
-            self.marks.push(Mark::Port { port, mark })?;
+// It makes the ports of a geometry, of which nothing is shown yet.
+fn ports_of<'a>(alloc: Global, geometry: Geometry) -> Result<Vec<PortMarks<'a>>, AllocError> {
+    let mut ports = Vec::new(alloc);
+    for number in 1..=geometry.ports() {
+        if let Some(port) = PortId::new(number) {
+            ports.push(PortMarks::new(alloc, port))?;
         }
-        Ok(())
     }
+    Ok(ports)
 }

@@ -1,20 +1,27 @@
-//! The marks of a run.
+//! A run has these marks.
 
-use crate::mark::Mark;
+use crate::mark::{Mark, Wait};
 use crate::marking::Marking;
+use crate::port_marks::PortMarks;
 use iol_explain::{Explained, ToldCall, calls_between, calls_of_run};
 use std::alloc::{AllocError, Global};
 
-// The marks of a run, and how many columns they take.
+// It holds the marks of a run, and how many columns they take.
 #[derive(Drop)]
-pub(crate) struct Marks {
-    pub marks: Vec<Mark>,
+pub(crate) struct Marks<'a> {
+    pub signs: Vec<Mark>,
+    pub waits: Vec<Wait>,
+    pub ports: Vec<PortMarks<'a>>,
     pub columns: usize,
 }
 
-// The marks of a run: a call of the disk stands before the event of its step.
-pub(crate) fn marks_of(alloc: Global, run: &Explained) -> Result<Marks, AllocError> {
-    let mut marking = Marking::new(alloc, run.geometry);
+// It makes the marks of a run, whose explained lines these are. A call of the disk is before the event of its step.
+pub(crate) fn marks_of<'a>(
+    alloc: Global,
+    run: &Explained,
+    lines: &'a [&'a str],
+) -> Result<Marks<'a>, AllocError> {
+    let mut marking = Marking::new(alloc, run.geometry, lines)?;
     let calls = calls_of_run(&run.calls);
     let mut told = 0;
     for stamped in &run.events {
@@ -24,9 +31,17 @@ pub(crate) fn marks_of(alloc: Global, run: &Explained) -> Result<Marks, AllocErr
     }
     add_calls(&mut marking, calls_between(calls, told, calls.len()))?;
     marking.end()?;
-    let Marking { marks, column, .. } = marking;
+    let Marking {
+        signs,
+        waits,
+        ports,
+        column,
+        ..
+    } = marking;
     Ok(Marks {
-        marks,
+        signs,
+        waits,
+        ports,
         columns: column,
     })
 }

@@ -12,7 +12,7 @@ use iol_journal::Geometry;
 use iol_script::Script;
 use std::alloc::Global;
 
-// What is recovered behind each kind of stop of a script's run, which is made once for each.
+// What is recovered after each kind of stop of a script's run, which is made once for each.
 //
 // # Errors
 // As `make_run` and `stop` of `iol_commands`.
@@ -26,15 +26,15 @@ pub(crate) fn numbers_of(
     ensures status { IfErr result (λ fault. status_of fault ≡ 1) }
 {
     Ok(Numbers {
-        old: number_behind(alloc, geometry, script, Pick::Old)?,
-        new: number_behind(alloc, geometry, script, Pick::New)?,
-        zero: number_behind(alloc, geometry, script, Pick::Zero)?,
-        pattern: number_behind(alloc, geometry, script, Pick::Pattern)?,
+        old: number_after(alloc, geometry, script, Pick::Old)?,
+        new: number_after(alloc, geometry, script, Pick::New)?,
+        zero: number_after(alloc, geometry, script, Pick::Zero)?,
+        pattern: number_after(alloc, geometry, script, Pick::Pattern)?,
     })
 }
 
-// What is recovered behind a stop that keeps this.
-fn number_behind(
+// What is recovered after a stop that keeps this.
+fn number_after(
     alloc: Global,
     geometry: Geometry,
     script: &Script,

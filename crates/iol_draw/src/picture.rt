@@ -1,135 +1,185 @@
-//! The picture of a run. No text of it has a letter that XML writes otherwise.
+//! A picture of a run is its lanes with their signs, and texts above and below.
 
-use crate::legend::{HEIGHT, write_legend};
-use crate::mark::Mark;
+use crate::labels::Labels;
+use crate::lane_shape::{write_band, write_lane, write_name};
+use crate::layout::{ACCEPTED_TOP, BATCHES, CHECKPOINTS, CLIENTS_BOTTOM, CLIENTS_TOP, Layout};
+use crate::legend::{Legend, write_legend};
+use crate::mark::{Mark, Wait};
 use crate::marks::{Marks, marks_of};
-use crate::scale::{ACCEPTED_TOP, Scale};
-use crate::shape::write_mark;
-use crate::stop_text::{Numbers, bottom, write_stop};
-use crate::unsynced::{Span, unsynced_spans};
+use crate::recovered::Answered;
+use crate::scale::{EDGE, Scale};
+use crate::shape::{write_signs, write_waits};
+use crate::stop_text::{Numbers, StopText, write_stop};
+use crate::unsynced::unsynced_spans;
 use iol_disk::Pick;
 use iol_explain::Explained;
-use iol_types::PortId;
+use iol_journal::Geometry;
+use iol_script::Script;
 use std::alloc::{AllocError, Global};
 use std::fmt;
 
-// How wide the texts of the stop are at most.
-const STOP_WIDTH: usize = 420;
-// How wide a picture is at least, for its legend.
-const LEAST_WIDTH: usize = 820;
+// A picture is at least so wide, for the lines below its lanes.
+const LEAST_WIDTH: usize = 960;
+// The title is so far below the top of the picture, and so far apart are the texts below the lanes and the legend.
+const TITLE: usize = 20;
 
-// The picture of a run in SVG (docs/FORMATS.md, "Pictures of runs"), whose stop keeps this, with the numbers of the last
-// commands that are recovered behind each kind of stop.
+const APART: usize = 8;
+// The name of a row is so far below its middle.
+const NAME: usize = 4;
+
+// It draws a script's run in SVG (docs/FORMATS.md, "Pictures of runs"), with the numbers of the last commands that are
+// recovered after each kind of stop.
 pub(crate) fn picture_of(
     alloc: Global,
     run: &Explained,
-    keep: Pick,
+    script: &Script,
     numbers: Numbers,
 ) -> Result<String, AllocError> {
-    let picture = Picture {
-        ports: usize::from(run.geometry.ports()),
-        keep,
+    let text = run.to_string(alloc)?;
+    let lines: Vec<&str> = text.as_str().lines().collect(alloc)?;
+    let stop = StopText {
+        keep: script.keep,
         numbers,
+        answered: Answered::of(&run.events),
         unsynced: unsynced_spans(alloc, run)?,
-        marks: marks_of(alloc, run)?,
+    };
+    drawn(alloc, run, &Labels::of(&script.steps), &lines, stop)
+}
+
+// It draws a run with these lines.
+fn drawn(
+    alloc: Global,
+    run: &Explained,
+    labels: &Labels,
+    lines: &[&str],
+    stop: StopText,
+) -> Result<String, AllocError> {
+    let marks = marks_of(alloc, run, lines)?;
+    let scale = Scale::of(marks.columns, labels.longest());
+    let legend = Legend::of(alloc, &marks, LEAST_WIDTH.max(scale.end()))?;
+    let Marks {
+        signs,
+        waits,
+        ports,
+        ..
+    } = marks;
+    let picture = Picture {
+        geometry: run.geometry,
+        lines,
+        layout: Layout::of(alloc, scale, labels, ports)?,
+        signs,
+        waits,
+        stop,
+        legend,
     };
     picture.to_string(alloc)
 }
 
-// What a picture shows: a run's marks, and what its stop leaves.
+// It is what a picture shows: a run's marks, with their lines, and what its stop leaves.
 #[derive(Drop)]
-struct Picture {
-    ports: usize,
-    keep: Pick,
-    numbers: Numbers,
-    unsynced: Vec<Span>,
-    marks: Marks,
+struct Picture<'a> {
+    geometry: Geometry,
+    lines: &'a [&'a str],
+    layout: Layout<'a>,
+    signs: Vec<Mark>,
+    waits: Vec<Wait>,
+    stop: StopText,
+    legend: Legend,
 }
 
-impl Picture {
-    fn scale(&self) -> Scale {
-        Scale::of(self.marks.columns, self.ports)
-    }
-
-    // Where the lanes and the texts of the stop end, and the legend begins.
-    fn bottom(&self) -> usize {
-        self.scale().bottom().max(bottom(self.unsynced.len()))
-    }
-}
-
-impl fmt::Display for Picture {
-    fn fmt<W: fmt::Write>(&self, f: &mut fmt::Formatter<W>) -> fmt::Result {
-        let width = self
-            .scale()
+impl Picture<'_> {
+    fn width(&self) -> usize {
+        self.layout
+            .scale
             .end()
-            .saturating_add(STOP_WIDTH)
-            .max(LEAST_WIDTH);
-        let height = self.bottom().saturating_add(HEIGHT);
-        write_head(f, width, height)?;
-        write_names(f, self.scale(), self.scale().end())?;
-        write_marks(f, self.scale(), &self.marks.marks)?;
-        write_end(f, self.scale().end(), self.scale().bottom())?;
-        let left = self.scale().end().saturating_add(12);
-        write_stop(f, left, self.keep, self.numbers, &self.unsynced)?;
-        write_legend(f, self.bottom())?;
+            .saturating_add(EDGE)
+            .max(LEAST_WIDTH)
+    }
+
+    // The texts of the stop end at this height, and the legend begins.
+    fn legend_top(&self) -> usize {
+        self.layout
+            .bottom()
+            .saturating_add(self.stop.height())
+            .saturating_add(APART)
+    }
+
+    fn height(&self) -> usize {
+        self.legend_top()
+            .saturating_add(self.legend.height())
+            .saturating_add(APART)
+    }
+}
+
+impl fmt::Display for Picture<'_> {
+    fn fmt<W: fmt::Write>(&self, f: &mut fmt::Formatter<W>) -> fmt::Result {
+        write_head(f, self.width(), self.height())?;
+        write_front(f, self.geometry, self.layout.scale.end())?;
+        write_lanes(f, self.lines, &self.layout)?;
+        write_waits(f, self.layout.scale, &self.waits)?;
+        write_signs(f, &self.layout, self.lines, &self.signs)?;
+        write_end(f, self.layout.scale.end(), self.layout.bottom())?;
+        write_stop(f, self.layout.bottom(), &self.stop)?;
+        write_legend(f, self.legend_top(), &self.legend)?;
         f.write_str("</svg>\n")
     }
 }
 
-// The head of a picture of this size, and its background.
+// It writes the head of a picture of this size, and its background. A picture is as wide as the page that shows it, and no wider
+// than its size.
 fn write_head<W: fmt::Write>(
     f: &mut fmt::Formatter<W>,
     width: usize,
     height: usize,
 ) -> fmt::Result {
-    f.write_str("<svg xmlns='http://www.w3.org/2000/svg' ")?;
+    f.write_str("<svg xmlns='http://www.w3.org/2000/svg' width='100%' ")?;
     write!(
         f,
-        "width='{width}' height='{height}' viewBox='0 0 {width} {height}' "
+        "viewBox='0 0 {width} {height}' style='max-width:{width}px;height:auto' "
     )?;
     f.write_str("font-family='sans-serif' font-size='11'>\n")?;
     writeln!(f, "<rect width='{width}' height='{height}' fill='white'/>")
 }
 
-// The names of the lanes, each with a line on which its marks stand, up to this place.
-fn write_names<W: fmt::Write>(
+// It writes the title, and the name of the stop above it.
+fn write_front<W: fmt::Write>(
     f: &mut fmt::Formatter<W>,
-    scale: Scale,
-    right: usize,
+    geometry: Geometry,
+    end: usize,
 ) -> fmt::Result {
-    writeln!(f, "<text x='8' y='{ACCEPTED_TOP}'>clients</text>")?;
-    for number in 1..=scale.ports {
-        let top = Scale::lane_top(number).saturating_add(16);
-        write_line(f, top, right)?;
-        writeln!(f, "<text x='8' y='{top}'>port {number}</text>")?;
-    }
-    let top = scale.disk_top().saturating_add(18);
-    writeln!(f, "<text x='8' y='{top}'>disk</text>")
-}
-
-// A thin line from left to right.
-fn write_line<W: fmt::Write>(f: &mut fmt::Formatter<W>, top: usize, right: usize) -> fmt::Result {
+    let (ports, slots) = (geometry.ports(), geometry.slots());
+    let word = if ports == 1 { "port" } else { "ports" };
     writeln!(
         f,
-        "<path d='M8 {top}H{right}' stroke='#cccccc' fill='none'/>"
+        "<text class='title' x='{EDGE}' y='{TITLE}' font-size='13'>{ports} {word}, {slots} slots</text>"
+    )?;
+    writeln!(
+        f,
+        "<text x='{end}' y='{TITLE}' text-anchor='end'>the power stops</text>"
     )
 }
 
-fn write_marks<W: fmt::Write>(
+// It writes the lanes of the clients, of all ports and of the disk, but for their signs.
+fn write_lanes<W: fmt::Write>(
     f: &mut fmt::Formatter<W>,
-    scale: Scale,
-    marks: &[Mark],
+    lines: &[&str],
+    layout: &Layout,
 ) -> fmt::Result {
-    for mark in marks {
-        write_mark(f, scale, mark)?;
+    write_band(f, layout.scale, CLIENTS_TOP, CLIENTS_BOTTOM)?;
+    write_name(f, ACCEPTED_TOP + NAME, "clients")?;
+    for lane in &layout.lanes {
+        write_lane(f, layout.scale, lines, lane)?;
     }
-    Ok(())
+    let top = layout.disk_top.saturating_add(NAME);
+    write_band(f, layout.scale, layout.disk_top, layout.bottom())?;
+    write_name(f, top.saturating_add(BATCHES), "disk: batches")?;
+    write_name(f, top.saturating_add(CHECKPOINTS), "checkpoints")
 }
 
-// The stop, a dashed line through all lanes.
+// It writes the stop, a dashed line at the end of all lanes.
 fn write_end<W: fmt::Write>(f: &mut fmt::Formatter<W>, left: usize, bottom: usize) -> fmt::Result {
     writeln!(
         f,
-        "<path class='stop' d='M{left} 24V{bottom}' stroke='black' stroke-dasharray='4 3' fill='none'/>"
+        "<path class='stop' d='M{left} {CLIENTS_TOP}V{bottom}' stroke='black' stroke-dasharray='4 3' fill='none'/>"
     )
 }

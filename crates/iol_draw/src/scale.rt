@@ -1,92 +1,101 @@
-//! Where marks stand in a picture, in its units: columns go from left to right, and each lane is below the one before.
+//! The scale says where columns are in a picture, in its units, from left to right.
 
-use iol_types::PortId;
+// The columns begin there or farther to the right, after the names of the lanes.
+const LEAST_START: usize = 92;
+// The stop is at least so far after the last column, so that the words of each status fit there.
+const REST: usize = 136;
+// Few columns are so far apart, and for words at each they are at least so far apart.
+const WIDEST_STEP: usize = 16;
 
-// Where the columns begin, behind the names of the lanes.
-const LEFT: usize = 76;
-// How far behind the last column the stop is.
-const REST: usize = 100;
-// Where the lane of the clients begins: commands that are accepted, and below them those that are acknowledged.
-pub(crate) const ACCEPTED_TOP: usize = 40;
-
-pub(crate) const ACKNOWLEDGED_TOP: usize = 68;
-// Where the lanes of the ports begin, and how high each is.
-const PORTS_TOP: usize = 92;
-
-const PORT_STEP: usize = 32;
-// How high the lane of the disk is.
-const DISK_HEIGHT: usize = 56;
-// How wide a letter is at most.
-pub(crate) const LETTER: usize = 7;
-// How far apart lines of text are.
+const WORDS_STEP: usize = 8;
+// For a number at each, columns are at least so far apart.
+const NUMBERS_STEP: usize = 12;
+// A letter of a small text is at most so wide.
+pub(crate) const LETTER: usize = 6;
+// Lines of text are so far apart.
 pub(crate) const LINE_STEP: usize = 16;
+// The texts beside and below the lanes begin so far from the left edge.
+pub(crate) const EDGE: usize = 8;
 
-// How far apart columns are, how many there are, and how many ports.
+// It holds where columns begin, how far apart they are, how many there are, and where the stop is.
 #[derive(Clone, Copy)]
 pub(crate) struct Scale {
+    start: usize,
     step: usize,
     columns: usize,
-    pub ports: usize,
+    end: usize,
 }
 
 impl Scale {
-    // The scale of a run of so many columns: the more there are, the nearer they stand.
-    pub(crate) fn of(columns: usize, ports: usize) -> Scale {
-        let step = match columns {
-            0..=150 => 12,
-            151..=400 => 6,
-            401..=1200 => 3,
-            1201..=20000 => 2,
-            _ => 1,
-        };
+    // It makes the scale of a run of so many columns, beside labels of at most so many letters.
+    pub(crate) fn of(columns: usize, letters: usize) -> Scale {
+        let names = LETTER.saturating_mul(letters).saturating_add(4 * EDGE);
+        let start = names.max(LEAST_START);
+        let step = step_of(columns);
         Scale {
+            start,
             step,
             columns,
-            ports,
+            end: start
+                .saturating_add(step.saturating_mul(columns))
+                .saturating_add(REST),
         }
     }
 
-    // Where a column is.
-    pub(crate) fn left(self, column: usize) -> usize {
-        LEFT.saturating_add(self.step.saturating_mul(column))
+    // It is the same scale with a stop at this place or after it.
+    pub(crate) fn reaching(self, right: usize) -> Scale {
+        Scale {
+            start: self.start,
+            step: self.step,
+            columns: self.columns,
+            end: self.end.max(right),
+        }
     }
 
-    // Where a status ends that is left in a column. The last ones reach on to the stop, so that they can be read.
+    // The columns begin there.
+    pub(crate) fn start(self) -> usize {
+        self.start
+    }
+
+    // A column is there.
+    pub(crate) fn left(self, column: usize) -> usize {
+        self.start.saturating_add(self.step.saturating_mul(column))
+    }
+
+    // A status that is left in a column ends there. The last ones reach on to the stop, so that they can be read.
     pub(crate) fn right(self, column: usize) -> usize {
         if column < self.columns {
             self.left(column)
         } else {
-            self.end()
+            self.end
         }
     }
 
-    // Where the stop is.
+    // The stop is there.
     pub(crate) fn end(self) -> usize {
-        self.left(self.columns).saturating_add(REST)
+        self.end
     }
 
-    // Whether columns are far enough apart for a number at each.
+    // It says whether columns are far enough apart for words beside the bars of statuses.
+    pub(crate) fn has_words(self) -> bool {
+        WORDS_STEP <= self.step
+    }
+
+    // It says whether columns are far enough apart for a number at each.
     pub(crate) fn has_numbers(self) -> bool {
-        12 <= self.step
+        NUMBERS_STEP <= self.step
     }
+}
 
-    // Where the lane of the port of this number begins.
-    pub(crate) fn lane_top(number: usize) -> usize {
-        PORTS_TOP.saturating_add(PORT_STEP.saturating_mul(number.saturating_sub(1)))
-    }
-
-    // Where the lane of a port begins.
-    pub(crate) fn port_top(port: PortId) -> usize {
-        Scale::lane_top(usize::from(port.number()))
-    }
-
-    // Where the lane of the disk begins.
-    pub(crate) fn disk_top(self) -> usize {
-        PORTS_TOP.saturating_add(PORT_STEP.saturating_mul(self.ports))
-    }
-
-    // Where the lanes end.
-    pub(crate) fn bottom(self) -> usize {
-        self.disk_top().saturating_add(DISK_HEIGHT)
+// So many columns are so far apart: the more there are, the nearer they are.
+fn step_of(columns: usize) -> usize {
+    match columns {
+        0..=50 => WIDEST_STEP,
+        51..=75 => NUMBERS_STEP,
+        76..=150 => WORDS_STEP,
+        151..=400 => 6,
+        401..=1200 => 3,
+        1201..=20000 => 2,
+        _ => 1,
     }
 }

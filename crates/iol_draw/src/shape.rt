@@ -1,69 +1,75 @@
-//! A mark, drawn where it stands.
+//! Each sign is drawn in its column and lane, with its title, and the waits of commands are drawn between signs.
 
-use crate::disk_shape::write_disk_mark;
-use crate::mark::Mark;
-use crate::ports_shape::write_port_mark;
-use crate::scale::{ACCEPTED_TOP, ACKNOWLEDGED_TOP, Scale};
-use crate::signs::{Sign, write_sign};
+use crate::layout::{ACCEPTED_TOP, ACKNOWLEDGED_TOP, Layout};
+use crate::lines::write_title;
+use crate::mark::{Mark, Wait, What};
+use crate::scale::Scale;
+use crate::sign::write_sign;
 use std::fmt;
 
-pub(crate) fn write_mark<W: fmt::Write>(
-    f: &mut fmt::Formatter<W>,
-    scale: Scale,
-    mark: &Mark,
-) -> fmt::Result {
-    match *mark {
-        Mark::Accepted { number, column } => write_accepted(f, scale, number, scale.left(column)),
-        Mark::Refused { column } => {
-            write_sign(f, Sign::Refused, scale.left(column), ACCEPTED_TOP)?;
-            f.write_str("<title>refused</title></path>\n")
-        }
-        Mark::Durable {
-            number,
-            accepted,
-            column,
-        } => write_durable(f, number, scale.left(accepted), scale.left(column)),
-        Mark::Acknowledged { number, column } => {
-            write_sign(f, Sign::Acknowledged, scale.left(column), ACKNOWLEDGED_TOP)?;
-            writeln!(f, "<title>acknowledged {number}</title></path>")
-        }
-        Mark::Port { port, mark } => write_port_mark(f, scale, port, mark),
-        Mark::Disk { mark, column } => write_disk_mark(f, scale, column, mark),
-    }
-}
+// The number of a command is so far above its sign, and the line of a wait ends so far from signs.
+const NUMBER: usize = 9;
 
-// A command that is accepted, with its number where columns are far enough apart.
-fn write_accepted<W: fmt::Write>(
+const FROM_SIGN: usize = 6;
+
+pub(crate) fn write_signs<W: fmt::Write>(
     f: &mut fmt::Formatter<W>,
-    scale: Scale,
-    number: u64,
-    left: usize,
+    layout: &Layout,
+    lines: &[&str],
+    signs: &[Mark],
 ) -> fmt::Result {
-    write_sign(f, Sign::Accepted, left, ACCEPTED_TOP)?;
-    writeln!(f, "<title>accepted {number}</title></path>")?;
-    if scale.has_numbers() {
-        let top = ACCEPTED_TOP - 9;
-        writeln!(
-            f,
-            "<text x='{left}' y='{top}' font-size='9' text-anchor='middle'>{number}</text>"
-        )?;
+    for mark in signs {
+        write_mark(f, layout, lines, *mark)?;
     }
     Ok(())
 }
 
-// A line from where a command is accepted to where it is acknowledged.
-fn write_durable<W: fmt::Write>(
+fn write_mark<W: fmt::Write>(
     f: &mut fmt::Formatter<W>,
-    number: u64,
-    accepted: usize,
-    acknowledged: usize,
+    layout: &Layout,
+    lines: &[&str],
+    mark: Mark,
 ) -> fmt::Result {
+    let left = layout.scale.left(mark.column);
+    write_sign(f, mark.what.sign(), left, layout.top(mark.what))?;
+    write_title(f, lines, mark.said)?;
+    f.write_str("</path>\n")?;
+    match mark.what {
+        What::Accepted { number } if layout.scale.has_numbers() => write_number(f, number, left),
+        _ => Ok(()),
+    }
+}
+
+// It writes the number of a command that is accepted.
+fn write_number<W: fmt::Write>(f: &mut fmt::Formatter<W>, number: u64, left: usize) -> fmt::Result {
+    let top = ACCEPTED_TOP - NUMBER;
+    writeln!(
+        f,
+        "<text class='number' x='{left}' y='{top}' font-size='9' text-anchor='middle'>{number}</text>"
+    )
+}
+
+pub(crate) fn write_waits<W: fmt::Write>(
+    f: &mut fmt::Formatter<W>,
+    scale: Scale,
+    waits: &[Wait],
+) -> fmt::Result {
+    for wait in waits {
+        write_wait(f, scale, *wait)?;
+    }
+    Ok(())
+}
+
+// It writes a line from below the sign of a command to above that of its acknowledgement, so that no sign is struck through.
+fn write_wait<W: fmt::Write>(f: &mut fmt::Formatter<W>, scale: Scale, wait: Wait) -> fmt::Result {
+    let (number, from, to) = (wait.number, scale.left(wait.from), scale.left(wait.to));
+    let (top, bottom) = (ACCEPTED_TOP + FROM_SIGN, ACKNOWLEDGED_TOP - FROM_SIGN);
     write!(
         f,
-        "<line class='durable' x1='{accepted}' y1='{ACCEPTED_TOP}' x2='{acknowledged}' y2='{ACKNOWLEDGED_TOP}' "
+        "<line class='durable' x1='{from}' y1='{top}' x2='{to}' y2='{bottom}' stroke='black'>"
     )?;
     writeln!(
         f,
-        "stroke='black'><title>command {number} waits for the disk</title></line>"
+        "<title>command {number} waits for the disk</title></line>"
     )
 }

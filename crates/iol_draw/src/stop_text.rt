@@ -1,61 +1,82 @@
-//! What is told of the stop behind a run: which sectors are not synced, and what is recovered by what the stop keeps of them.
+//! Below the lanes it is said of the stop after a run what is recovered by what a stop keeps, and which sectors are not
+//! synced.
 
-use crate::scale::LINE_STEP;
+use crate::recovered::{Answered, RecoveredWords};
+use crate::scale::{EDGE, LINE_STEP};
 use crate::unsynced::Span;
 use iol_disk::Pick;
 use std::fmt;
 
-// Where the lines begin.
-const TOP: usize = 40;
-// The lines before those of sectors.
-const FRONT: usize = 7;
-
-// The number of the last command that is recovered behind a stop, by what the stop keeps of each sector that no sync has
-// settled.
+// It holds the number of the last command that is recovered after a stop, by what the stop keeps of each sector that no sync
+// has settled.
 #[derive(Clone, Copy)]
 pub(crate) struct Numbers {
-    // What was durable before.
+    // The stop keeps what was durable before.
     pub old: u64,
-    // What was written.
+    // It keeps what was written.
     pub new: u64,
-    // Zeros.
+    // It leaves zeros.
     pub zero: u64,
-    // A pattern.
+    // It leaves a pattern.
     pub pattern: u64,
 }
 
-// How far down the lines reach for so many spans of sectors.
-pub(crate) fn bottom(spans: usize) -> usize {
-    LINE_STEP
-        .saturating_mul(spans.saturating_add(FRONT))
-        .saturating_add(TOP)
+impl Numbers {
+    // It says whether the number is the same whatever the stop keeps.
+    fn agree(self) -> bool {
+        self.old == self.new && self.old == self.zero && self.old == self.pattern
+    }
 }
 
-// The lines, from this place on.
+// It holds what is said of a stop.
+#[derive(Drop)]
+pub(crate) struct StopText {
+    // The stop of the script keeps this.
+    pub keep: Pick,
+    pub numbers: Numbers,
+    pub answered: Answered,
+    pub unsynced: Vec<Span>,
+}
+
+impl StopText {
+    // Its lines are so high.
+    pub(crate) fn height(&self) -> usize {
+        let stops = if self.numbers.agree() { 1 } else { 4 };
+        let lines = self.unsynced.len().saturating_add(2 + stops);
+        LINE_STEP.saturating_mul(lines)
+    }
+}
+
+// It writes the lines, below this height.
 pub(crate) fn write_stop<W: fmt::Write>(
     f: &mut fmt::Formatter<W>,
-    left: usize,
-    keep: Pick,
-    numbers: Numbers,
-    unsynced: &[Span],
+    top: usize,
+    stop: &StopText,
 ) -> fmt::Result {
-    write_title(f, left, keep)?;
-    write_number(f, left, 1, "old", numbers.old)?;
-    write_number(f, left, 2, "new", numbers.new)?;
-    write_number(f, left, 3, "zero", numbers.zero)?;
-    write_number(f, left, 4, "pattern", numbers.pattern)?;
-    write_unsynced(f, left, unsynced)
-}
-
-fn write_title<W: fmt::Write>(f: &mut fmt::Formatter<W>, left: usize, keep: Pick) -> fmt::Result {
-    let kept = word_of(keep);
+    let first = top.saturating_add(LINE_STEP);
+    let kept = word_of(stop.keep);
     writeln!(
         f,
-        "<text x='{left}' y='{TOP}'>the power stops, and keeps what is {kept}</text>"
-    )
+        "<text x='{EDGE}' y='{first}'>the stop of the script keeps what is {kept}</text>"
+    )?;
+    let (numbers, answered) = (stop.numbers, stop.answered);
+    let second = first.saturating_add(LINE_STEP);
+    if numbers.agree() {
+        let number = numbers.old;
+        write_after(
+            f,
+            second,
+            ", whatever it keeps",
+            RecoveredWords { number, answered },
+        )?;
+        write_unsynced(f, second, &stop.unsynced)
+    } else {
+        write_each(f, second, numbers, answered)?;
+        write_unsynced(f, second.saturating_add(3 * LINE_STEP), &stop.unsynced)
+    }
 }
 
-// The word of scripts for what a stop keeps.
+// Scripts have this word for what a stop keeps.
 fn word_of(keep: Pick) -> &'static str {
     match keep {
         Pick::Old => "old",
@@ -65,48 +86,62 @@ fn word_of(keep: Pick) -> &'static str {
     }
 }
 
-// The number of commands that are recovered behind a stop that keeps this.
-fn write_number<W: fmt::Write>(
+// It writes what is recovered after each kind of stop, in lines from this height on.
+fn write_each<W: fmt::Write>(
     f: &mut fmt::Formatter<W>,
-    left: usize,
-    line: usize,
-    kept: &str,
-    number: u64,
+    top: usize,
+    numbers: Numbers,
+    answered: Answered,
 ) -> fmt::Result {
-    let top = TOP.saturating_add(LINE_STEP.saturating_mul(line));
-    writeln!(
-        f,
-        "<text x='{left}' y='{top}'>{kept}: recovered {number}</text>"
-    )
-}
-
-// The sectors that are not synced.
-fn write_unsynced<W: fmt::Write>(
-    f: &mut fmt::Formatter<W>,
-    left: usize,
-    unsynced: &[Span],
-) -> fmt::Result {
-    let mut top = TOP + LINE_STEP * (FRONT - 1);
-    let which = if unsynced.is_empty() { ": none" } else { ":" };
-    writeln!(
-        f,
-        "<text x='{left}' y='{top}'>sectors that are not synced{which}</text>"
-    )?;
-    for span in unsynced {
-        top = top.saturating_add(LINE_STEP);
-        write_span(f, left, top, span)?;
+    let stops = [
+        (" (unsynced sectors keep their old octets)", numbers.old),
+        (" (unsynced sectors have their new octets)", numbers.new),
+        (" (unsynced sectors have zeros)", numbers.zero),
+        (" (unsynced sectors have a pattern)", numbers.pattern),
+    ];
+    let mut at = top;
+    for (kind, number) in stops {
+        write_after(f, at, kind, RecoveredWords { number, answered })?;
+        at = at.saturating_add(LINE_STEP);
     }
     Ok(())
 }
 
-fn write_span<W: fmt::Write>(
+// It writes what is recovered after a stop of this kind.
+fn write_after<W: fmt::Write>(
     f: &mut fmt::Formatter<W>,
-    left: usize,
     top: usize,
-    span: &Span,
+    kind: &str,
+    recovered: RecoveredWords,
 ) -> fmt::Result {
+    writeln!(
+        f,
+        "<text class='after' x='{EDGE}' y='{top}'>after a power stop here{kind}: {recovered}</text>"
+    )
+}
+
+// It writes the sectors that are not synced, below the line at this height.
+fn write_unsynced<W: fmt::Write>(
+    f: &mut fmt::Formatter<W>,
+    line: usize,
+    unsynced: &[Span],
+) -> fmt::Result {
+    let mut top = line.saturating_add(LINE_STEP);
+    let which = if unsynced.is_empty() { ": none" } else { ":" };
+    writeln!(
+        f,
+        "<text x='{EDGE}' y='{top}'>sectors that are not synced{which}</text>"
+    )?;
+    for span in unsynced {
+        top = top.saturating_add(LINE_STEP);
+        write_span(f, top, span)?;
+    }
+    Ok(())
+}
+
+fn write_span<W: fmt::Write>(f: &mut fmt::Formatter<W>, top: usize, span: &Span) -> fmt::Result {
     let (first, last, place) = (span.first, span.last, span.place);
-    write!(f, "<text class='unsynced' x='{left}' y='{top}'>")?;
+    write!(f, "<text class='unsynced' x='{EDGE}' y='{top}'>")?;
     if first == last {
         writeln!(f, "sector {first}, {place}</text>")
     } else {

@@ -5,7 +5,7 @@ use iol_explain::{Explained, Place, ToldCall, calls_between, calls_of_run, place
 use iol_run::Stamped;
 use std::alloc::{AllocError, Global};
 
-// Sectors that follow one another, and what stands in each.
+// Sectors that follow one another are a span, with what is in each.
 #[derive(Clone, Copy)]
 pub(crate) struct Span {
     pub place: Place,
@@ -30,7 +30,7 @@ impl Span {
     }
 }
 
-// The sectors that were written behind the last sync that was made, in the order of their writes, each once.
+// The sectors that were written after the last sync that was made, in the order of their writes, each once.
 pub(crate) fn unsynced_spans(alloc: Global, run: &Explained) -> Result<Vec<Span>, AllocError> {
     let mut spans = Vec::new(alloc);
     let calls = calls_of_run(&run.calls);

@@ -1,9 +1,9 @@
-//! The commands that wait for the disk.
+//! Commands wait for the disk from where they are accepted to where they are acknowledged.
 
-use crate::mark::Mark;
+use crate::mark::Wait;
 use std::alloc::{AllocError, Global};
 
-// The commands that were accepted, with their columns, and how many of them are acknowledged.
+// It holds the commands that were accepted, with their columns, and how many of them are acknowledged.
 #[derive(Drop)]
 pub(crate) struct Waiting {
     accepted: Vec<(u64, usize)>,
@@ -24,22 +24,22 @@ impl Waiting {
         Ok(())
     }
 
-    // All commands up to this number were acknowledged: a mark of each that waited.
+    // All commands up to this number were acknowledged: adds the wait of each that waited.
     pub(crate) fn acknowledge(
         &mut self,
         number: u64,
         column: usize,
-        marks: &mut Vec<Mark>,
+        waits: &mut Vec<Wait>,
     ) -> Result<(), AllocError> {
         for at in self.acknowledged..self.accepted.len() {
             let (waiting, accepted) = self.accepted[at];
             if number < waiting {
                 return Ok(());
             }
-            marks.push(Mark::Durable {
+            waits.push(Wait {
                 number: waiting,
-                accepted,
-                column,
+                from: accepted,
+                to: column,
             })?;
             self.acknowledged = at + 1;
         }

@@ -1,0 +1,99 @@
+//! The lanes of a picture are one below the other.
+
+use crate::labels::Labels;
+use crate::lane::Lane;
+use crate::mark::What;
+use crate::port_marks::PortMarks;
+use crate::scale::Scale;
+use iol_explain::Place;
+use iol_types::PortId;
+use std::alloc::{AllocError, Global};
+
+// The lane of the clients begins and ends there. It has the commands that are accepted or refused, and below them those that
+// are acknowledged.
+pub(crate) const CLIENTS_TOP: usize = 30;
+
+pub(crate) const CLIENTS_BOTTOM: usize = 86;
+
+pub(crate) const ACCEPTED_TOP: usize = 50;
+
+pub(crate) const ACKNOWLEDGED_TOP: usize = 76;
+// Lanes are so far apart.
+const GAP: usize = 4;
+// The rows of the disk's lane are so far below its top, and it is so high.
+pub(crate) const BATCHES: usize = 16;
+
+pub(crate) const CHECKPOINTS: usize = 40;
+
+const DISK_HEIGHT: usize = 56;
+
+#[derive(Drop)]
+pub(crate) struct Layout<'a> {
+    pub scale: Scale,
+    // They are ordered by the port's place.
+    pub lanes: Vec<Lane<'a>>,
+    pub disk_top: usize,
+}
+
+impl<'a> Layout<'a> {
+    // It makes the lanes of these ports, at this scale or at one that reaches farther.
+    pub(crate) fn of(
+        alloc: Global,
+        scale: Scale,
+        labels: &Labels,
+        ports: Vec<PortMarks<'a>>,
+    ) -> Result<Layout<'a>, AllocError> {
+        let mut reached = scale;
+        let mut lanes = Vec::new(alloc);
+        let mut top = CLIENTS_BOTTOM + GAP;
+        for marks in ports {
+            let lane = Lane::of(alloc, scale, labels, top, marks)?;
+            reached = reached.reaching(lane.right());
+            top = lane.bottom().saturating_add(GAP);
+            lanes.push(lane)?;
+        }
+        Ok(Layout {
+            scale: reached,
+            lanes,
+            disk_top: top,
+        })
+    }
+
+    // The lanes end at this height.
+    pub(crate) fn bottom(&self) -> usize {
+        self.disk_top.saturating_add(DISK_HEIGHT)
+    }
+
+    // A sign is so far below the top of the picture.
+    pub(crate) fn top(&self, what: What) -> usize {
+        match what {
+            What::Accepted { .. } | What::Refused => ACCEPTED_TOP,
+            What::Acknowledged => ACKNOWLEDGED_TOP,
+            What::Page { port } | What::Exchange { port } | What::Loss { port } => {
+                self.signs_of(port)
+            }
+            What::Wrote {
+                place,
+                is_gate_open,
+            } => self.disk_top.saturating_add(row_of(place, is_gate_open)),
+            What::Synced | What::DiskFailed => self.disk_top.saturating_add(BATCHES),
+        }
+    }
+
+    // The signs of a port are at this height.
+    fn signs_of(&self, port: PortId) -> usize {
+        match self.lanes.get(port.place()) {
+            Some(lane) => lane.signs(),
+            None => self.disk_top,
+        }
+    }
+}
+
+// It returns the row of a write, since a batch writes the body of a slot and opens its gate.
+fn row_of(place: Place, is_gate_open: bool) -> usize {
+    match place {
+        Place::Body(_, _) => BATCHES,
+        Place::SlotGate(_, _) if is_gate_open => BATCHES,
+        _ => CHECKPOINTS,
+    }
+}

@@ -1,0 +1,110 @@
+//! The lines of an explained run are the titles of a picture's marks.
+
+use crate::escaped::Escaped;
+use iol_commands::{is_said_loss, lost_port};
+use iol_engine::Event;
+use iol_types::PortId;
+use std::fmt;
+
+// So many lines say what a mark shows, from this one on, counted from 0.
+#[derive(Clone, Copy)]
+pub(crate) struct Lines {
+    first: usize,
+    count: usize,
+}
+
+// It holds the lines of an explained run, and how many of them are taken.
+#[derive(Drop)]
+pub(crate) struct Told<'a> {
+    lines: &'a [&'a str],
+    taken: usize,
+    // The last event has lost the device of this port.
+    lost: Option<PortId>,
+}
+
+impl<'a> Told<'a> {
+    // It begins at the first line.
+    pub(crate) fn new(lines: &'a [&'a str]) -> Told<'a> {
+        Told {
+            lines,
+            taken: 0,
+            lost: None,
+        }
+    }
+
+    // It takes the line of the next disk call.
+    pub(crate) fn call(&mut self) -> Lines {
+        self.take(1)
+    }
+
+    // It takes the lines of the next event. A status that has none shows the loss that was said right before.
+    pub(crate) fn event(&mut self, event: &Event) -> Lines {
+        let count = line_count(event, self.lost);
+        self.lost = lost_port(event);
+        self.take(count)
+    }
+
+    fn take(&mut self, count: usize) -> Lines {
+        let first = self.taken;
+        self.taken = first.saturating_add(count);
+        if count == 0 {
+            Lines {
+                first: first.saturating_sub(1),
+                count: 1,
+            }
+        } else {
+            Lines { first, count }
+        }
+    }
+
+    // It returns the numbers of a device, with which the words for its page begin.
+    pub(crate) fn numbers(&self, page: Lines) -> &'a str {
+        match self.lines.get(page.first) {
+            Some(line) => numbers_in(line),
+            None => "",
+        }
+    }
+}
+
+// An explained run has so many lines of an event, after one that has reported the loss of this port's device.
+fn line_count(event: &Event, lost: Option<PortId>) -> usize {
+    match event {
+        Event::Attended { .. } => 0,
+        Event::Exchange { .. } => 2,
+        Event::Lost {
+            octets: Some(_),
+            ..
+        } => 2,
+        _ if is_said_loss(event, lost) => 0,
+        _ => 1,
+    }
+}
+
+// It returns what the words for a page have before the revision.
+fn numbers_in(line: &str) -> &str {
+    let words = match line.split_once("  # ") {
+        Some((_, words)) => words,
+        None => line,
+    };
+    match words.split_once(", RevisionID") {
+        Some((numbers, _)) => numbers,
+        None => words,
+    }
+}
+
+// It writes the title of a mark, which is what the explained run says of it.
+pub(crate) fn write_title<W: fmt::Write>(
+    f: &mut fmt::Formatter<W>,
+    lines: &[&str],
+    said: Lines,
+) -> fmt::Result {
+    let end = said.first.saturating_add(said.count);
+    match lines.get(said.first..end) {
+        Some([line]) => write!(f, "<title>{}</title>", Escaped(line)),
+        Some([first, second]) => {
+            let (first, second) = (Escaped(first), Escaped(second));
+            write!(f, "<title>{first}\n{second}</title>")
+        }
+        _ => Ok(()),
+    }
+}

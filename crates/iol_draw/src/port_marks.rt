@@ -1,0 +1,93 @@
+//! Beside signs a picture shows of a port its statuses, and the devices that it finds.
+
+use crate::lines::Lines;
+use crate::mark::{Arrival, Bar, Device};
+use iol_port::PortStatus;
+use iol_types::PortId;
+use std::alloc::{AllocError, Global};
+
+#[derive(Drop)]
+pub(crate) struct PortMarks<'a> {
+    pub port: PortId,
+    pub bars: Vec<Bar>,
+    pub devices: Vec<Device<'a>>,
+    // It has this status, which ends later.
+    has: Option<Bar>,
+    // It has found this device last.
+    found: Option<Found<'a>>,
+}
+
+// It is a device that was found: the connection of its link, and its numbers.
+#[derive(Clone, Copy)]
+struct Found<'a> {
+    connection: u64,
+    numbers: &'a str,
+}
+
+impl<'a> PortMarks<'a> {
+    pub(crate) fn new(alloc: Global, port: PortId) -> PortMarks<'a> {
+        PortMarks {
+            port,
+            bars: Vec::new(alloc),
+            devices: Vec::new(alloc),
+            has: None,
+            found: None,
+        }
+    }
+
+    // The port has this status from here on.
+    pub(crate) fn begin(
+        &mut self,
+        status: PortStatus,
+        column: usize,
+        said: Lines,
+    ) -> Result<(), AllocError> {
+        self.end(column)?;
+        self.has = Some(Bar {
+            status,
+            from: column,
+            to: column,
+            said,
+        });
+        Ok(())
+    }
+
+    // The port has had its status up to here.
+    pub(crate) fn end(&mut self, column: usize) -> Result<(), AllocError> {
+        if let Some(bar) = self.has {
+            self.bars.push(Bar {
+                status: bar.status,
+                from: bar.from,
+                to: column,
+                said: bar.said,
+            })?;
+        }
+        Ok(())
+    }
+
+    // The port has read a page with these numbers. A device is shown where it differs from the one before.
+    pub(crate) fn find(
+        &mut self,
+        connection: u64,
+        numbers: &'a str,
+        column: usize,
+    ) -> Result<(), AllocError> {
+        let arrival = match self.found {
+            Some(found) if found.connection == connection && found.numbers == numbers => {
+                return Ok(());
+            }
+            Some(_) => Arrival::Anew,
+            None => Arrival::First,
+        };
+        self.found = Some(Found {
+            connection,
+            numbers,
+        });
+        self.devices.push(Device {
+            column,
+            numbers,
+            arrival,
+        })?;
+        Ok(())
+    }
+}
