@@ -17,7 +17,7 @@ use std::io::Write;
 use std::os::unix::fs::FileExt;
 use std::rt::Files;
 
-/// Draws the run of a script in SVG into the file at `picture`, which is made if there is none, writes a line to `out`
+/// Draws the run of the script of this name in SVG into the file at `picture`, which is made if there is none, writes a line to `out`
 /// (docs/FORMATS.md, "Pictures of runs"), and returns the exit status: 0 once that is done; 2 where the script or its
 /// geometry is not valid, and else 1.
 ///
@@ -28,7 +28,7 @@ pub fn draw_text<
     R: Files<File = F> + AllocGlobal,
     W: Write,
     E: Write,
->(rt: &R, script: &[u8], picture: &str, out: &mut W, err: &mut E) -> u8
+>(rt: &R, name: &str, script: &[u8], picture: &str, out: &mut W, err: &mut E) -> u8
     ensures statuses { result ≤ 2 }
     ensures one_writer { (out.new ≡ out.old) ⊎ (err.new ≡ err.old) }
     ensures ran { result ≡ 0 → CanRun script.now }
@@ -40,7 +40,7 @@ pub fn draw_text<
     // Else a fault is why, and nothing is written to `out`; or writing to `out` failed.
     ensures silent { (result ≡ 0 → ⊥) → IsSilentOver TellsDrawn script.now result out.old out.new err.old err.new }
 {
-    match draw(rt, script, picture) {
+    match draw(rt, name, script, picture) {
         Ok(line) => print(out, line.as_bytes()),
         Err(fault) => report(err, &fault),
     }
@@ -49,6 +49,7 @@ pub fn draw_text<
 // Draws the run of a script into the file at `picture`; what is printed of that. All that takes memory comes before the file.
 fn draw<'a, F: FileExt + OpenFile + LockFile + Drop, R: Files<File = F> + AllocGlobal>(
     rt: &R,
+    name: &str,
     script: &[u8],
     picture: &'a str,
 ) -> Result<String, Fault<'a>>
@@ -59,7 +60,7 @@ fn draw<'a, F: FileExt + OpenFile + LockFile + Drop, R: Files<File = F> + AllocG
     let Drawn {
         line,
         picture: text,
-    } = drawn_run(rt.alloc(), script)?;
+    } = drawn_run(rt.alloc(), name, script)?;
     write_picture(rt, picture, text.as_str())?;
     Ok(line)
 }
@@ -72,7 +73,7 @@ struct Drawn {
 }
 
 // The run of a script, drawn.
-fn drawn_run(alloc: Global, script: &[u8]) -> Result<Drawn, Fault<'static>>
+fn drawn_run(alloc: Global, name: &str, script: &[u8]) -> Result<Drawn, Fault<'static>>
     ensures ran { OnOk result (CanRun script.now) }
     ensures printed { IfOk result (λ drawn. TellsDrawn script.now (string_bytes drawn.line)) }
     ensures cause { IfErr result (IsCause script.now) }
@@ -80,12 +81,13 @@ fn drawn_run(alloc: Global, script: &[u8]) -> Result<Drawn, Fault<'static>>
     let ready = read_playable(alloc, script)?;
     let explained = explained_run(alloc, ready.geometry, &ready.script)?;
     let numbers = numbers_of(alloc, ready.geometry, &ready.script)?;
-    drawing_of(alloc, &explained, &ready.script, numbers)
+    drawing_of(alloc, name, &explained, &ready.script, numbers)
 }
 
 // The picture of a script's run.
 fn drawing_of(
     alloc: Global,
+    name: &str,
     explained: &Explained,
     script: &Script,
     numbers: Numbers,
@@ -95,7 +97,7 @@ fn drawing_of(
 {
     Ok(Drawn {
         line: line_of(alloc, explained.events.len())?,
-        picture: picture_of(alloc, explained, script, numbers)?,
+        picture: picture_of(alloc, name, explained, script, numbers)?,
     })
 }
 

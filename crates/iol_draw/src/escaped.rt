@@ -1,4 +1,5 @@
-//! This is a text as XML has it: the words of an explained run and a label may have what XML reads as its own.
+//! A text as XML has it: words of an explained run, a label and a name may have what XML reads as its own, and a name what XML does
+//! not take at all.
 
 use std::fmt;
 
@@ -8,13 +9,22 @@ pub(crate) struct Escaped<'a>(pub(crate) &'a str);
 impl fmt::Display for Escaped<'_> {
     fn fmt<W: fmt::Write>(&self, f: &mut fmt::Formatter<W>) -> fmt::Result {
         for character in self.0.chars() {
-            match character {
-                '&' => f.write_str("&amp;")?,
-                '<' => f.write_str("&lt;")?,
-                '>' => f.write_str("&gt;")?,
-                _ => f.write_char(character)?,
-            }
+            write_escaped(f, character)?;
         }
         Ok(())
+    }
+}
+
+// It writes a character as XML has it. What XML does not take is a blank.
+pub(crate) fn write_escaped<W: fmt::Write>(
+    f: &mut fmt::Formatter<W>,
+    character: char,
+) -> fmt::Result {
+    match character {
+        '&' => f.write_str("&amp;"),
+        '<' => f.write_str("&lt;"),
+        '>' => f.write_str("&gt;"),
+        '\u{0}'..='\u{1f}' | '\u{fffe}' | '\u{ffff}' => f.write_char(' '),
+        _ => f.write_char(character),
     }
 }

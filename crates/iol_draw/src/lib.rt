@@ -13,7 +13,7 @@
 //!   lines of the stop.
 //! - `labels` are what ports are called, and `look` is how a status looks. `scale` says where columns stand, `note` where texts
 //!   beside bars and signs do, and `lane` and `layout` where the lanes of ports and all lanes do.
-//! - `sign` has the signs, `shape` draws those of a run, `lane_shape` draws a lane, and `escaped` is a text as XML has it.
+//! - `sign` has the signs, `shape` draws those of a run, `lane_shape` draws a lane, `name` is what the script is called, and `escaped` is a text as XML has it.
 //! - `legend` says what each sign means, and `picture` puts all together.
 //!
 //! What is printed is defined in `specs/Drawn.antt`.
@@ -31,6 +31,7 @@ mod look;
 mod mark;
 mod marking;
 mod marks;
+mod name;
 mod note;
 mod numbers;
 mod picture;

@@ -6,6 +6,7 @@ use crate::layout::{ACCEPTED_TOP, BATCHES, CHECKPOINTS, CLIENTS_BOTTOM, CLIENTS_
 use crate::legend::{Legend, write_legend};
 use crate::mark::{Mark, Wait};
 use crate::marks::{Marks, marks_of};
+use crate::name::Name;
 use crate::recovered::Answered;
 use crate::scale::{EDGE, Scale};
 use crate::shape::{write_signs, write_waits};
@@ -31,6 +32,7 @@ const NAME: usize = 4;
 // recovered after each kind of stop.
 pub(crate) fn picture_of(
     alloc: Global,
+    name: &str,
     run: &Explained,
     script: &Script,
     numbers: Numbers,
@@ -43,12 +45,20 @@ pub(crate) fn picture_of(
         answered: Answered::of(&run.events),
         unsynced: unsynced_spans(alloc, run)?,
     };
-    drawn(alloc, run, &Labels::of(&script.steps), &lines, stop)
+    drawn(
+        alloc,
+        Name::of(name),
+        run,
+        &Labels::of(&script.steps),
+        &lines,
+        stop,
+    )
 }
 
 // It draws a run with these lines.
 fn drawn(
     alloc: Global,
+    name: Name<'_>,
     run: &Explained,
     labels: &Labels,
     lines: &[&str],
@@ -64,6 +74,7 @@ fn drawn(
         ..
     } = marks;
     let picture = Picture {
+        name,
         geometry: run.geometry,
         lines,
         layout: Layout::of(alloc, scale, labels, ports)?,
@@ -78,6 +89,7 @@ fn drawn(
 // It is what a picture shows: a run's marks, with their lines, and what its stop leaves.
 #[derive(Drop)]
 struct Picture<'a> {
+    name: Name<'a>,
     geometry: Geometry,
     lines: &'a [&'a str],
     layout: Layout<'a>,
@@ -114,7 +126,7 @@ impl Picture<'_> {
 impl fmt::Display for Picture<'_> {
     fn fmt<W: fmt::Write>(&self, f: &mut fmt::Formatter<W>) -> fmt::Result {
         write_head(f, self.width(), self.height())?;
-        write_front(f, self.geometry, self.layout.scale.end())?;
+        write_front(f, self.name, self.geometry, self.layout.scale.end())?;
         write_lanes(f, self.lines, &self.layout)?;
         write_waits(f, self.layout.scale, &self.waits)?;
         write_signs(f, &self.layout, self.lines, &self.signs)?;
@@ -144,6 +156,7 @@ fn write_head<W: fmt::Write>(
 // It writes the title, and the name of the stop above it.
 fn write_front<W: fmt::Write>(
     f: &mut fmt::Formatter<W>,
+    name: Name<'_>,
     geometry: Geometry,
     end: usize,
 ) -> fmt::Result {
@@ -151,7 +164,7 @@ fn write_front<W: fmt::Write>(
     let word = if ports == 1 { "port" } else { "ports" };
     writeln!(
         f,
-        "<text class='title' x='{EDGE}' y='{TITLE}' font-size='13'>{ports} {word}, {slots} slots</text>"
+        "<text class='title' x='{EDGE}' y='{TITLE}' font-size='13'>{name}: {ports} {word}, {slots} slots</text>"
     )?;
     writeln!(
         f,

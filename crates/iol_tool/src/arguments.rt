@@ -128,7 +128,7 @@ fn draw_file(rt: &HostRuntime, path: &str, picture: &str) -> u8
 {
     let (mut out, mut err) = (rt.stdout(), rt.stderr());
     match read_script(rt, path) {
-        Ok(script) => draw_text(rt, script.as_slice(), picture, &mut out, &mut err),
+        Ok(script) => draw_text(rt, path, script.as_slice(), picture, &mut out, &mut err),
         Err(fault) => report(&mut err, &fault),
     }
 }

@@ -1,0 +1,32 @@
+//! The name of a script, as the title of its picture has it.
+
+use crate::escaped::write_escaped;
+use std::fmt;
+
+// No more characters of a name are shown.
+const MOST: usize = 60;
+
+// The last part of a script's path.
+#[derive(Clone, Copy)]
+pub(crate) struct Name<'a>(&'a str);
+
+impl<'a> Name<'a> {
+    pub(crate) fn of(path: &'a str) -> Name<'a> {
+        match path.rsplit_once('/') {
+            Some((_, name)) => Name(name),
+            None => Name(path),
+        }
+    }
+}
+
+impl fmt::Display for Name<'_> {
+    fn fmt<W: fmt::Write>(&self, f: &mut fmt::Formatter<W>) -> fmt::Result {
+        for (place, character) in self.0.chars().enumerate() {
+            if place == MOST {
+                return f.write_str("..");
+            }
+            write_escaped(f, character)?;
+        }
+        Ok(())
+    }
+}
