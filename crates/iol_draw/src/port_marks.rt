@@ -72,7 +72,8 @@ impl<'a> PortMarks<'a> {
         numbers: &'a str,
         column: usize,
     ) -> Result<(), AllocError> {
-        let arrival = match self.found {
+        let before = self.found;
+        let arrival = match before {
             Some(found) if found.connection == connection && found.numbers == numbers => {
                 return Ok(());
             }
