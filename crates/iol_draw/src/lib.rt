@@ -13,7 +13,8 @@
 //!   lines of the stop.
 //! - `labels` are what ports are called, and `look` is how a status looks. `scale` says where columns stand, `note` where texts
 //!   beside bars and signs do, and `lane` and `layout` where the lanes of ports and all lanes do.
-//! - `sign` has the signs, `shape` draws those of a run, `lane_shape` draws a lane, `name` is what the script is called, and `escaped` is a text as XML has it.
+//! - `sign` has the signs, `shape` draws those of a run, `lane_shape` draws a lane, `name` is what the script is called, and
+//!   `escaped` is a text as XML has it.
 //! - `legend` says what each sign means, and `picture` puts all together.
 //!
 //! What is printed is defined in `specs/Drawn.antt`.

@@ -51,7 +51,7 @@ impl fmt::Display for Said<'_> {
     }
 }
 
-// It is a text, with where its pole is, and its row; row 0 is nearest to the bars or signs.
+// A text, the place of its pole, and its row, counted from 0, which is the nearest to the bars or signs.
 #[derive(Clone, Copy)]
 pub(crate) struct Note<'a> {
     pub left: usize,
