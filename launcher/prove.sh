@@ -149,8 +149,7 @@ build_crate() {
 
 prove_crate() {
     texts=$("$top/launcher/proved.py" sum "$1")
-    set -- "$1" $(words_of "$1" "$2")
-    shift
+    set -- $(words_of "$1" "$2")
     (make_room "$crate" && cd "$(room_of "$crate")/crates/$crate" && exec "$top/launcher/quick_rt.py" "$@") </dev/null >"$out/build.$crate.log" 2>&1 &
     child=$!
     # (the shell says `Terminated` where it is not yet waiting for the child)

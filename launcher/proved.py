@@ -1,7 +1,7 @@
 #!/usr/bin/env python3
 """Keeps what was proved on this machine, so that the same is not proved again.
 
-launcher/proved.py sum CRATE       prints the sum of all that a crate is made from, its edits and the toolchain among it.
+launcher/proved.py sum CRATE       prints the sum of all that a crate is made from, the toolchain among it.
 launcher/proved.py take CRATE      puts what was built of these very texts into the crate's folder, and prints the prover's last line.
                                    The status is 1 where nothing is kept of them.
 launcher/proved.py put CRATE SUM   keeps what was just built, if the crate still has this sum; its last line is read from standard input.
