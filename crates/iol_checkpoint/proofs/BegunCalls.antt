@@ -6,8 +6,8 @@ use Rattle.iol_disk.specs.Disk.{Disk}
 use Rattle.iol_disk.specs.Calls.{write}
 use Rattle.iol_slots.specs.Gate.{open_gate}
 use Rattle.iol_batch.specs.Batches.{body_for, sectors_for, call_of, IsPhase}
-use Rattle.iol_area.specs.AreaPlans.{IsAreaPlan, write_of}
-use Rattle.iol_area.specs.AreaWrites.{IsRow}
+use Rattle.iol_layout.specs.AreaPlans.{IsAreaPlan, write_of}
+use Rattle.iol_layout.specs.AreaWrites.{IsRow}
 use Rattle.iol_checkpoint.specs.BegunParts.{log_of, commands_owed, AreEncoded, IsBegun}
 use Rattle.iol_checkpoint.specs.Checkpoints.{target, first_of, header_of_target, snapshot_writes, next_stage, IsStage}
 use Rattle.iol_checkpoint.specs.Drafts.{stage_behind, IsSnapshot, AreOwed}
@@ -22,7 +22,7 @@ use Rattle.iol_batch.specs.declared.phase.Phase.TheVariants.{Body, SyncBody, Gat
 use Rattle.iol_checkpoint.specs.declared.stage.Stage.{Stage}
 use Rattle.iol_checkpoint.specs.declared.stage.Stage.TheVariants.{ClearHeader, SyncHeader, CloseGate, SyncClosed, CloseSlot, SyncSlots}
 use Rattle.iol_checkpoint.specs.declared.stage.Stage.TheVariants.{WriteHeader, WriteRecord, SyncRecords, Carry, OpenGate, SyncOpen}
-use Rattle.iol_area.proofs.Plans.{length-plan, plan-row}
+use Rattle.iol_layout.proofs.Plans.{length-plan, plan-row}
 use Rattle.iol_batch.proofs.Phases.{IsFit, fit_for}
 
 -- the first batch that is owed

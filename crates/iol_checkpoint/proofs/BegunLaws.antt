@@ -6,7 +6,7 @@ use Rattle.std.specs.Int.{w64, to_be_bytes}
 use Rattle.std.specs.Option.{option_map}
 use Rattle.iol_types.specs.Command.{CommandValue}
 use Rattle.iol_disk.specs.Disk.{Disk}
-use Rattle.iol_area.specs.AreaPlans.{IsAreaPlan}
+use Rattle.iol_layout.specs.AreaPlans.{IsAreaPlan}
 use Rattle.iol_batch.specs.Batches.{body_for}
 use Rattle.iol_checkpoint.specs.BegunViews.{BegunView}
 use Rattle.iol_checkpoint.specs.BegunParts.{log_of, commands_owed, view_of, AreEncoded, IsBegun}
@@ -21,7 +21,7 @@ use Rattle.iol_batch.specs.Planned.{CanFollow, IsEncoded}
 use Rattle.iol_layout.specs.Layout.{Layout, other, renewed}
 use Rattle.iol_layout.specs.Meaning.{Log, Standing}
 use Rattle.iol_layout.specs.declared.area.Area.{Area}
-use Rattle.iol_area.specs.declared.area_plan.AreaPlan.{AreaPlan}
+use Rattle.iol_layout.specs.declared.area_plan.AreaPlan.{AreaPlan}
 use Rattle.iol_checkpoint.specs.declared.begun.Begun.{Begun}
 use Rattle.iol_checkpoint.specs.declared.begun.OwedBatch.{OwedBatch}
 use Rattle.iol_layout.specs.declared.body.EncodedBatch.{EncodedBatch}

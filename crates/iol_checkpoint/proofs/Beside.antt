@@ -6,8 +6,8 @@ use Rattle.iol_disk.specs.Content.{Content, reads}
 use Rattle.iol_disk.specs.Disk.{Disk}
 use Rattle.iol_disk.proofs.DiskLaws.{reads-wrote_other}
 use Rattle.iol_slots.specs.Gate.{is_open, open_gate}
-use Rattle.iol_area.specs.AreaPlans.{AreRecords}
-use Rattle.iol_area.specs.AreaWrites.{IsRow}
+use Rattle.iol_layout.specs.AreaPlans.{AreRecords}
+use Rattle.iol_layout.specs.AreaWrites.{IsRow}
 use Rattle.iol_batch.specs.Batches.{body_for, sectors_for, call_of, IsPhase}
 use Rattle.iol_layout.specs.Body.{slots_for}
 use Rattle.iol_checkpoint.specs.Checkpoints.{target, first_of, snapshot_writes}
@@ -30,7 +30,7 @@ use Rattle.iol_checkpoint.proofs.Carrying.{was, was_kept, was_same}
 use Rattle.iol_layout.proofs.Layouts.{gate-same}
 use Rattle.iol_layout.proofs.OtherArea.{other_frame}
 use Rattle.iol_batch.proofs.Phases.{IsFit, fit_for, some_slot}
-use Rattle.iol_area.proofs.Rows.{row-within, has-same}
+use Rattle.iol_layout.proofs.Rows.{row-within, has-same}
 use Rattle.iol_layout.proofs.Spans.{body_at-within}
 use Rattle.iol_checkpoint.proofs.Stages.{first_owed}
 

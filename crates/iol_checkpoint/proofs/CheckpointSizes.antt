@@ -6,8 +6,8 @@ use Rattle.std.proofs.lemmas.List.FromFn.{length-map-range_with_len}
 use Rattle.iol_types.specs.Command.{CommandValue}
 use Rattle.iol_disk.specs.Calls.{sync}
 use Rattle.iol_disk.specs.Disk.{Disk}
-use Rattle.iol_area.specs.AreaPlans.{AreRecords}
-use Rattle.iol_area.specs.AreaWrites.{slot_write, slot_writes}
+use Rattle.iol_layout.specs.AreaPlans.{AreRecords}
+use Rattle.iol_layout.specs.AreaWrites.{slot_write, slot_writes}
 use Rattle.iol_batch.specs.Batches.{body_for, sectors_for, body_write, gate_write, batch_calls, calls_from}
 use Rattle.iol_checkpoint.specs.BegunParts.{log_of, commands_owed, view_of, IsBegun}
 use Rattle.iol_layout.specs.Body.{records_of, slots_for}

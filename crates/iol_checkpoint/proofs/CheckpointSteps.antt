@@ -8,7 +8,7 @@ use Rattle.iol_disk.specs.Moments.{LeavesOnly}
 use Rattle.iol_disk.specs.declared.fault.DiskFault.{DiskFault}
 use Rattle.iol_disk.proofs.DiskLaws.{HasOnTheWay, made_leaves, failed_leaves}
 use Rattle.iol_disk.specs.Content.{EachImage}
-use Rattle.iol_area.specs.AreaPlans.{AreRecords, IsAreaPlan, write_of}
+use Rattle.iol_layout.specs.AreaPlans.{AreRecords, IsAreaPlan, write_of}
 use Rattle.iol_batch.specs.Batches.{sectors_for}
 use Rattle.iol_checkpoint.specs.Checkpoints.{target, checkpointed, with_batches, header_of_target}
 use Rattle.iol_checkpoint.specs.Checkpoints.{first_of, snapshot_writes, call_at, next_stage}
@@ -21,10 +21,10 @@ use Rattle.iol_layout.proofs.Layouts.{size-renewed, renewed-is, renewed-some, re
 use Rattle.iol_layout.specs.Meaning.{Log, Standing}
 use Rattle.iol_batch.specs.Phases.{IsAtRest}
 use Rattle.iol_layout.specs.declared.area.Area.{Area}
-use Rattle.iol_area.specs.declared.area_plan.AreaPlan.{AreaPlan}
+use Rattle.iol_layout.specs.declared.area_plan.AreaPlan.{AreaPlan}
 use Rattle.iol_layout.specs.declared.idle.Idle.{Idle}
 use Rattle.iol_layout.specs.declared.idle.Idle.TheVariants.{Older, Closed}
-use Rattle.iol_area.specs.declared.records.RecordSector.{RecordSector}
+use Rattle.iol_layout.specs.declared.records.RecordSector.{RecordSector}
 use Rattle.iol_checkpoint.specs.declared.stage.Stage.{Stage}
 use Rattle.iol_checkpoint.specs.declared.stage.Stage.TheVariants.{ClearHeader, SyncHeader, CloseGate, SyncClosed, CloseSlot, SyncSlots}
 use Rattle.iol_checkpoint.specs.declared.stage.Stage.TheVariants.{WriteHeader, WriteRecord, SyncRecords, Carry, OpenGate, SyncOpen}
@@ -32,7 +32,7 @@ use Rattle.iol_checkpoint.proofs.DraftLaws.{resting_on}
 use Rattle.iol_checkpoint.proofs.StageCalls.{calls_behind, first_call}
 use Rattle.iol_checkpoint.proofs.StageMeanings.{on_the_way}
 use Rattle.iol_checkpoint.proofs.Stages.{HoldsBehind, none_owed, goes_on}
-use Rattle.iol_area.proofs.Plans.{found-there}
+use Rattle.iol_layout.proofs.Plans.{found-there}
 
 -- ---- what a plan has
 

@@ -10,8 +10,8 @@ use Rattle.iol_disk.specs.Calls.{Call, write, sync, content_after}
 use Rattle.iol_disk.proofs.DiskLaws.{reads-is_image, image-settled, image-wrote, image-synced, reads-wrote_here, reads-wrote_other}
 use Rattle.iol_slots.specs.Gate.{is_open, open_gate, closed_gate}
 use Rattle.iol_slots.proofs.SlotLaws.{is_open-closed_gate}
-use Rattle.iol_area.specs.AreaPlans.{AreRecords}
-use Rattle.iol_area.specs.AreaWrites.{HasWrites}
+use Rattle.iol_layout.specs.AreaPlans.{AreRecords}
+use Rattle.iol_layout.specs.AreaWrites.{HasWrites}
 use Rattle.iol_layout.specs.Header.{header_of, header_octets, epochs_ahead, is_sound}
 use Rattle.iol_layout.specs.Kept.{IsIdle, IsKeptAs}
 use Rattle.iol_layout.specs.Layout.{Layout, other, renewed, area_sectors, gate_at, header_at, port_at, slot_at}
@@ -30,7 +30,7 @@ use Rattle.iol_layout.proofs.AreasInUse.{in_use_header}
 use Rattle.iol_layout.proofs.Layouts.{gate-same, header_in-same, renewed-so}
 use Rattle.iol_layout.proofs.OtherArea.{two_before, other_frame, IsWhole, whole_stands}
 use Rattle.iol_layout.proofs.Readings.{IsFormattedFor, IsRead, header_for, stands_read}
-use Rattle.iol_area.proofs.Rows.{has-same, row-nth}
+use Rattle.iol_layout.proofs.Rows.{has-same, row-nth}
 use Rattle.iol_layout.proofs.Headers.{header_of-octets, bounds-sound, few-ahead}
 
 -- a header that was found behind an open gate

@@ -6,7 +6,7 @@ use Rattle.std.proofs.lemmas.Bool.Decides.{nat_tests}
 use Rattle.std.proofs.Math.ListN.{drop_of_length-le}
 use Rattle.iol_types.specs.Command.{CommandValue}
 use Rattle.iol_disk.specs.Calls.{Call, sync}
-use Rattle.iol_area.specs.AreaWrites.{slot_write, slot_writes}
+use Rattle.iol_layout.specs.AreaWrites.{slot_write, slot_writes}
 use Rattle.iol_batch.specs.Batches.{body_for, sectors_for, batch_calls, next_phase, IsPhase}
 use Rattle.iol_checkpoint.specs.Checkpoints.{snapshot_writes, gate_calls, carry_calls, last_calls, snapshot_calls}
 use Rattle.iol_checkpoint.specs.Checkpoints.{checkpoint_calls, first_stage, first_of, behind_first, call_at, next_batch, next_stage}

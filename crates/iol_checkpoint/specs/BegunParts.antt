@@ -4,7 +4,7 @@ use Rattle.std.specs.Int.{w64, to_be_bytes}
 use Rattle.std.specs.VecDeque.{deque_capacity}
 use Rattle.iol_types.specs.Command.{CommandValue}
 use Rattle.iol_disk.specs.Disk.{Disk}
-use Rattle.iol_area.specs.AreaPlans.{IsAreaPlan}
+use Rattle.iol_layout.specs.AreaPlans.{IsAreaPlan}
 use Rattle.iol_checkpoint.specs.BegunViews.{BegunView}
 use Rattle.iol_checkpoint.specs.Checkpoints.{target, header_of_target}
 use Rattle.iol_checkpoint.specs.Drafts.{may_pause, idle_at, owing, IsSnapshot, IsDrafted}

@@ -6,7 +6,7 @@ use Rattle.iol_types.specs.Command.{CommandValue}
 use Rattle.iol_types.specs.State.{after}
 use Rattle.iol_disk.specs.Calls.{Call, write, sync}
 use Rattle.iol_slots.specs.Gate.{open_gate, closed_gate}
-use Rattle.iol_area.specs.AreaWrites.{slot_write, slot_writes, header_write, port_writes}
+use Rattle.iol_layout.specs.AreaWrites.{slot_write, slot_writes, header_write, port_writes}
 use Rattle.iol_batch.specs.Batches.{body_for, sectors_for, batch_calls, calls_from, call_of, next_phase, IsPhase}
 use Rattle.iol_checkpoint.specs.BegunViews.{BegunView}
 use Rattle.iol_layout.specs.Body.{slots_for}

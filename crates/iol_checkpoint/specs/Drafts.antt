@@ -5,8 +5,8 @@ use Rattle.iol_types.specs.Command.{CommandValue}
 use Rattle.iol_disk.specs.Content.{Image, Content, EachImage, IsSettled, reads}
 use Rattle.iol_disk.specs.Disk.{Disk}
 use Rattle.iol_slots.specs.Gate.{is_open}
-use Rattle.iol_area.specs.AreaPlans.{AreRecords}
-use Rattle.iol_area.specs.AreaWrites.{HasWrites}
+use Rattle.iol_layout.specs.AreaPlans.{AreRecords}
+use Rattle.iol_layout.specs.AreaWrites.{HasWrites}
 use Rattle.iol_batch.specs.Batches.{body_for, sectors_for}
 use Rattle.iol_checkpoint.specs.BegunViews.{BegunView}
 use Rattle.iol_checkpoint.specs.Checkpoints.{target, first_of, with_batches, header_of_target, snapshot_writes, next_stage, IsStage}

@@ -18,9 +18,8 @@ ghost use Rattle.iol_layout.specs.declared.body.TheConstants.{EPOCH_OCTETS};
 ghost use Rattle.iol_layout.specs.declared.header.TheConstants.{LAST_NUMBER};
 
 use crate::stage::Stage;
-use iol_area::AreaPlan;
 use iol_batch::{Batch, History, Parts, Phase};
-use iol_layout::{EncodedBatch, Header};
+use iol_layout::{AreaPlan, EncodedBatch, Header};
 use std::alloc::AllocError;
 use std::collections::VecDeque;
 

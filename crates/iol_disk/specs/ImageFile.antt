@@ -1,5 +1,5 @@
 -- An image file as contracts see it.
-use Rattle.std.specs.Prelude.{◌≡◌, ◌⊎◌, ◌/◌, ℕ, false, [], None}
+use Rattle.std.specs.Prelude.{◌≡◌, ◌≤◌, ◌⊎◌, ◌/◌, ℕ, false, [], None}
 use Rattle.iol_disk.specs.Content.{Content}
 use Rattle.iol_disk.specs.Disk.{Disk}
 use Rattle.iol_disk.specs.declared.disk.TheConstants.{SECTOR_OCTETS}
@@ -24,6 +24,11 @@ file_disk file = record {
 -- the disk has the whole sectors of a length that its file told (format, Image files)
 abbrev pub HasTold : {F : Type 0} → (F → ℕ → Type 0) → ImageFile F → Type 0
 HasTold tells opened = (octets : ℕ) × tells opened.file octets × ((file_disk opened).sectors ≡ octets / SECTOR_OCTETS)
+
+-- the file reported a length that has all octets that it had when it was made or opened, so nothing had cut it by then (format, Image
+-- files)
+abbrev pub IsUncut : {F : Type 0} → (F → ℕ → Type 0) → ImageFile F → Type 0
+IsUncut tells image = (octets : ℕ) × tells image.file octets × (image.octets ≤ octets)
 
 -- nothing is known of the disk, and no call of it has failed (own)
 pub record IsUnknown (d : Disk) : Type 0 where

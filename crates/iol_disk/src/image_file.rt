@@ -6,7 +6,7 @@ use crate::image_fault::{ImageFault, unlocked, unopened};
 use crate::lock_file::LockFile;
 use crate::new_file::{octets_of, settle, write_zeros};
 use std::fs::{File, OpenFile};
-use std::io;
+use std::io::{self, ErrorKind};
 use std::os::unix::fs::FileExt;
 use std::rt::Files;
 
@@ -16,7 +16,8 @@ use std::rt::Files;
 /// Nothing is known of what a file keeps, so it is not honest, and no contract promises its content. How many sectors it
 /// has is told once, when it is made or opened. A call goes on where the system took or gave only a part, and takes no
 /// memory. The file is locked for as long as it is open, so it is opened once at a time; what does not ask for the lock can
-/// write to it all the same.
+/// write to it all the same. If something cuts the file meanwhile, its next write or sync fails, so that nothing is reported as
+/// durable in a file that has lost sectors.
 #[derive(Drop)]
 pub struct ImageFile<F> {
     file: F,
@@ -26,11 +27,11 @@ pub struct ImageFile<F> {
 }
 
 impl<F: FileExt + OpenFile + LockFile + Drop> ImageFile<F> {
-    ghost use Rattle.std.specs.Prelude.{◌≡◌, ◌<◌, ◌≤◌, ◌*◌, ◌^◌, Err, IfOk, IfErr};
+    ghost use Rattle.std.specs.Prelude.{◌≡◌, ◌<◌, ◌≤◌, ◌*◌, ◌^◌, Err, IfOk, IfErr, OnOk};
     ghost use Rattle.iol_disk.specs.Disk.{Same, FailsOnlyAs};
     ghost use Rattle.iol_disk.specs.declared.disk.TheConstants.{SECTOR_OCTETS};
     ghost use Rattle.iol_disk.specs.declared.image_fault.ImageFault.TheVariants.{Open};
-    ghost use Rattle.iol_disk.specs.ImageFile.{file_disk, HasTold, IsUnknown, IsCreateFault, IsOpenFault};
+    ghost use Rattle.iol_disk.specs.ImageFile.{file_disk, HasTold, IsUncut, IsUnknown, IsCreateFault, IsOpenFault};
 
     /// Makes the file at `path`, of so many sectors of zeros, and settles it, so that a later sync has no more than
     /// octets to make durable. A file that is there is left alone.
@@ -102,6 +103,33 @@ impl<F: FileExt + OpenFile + LockFile + Drop> ImageFile<F> {
         n as u64 * SECTOR_OCTETS as u64
     }
 
+    // Checks that the file still has all octets that it had when it was made or opened.
+    fn check_length(&self) -> io::Result<()>
+        ensures uncut { OnOk result (IsUncut F.tells self.now) }
+    {
+        if self.file.length()? < self.octets {
+            return Err(ErrorKind::UnexpectedEof.into());
+        }
+        Ok(())
+    }
+
+    // Writes a sector of a file that was not cut: a write beyond a cut would fill the gap with zeros.
+    fn write_whole(&self, n: usize, octets: &[u8; SECTOR_OCTETS]) -> io::Result<()>
+        requires { n < (file_disk self.now).sectors }
+        ensures uncut { OnOk result (IsUncut F.tells self.now) }
+    {
+        self.check_length()?;
+        self.file.write_all_at(octets, self.first_octet(n))
+    }
+
+    // Has the system keep what was written, and then checks that the file was not cut.
+    fn sync_whole(&self) -> io::Result<()>
+        ensures uncut { OnOk result (IsUncut F.tells self.now) }
+    {
+        self.file.sync_all()?;
+        self.check_length()
+    }
+
     // What a disk call answers whose call of the file ended so; a failure is counted.
     fn counted(&mut self, ended: io::Result<()>, fault: DiskFault) -> Result<(), DiskFault>
         ensures same { Same (file_disk self.old) (file_disk self.new) }
@@ -136,12 +164,12 @@ impl<F: FileExt + OpenFile + LockFile + Drop> SectorDisk for ImageFile<F> {
     }
 
     fn write(&mut self, n: usize, octets: &[u8; SECTOR_OCTETS]) -> Result<(), DiskFault> {
-        let ended = self.file.write_all_at(octets, self.first_octet(n));
+        let ended = self.write_whole(n, octets);
         self.counted(ended, DiskFault::Write)
     }
 
     fn sync(&mut self) -> Result<(), DiskFault> {
-        let ended = self.file.sync_all();
+        let ended = self.sync_whole();
         self.counted(ended, DiskFault::Sync)
     }
 }

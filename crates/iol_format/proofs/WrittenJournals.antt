@@ -13,8 +13,8 @@ use Rattle.iol_disk.specs.Calls.{Call, write, sync, content_after_all}
 use Rattle.iol_disk.proofs.DiskLaws.{reads-wrote_here, reads-wrote_other, content_after_append}
 use Rattle.iol_slots.specs.Gate.{is_open, open_gate, closed_gate}
 use Rattle.iol_slots.proofs.SlotLaws.{is_open-open_gate, is_open-closed_gate}
-use Rattle.iol_area.specs.AreaPlans.{AreRecords}
-use Rattle.iol_area.specs.AreaWrites.{slot_writes, port_writes, IsRow}
+use Rattle.iol_layout.specs.AreaPlans.{AreRecords}
+use Rattle.iol_layout.specs.AreaWrites.{slot_writes, port_writes, IsRow}
 use Rattle.iol_layout.specs.Geometry.{Geometry, IsGeometry, geometry_of, geometry_octets}
 use Rattle.iol_layout.specs.Header.{header_of, header_octets}
 use Rattle.iol_layout.specs.Layout.{Layout, laid_out, port_sectors_of, gate_at, header_at, port_at, slot_at}
@@ -22,12 +22,12 @@ use Rattle.iol_format.specs.Formatting.{first_header}
 use Rattle.iol_format.specs.Orders.{gate_writes, header_writes, journal_writes}
 use Rattle.iol_layout.specs.declared.area.Area.TheVariants.{A, B}
 use Rattle.iol_layout.specs.declared.geometry.TheConstants.{GEOMETRY, DISK_GATE}
-use Rattle.iol_area.proofs.AreaRecords.{ArePorts}
+use Rattle.iol_layout.proofs.AreaRecords.{ArePorts}
 use Rattle.iol_format.proofs.DiskGate.{Spares, spares-append}
 use Rattle.iol_format.proofs.EmptyParts.{HasAreas, IsEmptyJournal}
 use Rattle.iol_layout.proofs.Geometries.{geometry_of-octets}
-use Rattle.iol_area.proofs.RecordSectors.{are-records}
-use Rattle.iol_area.proofs.Rows.{IsWritten, row-map, row-written, has-map}
+use Rattle.iol_layout.proofs.RecordSectors.{are-records}
+use Rattle.iol_layout.proofs.Rows.{IsWritten, row-map, row-written, has-map}
 use Rattle.iol_layout.proofs.Headers.{header_of-octets}
 
 -- ---- the records of ports that were never configured

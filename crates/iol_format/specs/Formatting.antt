@@ -4,14 +4,14 @@ use Rattle.iol_types.specs.State.{empty_state}
 use Rattle.iol_record.specs.declared.version.Version.{Version}
 use Rattle.iol_disk.specs.Content.{Image, EachImage, IsImageSince, clock}
 use Rattle.iol_disk.specs.Disk.{Disk}
-use Rattle.iol_area.specs.AreaPlans.{IsAreaPlan}
+use Rattle.iol_layout.specs.AreaPlans.{IsAreaPlan}
 use Rattle.iol_layout.specs.Geometry.{Geometry}
 use Rattle.iol_layout.specs.Layout.{laid_out}
 use Rattle.iol_layout.specs.Meaning.{unformatted, geometry_in, meaning}
 use Rattle.iol_layout.specs.Kept.{KeptMeans}
 use Rattle.iol_layout.specs.declared.area.Area.TheVariants.{A}
 use Rattle.iol_layout.specs.declared.header.Header.{Header}
-use Rattle.iol_area.specs.declared.area_plan.AreaPlan.{AreaPlan}
+use Rattle.iol_layout.specs.declared.area_plan.AreaPlan.{AreaPlan}
 use Rattle.iol_format.specs.declared.formatting.FormatFault.{FormatFault}
 use Rattle.iol_format.specs.declared.formatting.FormatFault.TheVariants.{Disk as DiskFailed}
 

@@ -6,7 +6,7 @@ use Rattle.iol_disk.specs.Disk.{Disk, After, HasFailed}
 use Rattle.iol_disk.specs.Calls.{Call, write, sync, content_after_all, Made, FailedIn}
 use Rattle.iol_disk.specs.declared.fault.DiskFault.TheVariants.{Read}
 use Rattle.iol_slots.specs.Gate.{open_gate, closed_gate}
-use Rattle.iol_area.specs.AreaWrites.{slot_writes, header_write, port_writes}
+use Rattle.iol_layout.specs.AreaWrites.{slot_writes, header_write, port_writes}
 use Rattle.iol_layout.specs.Geometry.{Geometry, geometry_octets}
 use Rattle.iol_layout.specs.Layout.{laid_out, gate_at}
 use Rattle.iol_layout.specs.declared.area.Area.TheVariants.{A, B}

@@ -4,7 +4,7 @@ ghost use Rattle.std.specs.Prelude.{◌≡◌, ◌≤◌, ◌<◌, ◌⊎◌, �
 ghost use Rattle.iol_disk.specs.Content.{IsImage};
 ghost use Rattle.iol_disk.specs.Moments.{LeavesOnly};
 ghost use Rattle.iol_slots.specs.Gate.{is_open};
-ghost use Rattle.iol_area.specs.AreaWrites.{header_write};
+ghost use Rattle.iol_layout.specs.AreaWrites.{header_write};
 ghost use Rattle.iol_format.specs.Formatting.{EachIsEmptyJournal, IfUntouched, IsEmptyOrUnformatted, IsFirstArea, LeavesFormat};
 ghost use Rattle.iol_layout.specs.Layout.{laid_out, layout_of, total};
 ghost use Rattle.iol_record.specs.Record.{newest};
@@ -14,9 +14,8 @@ ghost use Rattle.iol_disk.specs.Disk.{Shows};
 ghost use Rattle.iol_layout.specs.declared.geometry.TheConstants.{DISK_GATE};
 ghost use Rattle.iol_format.specs.declared.formatting.FormatFault.TheVariants.{TooSmall, AlreadyFormatted, Memory};
 
-use iol_area::AreaPlan;
 use iol_disk::{DiskFault, SectorDisk};
-use iol_layout::{Area, DISK_GATE, GEOMETRY, Geometry, Header, Layout, gate};
+use iol_layout::{Area, AreaPlan, DISK_GATE, GEOMETRY, Geometry, Header, Layout, gate};
 use iol_record::Version;
 use iol_types::MasterState;
 use std::alloc::{AllocError, Global};

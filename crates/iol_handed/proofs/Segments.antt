@@ -4,7 +4,7 @@ use Rattle.std.proofs.Common.{subst, sym, ◌∙◌, None, Some, arith}
 use Rattle.std.proofs.lemmas.List.FromFn.{get_or-range_with_len, length-range_with_len}
 use Rattle.std.proofs.lemmas.Option.{slice_get-get_or, slice_get-map, slice_get_past}
 use Rattle.std.specs.List.{range_with_len}
-use Rattle.iol_area.specs.AreaWrites.{slot_write, slot_writes}
+use Rattle.iol_layout.specs.AreaWrites.{slot_write, slot_writes}
 use Rattle.iol_layout.specs.Layout.{Layout}
 use Rattle.iol_layout.specs.declared.area.Area.{Area}
 

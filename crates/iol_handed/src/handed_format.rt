@@ -2,10 +2,10 @@
 
 ghost use Rattle.std.specs.Prelude.{◌≡◌, ◌++◌, IfOk, map, slice_get};
 ghost use Rattle.std.specs.Option.{option_map};
-ghost use Rattle.iol_area.specs.AreaWrites.{port_writes, slot_writes};
+ghost use Rattle.iol_layout.specs.AreaWrites.{port_writes, slot_writes};
 ghost use Rattle.iol_disk.specs.Calls.{write};
 ghost use Rattle.iol_slots.specs.Gate.{closed_gate, open_gate};
-ghost use Rattle.iol_area.specs.AreaPlans.{write_of};
+ghost use Rattle.iol_layout.specs.AreaPlans.{write_of};
 ghost use Rattle.iol_format.specs.Orders.{format_calls, gate_writes, header_writes, journal_writes, opening_calls};
 ghost use Rattle.iol_handed.specs.HandedDisk.{call_of};
 ghost use Rattle.iol_layout.specs.Layout.{laid_out};
@@ -14,9 +14,8 @@ ghost use Rattle.iol_record.specs.Record.{newest};
 ghost use Rattle.iol_types.specs.State.{empty_state};
 
 use crate::handed_call::HandedCall;
-use iol_area::AreaPlan;
 use iol_disk::SECTOR_OCTETS;
-use iol_layout::{Area, DISK_GATE, GEOMETRY, Geometry, Header, Layout};
+use iol_layout::{Area, AreaPlan, DISK_GATE, GEOMETRY, Geometry, Header, Layout};
 use iol_record::Version;
 use iol_slots::GATE_MARK;
 use iol_types::MasterState;

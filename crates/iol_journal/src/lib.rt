@@ -8,9 +8,9 @@
 //! ([`Checkpointing::pause`]): the batches that are then written are carried into the other area before it is put in use.
 //! Each of these owns its disk, and hands it back.
 //!
-//! This is the door of six rooms below: `iol_layout` has places, octets and their meaning, `iol_area` an area as it is written,
-//! `iol_format` formats and erases, `iol_recovery` reads, `iol_batch` writes batches, and `iol_checkpoint` the other area. Modules
-//! here in reading order: `journal`, `recovery`, `writing`, `checkpoint`, `checkpointing`; then `survey`, places and readers for a map
+//! This is the door of five rooms below: `iol_layout` has places, octets and their meaning, and an area as it is written, `iol_format`
+//! formats and erases, `iol_recovery` reads, `iol_batch` writes batches, and `iol_checkpoint` the other area. Modules here in reading
+//! order: `journal`, `recovery`, `writing`, `checkpoint`, `checkpointing`; then `survey`, places and readers for a map
 //! of a disk, and `laws` and `runs`, for proofs of other crates. What a run of batches and checkpoints keeps is said in
 //! `specs/Runs.antt`. [`Area`], [`Head`], [`Header`], [`History`], [`Idle`], [`InUse`], [`Phase`] and [`Stage`] are what contracts
 //! show of a journal.

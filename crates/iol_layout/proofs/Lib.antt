@@ -12,3 +12,7 @@ pub mod OtherArea
 pub mod Paddings
 pub mod ReachedBodies
 pub mod Layouts
+pub mod Rows
+pub mod AreaRecords
+pub mod Plans
+pub mod RecordSectors

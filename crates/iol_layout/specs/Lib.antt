@@ -7,3 +7,5 @@ pub mod Meaning
 pub mod Examples
 pub mod Kept
 pub mod Standings
+pub mod AreaWrites
+pub mod AreaPlans

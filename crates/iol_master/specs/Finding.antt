@@ -1,5 +1,5 @@
 -- What the flusher finds where it looks for a batch.
-use Rattle.std.specs.Prelude.{◌≡◌, ◌≢◌, ◌&&◌, not, nat_eq, ℕ, Bool, true, false, length}
+use Rattle.std.specs.Prelude.{◌≡◌, ◌≢◌, ◌&&◌, not, nat_eq, ℕ, Bool, true, false, if◌then◌else◌, length}
 use Rattle.iol_core.specs.Batches.{IsTaken, has_batch}
 use Rattle.iol_master.specs.Callers.{GuardedView}
 use Rattle.iol_master.specs.declared.finding.Found.{Found}
@@ -16,6 +16,14 @@ is_closed Closed = true
 -- the flusher sleeps: no command is in the queue, and more may come (own)
 abbrev pub is_idle : GuardedView → Bool
 is_idle guarded = not (is_closed guarded.phase) && nat_eq (length guarded.callers) 0
+
+-- nothing is to be written any more: no command is in the queue, and no more come (own)
+abbrev pub is_over : GuardedView → Bool
+is_over guarded = is_closed guarded.phase && nat_eq (length guarded.callers) 0
+
+-- what the flusher finds if it takes no batch (own)
+abbrev pub end_found : GuardedView → Found
+end_found guarded = if is_over guarded then found.Closed else found.Nothing
 
 -- the flusher finds the batch that may be taken, or no memory for it. Where there is none it finds that none comes any more only once
 -- the run is closed, and that one may come only before (own)

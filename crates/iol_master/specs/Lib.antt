@@ -9,6 +9,6 @@ pub mod Serving
 pub mod Answers
 pub mod Watching
 pub mod Finding
-pub mod Delays
+pub mod Pace
 pub mod Served
 pub mod News

@@ -2,7 +2,7 @@
 
 ghost use Rattle.std.specs.Prelude.{◌≡◌, ◌≤◌};
 ghost use Rattle.iol_record.specs.declared.encode.TheConstants.{LARGEST_COMMAND_RECORD};
-ghost use Rattle.iol_master.specs.Finding.{Finds};
+ghost use Rattle.iol_master.specs.Finding.{Finds, end_found};
 
 use crate::guarded::{Guarded, Phase};
 use iol_front::Name;
@@ -31,6 +31,16 @@ impl<F: Name> Guarded<F> {
             Ok(None) if self.phase() == Phase::Closed => Found::Closed,
             Ok(None) => Found::Nothing,
             Err(_) => Found::NoMemory,
+        }
+    }
+    // Takes no batch: finds only whether no more comes.
+    pub(crate) fn find_end(&self) -> Found
+        ensures { result ≡ end_found self.now }
+    {
+        if self.is_over() {
+            Found::Closed
+        } else {
+            Found::Nothing
         }
     }
 }

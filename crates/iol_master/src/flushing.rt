@@ -7,14 +7,14 @@ ghost use Rattle.iol_flush.specs.declared.need.Need.TheVariants as need;
 ghost use Rattle.iol_flush.specs.declared.stage.FlushStage.TheVariants as stage;
 ghost use Rattle.iol_master.specs.Endings.{EndsFrom, HasWaited, IsEnding, LeavesAs, LeavesWaiting, MayEnd, MayTurn, MayWait, NeverMidway};
 ghost use Rattle.iol_journal.specs.Journals.{JournalView};
-ghost use Rattle.iol_master.specs.Delays.{IsSpent};
+ghost use Rattle.iol_master.specs.Pace.{Follows, MayFind};
 ghost use Rattle.iol_master.specs.Since.{IsSince};
 
 use crate::client::Shared;
-use crate::delay::Delay;
 use crate::ending::Ending;
 use crate::finding::Found;
 use crate::guarded::Guarded;
+use crate::pace::Pace;
 use iol_disk::SectorDisk;
 use iol_flush::{FlushEnd, FlushFault, Flusher, Need};
 use iol_front::{Name, Publisher};
@@ -90,9 +90,9 @@ pub(crate) fn flush_all<D: SectorDisk, F: Name, R: Wait + Clock + Copy>(
 {
     let mut flusher = charge.flusher();
     let mut waits = 0;
-    let mut delay = Delay::new();
+    let mut pace = Pace::new();
     for _ in rt.forever() {
-        if let Turned::Ended(leaves) = turn(&rt, &shared, &mut flusher, &mut waits, &mut delay) {
+        if let Turned::Ended(leaves) = turn(&rt, &shared, &mut flusher, &mut waits, &mut pace) {
             return ending_of(flusher.end(), leaves);
         }
     }
@@ -140,13 +140,13 @@ fn turn<D: SectorDisk, F: Name, R: Wait + Clock>(
     shared: &Shared<F>,
     flusher: &mut Flusher<D, F>,
     waits: &mut u32,
-    delay: &mut Delay,
+    pace: &mut Pace,
 ) -> Turned
     ensures since { IsSince D.disk flusher.old.stage flusher.new.stage }
     ensures ended { MayEnd flusher.new.stage result }
     ensures waited { HasWaited result waits.old waits.new }
 {
-    match meet_need(rt, shared, flusher, delay) {
+    match meet_need(rt, shared, flusher, pace) {
         Turned::Waited => wait(rt, shared, flusher, waits),
         Turned::Made => {
             *waits = 0;
@@ -190,16 +190,16 @@ fn meet_need<D: SectorDisk, F: Name, R: Wait + Clock>(
     rt: &R,
     shared: &Shared<F>,
     flusher: &mut Flusher<D, F>,
-    delay: &mut Delay,
+    pace: &mut Pace,
 ) -> Turned
     ensures since { IsSince D.disk flusher.old.stage flusher.new.stage }
     ensures turned { MayTurn flusher.new.stage result }
 {
     match flusher.needs() {
-        Need::Batch => take(rt, shared, flusher, delay),
-        Need::BatchOrDisk => take_or_call(rt, shared, flusher, delay),
+        Need::Batch => take(rt, shared, flusher, pace),
+        Need::BatchOrDisk => take_or_call(rt, shared, flusher, pace),
         Need::Disk => call_disk(rt, shared, flusher),
-        Need::Publish => publish(rt, shared, flusher, delay),
+        Need::Publish => publish(rt, shared, flusher, pace),
         Need::Stopped => Turned::Ended(Leaves::Nothing),
     }
 }
@@ -232,14 +232,14 @@ fn publish<D: SectorDisk, F: Name, R: Wait + Clock>(
     rt: &R,
     shared: &Shared<F>,
     flusher: &mut Flusher<D, F>,
-    delay: &mut Delay,
+    pace: &mut Pace,
 ) -> Turned
     requires { need_of flusher.old.stage ≡ need.Publish }
     ensures since { IsSince D.disk flusher.old.stage flusher.new.stage }
     ensures turned { MayTurn flusher.new.stage result }
 {
     if let Ok(committed) = flusher.publish() {
-        delay.end(rt);
+        pace.end(rt);
         let _ = shared.guarded.lock(rt).acknowledge(rt, committed);
         shared.woken.notify_all();
         shared.reported.notify_all();
@@ -254,29 +254,42 @@ fn look<F: Name>(mut guarded: MutexGuard<'_, Guarded<F>>, room: usize) -> Found
     guarded.find(room)
 }
 
-// Looks for a batch for a while, and not again where none comes.
+// Looks for a batch for a while, and not again if none comes; not at all if one is owed to the checkpoint that is under way.
 fn look_again<F: Name, R: Wait + Clock>(
     rt: &R,
     shared: &Shared<F>,
     room: usize,
-    delay: &mut Delay,
+    pace: &mut Pace,
 ) -> Found
     requires { LARGEST_COMMAND_RECORD ≤ room }
-    ensures spent { IsSpent result delay.new }
+    ensures owed { MayFind pace.old.checkpoint result }
+    ensures follows { Follows pace.old result pace.new }
 {
-    let mut guarded = shared.guarded.lock(rt);
-    if let Some(limit) = delay.limit() {
-        let is_idle = |guarded: &mut Guarded<F>| guarded.is_idle();
-        guarded = shared
-            .work
-            .wait_timeout_while(rt, guarded, limit, is_idle)
-            .0;
-    }
-    let found = look(guarded, room);
-    if matches!(&found, Found::Nothing) {
-        delay.spend();
-    }
+    let guarded = shared.guarded.lock(rt);
+    let found = if pace.is_owing() {
+        guarded.find_end()
+    } else {
+        look(wait_for_batch(rt, shared, guarded, pace), room)
+    };
+    pace.follow(&found);
     found
+}
+
+// Waits for a batch, or for the end, as long as the pace says.
+fn wait_for_batch<'a, F: Name, R: Wait + Clock>(
+    rt: &R,
+    shared: &'a Shared<F>,
+    guarded: MutexGuard<'a, Guarded<F>>,
+    pace: &Pace,
+) -> MutexGuard<'a, Guarded<F>> {
+    let Some(limit) = pace.limit() else {
+        return guarded;
+    };
+    let is_idle = |guarded: &mut Guarded<F>| guarded.is_idle();
+    shared
+        .work
+        .wait_timeout_while(rt, guarded, limit, is_idle)
+        .0
 }
 
 // Waits for a batch, or for the end.
@@ -284,7 +297,7 @@ fn take<D: SectorDisk, F: Name, R: Wait + Clock>(
     rt: &R,
     shared: &Shared<F>,
     flusher: &mut Flusher<D, F>,
-    delay: &mut Delay,
+    pace: &mut Pace,
 ) -> Turned
     requires { need_of flusher.old.stage ≡ need.Batch }
     ensures since { IsSince D.disk flusher.old.stage flusher.new.stage }
@@ -293,9 +306,10 @@ fn take<D: SectorDisk, F: Name, R: Wait + Clock>(
     let guarded = shared
         .work
         .wait_while(rt, shared.guarded.lock(rt), |guarded| guarded.is_idle());
+    pace.rest();
     match look(guarded, flusher.room()) {
         Found::Batch(batch) => {
-            delay.begin(rt);
+            pace.begin(rt);
             let _ = flusher.give(batch);
             Turned::Made
         }
@@ -305,20 +319,20 @@ fn take<D: SectorDisk, F: Name, R: Wait + Clock>(
     }
 }
 
-// Takes a batch, or where none comes in a while makes the next disk call of the checkpoint that is due. At the end it is left paused.
+// Takes a batch, or if none comes in a while makes the next disk call of the checkpoint that is due. At the end it is left paused.
 fn take_or_call<D: SectorDisk, F: Name, R: Wait + Clock>(
     rt: &R,
     shared: &Shared<F>,
     flusher: &mut Flusher<D, F>,
-    delay: &mut Delay,
+    pace: &mut Pace,
 ) -> Turned
     requires { need_of flusher.old.stage ≡ need.BatchOrDisk }
     ensures since { IsSince D.disk flusher.old.stage flusher.new.stage }
     ensures turned { MayTurn flusher.new.stage result }
 {
-    match look_again(rt, shared, flusher.room(), delay) {
+    match look_again(rt, shared, flusher.room(), pace) {
         Found::Batch(batch) => {
-            delay.begin(rt);
+            pace.begin(rt);
             let _ = flusher.give(batch);
             Turned::Made
         }

@@ -20,7 +20,7 @@ ghost use Rattle.iol_headline.specs.Lists.{IsLawfulList};
 ghost use Rattle.iol_headline.specs.Statuses.{IsLastReported};
 ghost use Rattle.iol_master.specs.Callers.{AreCallersOf, asked, ends, given_up};
 ghost use Rattle.iol_master.specs.Faults.{IsUnknown};
-ghost use Rattle.iol_master.specs.Finding.{is_idle};
+ghost use Rattle.iol_master.specs.Finding.{is_idle, is_over};
 ghost use Rattle.iol_master.specs.Wakes.{AreWoken, woken};
 ghost use Rattle.iol_master.specs.declared.guarded.Phase.TheVariants as phase;
 
@@ -280,6 +280,13 @@ impl<F: Name> Guarded<F> {
         ensures { result ≡ is_idle self.now }
     {
         self.phase != Phase::Closed && self.callers.is_empty()
+    }
+
+    // Whether there is nothing to write, and no more comes.
+    pub(crate) fn is_over(&self) -> bool
+        ensures { result ≡ is_over self.now }
+    {
+        self.phase == Phase::Closed && self.callers.is_empty()
     }
 
     // Returns how often a port was woken; 0 for one that is not there.

@@ -11,20 +11,20 @@
 //! what holds of its whole trace: [`run_schedule`].
 //!
 //! Modules in reading order: `caller`, who waits and what is told; `guarded`, what the lock guards; `serving`, which ports sleep;
-//! `watching` and `news`, who waits for a status, or for what is new; `finding` and `delay`, what the flusher finds, and how long it
-//! looks; `client`; `flushing` and `working`, the two kinds of thread; `ending` and `settling`, how a master ends; `master`, which
-//! starts and ends them.
+//! `watching` and `news`, who waits for a status, or for what is new; `finding` and `pace`, what the flusher finds, and how it paces a
+//! checkpoint; `client`; `flushing` and `working`, the two kinds of thread; `ending` and `settling`, how a master ends; `master`,
+//! which starts and ends them.
 #![tactic(auto)]
 
 mod caller;
 mod client;
-mod delay;
 mod ending;
 mod finding;
 mod flushing;
 mod guarded;
 mod master;
 mod news;
+mod pace;
 mod serving;
 mod settling;
 mod watching;

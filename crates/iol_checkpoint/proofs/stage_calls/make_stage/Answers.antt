@@ -7,7 +7,7 @@ use Rattle.iol_layout.specs.Header.{header_octets}
 use Rattle.iol_layout.specs.Standings.{standing_at}
 use Rattle.iol_layout.specs.Layout.{other, renewed, gate_at, header_at}
 use Rattle.iol_checkpoint.proofs.BegunCalls.{plan_of, record_below, row_of}
-use Rattle.iol_area.proofs.Plans.{found-there, sector-inside}
+use Rattle.iol_layout.proofs.Plans.{found-there, sector-inside}
 use Rattle.iol_checkpoint.proofs.CheckpointSteps.{record-call}
 use Rattle.iol_disk.proofs.Making.{makes_write, makes_sync}
 use Rattle.iol_checkpoint.proofs.stage_calls.make_stage.Goals as goal

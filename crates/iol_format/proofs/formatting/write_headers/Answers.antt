@@ -1,6 +1,6 @@
 use Rattle.std.proofs.Common.{[], ◌∷◌, ◌∙◌, ap}
 use Rattle.iol_record.specs.declared.version.Version.{Version}
-use Rattle.iol_area.specs.AreaWrites.{header_write}
+use Rattle.iol_layout.specs.AreaWrites.{header_write}
 use Rattle.iol_layout.specs.Header.{header_octets}
 use Rattle.iol_layout.specs.Layout.{header_at}
 use Rattle.iol_layout.specs.declared.area.Area.TheVariants.{B}

@@ -3,12 +3,12 @@ use Rattle.iol_types.specs.State.{empty_state}
 use Rattle.iol_record.specs.declared.version.Version.{Version}
 use Rattle.iol_disk.specs.Calls.{Call}
 use Rattle.iol_disk.proofs.DiskLaws.{made_append}
-use Rattle.iol_area.specs.AreaWrites.{slot_writes, port_writes}
+use Rattle.iol_layout.specs.AreaWrites.{slot_writes, port_writes}
 use Rattle.iol_layout.specs.Geometry.{Geometry}
 use Rattle.iol_layout.specs.Layout.{laid_out}
 use Rattle.iol_format.specs.Orders.{gate_writes, header_writes, opening_calls}
 use Rattle.iol_layout.specs.declared.area.Area.TheVariants.{A}
-use Rattle.iol_area.proofs.Plans.{plan-row}
+use Rattle.iol_layout.proofs.Plans.{plan-row}
 use Rattle.iol_disk.proofs.Making.{makes_then, hands_on, fails_early, fails_behind}
 use Rattle.iol_format.proofs.WrittenJournals.{blank-records}
 use Rattle.iol_format.proofs.formatting.write_journal.Goals as goal

@@ -1,8 +1,8 @@
 use Rattle.std.proofs.Common.{◌≡◌, ◌-◌, ap, arith, length, map, sym, ◌∙◌, ℕ, List}
 use Rattle.std.specs.List.{slice_get}
 use Rattle.std.proofs.lemmas.List.{length-map}
-use Rattle.iol_area.specs.AreaPlans.{write_of}
-use Rattle.iol_area.specs.AreaWrites.{port_writes}
+use Rattle.iol_layout.specs.AreaPlans.{write_of}
+use Rattle.iol_layout.specs.AreaWrites.{port_writes}
 use Rattle.iol_disk.specs.Calls.{Call}
 use Rattle.iol_format.specs.Orders.{opening_calls}
 use Rattle.iol_handed.proofs.Segments.{in_first, in_second}

@@ -1,7 +1,7 @@
 use Rattle.std.proofs.Common.{ap, slice_get, sym, ◌∙◌, Some, length, ◌≤◌, ℕ, arith, subst}
 use Rattle.std.specs.List.{range_with_len}
 use Rattle.std.proofs.lemmas.Option.{slice_get_past, slice_get-map, slice_get-get_or}
-use Rattle.iol_area.specs.AreaWrites.{slot_write, slot_writes}
+use Rattle.iol_layout.specs.AreaWrites.{slot_write, slot_writes}
 use Rattle.iol_disk.specs.Calls.{write}
 use Rattle.iol_handed.proofs.Segments.{slots_at, slots_past}
 use Rattle.iol_layout.specs.Layout.{Layout, laid_out, slot_at}

@@ -1,4 +1,0 @@
-pub mod Rows
-pub mod AreaRecords
-pub mod Plans
-pub mod RecordSectors

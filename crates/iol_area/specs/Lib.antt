@@ -1,2 +1,0 @@
-pub mod AreaWrites
-pub mod AreaPlans

@@ -1,0 +1,119 @@
+//! How the flusher paces a checkpoint that it makes between batches.
+
+ghost use Rattle.std.specs.Prelude.{◌≡◌, min, IfNone, IfSome};
+ghost use Rattle.iol_master.specs.Pace.{Follows, is_owing, longest_delay};
+ghost use Rattle.iol_master.specs.declared.pace.Checkpoint.TheVariants as checkpoint;
+
+use crate::finding::Found;
+use std::marker::Model;
+use std::time::{Clock, Duration, Instant};
+
+const LONGEST_MICROSECONDS: u64 = 20_000;
+
+/// How far a checkpoint is that is made between batches.
+#[derive(Clone, Copy, Debug, PartialEq, Eq)]
+pub(crate) enum Checkpoint {
+    /// No call of it was made.
+    Due,
+    /// A call of it was made, and no batch was given since.
+    Begun,
+    /// A batch was given since, which it has to carry.
+    Owing,
+}
+
+/// How the flusher paces a checkpoint that is due. Before its first call it waits for a batch, as long as the last batch took, 20 ms at
+/// most, and not again once it has waited and nobody came: a client that asks again at once meets no checkpoint until no slot is free.
+/// Once the checkpoint has begun, one batch may be given before it is done. It would have to carry each further one, and the batch that
+/// finds no free slot would wait for all of them. A contract sees the record `PaceView` of `specs/Pace.antt`.
+#[derive(Drop)]
+pub(crate) struct Pace {
+    // when the batch was given that is on its way, if the clock could be read
+    given: Option<Instant>,
+    microseconds: u64,
+    checkpoint: Checkpoint,
+}
+
+impl Model for Pace {
+    ghost use Rattle.std.specs.Prelude.{◌≤◌};
+    ghost use Rattle.iol_master.specs.Pace.{PaceView, longest_delay};
+
+    ghost Value = { PaceView };
+
+    ghost view = { λ p. record { microseconds = p.microseconds; checkpoint = p.checkpoint } };
+
+    ghost invariant = { λ p. p.microseconds ≤ longest_delay };
+}
+
+impl Pace {
+    // No batch was written so far.
+    pub(crate) fn new() -> Pace
+        ensures { result ≡ record { microseconds = 0; checkpoint = checkpoint.Due } }
+    {
+        Pace {
+            given: None,
+            microseconds: 0,
+            checkpoint: Checkpoint::Due,
+        }
+    }
+
+    // Whether the checkpoint's calls come before the next batch.
+    pub(crate) fn is_owing(&self) -> bool
+        ensures { result ≡ is_owing self.now.checkpoint }
+    {
+        self.checkpoint == Checkpoint::Owing
+    }
+
+    // How long a batch is waited for; `None` if it is not.
+    pub(crate) fn limit(&self) -> Option<Duration>
+        ensures none { IfNone result (self.now.microseconds ≡ 0) }
+    {
+        match self.microseconds {
+            0 => None,
+            microseconds => Some(Duration::from_micros(microseconds)),
+        }
+    }
+
+    // A batch is given now.
+    pub(crate) fn begin(&mut self, clock: &impl Clock)
+        ensures { self.new ≡ self.old }
+    {
+        self.given = Instant::now(clock).ok();
+    }
+
+    // The batch that was given is durable now. If the clock cannot be read nothing is waited for.
+    pub(crate) fn end(&mut self, clock: &impl Clock)
+        ensures { self.new.checkpoint ≡ self.old.checkpoint }
+    {
+        let took = self.given.and_then(|given| given.elapsed(clock).ok());
+        self.microseconds = took.map_or(0, |took| delay_after(took.as_micros()));
+    }
+
+    // No checkpoint is due.
+    pub(crate) fn rest(&mut self)
+        ensures { self.new ≡ record self.old { checkpoint = checkpoint.Due } }
+    {
+        self.checkpoint = Checkpoint::Due;
+    }
+
+    // This was found.
+    pub(crate) fn follow(&mut self, found: &Found)
+        ensures { Follows self.old found.now self.new }
+    {
+        match (found, self.checkpoint) {
+            (Found::Nothing, Checkpoint::Due) => {
+                self.microseconds = 0;
+                self.checkpoint = Checkpoint::Begun;
+            }
+            (Found::Nothing, _) => self.microseconds = 0,
+            (Found::Batch(_), Checkpoint::Begun) => self.checkpoint = Checkpoint::Owing,
+            _ => {}
+        }
+    }
+}
+
+// How many microseconds are waited if the last batch took this many.
+fn delay_after(took: u128) -> u64
+    ensures { result ≡ min took longest_delay }
+{
+    u64::try_from(took).map_or(LONGEST_MICROSECONDS, |took| took.min(LONGEST_MICROSECONDS))
+}
