@@ -160,7 +160,8 @@ enum iolm_failure {
     IOLM_FAILED_WRONG_DEVICE,
     IOLM_FAILED_TAKEN,
     IOLM_FAILED_SAME,
-    IOLM_FAILED_EXHAUSTED
+    IOLM_FAILED_EXHAUSTED,
+    IOLM_FAILED_NO_SET
 };
 
 struct iolm_status {

@@ -76,6 +76,7 @@ static inline const char *iolm_failure_name(uint8_t failure) {
     case IOLM_FAILED_TAKEN: return "Taken";
     case IOLM_FAILED_SAME: return "Same";
     case IOLM_FAILED_EXHAUSTED: return "Exhausted";
+    case IOLM_FAILED_NO_SET: return "Empty";
     default: return "";
     }
 }
@@ -127,7 +128,7 @@ static inline const char *iolm_failure_words(uint8_t failure) {
     case IOLM_FAILED_LIST: return "the device's Index_List cannot be followed: check the device's Data Storage, and connect it again";
     case IOLM_FAILED_BUSY: return "the device was busy sixteen times in a row: wait until it is idle, and connect it again";
     case IOLM_FAILED_MEMORY: return "out of memory: give the master more, and connect the device again";
-    case IOLM_FAILED_EMPTY: return "the answer has no octet, or no set is stored: check the cable, and connect the device again";
+    case IOLM_FAILED_EMPTY: return "the answer has no octet: check the cable, and connect the device again";
     case IOLM_FAILED_RESERVED: return "the answer has a reserved I-Service or length: check the cable, and connect the device again";
     case IOLM_FAILED_WRONG_SERVICE: return "the answer is of another service: check the cable, and connect the device again";
     case IOLM_FAILED_LENGTH: return "the answer has a wrong count of octets: check the cable, and connect the device again";
@@ -138,6 +139,7 @@ static inline const char *iolm_failure_words(uint8_t failure) {
     case IOLM_FAILED_TAKEN: return "a transfer of the port is not yet done: connect the device again later";
     case IOLM_FAILED_SAME: return "the device has the stored set already: connect it again";
     case IOLM_FAILED_EXHAUSTED: return "no command number is left: format a new disk";
+    case IOLM_FAILED_NO_SET: return "no set is stored for the port any more: connect the device again";
     default: return "";
     }
 }

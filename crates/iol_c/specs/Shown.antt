@@ -70,6 +70,7 @@ failure_octet fault.WrongDevice = 13
 failure_octet fault.Taken = 14
 failure_octet fault.Same = 15
 failure_octet fault.Exhausted = 16
+failure_octet fault.NoSet = 17
 
 -- a status with no more to it (own)
 abbrev pub plain_status : ℕ → Status

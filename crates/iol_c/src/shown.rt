@@ -94,6 +94,7 @@ fn failure_octet(fault: PortFault) -> u8
         PortFault::Taken => 14,
         PortFault::Same => 15,
         PortFault::Exhausted => 16,
+        PortFault::NoSet => 17,
     }
 }
 

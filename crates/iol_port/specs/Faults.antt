@@ -12,7 +12,8 @@ use Rattle.iol_core.specs.declared.download.DownloadFault.{DownloadFault}
 use Rattle.iol_core.specs.declared.download.DownloadFault.TheVariants as download
 use Rattle.iol_port.specs.declared.fault.PortFault.{PortFault}
 use Rattle.iol_port.specs.declared.fault.PortFault.TheVariants.{Refused, Unexpected, Size, List, Busy, Memory, Empty, Reserved}
-use Rattle.iol_port.specs.declared.fault.PortFault.TheVariants.{WrongService, Length, Check, Stopped, NotAllowed, WrongDevice, Taken, Same}
+use Rattle.iol_port.specs.declared.fault.PortFault.TheVariants.{WrongService, Length, Check, Stopped, NotAllowed, WrongDevice}
+use Rattle.iol_port.specs.declared.fault.PortFault.TheVariants.{Taken, Same, NoSet}
 
 -- the fault of a port for octets that are no answer (own)
 abbrev pub of_isdu : IsduFault → PortFault
@@ -41,7 +42,7 @@ of_permit permit.Taken = Taken
 -- the fault of a port that gets no permit to download (own)
 abbrev pub of_download : DownloadFault → PortFault
 of_download download.NotAllowed = NotAllowed
-of_download download.Empty = Empty
+of_download download.Empty = NoSet
 of_download download.WrongDevice = WrongDevice
 of_download download.Taken = Taken
 of_download download.Same = Same

@@ -39,6 +39,7 @@ fault_numbers fault.WrongDevice = 13 ∷ []
 fault_numbers fault.Taken = 14 ∷ []
 fault_numbers fault.Same = 15 ∷ []
 fault_numbers fault.Exhausted = 16 ∷ []
+fault_numbers fault.NoSet = 17 ∷ []
 
 -- a status as numbers: its place, and its fault (own)
 abbrev pub status_numbers : PortStatus → List ℕ
@@ -69,7 +70,7 @@ fault_at (zero ∷ error ∷ additional ∷ []) = fault.Refused error additional
 fault_at numbers = unwrap_or
     (find (λ why. bytes_eq (fault_numbers why) numbers) (fault.Unexpected ∷ fault.Size ∷ fault.List ∷ fault.Busy ∷ fault.Memory
     ∷ fault.Empty ∷ fault.Reserved ∷ fault.WrongService ∷ fault.Length ∷ fault.Check ∷ fault.Stopped ∷ fault.NotAllowed ∷ fault.WrongDevice
-    ∷ fault.Taken ∷ fault.Same ∷ fault.Exhausted ∷ [])) fault.Unexpected
+    ∷ fault.Taken ∷ fault.Same ∷ fault.Exhausted ∷ fault.NoSet ∷ [])) fault.Unexpected
 
 status_at : List ℕ → PortStatus
 status_at (zero ∷ why) = status.Failed (fault_at why)
@@ -104,6 +105,7 @@ fault_back fault.WrongDevice = refl
 fault_back fault.Taken = refl
 fault_back fault.Same = refl
 fault_back fault.Exhausted = refl
+fault_back fault.NoSet = refl
 
 status_back : (one : PortStatus) → status_at (status_numbers one) ≡ one
 unfolding status_at

@@ -24,6 +24,7 @@ failure_told fault.WrongDevice = trace.WrongDevice
 failure_told fault.Taken = trace.Taken
 failure_told fault.Same = trace.Same
 failure_told fault.Exhausted = trace.Exhausted
+failure_told fault.NoSet = trace.NoSet
 
 -- the status of a port (own)
 abbrev pub status_told : PortStatus → trace.Status

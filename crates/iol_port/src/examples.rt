@@ -191,7 +191,7 @@ pub fn names_of_faults()
         ≡ fault.Stopped ∷ fault.NotAllowed ∷ fault.WrongDevice ∷ fault.Taken ∷ [] }
     ensures download { map of_download (download.NotAllowed ∷ download.Empty ∷ download.WrongDevice
         ∷ download.Taken ∷ download.Same ∷ download.Memory ∷ [])
-        ≡ fault.NotAllowed ∷ fault.Empty ∷ fault.WrongDevice ∷ fault.Taken ∷ fault.Same ∷ fault.Memory ∷ [] }
+        ≡ fault.NotAllowed ∷ fault.NoSet ∷ fault.WrongDevice ∷ fault.Taken ∷ fault.Same ∷ fault.Memory ∷ [] }
     ensures read { map read_fault (Err isdu.Check ∷ Ok (answer.ReadFault 0x80 0x11)
         ∷ Ok (answer.WriteFault 0x80 0x11) ∷ Ok answer.WriteOk ∷ [])
         ≡ fault.Check ∷ fault.Refused 0x80 0x11 ∷ fault.Unexpected ∷ fault.Unexpected ∷ [] }

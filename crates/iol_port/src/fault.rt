@@ -30,8 +30,8 @@ pub enum PortFault {
     /// Out of memory.
     #[error("out of memory")]
     Memory,
-    /// An answer of no octet, or no stored parameter set to download.
-    #[error("no octet in an answer, or no parameter set is stored for the port")]
+    /// An answer of no octet.
+    #[error("an answer of no octet")]
     Empty,
     /// An answer with a reserved I-Service or length.
     #[error("an answer with a reserved I-Service or length")]
@@ -63,6 +63,9 @@ pub enum PortFault {
     /// No command number is left.
     #[error("no number is left")]
     Exhausted,
+    /// No parameter set is stored to download.
+    #[error("no parameter set is stored for the port")]
+    NoSet,
 }
 
 impl PortFault {
@@ -113,7 +116,7 @@ impl PortFault {
     {
         match fault {
             DownloadFault::NotAllowed => PortFault::NotAllowed,
-            DownloadFault::Empty => PortFault::Empty,
+            DownloadFault::Empty => PortFault::NoSet,
             DownloadFault::WrongDevice => PortFault::WrongDevice,
             DownloadFault::Taken => PortFault::Taken,
             DownloadFault::Same => PortFault::Same,

@@ -52,6 +52,7 @@ fn is_same_fault(one: PortFault, other: PortFault) -> bool
         PortFault::Taken => matches!(other, PortFault::Taken),
         PortFault::Same => matches!(other, PortFault::Same),
         PortFault::Exhausted => matches!(other, PortFault::Exhausted),
+        PortFault::NoSet => matches!(other, PortFault::NoSet),
     }
 }
 

@@ -175,7 +175,7 @@ fn may_follow(before: PortStatus, status: PortStatus) -> bool {
 fn may_fail(before: PortStatus, fault: PortFault) -> bool {
     match fault {
         PortFault::Size | PortFault::List => before == PortStatus::Uploading,
-        PortFault::NotAllowed => before == PortStatus::Starting,
+        PortFault::NotAllowed | PortFault::NoSet => before == PortStatus::Starting,
         PortFault::Memory
         | PortFault::Stopped
         | PortFault::WrongDevice

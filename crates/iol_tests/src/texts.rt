@@ -6,7 +6,7 @@ use std::alloc::Global;
 use std::fmt;
 use std::process::Abort;
 
-const OF_PORTS: [(PortFault, &str); 17] = [
+const OF_PORTS: [(PortFault, &str); 18] = [
     (
         PortFault::Refused {
             error: 0x80,
@@ -19,10 +19,7 @@ const OF_PORTS: [(PortFault, &str); 17] = [
     (PortFault::List, "an index list that cannot be followed"),
     (PortFault::Busy, "a device that stays busy"),
     (PortFault::Memory, "out of memory"),
-    (
-        PortFault::Empty,
-        "no octet in an answer, or no parameter set is stored for the port",
-    ),
+    (PortFault::Empty, "an answer of no octet"),
     (
         PortFault::Reserved,
         "an answer with a reserved I-Service or length",
@@ -39,6 +36,7 @@ const OF_PORTS: [(PortFault, &str); 17] = [
     (PortFault::Taken, "the port has a permit"),
     (PortFault::Same, "the device has the parameter set"),
     (PortFault::Exhausted, "no number is left"),
+    (PortFault::NoSet, "no parameter set is stored for the port"),
 ];
 
 const OF_SETS: [(AddFault, &str); 5] = [

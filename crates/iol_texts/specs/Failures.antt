@@ -20,7 +20,7 @@ failure_cause trace.Size = codes "the device's set counts over 4,096 octets: con
 failure_cause trace.List = codes "the device's Index_List cannot be followed: check the device's Data Storage, and connect it again"
 failure_cause trace.Busy = codes "the device was busy sixteen times in a row: wait until it is idle, and connect it again"
 failure_cause trace.Memory = codes "out of memory: give the master more, and connect the device again"
-failure_cause trace.Empty = codes "the answer has no octet, or no set is stored: check the cable, and connect the device again"
+failure_cause trace.Empty = codes "the answer has no octet: check the cable, and connect the device again"
 failure_cause trace.Reserved = codes "the answer has a reserved I-Service or length: check the cable, and connect the device again"
 failure_cause trace.WrongService = codes "the answer is of another service: check the cable, and connect the device again"
 failure_cause trace.Length = codes "the answer has a wrong count of octets: check the cable, and connect the device again"
@@ -31,6 +31,7 @@ failure_cause trace.WrongDevice = codes "the port or its set is for another devi
 failure_cause trace.Taken = codes "a transfer of the port is not yet done: connect the device again later"
 failure_cause trace.Same = codes "the device has the stored set already: connect it again"
 failure_cause trace.Exhausted = codes "no command number is left: format a new disk"
+failure_cause trace.NoSet = codes "no set is stored for the port any more: connect the device again"
 
 -- why a port has failed, and what to do (format, Explained runs)
 abbrev pub failure_words : trace.Failure → List ℕ

@@ -63,6 +63,7 @@ failure_name trace.WrongDevice = codes "WrongDevice"
 failure_name trace.Taken = codes "Taken"
 failure_name trace.Same = codes "Same"
 failure_name trace.Exhausted = codes "Exhausted"
+failure_name trace.NoSet = codes "Empty"
 
 -- the words for a failure: its name, and the two octets of a refusal behind it (format, Texts)
 abbrev pub failure_text : trace.Failure → List ℕ

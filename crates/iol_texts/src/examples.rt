@@ -31,9 +31,9 @@ pub fn failures()
         (trace.Empty ∷ trace.Reserved ∷ trace.WrongService ∷ trace.Length ∷ trace.Check ∷ [])
         ≡ codes "failed Empty" ∷ codes "failed Reserved" ∷ codes "failed WrongService" ∷ codes "failed Length" ∷ codes "failed Check" ∷ [] }
     ensures of_the_core { map (λ failure. status_text (trace.Failed failure))
-        (trace.Stopped ∷ trace.NotAllowed ∷ trace.WrongDevice ∷ trace.Taken ∷ trace.Same ∷ trace.Exhausted ∷ [])
+        (trace.Stopped ∷ trace.NotAllowed ∷ trace.WrongDevice ∷ trace.Taken ∷ trace.Same ∷ trace.Exhausted ∷ trace.NoSet ∷ [])
         ≡ codes "failed Stopped" ∷ codes "failed NotAllowed" ∷ codes "failed WrongDevice" ∷ codes "failed Taken" ∷ codes "failed Same"
-        ∷ codes "failed Exhausted" ∷ [] }
+        ∷ codes "failed Exhausted" ∷ codes "failed Empty" ∷ [] }
 {}
 
 /// The statuses of a port that has not failed.
@@ -147,19 +147,20 @@ pub fn words_of_failures()
         ∷ codes "the device was busy sixteen times in a row: wait until it is idle, and connect it again"
         ∷ codes "out of memory: give the master more, and connect the device again" ∷ [] }
     ensures of_an_isdu { map (failure_words) (trace.Empty ∷ trace.Reserved ∷ trace.WrongService ∷ trace.Length ∷ trace.Check ∷ [])
-        ≡ codes "the answer has no octet, or no set is stored: check the cable, and connect the device again"
+        ≡ codes "the answer has no octet: check the cable, and connect the device again"
         ∷ codes "the answer has a reserved I-Service or length: check the cable, and connect the device again"
         ∷ codes "the answer is of another service: check the cable, and connect the device again"
         ∷ codes "the answer has a wrong count of octets: check the cable, and connect the device again"
         ∷ codes "the answer has a wrong CHKPDU: check the cable, and connect the device again" ∷ [] }
     ensures of_the_core { map (failure_words) (trace.Stopped ∷ trace.NotAllowed ∷ trace.WrongDevice ∷ trace.Taken ∷ trace.Same
-        ∷ trace.Exhausted ∷ [])
+        ∷ trace.Exhausted ∷ trace.NoSet ∷ [])
         ≡ codes "a disk call has failed, and nothing more is stored: replace the disk, and start the master anew"
         ∷ codes "the port keeps no set, or was configured meanwhile: configure IOL_MANUAL with validation 03 or 04"
         ∷ codes "the port or its set is for another device: configure the port for this one"
         ∷ codes "a transfer of the port is not yet done: connect the device again later"
         ∷ codes "the device has the stored set already: connect it again"
-        ∷ codes "no command number is left: format a new disk" ∷ [] }
+        ∷ codes "no command number is left: format a new disk"
+        ∷ codes "no set is stored for the port any more: connect the device again" ∷ [] }
 {}
 
 /// The statuses of a port whose decision is not known.

@@ -49,7 +49,7 @@ fn failure_cause(fault: PortFault) -> &'static str
             "the device was busy sixteen times in a row: wait until it is idle, and connect it again",
         PortFault::Memory => "out of memory: give the master more, and connect the device again",
         PortFault::Empty =>
-            "the answer has no octet, or no set is stored: check the cable, and connect the device again",
+            "the answer has no octet: check the cable, and connect the device again",
         PortFault::Reserved =>
             "the answer has a reserved I-Service or length: check the cable, and connect the device again",
         PortFault::WrongService =>
@@ -68,6 +68,7 @@ fn failure_cause(fault: PortFault) -> &'static str
             "a transfer of the port is not yet done: connect the device again later",
         PortFault::Same => "the device has the stored set already: connect it again",
         PortFault::Exhausted => "no command number is left: format a new disk",
+        PortFault::NoSet => "no set is stored for the port any more: connect the device again",
     }
 }
 

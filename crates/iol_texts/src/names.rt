@@ -70,5 +70,7 @@ pub(crate) fn failure_name(fault: PortFault) -> &'static str
         PortFault::Taken => "Taken",
         PortFault::Same => "Same",
         PortFault::Exhausted => "Exhausted",
+        // As a download names it.
+        PortFault::NoSet => "Empty",
     }
 }

@@ -37,6 +37,7 @@ pub data Failure : Type 0 where
   Taken : Failure
   Same : Failure
   Exhausted : Failure
+  NoSet : Failure
 
 -- the status of a port (format, Texts)
 pub data Status : Type 0 where
