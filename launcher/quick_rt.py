@@ -2,8 +2,9 @@
 """Runs `rt` with the words given, and makes the sum of each crate's sources once.
 
 `rt` compares sums to see what is built already. It makes the sum of a crate anew for each way that leads down to the crate: there are
-some 61,000 ways down from the program, so that most of a proof's time went there. Behind each call of the prover or the compiler all
-sums are made anew, so that a source that was changed meanwhile is seen.
+some 61,000 ways down from the program, so that most of a proof's time went there. After each call of the prover or the compiler all
+sums are made anew, so that a source that was changed meanwhile is seen. What a crate stands on is found once for each crate, and not
+again for each way down to it.
 
 A crate of whose proof no earlier parts are kept is proved by one process, and keeps none; a program where memory allows it. A library is
 built with its statements alone, so that a crate above reads none of its proofs. Nothing else is changed. An `rt` that is another program
@@ -32,10 +33,26 @@ def load():
 
 
 def module_of_rt():
+    """The module of the command `rt`, in which what a crate stands on is found once."""
     loader = importlib.machinery.SourceFileLoader("rt", os.path.realpath(shutil.which("rt")))
     rt = importlib.util.module_from_spec(importlib.util.spec_from_loader("rt", loader))
     loader.exec_module(rt)
+    keep_crates_below(rt)
     return rt
+
+
+def keep_crates_below(rt):
+    """Has the crates below a crate found once: they are those of its line in crates.txt."""
+    crate, find = rt.rtlib.Crate, rt.rtlib.Crate.below
+
+    def below(self):
+        found = self.__dict__.get("found_below")
+        if found is None or found[0] != len(self.deps):
+            # (a crate that is being made may ask before it has all)
+            found = self.found_below = (len(self.deps), find(self))
+        return [*found[1]]
+
+    crate.below = below
 
 
 def keep_sums(rt):
