@@ -1,5 +1,5 @@
 -- How the flusher paces a checkpoint that it makes between batches.
-use Rattle.std.specs.Prelude.{◌≡◌, ⊥, ℕ, Bool, true, false}
+use Rattle.std.specs.Prelude.{◌≡◌, ℕ, Bool, true, false}
 use Rattle.iol_master.specs.declared.finding.Found.{Found}
 use Rattle.iol_master.specs.declared.finding.Found.TheVariants.{Batch, Nothing, Closed, NoMemory}
 use Rattle.iol_master.specs.declared.pace.Checkpoint.{Checkpoint}
