@@ -78,9 +78,13 @@ pub record IsPlayed (said : Said) (report : Report) : Type 0 where
   pub stopped : IsStoppedAs said.keep (inner trace.disk) report.recovered.number report.recovered.state
   pub holds : HoldsAcknowledged geometry.ports (told_in trace) report.recovered.number report.recovered.state
 
+-- what is printed of a run that was played (format, Texts)
+abbrev pub played_text : Report → List ℕ
+played_text report = report_text (events_of report.events.items) report.recovered.number report.recovered.state
+
 -- a text tells a script's run: the events of a run that was played, that the power stopped, and the state that was recovered
 -- (format, Texts)
 pub record TellsRun (script text : List ℕ) : Type 0 where
   pub report : Report
   pub played : IsSomeAnd (said_in script) (λ said. IsPlayed said report)
-  pub text_is : text ≡ report_text (events_of report.events.items) report.recovered.number report.recovered.state
+  pub text_is : text ≡ played_text report

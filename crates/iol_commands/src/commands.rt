@@ -1,15 +1,15 @@
 //! The program's commands, over a writer for their output and one for their faults.
-ghost use Rattle.std.specs.Prelude.{◌≡◌, ◌≤◌, ◌⊎◌, ℕ, List, All, IfErr, IfOk, OnOk, Some, string_bytes};
+ghost use Rattle.std.specs.Prelude.{◌≡◌, ◌≤◌, ◌⊎◌, ℕ, List, All, IfErr, IfOk, OnOk, Some};
 ghost use Rattle.std.specs.Io.KnownBytes.{Appends};
 ghost use Rattle.iol_script.specs.Script.{said_in, said_of};
 ghost use Rattle.iol_commands.specs.Devices.{MayVisit};
 ghost use Rattle.iol_commands.specs.Fault.{status_of, fault_line};
-ghost use Rattle.iol_commands.specs.Played.{IsSaidGeometry, TellsRun};
+ghost use Rattle.iol_commands.specs.Played.{IsSaidGeometry, TellsRun, played_text};
 ghost use Rattle.iol_commands.specs.Runs.{CanRun, IsCause, IsSilent};
 
 use crate::fault::Fault;
 use crate::geometry::geometry_of;
-use crate::run::run;
+use crate::run::{Report, run};
 use iol_journal::Geometry;
 use iol_script::Script;
 use std::alloc::Global;
@@ -32,8 +32,8 @@ pub fn run_text<W: Write, E: Write>(alloc: Global, script: &[u8], out: &mut W, e
     // Else a fault is why, and nothing is written to `out`; or writing to `out` failed.
     ensures silent { (result ≡ 0 → ⊥) → IsSilent script.now result out.old out.new err.old err.new }
 {
-    match text_of_run(alloc, script) {
-        Ok(text) => print(out, text.as_bytes()),
+    match play(alloc, script) {
+        Ok(played) => print_played(out, &played),
         Err(fault) => report(err, &fault),
     }
 }
@@ -65,15 +65,34 @@ pub fn read_playable(alloc: Global, text: &[u8]) -> Result<Playable, Fault<'stat
     Ok(Playable { script, geometry })
 }
 
-// What a run prints.
-fn text_of_run(alloc: Global, text: &[u8]) -> Result<String, Fault<'static>>
+// Plays the run of a script.
+fn play(alloc: Global, text: &[u8]) -> Result<Report, Fault<'static>>
     ensures ran { OnOk result (CanRun text.now) }
-    ensures printed { IfOk result (λ printed. TellsRun text.now (string_bytes printed)) }
+    ensures printed { IfOk result (λ played. TellsRun text.now (played_text played)) }
     ensures cause { IfErr result (IsCause text.now) }
 {
     let ready = read_playable(alloc, text)?;
-    let report = run(alloc, ready.geometry, &ready.script)?;
-    Ok(report.to_string(alloc)?)
+    let played = run(alloc, ready.geometry, &ready.script)?;
+    Ok(played)
+}
+
+// Writes what is printed of a run, and returns the exit status: 0, or 1 where the writing fails. The text is written as it is
+// made, and not kept.
+fn print_played<W: Write>(out: &mut W, played: &Report) -> u8
+    ensures status { (result ≡ 0) ⊎ (result ≡ 1) }
+    ensures written { result ≡ 0 → Appends (W.contents out.old) (W.contents out.new) (played_text played.now) }
+{
+    match write_played(out, played) {
+        Ok(()) => 0,
+        Err(_) => 1,
+    }
+}
+
+fn write_played<W: Write>(out: &mut W, played: &Report) -> io::Result<()>
+    ensures { OnOk result (Appends (W.contents out.old) (W.contents out.new) (played_text played.now)) }
+{
+    write!(out, "{played}")?;
+    out.flush()
 }
 
 // Writes a command's output, and returns the exit status: 0, or 1 where the writing fails.

@@ -3,7 +3,7 @@
 use crate::mark::{Mark, Wait};
 use crate::marking::Marking;
 use crate::port_marks::PortMarks;
-use iol_explain::{Explained, ToldCall, calls_between, calls_of_run};
+use iol_explain::{Explained, ToldCall, calls_before, calls_between, calls_of_run};
 use std::alloc::{AllocError, Global};
 
 // It holds the marks of a run, and how many columns they take.
@@ -24,10 +24,11 @@ pub(crate) fn marks_of<'a>(
     let mut marking = Marking::new(alloc, run.geometry, lines)?;
     let calls = calls_of_run(&run.calls);
     let mut told = 0;
-    for stamped in &run.events {
-        add_calls(&mut marking, calls_between(calls, told, stamped.calls))?;
+    for (place, stamped) in run.events.iter().enumerate() {
+        let before = calls_before(&run.events_before, told, place);
+        add_calls(&mut marking, calls_between(calls, told, before))?;
         marking.event(&stamped.event)?;
-        told = stamped.calls;
+        told = before;
     }
     add_calls(&mut marking, calls_between(calls, told, calls.len()))?;
     marking.end()?;

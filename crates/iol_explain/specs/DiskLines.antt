@@ -1,7 +1,7 @@
 -- The lines of disk calls.
-use Rattle.std.specs.Prelude.{ℕ, ◌&&◌, not, nat_le, Bool, if◌then◌else◌, List, [], ◌++◌, length, drop, slice_range, codes}
+use Rattle.std.specs.Prelude.{ℕ, ◌+◌, ◌&&◌, not, nat_le, Bool, if◌then◌else◌, List, [], ◌++◌, length, drop, slice_range, codes}
 use Rattle.std.specs.Fmt.{decimal}
-use Rattle.std.specs.List.{flat_map}
+use Rattle.std.specs.List.{flat_map, prefix_len}
 use Rattle.iol_journal.specs.Geometry.{Geometry}
 use Rattle.iol_journal.specs.Layout.{layout_of}
 use Rattle.iol_explain.specs.Places.{is_gate, place_at, place_text}
@@ -16,6 +16,11 @@ of_run calls = drop 1 calls
 -- the calls from a place on, up to another, where both are there (own)
 abbrev pub between : List ToldCall → ℕ → ℕ → List ToldCall
 between calls from to = if nat_le from to && nat_le to (length calls) then slice_range calls from to else []
+
+-- how many calls come before the event at a place: those that are told, and the next ones before whose step no more events were told
+-- than come before this one (own)
+abbrev pub calls_before : List ℕ → ℕ → ℕ → ℕ
+calls_before events_before told place = told + prefix_len (λ events. nat_le events place) (drop told events_before)
 
 -- how a gate is written; nothing of what is no gate (format, Explained runs)
 abbrev pub standing : Place → Bool → List ℕ

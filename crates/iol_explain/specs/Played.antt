@@ -28,6 +28,7 @@ pub record IsExplained (said : Said) (explained : Explained) : Type 0 where
   pub untold : calls_of given ≡ []
   pub run : IsRunOf told_disk said explained.geometry given trace
   pub events : explained.events ≡ trace.events
+  pub events_before : explained.events_before ≡ trace.calls
   pub calls : explained.calls.items ≡ calls_of trace.disk
   pub whole : is_whole trace.disk ≡ true
   pub stopped : IsStoppedAs said.keep (inner (told_on trace.disk)) explained.recovered.number explained.recovered.state
@@ -38,5 +39,5 @@ pub record IsExplained (said : Said) (explained : Explained) : Type 0 where
 pub record ExplainsRun (script text : List ℕ) : Type 0 where
   pub explained : Explained
   pub played : IsSomeAnd (said_in script) (λ said. IsExplained said explained)
-  pub text_is : text ≡ explained_text explained.geometry explained.calls.items explained.events.items explained.recovered.number
-      explained.recovered.state
+  pub text_is : text ≡ explained_text explained.geometry explained.calls.items explained.events_before.items explained.events.items
+      explained.recovered.number explained.recovered.state

@@ -41,10 +41,10 @@ known_for ports event = option_map_or (known_at ports) (port_of event) blank
 abbrev pub ports_after : List Known → Event → List Known
 ports_after ports event = option_map_or (λ port. slice_set ports port (known_after (known_at ports port) event)) (port_of event) ports
 
--- what was told once an event is (own)
-abbrev pub after : Telling → Stamped → Telling
-after telling stamped = record {
-  calls = stamped.calls;
+-- what was told once an event is, behind this many disk calls (own)
+abbrev pub after : Telling → ℕ → Stamped → Telling
+after telling calls stamped = record {
+  calls = calls;
   lost = lost_in (event_of stamped.event);
   ports = ports_after telling.ports (event_of stamped.event);
 }

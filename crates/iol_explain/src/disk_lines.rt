@@ -1,7 +1,7 @@
 //! The lines of disk calls (docs/FORMATS.md, "Explained runs").
 ghost use Rattle.std.specs.Prelude.{◌≡◌};
 ghost use Rattle.std.specs.Fmt.{WritesOnOk};
-ghost use Rattle.iol_explain.specs.DiskLines.{between, call_lines, of_run, standing};
+ghost use Rattle.iol_explain.specs.DiskLines.{between, call_lines, calls_before, of_run, standing};
 
 use crate::place::{Place, is_gate, place_of};
 use crate::told_disk::ToldCall;
@@ -27,6 +27,18 @@ pub fn calls_between(calls: &[ToldCall], from: usize, to: usize) -> &[ToldCall]
     } else {
         &[]
     }
+}
+
+/// How many calls come before the event at a place, of which so many are told. `events_before` has for each call how many events
+/// were told before the step that made it. A call comes before the event of its own step.
+pub fn calls_before(events_before: &[usize], told: usize, place: usize) -> usize
+    ensures { result ≡ calls_before events_before.now told place }
+{
+    let mut calls = told;
+    while calls < events_before.len() && events_before[calls] <= place {
+        calls += 1;
+    }
+    calls
 }
 
 // The lines of disk calls, in their order.

@@ -9,7 +9,7 @@ ghost use Rattle.iol_journal.specs.Layout.{layout_of};
 ghost use Rattle.iol_trace.specs.Events as event;
 ghost use Rattle.iol_trace.specs.Statuses as trace;
 ghost use Rattle.iol_explain.specs.Answers.{answer_words};
-ghost use Rattle.iol_explain.specs.DiskLines.{between, call_line, of_run};
+ghost use Rattle.iol_explain.specs.DiskLines.{between, call_line, calls_before, of_run};
 ghost use Rattle.iol_explain.specs.EventLines.{event_lines};
 ghost use Rattle.iol_explain.specs.Known.{blank, started};
 ghost use Rattle.iol_explain.specs.Pages.{page_words};
@@ -202,6 +202,8 @@ pub fn disk_calls()
 pub fn calls()
     ensures of_run { of_run (ToldCall.Sync ∷ ToldCall.Write 23 false ∷ ToldCall.Sync ∷ []) ≡ ToldCall.Write 23 false ∷ ToldCall.Sync ∷ [] }
     ensures between { between (ToldCall.Sync ∷ ToldCall.Write 23 false ∷ ToldCall.Sync ∷ []) 1 2 ≡ ToldCall.Write 23 false ∷ [] }
+    ensures before { map (calls_before (0 ∷ 0 ∷ 2 ∷ 5 ∷ []) 0) (0 ∷ 1 ∷ 2 ∷ 4 ∷ 5 ∷ []) ≡ 2 ∷ 2 ∷ 3 ∷ 3 ∷ 4 ∷ [] }
+    ensures since { map (calls_before (0 ∷ 0 ∷ 2 ∷ 5 ∷ []) 3) (0 ∷ 4 ∷ 5 ∷ 6 ∷ []) ≡ 3 ∷ 3 ∷ 4 ∷ 4 ∷ [] }
 {}
 
 /// What is known of ports: what one port reads is known of that port alone, up to its next look at a device, its loss, or a

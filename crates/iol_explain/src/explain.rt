@@ -72,8 +72,8 @@ fn text_of_ready(alloc: Global, ready: &Playable) -> Result<String, Fault<'stati
     requires devices { All MayVisit ready.now.script.devices.items }
     requires numbers { IsSaidGeometry (said_of ready.now.script) ready.now.geometry }
     ensures printed { IfOk result (λ printed. (explained : Explained) × IsExplained (said_of ready.now.script) explained
-        × (string_bytes printed ≡ explained_text explained.geometry explained.calls.items explained.events.items
-        explained.recovered.number explained.recovered.state)) }
+        × (string_bytes printed ≡ explained_text explained.geometry explained.calls.items explained.events_before.items
+        explained.events.items explained.recovered.number explained.recovered.state)) }
     ensures status { IfErr result (λ fault. status_of fault ≡ 1) }
 {
     let explained = explained_run(alloc, ready.geometry, &ready.script)?;
@@ -97,16 +97,33 @@ pub fn explained_run(
     let empty = empty_disk(alloc, geometry, script.fail)?;
     let given = ToldDisk::new(alloc, empty);
     let trace = make_run(alloc, given, geometry, script)?;
-    let (events, disk) = left_by(trace);
-    stopped_run(alloc, geometry, script.keep, events, disk)
+    stopped_run(alloc, geometry, script.keep, left_by(trace))
 }
 
-// The events of a run and its disk.
-fn left_by(trace: Trace<PlayedDisk, SimLink>) -> (Vec<Stamped>, PlayedDisk)
-    ensures { (result.0 ≡ trace.events) × (result.1 ≡ trace.disk) }
+// The events of a run, how many came before the step of each disk call, and its disk.
+#[derive(Drop)]
+struct Left {
+    events: Vec<Stamped>,
+    events_before: Vec<usize>,
+    disk: PlayedDisk,
+}
+
+// What a run leaves.
+fn left_by(trace: Trace<PlayedDisk, SimLink>) -> Left
+    ensures events { (result.events ≡ trace.events) × (result.events_before ≡ trace.calls) }
+    ensures disk { result.disk ≡ trace.disk }
 {
-    let Trace { events, disk, .. } = trace;
-    (events, disk)
+    let Trace {
+        events,
+        calls,
+        disk,
+        ..
+    } = trace;
+    Left {
+        events,
+        events_before: calls,
+        disk,
+    }
 }
 
 // The events of a run, with the calls of its disk and what its stop leaves.
@@ -114,20 +131,26 @@ fn stopped_run(
     alloc: Global,
     geometry: Geometry,
     keep: Pick,
-    events: Vec<Stamped>,
-    disk: PlayedDisk,
+    left: Left,
 ) -> Result<Explained, Fault<'static>>
-    ensures run { IfOk result (λ explained. (explained.geometry ≡ geometry) × (explained.events ≡ events)
-        × (explained.calls.items ≡ calls_of disk) × (is_whole disk ≡ true)
-        × IsStoppedAs keep (inner (told_on disk)) explained.recovered.number explained.recovered.state) }
+    ensures run { IfOk result (λ explained. (explained.geometry ≡ geometry) × (explained.events ≡ left.events)
+        × (explained.events_before ≡ left.events_before) × (explained.calls.items ≡ calls_of left.disk)
+        × (is_whole left.disk ≡ true)
+        × IsStoppedAs keep (inner (told_on left.disk)) explained.recovered.number explained.recovered.state) }
     ensures status { IfErr result (λ fault. status_of fault ≡ 1) }
 {
+    let Left {
+        events,
+        events_before,
+        disk,
+    } = left;
     match told_and_recovered(alloc, keep, disk) {
         Ok((calls, recovered)) => Ok(Explained {
             alloc,
             geometry,
             calls,
             events,
+            events_before,
             recovered,
         }),
         Err(fault) => Err(fault),

@@ -3,7 +3,7 @@ ghost use Rattle.std.specs.Fmt.{WritesOnOk};
 ghost use Rattle.iol_engine.specs.Events.{event_of};
 ghost use Rattle.iol_explain.specs.Explained.{run_lines, told_text, unsaid_lines};
 
-use crate::disk_lines::{calls_between, calls_of_run, write_calls};
+use crate::disk_lines::{calls_before, calls_between, calls_of_run, write_calls};
 use crate::event_lines::write_event;
 use crate::telling::Telling;
 use crate::told_disk::ToldCall;
@@ -14,13 +14,15 @@ use iol_texts::Recovered;
 use std::alloc::Global;
 use std::fmt;
 
-/// The events of a run, the calls of its disk from the recovery on, and what was recovered behind its stop.
+/// The events of a run, the calls of its disk from the recovery on, how many events came before the step of each call of the
+/// flusher, and what was recovered behind the stop.
 #[derive(Drop)]
 pub struct Explained {
     pub alloc: Global,
     pub geometry: Geometry,
     pub calls: Vec<ToldCall>,
     pub events: Vec<Stamped>,
+    pub events_before: Vec<usize>,
     pub recovered: Recovered,
 }
 
@@ -28,11 +30,13 @@ impl fmt::Display for Explained {
     ghost use Rattle.std.specs.Prelude.{Some};
     ghost use Rattle.iol_explain.specs.Explained.{explained_text};
 
-    ghost output = { λ run. Some (explained_text run.geometry run.calls.items run.events.items run.recovered.number run.recovered.state) };
+    ghost output = { λ run. Some (explained_text run.geometry run.calls.items run.events_before.items run.events.items
+        run.recovered.number run.recovered.state) };
 
     fn fmt<W: fmt::Write>(&self, f: &mut fmt::Formatter<W>) -> fmt::Result {
         let calls = calls_of_run(&self.calls);
-        write_lines(f, self.alloc, self.geometry, calls, &self.events)?;
+        let before = &self.events_before;
+        write_lines(f, self.alloc, self.geometry, calls, before, &self.events)?;
         write!(
             f,
             "stopped  # the power stops, and what it leaves of the disk is recovered\n{}",
@@ -47,31 +51,33 @@ fn write_lines<W: fmt::Write>(
     alloc: Global,
     geometry: Geometry,
     calls: &[ToldCall],
+    events_before: &[usize],
     events: &[Stamped],
 ) -> fmt::Result
-    ensures { WritesOnOk W.write_str_gives f.old result (run_lines geometry calls.now events.now) f.new }
+    ensures { WritesOnOk W.write_str_gives f.old result (run_lines geometry calls.now events_before.now events.now) f.new }
 {
     let mut telling = Telling::first();
-    for stamped in events {
-        write_told(f, alloc, geometry, calls, &telling, stamped)?;
-        telling.tell(stamped);
+    for (place, stamped) in events.iter().enumerate() {
+        let told = calls_before(events_before, telling.calls, place);
+        let since = calls_between(calls, telling.calls, told);
+        write_told(f, alloc, geometry, since, &telling, stamped)?;
+        telling.tell(told, stamped);
     }
     let behind = calls_between(calls, telling.calls, calls.len());
     write_calls(f, geometry, behind)
 }
 
-// The lines of an event behind what was told, and of the disk calls before it.
+// The lines of an event behind what was told, and of the disk calls since.
 fn write_told<W: fmt::Write>(
     f: &mut fmt::Formatter<W>,
     alloc: Global,
     geometry: Geometry,
-    calls: &[ToldCall],
+    since: &[ToldCall],
     telling: &Telling,
     stamped: &Stamped,
 ) -> fmt::Result
-    ensures { WritesOnOk W.write_str_gives f.old result (told_text geometry calls.now telling.now stamped.now) f.new }
+    ensures { WritesOnOk W.write_str_gives f.old result (told_text geometry since.now telling.now stamped.now) f.new }
 {
-    let since = calls_between(calls, telling.calls, stamped.calls);
     write_calls(f, geometry, since)?;
     write_unsaid(f, alloc, telling, stamped)
 }

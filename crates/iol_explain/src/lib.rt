@@ -35,7 +35,7 @@ mod telling;
 mod told_disk;
 mod value_words;
 
-pub use disk_lines::{calls_between, calls_of_run};
+pub use disk_lines::{calls_before, calls_between, calls_of_run};
 pub use explain::{explain_text, explained_run};
 pub use explained::Explained;
 pub use place::{Place, place_of};

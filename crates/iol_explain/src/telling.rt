@@ -53,12 +53,12 @@ impl Telling {
         }
     }
 
-    // One more event is told.
-    pub(crate) fn tell(&mut self, stamped: &Stamped)
-        ensures { self.new ≡ after self.old stamped.now }
+    // One more event is told, behind this many disk calls.
+    pub(crate) fn tell(&mut self, calls: usize, stamped: &Stamped)
+        ensures { self.new ≡ after self.old calls stamped.now }
     {
         let event = &stamped.event;
-        self.calls = stamped.calls;
+        self.calls = calls;
         self.lost = lost_port(event);
         if let Some(port) = port_of(event) {
             let known = known_after(self.known_at(port), event);

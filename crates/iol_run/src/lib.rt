@@ -2,7 +2,8 @@
 //!
 //! [`run_schedule`] recovers a disk and makes the tasks of a schedule: a client asks for a change, a port makes steps, or
 //! the flusher makes turns. Each step tells what happened, stamped with the disk's clock, which contracts alone see. The
-//! [`Trace`] has the events in their order, the durable state at the end, and the disk. [`Run`] is the same step by step.
+//! [`Trace`] has the events in their order, where the disk calls were made among them, the durable state at the end, and the
+//! disk. [`Run`] is the same step by step.
 //!
 //! Modules in reading order:
 //! - `engine_on_disk` is an engine and the flusher that brings its batches to the disk, `turn` what a turn of that came to, and

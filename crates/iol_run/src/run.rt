@@ -28,13 +28,10 @@ use std::marker::Model;
 pub struct Stamped {
     pub event: Event,
     pub moment: Moment,
-    /// How many disk calls the flusher had made by then, those of the event's own step among them. It counts up to
-    /// 2^64 - 1, and no clause speaks of it.
-    pub calls: usize,
 }
 
 // A run keeps all that it tells.
-const _: () = prove!(size_of::<Stamped>() <= 40);
+const _: () = prove!(size_of::<Stamped>() <= 32);
 
 /// A run between its steps. A contract sees the record `RunView` of `specs/Runs.antt`.
 pub struct Run<D: SectorDisk, L: DeviceLink, F: Name> {
@@ -42,6 +39,8 @@ pub struct Run<D: SectorDisk, L: DeviceLink, F: Name> {
     // the link of each port, port 1 first
     links: Vec<L>,
     events: Vec<Stamped>,
+    // for each disk call of the flusher, how many events were told before the step that made it; contracts do not see them
+    calls: Vec<usize>,
     // room for the next exchange, if there is any
     spare: Option<Box<Exchanged>>,
     begun: Moment,
@@ -79,12 +78,16 @@ fn note<D: SectorDisk, F: Name>(
 {
     if let Some(event) = event {
         let moment = Moment::of(master);
-        let calls = master.calls();
-        events.push_reserved(Stamped {
-            event,
-            moment,
-            calls,
-        });
+        events.push_reserved(Stamped { event, moment });
+    }
+}
+
+// Writes down how many events were told before a step, if the step made a disk call; there is room.
+fn note_call(calls: &mut Vec<usize>, is_made: bool, events: usize)
+    requires { vec_len calls.old < vec_capacity calls.old }
+{
+    if is_made {
+        calls.push_reserved(events);
     }
 }
 
@@ -126,6 +129,7 @@ impl<D: SectorDisk, L: DeviceLink + Drop, F: Name> Run<D, L, F> {
             master,
             links,
             events: Vec::new(alloc),
+            calls: Vec::new(alloc),
             spare: None,
             begun,
         })
@@ -147,12 +151,14 @@ impl<D: SectorDisk, L: DeviceLink, F: Name> Run<D, L, F> {
             master,
             links,
             events,
+            calls,
             spare: _,
             begun,
         } = self;
         let (disk, state) = master.end();
         Trace {
             events,
+            calls,
             begun,
             waits,
             ended,
@@ -165,7 +171,7 @@ impl<D: SectorDisk, L: DeviceLink, F: Name> Run<D, L, F> {
     /// Makes a step. What it tells is stamped with the disk's clock after it.
     ///
     /// # Errors
-    /// Out of memory for what the step may tell: the step is not made, and nothing changes.
+    /// Out of memory for what the step may tell, or for its disk call: the step is not made, and nothing changes.
     pub fn step(&mut self, step: &Step) -> Result<Turned, AllocError>
         ensures did { IfOk result (λ turned. Did D.disk L.number L.steps step.now turned self.old self.new) }
         ensures same { OnErr result (self.new ≡ self.old) }
@@ -173,7 +179,9 @@ impl<D: SectorDisk, L: DeviceLink, F: Name> Run<D, L, F> {
         ensures kept { KeepsRun D.disk F.front.start self.old self.new }
     {
         self.events.reserve(2)?;
+        self.calls.reserve(1)?;
         let room = room_in(&mut self.spare, *self.events.allocator())?;
+        let (events, calls) = (self.events.len(), self.master.calls());
         self.master.is_in_step();
         let Told {
             turned,
@@ -182,6 +190,7 @@ impl<D: SectorDisk, L: DeviceLink, F: Name> Run<D, L, F> {
             room,
         } = make(&mut self.master, &mut self.links, step, room);
         self.spare = room;
+        note_call(&mut self.calls, self.master.calls() != calls, events);
         note(&mut self.events, &self.master, first);
         note(&mut self.events, &self.master, second);
         Ok(turned)

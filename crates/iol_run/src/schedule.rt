@@ -49,6 +49,9 @@ pub enum Ended {
 #[derive(Drop)]
 pub struct Trace<D: SectorDisk, L> {
     pub events: Vec<Stamped>,
+    /// For each disk call of the flusher, in their order, how many events were told before the step that made it. So a call
+    /// comes before the events of its own step. No clause says which calls these are; cases of explained runs show it.
+    pub calls: Vec<usize>,
     /// When recovery had ended.
     pub begun: Moment,
     /// How many turns of the flusher met want of memory.

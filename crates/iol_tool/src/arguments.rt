@@ -13,7 +13,7 @@ use iol_explain::explain_text;
 use iol_live::{Telling, live_image};
 use iol_view::{draw_map, json_image, map_image};
 use std::fs::File;
-use std::io::{IsTerminal, Write};
+use std::io::{BufWriter, IsTerminal, Write};
 use std::rt::Files;
 use std::sync::Wait;
 use std::thread::Threads;
@@ -117,10 +117,24 @@ fn answer_script(rt: &HostRuntime, path: &str, what: OnScript) -> u8
         Err(fault) => return report(&mut err, &fault),
     };
     match what {
-        OnScript::Run => run_text(alloc, script.as_slice(), &mut out, &mut err),
+        OnScript::Run => run_script(rt, script.as_slice()),
         OnScript::Explain => explain_text(alloc, script.as_slice(), &mut out, &mut err),
         OnScript::Check => check_text(alloc, script.as_slice(), &mut out, &mut err),
     }
+}
+
+// A run's text is written as it is made, by a buffer of fixed size, which is made before the run.
+fn run_script(rt: &HostRuntime, script: &[u8]) -> u8
+    ensures { result ≤ 2 }
+{
+    let (alloc, mut err) = (rt.alloc(), rt.stderr());
+    let Ok(mut out) = BufWriter::new(alloc, rt.stdout()) else {
+        return report(&mut err, &Fault::Memory);
+    };
+    let status = run_text(alloc, script, &mut out, &mut err);
+    // The run has flushed its text. Where that failed, nothing more is written.
+    let _ = out.into_parts();
+    status
 }
 
 fn draw_file(rt: &HostRuntime, path: &str, picture: &str) -> u8

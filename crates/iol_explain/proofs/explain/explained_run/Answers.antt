@@ -21,13 +21,13 @@ returns-clause-played c =
     let said = said_of c.args.script.now in
     let given = c.new-given.result in
     let trace = c.in_ok-trace.trace in
-    let disk = c.left_by-events.ensures.1 in
+    let disk = c.left_by.ensures.disk in
     IfOk-weaker c.stopped_run.result _ (IsExplained said)
     (λ explained is.
     let number = explained.recovered.number in
     let state = explained.recovered.state in
     let stopped : IsStoppedAs said.keep (inner (told_on trace.disk)) number state =
-    subst (λ (d : ToldDisk (FaultDisk MemoryDisk)). IsStoppedAs said.keep (inner (told_on d)) number state) disk is.4 in
+    subst (λ (d : ToldDisk (FaultDisk MemoryDisk)). IsStoppedAs said.keep (inner (told_on d)) number state) disk is.5 in
     let image = reads (memory_disk stopped.stopped).content in
     record {
       given = given;
@@ -36,9 +36,10 @@ returns-clause-played c =
       fails = subst (λ (d : FaultDisk MemoryDisk). FailsAsSaid said.fail d) (sym c.new-given.ensures.disk) c.in_ok-empty.ensures.fails;
       untold = c.new-given.ensures.calls.0;
       run = subst (λ (g : Geometry). IsRunOf told_disk said g given trace) (sym is.0) c.in_ok-trace.ensures.run;
-      events = is.1 ∙ c.left_by-events.ensures.0;
-      calls = is.2 ∙ ap (λ (d : ToldDisk (FaultDisk MemoryDisk)). calls_of d) disk;
-      whole = ap (λ (d : ToldDisk (FaultDisk MemoryDisk)). is_whole d) (sym disk) ∙ is.3;
+      events = is.1 ∙ c.left_by.ensures.events.0;
+      events_before = is.2 ∙ c.left_by.ensures.events.1;
+      calls = is.3 ∙ ap (λ (d : ToldDisk (FaultDisk MemoryDisk)). calls_of d) disk;
+      whole = ap (λ (d : ToldDisk (FaultDisk MemoryDisk)). is_whole d) (sym disk) ∙ is.4;
       stopped = stopped;
       holds =
           subst (λ (g : Geometry). HoldsAcknowledged g.ports (told_in trace) number state) (sym is.0)

@@ -5,10 +5,10 @@ use Rattle.iol_explain.specs.Telling.{first}
 use Rattle.iol_explain.proofs.explained.write_lines.Given as goal
 
 -- the lines of the events so far, and what they told
-abbrev pub invariant-loop-stamped : goal.invariant-loop-stamped
-invariant-loop-stamped g l =
-    let events = take l.stamped-index l.events in record {
+abbrev pub invariant-loop-place : goal.invariant-loop-place
+invariant-loop-place g l =
+    let events = take l.place l.events in record {
       text : IsPlainFormatter l.initial.f
-          → HasWritten g.W.Write.write_str_gives l.initial.f (told_lines l.geometry l.calls first events) l.f;
-      telling : l.telling ≡ telling_after first events;
+          → HasWritten g.W.Write.write_str_gives l.initial.f (told_lines l.events_before l.geometry l.calls first 0 events) l.f;
+      telling : l.telling ≡ telling_after l.events_before first 0 events;
     }

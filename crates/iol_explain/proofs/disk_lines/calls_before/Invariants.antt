@@ -1,0 +1,10 @@
+use Rattle.std.proofs.Common.{◌≡◌, ◌-◌, length}
+use Rattle.iol_explain.specs.DiskLines.{calls_before}
+use Rattle.iol_explain.proofs.disk_lines.calls_before.Given as goal
+
+-- what is left to count leads to the same
+abbrev pub invariant-loop-calls : goal.invariant-loop-calls
+invariant-loop-calls l = calls_before l.events_before l.calls l.place ≡ calls_before l.events_before l.told l.place
+
+abbrev pub decreases-loop-calls : goal.decreases-loop-calls
+decreases-loop-calls l = length l.events_before - l.calls
