@@ -1,20 +1,20 @@
--- What a call does with a handle.
+-- The effect of a call on a handle.
 use Rattle.std.specs.Prelude.{◌≡◌, ◌&&◌, Bool, true, false, ℕ, nat_le, Option, None, Some}
 use Rattle.iol_handed.specs.declared.ask.Answer.{Answer}
 use Rattle.iol_handed.specs.declared.ask.Ask.{Ask}
 use Rattle.iol_c.specs.Hosting.{Hosts}
 use Rattle.iol_c.specs.declared.handle.Handle.{Handle}
 
--- a handle is asked this, and what it answers is shown so (own)
+-- a handle serves this request, and its answer is shown this way (own)
 abbrev pub Asks : Ask → Handle → Handle → (Answer → Type 0) → Type 0
 Asks asked old new Shows =
     (said : Answer) × Hosts asked old.is_open old.session new.is_open new.session said × Shows said
 
--- an argument is out of its range, and nothing is changed (own)
+-- an argument is out of its range, and nothing changes (own)
 abbrev pub IsInvalid : Handle → Handle → ℕ → Type 0
 IsInvalid old new code = (code ≡ 5) × (new ≡ old)
 
--- a fact of an argument that is in its range, or what is so where it is not (own)
+-- a fact holds of an argument that is in its range, or another one if it is not (own)
 abbrev pub IfValid : {A : Type 0} → Option A → Type 0 → (A → Type 0) → Type 0
 IfValid None Refused Fact = Refused
 IfValid (Some value) Refused Fact = Fact value

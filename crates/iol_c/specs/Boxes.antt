@@ -7,7 +7,7 @@ use base.Fml.{Fml, fex, feq}
 use denote.RawPtr.{Ptr}
 use denote.RattleType.{RattleType}
 
--- the box at an address, with a value in it; or there is none, and it counts as that value which stands for none (own)
+-- the box at an address, with a value in it; or there is no box, which counts as the value that stands for none (own)
 abbrev pub boxed_at : (row : RattleType) → row.Denot → Bool → Ptr → row.Denot → Fml
 boxed_at row none true at value = fex Global (λ alloc. box_owns (ghosts.dealloc_token alloc) row at value)
 boxed_at row none false at value = feq row.Denot value none

@@ -1,4 +1,4 @@
--- The numbers by which a call says what it answers: `enum iolm_result` of include/iolmaster.h.
+-- The codes by which a call returns its answer: `enum iolm_result` of include/iolmaster.h.
 use Rattle.std.specs.Prelude.{ℕ}
 use Rattle.iol_types.specs.declared.command.CommandFault.{CommandFault}
 use Rattle.iol_types.specs.declared.command.CommandFault.TheVariants as command
@@ -11,7 +11,7 @@ use Rattle.iol_core.specs.declared.ticket.SubmitFault.TheVariants as submit
 use Rattle.iol_handed.specs.declared.ask.Answer.{Answer}
 use Rattle.iol_handed.specs.declared.ask.Answer.TheVariants as answer
 
--- a change that the state refuses (own)
+-- the code of a change that the state refuses (own)
 abbrev pub command_code : CommandFault → ℕ
 command_code command.UnknownPort = 32
 command_code command.RevisionSpent = 33
@@ -20,20 +20,20 @@ command_code command.StaleRevision = 35
 command_code command.WrongDevice = 36
 command_code command.NoPrevious = 37
 
--- a change that is refused (own)
+-- the code of a change that is refused (own)
 abbrev pub submit_code : SubmitFault → ℕ
 submit_code submit.Stopped = 4
 submit_code (submit.Command fault) = command_code fault
 submit_code submit.QueueFull = 38
 submit_code submit.Exhausted = 39
 
--- a call of the disk that has failed (own)
+-- the code of a disk call that has failed (own)
 abbrev pub disk_code : DiskFault → ℕ
 disk_code disk.Read = 48
 disk_code disk.Write = 49
 disk_code disk.Sync = 50
 
--- a flash that is not opened (own)
+-- the code of a flash that is not opened (own)
 abbrev pub cause_code : RecoverCause → ℕ
 cause_code (cause.Disk fault) = disk_code fault
 cause_code cause.NotFormatted = 51
@@ -41,7 +41,7 @@ cause_code cause.TooSmall = 52
 cause_code (cause.Damaged sector) = 53
 cause_code cause.Memory = 3
 
--- an answer (own)
+-- the code of an answer (own)
 abbrev pub code_of : Answer → ℕ
 code_of answer.Done = 0
 code_of (answer.Accepted number) = 0

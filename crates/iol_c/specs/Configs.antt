@@ -8,16 +8,16 @@ use Rattle.iol_types.specs.declared.config.Validation.{Validation}
 use Rattle.iol_c.specs.Filled.{filled}
 use Rattle.iol_c.specs.declared.structs.Config.{Config}
 
--- a value where it may be one (own)
+-- a value, if it is valid (own)
 abbrev pub checked : {A : Type 0} → Bool → A → Option A
 checked true value = Some value
 checked false value = None
 
--- the DeviceID with this number, which has three octets (own)
+-- the DeviceID with this number, if it has three octets (own)
 abbrev pub device_of : ℕ → Option ℕ
 device_of number = checked (nat_lt number (2 ^ 24)) number
 
--- the label of a configuration, of at most 32 octets that may stand in one (own)
+-- the label of a configuration, if it has at most 32 octets and each may stand in a label (own)
 abbrev pub label_in : Config → List ℕ → Option (List ℕ)
 label_in config label = checked (nat_le config.label_count 32 && is_label label) label
 

@@ -8,12 +8,12 @@ use Rattle.iol_record.specs.Record.{newest}
 use Rattle.iol_c.specs.Asks.{IfValid}
 use Rattle.iol_c.specs.declared.structs.DiskCall.{DiskCall}
 
--- it is this geometry, where it may be one (own)
+-- the result is this geometry if it is valid, and else none (own)
 abbrev pub IsGeometryOf : Geometry → Option Geometry → Type 0
 IsGeometryOf geometry None = IsGeometry geometry → ⊥
 IsGeometryOf geometry (Some made) = IsGeometry geometry × (made ≡ geometry)
 
--- a fact of the geometry of so many ports and slots, or what is so where there is none (own)
+-- a fact holds of the geometry for this number of ports and of slots, or another one if there is no such geometry (own)
 abbrev pub OfGeometry : ℕ → ℕ → Type 0 → (Geometry → Type 0) → Type 0
 OfGeometry ports slots Refused Fact =
     (made : Option Geometry) × IsGeometryOf (record { ports = ports; slots = slots }) made × IfValid made Refused Fact
@@ -22,7 +22,7 @@ OfGeometry ports slots Refused Fact =
 abbrev pub erase_then_format : Geometry → List Call
 erase_then_format geometry = erase_calls true ++ format_calls newest geometry
 
--- a call is handed out, or there is none (own)
+-- a call is handed out, or there is no call (own)
 abbrev pub HandsOut : Option Call → DiskCall → DiskCall → ℕ → Type 0
 HandsOut None old new code = (code ≡ 8) × (new ≡ old)
 HandsOut (Some (write sector octets)) old new code = (code ≡ 13) × (new ≡ record { sector = sector; octets = octets })

@@ -1,4 +1,4 @@
--- What C keeps of a master.
+-- The handle that C keeps of a master.
 use Rattle.std.specs.Prelude.{Bool, []}
 use Rattle.std.specs.contracts.marker.Brand as brand
 use Rattle.iol_front.specs.Fronts.{FrontId}

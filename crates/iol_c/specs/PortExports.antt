@@ -1,4 +1,4 @@
--- What is asked of a port.
+-- The requests about a port.
 use Rattle.std.specs.Prelude.{◌≡◌, ◌≤◌, ◌<◌, ℕ, List, length, Option}
 use Rattle.arrayvec.specs.ArrayVec.{ArrayVec}
 use Rattle.iol_handed.specs.declared.ask.Ask.TheVariants as ask
@@ -8,12 +8,12 @@ use Rattle.iol_c.specs.Asks.{Asks, IfValid, IsInvalid}
 use Rattle.iol_c.specs.Codes.{code_of}
 use Rattle.iol_c.specs.declared.handle.Handle.{Handle}
 
--- a port is asked this, if its number is in range (own)
+-- a request about a port is made, if the port's number is in range (own)
 abbrev pub AsksPort : Option ℕ → PortAsk → Handle → Handle → ℕ → Type 0
 AsksPort number asked old new code =
     IfValid number (IsInvalid old new code) (λ port. Asks (ask.Port port asked) old new (λ said. code ≡ code_of said))
 
--- a port is handed what its device has answered, of at most 238 octets (own)
+-- a port is handed the answer of its device, of at most 238 octets (own)
 abbrev pub AnswersPort : Option ℕ → List ℕ → Handle → Handle → ℕ → Type 0
 AnswersPort number octets old new code =
     (238 < length octets → IsInvalid old new code)

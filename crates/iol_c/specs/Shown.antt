@@ -1,4 +1,4 @@
--- How answers are written to structs of C.
+-- The answers, as they are written to structs of C.
 use Rattle.std.specs.Prelude.{ℕ, true, false, length, Option, None, Some}
 use Rattle.iol_ident.specs.declared.validation.IdentFault.{IdentFault}
 use Rattle.iol_ident.specs.declared.validation.IdentFault.TheVariants as ident
@@ -19,18 +19,18 @@ use Rattle.iol_c.specs.declared.structs.Request.{Request}
 use Rattle.iol_c.specs.declared.structs.SetSize.{SetSize}
 use Rattle.iol_c.specs.declared.structs.Status.{Status}
 
--- the call of the disk that is wanted (own)
+-- the disk call that is wanted, as `struct iolm_disk_call` (own)
 abbrev pub call_after : Answer → DiskCall → DiskCall
 call_after (answer.Write sector octets) call = record { sector = sector; octets = octets }
 call_after (answer.Read sector) call = record call { sector = sector }
 call_after said call = call
 
--- the request that is to be sent (own)
+-- the request that is to be sent, as `struct iolm_request` (own)
 abbrev pub request_after : Answer → Request → Request
 request_after (answer.Request octets) request = record { count = length octets.items; octets = filled 238 octets.items }
 request_after said request = request
 
--- the number of the last durable command, and of the last that was accepted (own)
+-- the number of the last durable command, and of the last accepted one (own)
 abbrev pub durable_after : Answer → ℕ → ℕ
 durable_after (answer.Numbers durable accepted) number = durable
 durable_after said number = number
@@ -44,14 +44,14 @@ abbrev pub number_after : Answer → ℕ → ℕ
 number_after (answer.Accepted accepted) number = accepted
 number_after said number = number
 
--- why a device is not the one that is wanted, as `enum iolm_mismatch` (own)
+-- the number for why a device is not the wanted one, as `enum iolm_mismatch` (own)
 abbrev pub mismatch_octet : IdentFault → ℕ
 mismatch_octet ident.Vendor = 0
 mismatch_octet ident.Device = 1
 mismatch_octet ident.Revision = 2
 mismatch_octet ident.NoIsdu = 3
 
--- what has failed, as `enum iolm_failure` (own)
+-- the number for what has failed, as `enum iolm_failure` (own)
 abbrev pub failure_octet : PortFault → ℕ
 failure_octet (fault.Refused error additional) = 0
 failure_octet fault.Unexpected = 1
@@ -72,11 +72,11 @@ failure_octet fault.Same = 15
 failure_octet fault.Exhausted = 16
 failure_octet fault.NoSet = 17
 
--- a status with no more to it (own)
+-- a status with no further detail (own)
 abbrev pub plain_status : ℕ → Status
 plain_status octet = record { status = octet; detail = 0; error = 0; additional = 0 }
 
--- a failure, with ErrorCode and AdditionalCode where a device has refused a request (own)
+-- a failure, with ErrorCode and AdditionalCode if a device has refused a request (own)
 abbrev pub failed_status : PortFault → Status
 failed_status (fault.Refused error additional) = record { status = 10; detail = 0; error = error; additional = additional }
 failed_status failed = record { status = 10; detail = failure_octet failed; error = 0; additional = 0 }
@@ -99,7 +99,7 @@ abbrev pub status_after : Answer → Status → Status
 status_after (answer.Status told) status = status_struct told
 status_after said status = status
 
--- how large a set is, as `struct iolm_set`: all is 0 where there is none (own)
+-- the size and the checksum of a set, as `struct iolm_set`: all is 0 if there is no set (own)
 abbrev pub set_struct : Option SetView → SetSize
 set_struct None = record { is_there = false; checksum = 0; entries = 0; octets = 0 }
 set_struct (Some set) = record { is_there = true; checksum = set.checksum; entries = set.entries; octets = set.octets }

@@ -18,7 +18,7 @@ impl<T, A: Allocator> Model for Apart<T, A> {
 }
 
 impl<T: Drop, A: Allocator> Apart<T, A> {
-    /// A box, taken apart.
+    /// Takes a box apart.
     pub(crate) fn of(whole: Box<T, A>) -> Apart<T, A>
         ensures { result.value ≡ whole.value }
     {
@@ -26,7 +26,7 @@ impl<T: Drop, A: Allocator> Apart<T, A> {
         Apart { at, alloc }
     }
 
-    /// The box again.
+    /// Puts the box together again.
     pub(crate) fn into_box(self) -> Box<T, A>
         ensures { result.value ≡ self.value }
     {

@@ -1,4 +1,4 @@
-//! Arguments that C hands over.
+//! The arguments that C hands over.
 
 ghost use Rattle.std.specs.Prelude.{◌≡◌, ◌≤◌, length};
 ghost use Rattle.iol_c.specs.Asks.{port_of};
@@ -6,14 +6,14 @@ ghost use Rattle.iol_c.specs.Filled.{filled};
 
 use iol_types::PortId;
 
-/// The port with this number, if it is 1 to 32.
+/// Returns the port with this number, if it is 1 to 32.
 pub(crate) fn port_of(number: u8) -> Option<PortId>
     ensures { result ≡ port_of number }
 {
     PortId::new(number)
 }
 
-/// Octets with zeros behind them.
+/// Returns these octets, followed by zeros.
 pub(crate) fn filled<const COUNT: usize>(octets: &[u8]) -> [u8; COUNT]
     requires short { length octets.now ≤ COUNT }
     ensures filled { result ≡ filled COUNT octets.now }

@@ -1,4 +1,4 @@
-//! The numbers by which a call says what it answers: `enum iolm_result` of include/iolmaster.h.
+//! The codes by which a call returns its answer: `enum iolm_result` of include/iolmaster.h.
 
 ghost use Rattle.std.specs.Prelude.{◌≡◌};
 ghost use Rattle.iol_c.specs.Codes.{cause_code, code_of, command_code, disk_code, submit_code};
@@ -9,15 +9,15 @@ use iol_handed::Answer;
 use iol_journal::RecoverCause;
 use iol_types::CommandFault;
 
-/// It is done.
+/// The call has done what was asked.
 pub(crate) const OK: u32 = 0;
 /// The handle has no master.
 pub(crate) const CLOSED: u32 = 1;
-/// Its flash is still being opened.
+/// The handle's flash is still being opened.
 pub(crate) const OPENING: u32 = 2;
-/// Out of memory: nothing changed, and it may be asked again.
+/// Out of memory: nothing changed, and the call may be made again.
 pub(crate) const MEMORY: u32 = 3;
-/// A call of the disk has failed: nothing more is taken.
+/// A call of the disk has failed: nothing more is accepted.
 pub(crate) const STOPPED: u32 = 4;
 /// An argument is out of its range, and nothing changed.
 pub(crate) const INVALID: u32 = 5;
@@ -27,7 +27,7 @@ pub(crate) const ABSENT: u32 = 6;
 pub(crate) const MISFIT: u32 = 7;
 /// There is nothing to do, or no such entry.
 pub(crate) const NOTHING: u32 = 8;
-/// Something was done, and it is to be asked again.
+/// Something was done, and the call is to be made again.
 pub(crate) const AGAIN: u32 = 9;
 /// The journal was found, and a master runs.
 pub(crate) const OPENED: u32 = 10;
@@ -49,13 +49,13 @@ pub(crate) const REVISION_SPENT: u32 = 33;
 pub(crate) const NOT_ALLOWED: u32 = 34;
 /// The port was configured meanwhile.
 pub(crate) const STALE_REVISION: u32 = 35;
-/// The set is of another device.
+/// The set belongs to another device.
 pub(crate) const WRONG_DEVICE: u32 = 36;
 /// The port has no previous set.
 pub(crate) const NO_PREVIOUS: u32 = 37;
 /// 64 commands wait.
 pub(crate) const QUEUE_FULL: u32 = 38;
-/// No number is left.
+/// No command number is left.
 pub(crate) const EXHAUSTED: u32 = 39;
 /// A read of the disk failed.
 pub(crate) const DISK_READ: u32 = 48;
@@ -70,7 +70,7 @@ pub(crate) const TOO_SMALL: u32 = 52;
 /// The disk holds what no journal writes.
 pub(crate) const DAMAGED: u32 = 53;
 
-// Of a change that the state refuses.
+// Returns the code of a change that the state refuses.
 fn command_code(fault: CommandFault) -> u32
     ensures { result ≡ command_code fault }
 {
@@ -84,7 +84,7 @@ fn command_code(fault: CommandFault) -> u32
     }
 }
 
-// Of a change that is refused.
+// Returns the code of a change that is refused.
 fn submit_code(fault: SubmitFault) -> u32
     ensures { result ≡ submit_code fault }
 {
@@ -96,7 +96,7 @@ fn submit_code(fault: SubmitFault) -> u32
     }
 }
 
-// Of a call of the disk that has failed.
+// Returns the code of a disk call that has failed.
 fn disk_code(fault: DiskFault) -> u32
     ensures { result ≡ disk_code fault }
 {
@@ -107,7 +107,7 @@ fn disk_code(fault: DiskFault) -> u32
     }
 }
 
-// Of a flash that is not opened.
+// Returns the code of a flash that is not opened.
 fn cause_code(cause: RecoverCause) -> u32
     ensures { result ≡ cause_code cause }
 {
@@ -120,7 +120,7 @@ fn cause_code(cause: RecoverCause) -> u32
     }
 }
 
-/// The number of an answer.
+/// Returns the code of an answer.
 pub(crate) fn code_of(answer: Answer) -> u32
     ensures { result ≡ code_of answer }
 {

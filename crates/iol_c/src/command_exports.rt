@@ -1,4 +1,4 @@
-//! Changes that a client asks for.
+//! The changes that a client requests.
 
 ghost use Rattle.std.specs.Prelude.{◌≡◌, ◌≤◌, length};
 ghost use Rattle.iol_c.specs.Asks.{Asks, IfValid, IsInvalid, port_of};
@@ -66,7 +66,7 @@ pub extern "C" fn iolm_rollback(
     submit(alloc, handle, Change::Rollback { port }, number)
 }
 
-// Asks for a change.
+// Requests a change, and writes its number down if it is accepted.
 fn submit(alloc: Global, handle: &mut Handle, change: Change, number: &mut u64) -> u32
     ensures { Asks (Ask.Submit change) handle.old handle.new
         (λ said. (result ≡ code_of said) × (number.new ≡ number_after said number.old)) }

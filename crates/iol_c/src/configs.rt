@@ -1,4 +1,4 @@
-//! Configurations of a port, as C has them.
+//! The configurations of a port, as C has them.
 
 ghost use Rattle.std.specs.Prelude.{◌≡◌};
 ghost use Rattle.iol_c.specs.Configs.{config_of, config_struct, device_of, label_of};
@@ -7,7 +7,7 @@ use crate::arguments::filled;
 use crate::structs::Config;
 use iol_types::{DeviceId, Label, MOST_LABEL_OCTETS, PortConfig, PortMode, Validation};
 
-/// The configuration that C means, if each of its numbers is in its range.
+/// Returns the configuration that C means, if each of its numbers is in its range.
 pub(crate) fn config_of(config: &Config) -> Option<PortConfig>
     ensures { result ≡ config_of config.now }
 {
@@ -24,14 +24,14 @@ pub(crate) fn config_of(config: &Config) -> Option<PortConfig>
     })
 }
 
-// The DeviceID with this number, if it has three octets.
+// Returns the DeviceID with this number, if it has three octets.
 fn device_of(number: u32) -> Option<DeviceId>
     ensures { result ≡ device_of number }
 {
     DeviceId::new(number)
 }
 
-// The label of a configuration, if it may be one.
+// Returns the label of a configuration, if it is valid.
 fn label_of(config: &Config) -> Option<Label>
     ensures { result ≡ label_of config.now }
 {
@@ -42,7 +42,7 @@ fn label_of(config: &Config) -> Option<Label>
     Label::new(&config.label[..count])
 }
 
-/// A configuration as C has it.
+/// Returns a configuration as C has it.
 pub(crate) fn config_struct(config: &PortConfig) -> Config
     ensures { result ≡ config_struct config.now }
 {

@@ -1,4 +1,4 @@
-//! A flash is opened, and the calls of the disk are handed out.
+//! Opens a flash, and hands out the calls of the disk.
 
 ghost use Rattle.std.specs.Prelude.{◌≡◌, false};
 ghost use Rattle.iol_handed.specs.Sessions.{ended};
@@ -13,7 +13,7 @@ use iol_disk::SECTOR_OCTETS;
 use iol_handed::{Answer, Ask, Opening};
 use std::alloc::Global;
 
-/// Begins to open a flash of so many sectors; a master that the handle has is ended.
+/// Begins to open a flash of this number of sectors. If the handle has a master, ends it.
 #[unsafe(no_mangle)]
 pub extern "C" fn iolm_open(alloc: Global, handle: &mut Handle, sectors: usize) -> u32
     ensures { Opens sectors handle.new result }
@@ -25,7 +25,8 @@ pub extern "C" fn iolm_open(alloc: Global, handle: &mut Handle, sectors: usize) 
     }
 }
 
-/// Ends the master of a handle, if it has one. Each permit is returned, and what was not reported as made counts for nothing.
+/// Ends the master of a handle, if it has one. Each permit is returned, and a call that was not reported as made counts for
+/// nothing.
 #[unsafe(no_mangle)]
 pub extern "C" fn iolm_close(alloc: Global, handle: &mut Handle)
     ensures { (handle.new.is_open ≡ false) × (handle.new.session ≡ ended) }
@@ -33,7 +34,7 @@ pub extern "C" fn iolm_close(alloc: Global, handle: &mut Handle)
     handle.close(alloc);
 }
 
-/// What is wanted of the disk.
+/// Returns what is wanted of the disk.
 #[unsafe(no_mangle)]
 pub extern "C" fn iolm_disk_next(alloc: Global, handle: &mut Handle, call: &mut DiskCall) -> u32
     ensures { WantsOfDisk handle.old handle.new call.old call.new result }
@@ -53,7 +54,7 @@ pub extern "C" fn iolm_disk_next(alloc: Global, handle: &mut Handle, call: &mut 
     }
 }
 
-/// The sync or the write in hand was made, or the call in hand has failed.
+/// Reports that the sync or the write in hand was made, or that the call in hand has failed.
 #[unsafe(no_mangle)]
 pub extern "C" fn iolm_disk_done(alloc: Global, handle: &mut Handle, made: bool) -> u32
     ensures { Asks (Ask.DiskDone made) handle.old handle.new (λ said. result ≡ code_of said) }
@@ -61,7 +62,7 @@ pub extern "C" fn iolm_disk_done(alloc: Global, handle: &mut Handle, made: bool)
     code_of(handle.ask(alloc, Ask::DiskDone(made)))
 }
 
-/// The sector in hand was read, with these octets.
+/// Hands in the octets of the sector in hand, which was read.
 #[unsafe(no_mangle)]
 pub extern "C" fn iolm_disk_read(
     alloc: Global,

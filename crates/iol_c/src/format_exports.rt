@@ -1,4 +1,4 @@
-//! A flash is formatted by calls that are handed out.
+//! Formats a flash, by calls that are handed out.
 
 ghost use Rattle.std.specs.Prelude.{◌≡◌, ◌⊎◌, true};
 ghost use Rattle.std.specs.Option.{option_map};
@@ -15,7 +15,7 @@ use iol_handed::{HandedCall, HandedFormat};
 use iol_layout::{DISK_GATE, Geometry};
 use std::alloc::Global;
 
-/// How many sectors a flash of so many ports and slots has.
+/// Writes down the number of sectors of a flash for this number of ports and of slots.
 #[unsafe(no_mangle)]
 pub extern "C" fn iolm_format_sectors(ports: u16, slots: u16, sectors: &mut u64) -> u32
     ensures { OfGeometry ports slots ((result ≡ 5) × (sectors.new ≡ sectors.old)) (λ geometry.
@@ -28,7 +28,7 @@ pub extern "C" fn iolm_format_sectors(ports: u16, slots: u16, sectors: &mut u64)
     OK
 }
 
-/// The call with this number, from 0, of an erasure and a format behind it.
+/// Hands out the call with this number, counted from 0, of an erasure followed by a format.
 #[unsafe(no_mangle)]
 pub extern "C" fn iolm_format_next(
     alloc: Global,
@@ -52,14 +52,14 @@ pub extern "C" fn iolm_format_next(
     }
 }
 
-// The geometry of so many ports and slots, if there is one.
+// Returns the geometry for this number of ports and of slots, if there is one.
 fn geometry_of(ports: u16, slots: u16) -> Option<Geometry>
     ensures { IsGeometryOf (record { ports = ports; slots = slots }) result }
 {
     Geometry::new(ports, slots)
 }
 
-// The call with this number of an erasure.
+// Returns the call with this number of an erasure.
 #[tactic(auto, unfolding(iol_slots::specs::Gate::closed_gate))]
 fn erase_call(number: usize) -> Option<HandedCall>
     ensures { option_map call_of result ≡ slice_get (erase_calls true) number }
@@ -74,7 +74,7 @@ fn erase_call(number: usize) -> Option<HandedCall>
     }
 }
 
-// Writes a call down.
+// Writes a call down, and returns its code.
 fn hand_out(handed: Option<HandedCall>, call: &mut DiskCall) -> u32
     ensures { HandsOut (option_map call_of handed) call.old call.new result }
 {

@@ -1,4 +1,4 @@
-//! What C keeps of a master.
+//! The handle that C keeps of a master.
 
 ghost use Rattle.std.specs.Prelude.{◌≡◌, false, true};
 ghost use Rattle.iol_c.specs.Hosting.{Begins, Hosts, IsMade, IsOpened};
@@ -11,7 +11,7 @@ use iol_handed::{Answer, Ask, Found, Opening, Session, UnknownFlash};
 use std::alloc::Global;
 use std::marker::{Brand, Model};
 
-/// What C keeps of a master: zeros, or the address of a session under the name of some front (`struct iolm`).
+/// The handle that C keeps of a master: zeros, or the address of a session under the name of some front (`struct iolm`).
 #[repr(C)]
 #[derive(Drop)]
 pub struct Handle {
@@ -27,7 +27,7 @@ impl Model for Handle {
 }
 
 impl Handle {
-    /// With no session.
+    /// Makes a handle with no session.
     pub(crate) fn none() -> Handle
         ensures { (result.is_open ≡ false) × (result.session ≡ ended) }
     {
@@ -37,8 +37,9 @@ impl Handle {
         }
     }
 
-    /// With a new session: a master over what was found, or an ended one where nothing was. Its name is that of the front of what was
-    /// found. Where memory runs out there is none, and what was found is handed back as the opening that found it.
+    /// Makes a handle with a new session: a master over what was found, or an ended session if nothing was found. The session's name
+    /// is that of the front of what was found. If memory runs out, there is no session, and what was found is returned as the opening
+    /// that found it.
     pub(crate) fn make(
         alloc: Global,
         found: Option<Found<UnknownFlash>>,
@@ -54,7 +55,7 @@ impl Handle {
         (handle, back)
     }
 
-    // Has the session serve what is asked.
+    // Has the session serve a request.
     fn serve(self, alloc: Global, ask: Ask) -> (Handle, Answer)
         ensures { Hosts ask self.is_open self.session result.0.is_open result.0.session result.1 }
     {
@@ -72,7 +73,7 @@ impl Handle {
         (handle, answer)
     }
 
-    /// Has the session serve what is asked.
+    /// Has the session serve a request.
     pub(crate) fn ask(&mut self, alloc: Global, ask: Ask) -> Answer
         ensures { Hosts ask self.old.is_open self.old.session self.new.is_open self.new.session result }
     {
@@ -97,7 +98,7 @@ impl Handle {
         code_of(self.ask(alloc, Ask::Open(flash))) == OK
     }
 
-    // With a new session, or none where memory runs out.
+    // Makes a handle with a new session, or with none if memory runs out.
     fn room(alloc: Global) -> Handle
         ensures { result.session ≡ ended }
     {
@@ -105,8 +106,8 @@ impl Handle {
         room
     }
 
-    /// Begins a master with what the session has found, and returns what is answered then. Where memory runs out the flash goes on
-    /// being opened.
+    /// Begins a master with what the session has found, and returns the code of the answer. If memory runs out, the session continues
+    /// to open the flash.
     pub(crate) fn begin(&mut self, alloc: Global, found: Found<UnknownFlash>) -> u32
         requires open { self.old.is_open ≡ true }
         ensures begins { Begins found self.new.is_open self.new.session result }

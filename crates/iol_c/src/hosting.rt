@@ -1,4 +1,4 @@
-//! What becomes of a kept session.
+//! Makes sessions in boxes, and has them serve requests.
 
 ghost use Rattle.std.specs.Prelude.{◌≡◌, IfSome};
 ghost use Rattle.iol_c.specs.Hosting.{Hosts, IsBegunIn, IsMade};
@@ -9,7 +9,7 @@ use iol_front::Name;
 use iol_handed::{Answer, Ask, Found, HandedMaster, Opening, Session, UnknownFlash, is_end};
 use std::alloc::Global;
 
-/// Has a session serve what is asked. Its box is freed where it is to end.
+/// Has a session serve a request. If the request is to end the session, its box is freed.
 pub(crate) fn serve<F: Name>(kept: Kept<F>, alloc: Global, ask: Ask) -> (Kept<F>, Answer)
     ensures { Hosts ask kept.is_open kept.session result.0.is_open result.0.session result.1 }
 {
@@ -26,8 +26,8 @@ pub(crate) fn serve<F: Name>(kept: Kept<F>, alloc: Global, ask: Ask) -> (Kept<F>
     (Kept::of(Apart::of(session)), answer)
 }
 
-/// A new box: with a master over what was found, or with an ended session where nothing was. Where memory runs out there is no
-/// box, and what was found is handed back as the opening that found it.
+/// Makes a box: with a master over what was found, or with an ended session if nothing was found. If memory runs out, there is
+/// no box, and what was found is returned as the opening that found it.
 pub(crate) fn make<F: Name>(
     alloc: Global,
     found: Option<Found<UnknownFlash>>,
@@ -43,7 +43,7 @@ pub(crate) fn make<F: Name>(
     }
 }
 
-// A master over what was found begins in this box.
+// Begins a master in this box, over what was found.
 fn begin<F: Name>(
     alloc: Global,
     session: Box<Session<F>>,

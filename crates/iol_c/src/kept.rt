@@ -25,7 +25,7 @@ impl<F: Name> Model for Kept<F> {
 }
 
 impl<F: Name> Kept<F> {
-    /// No box.
+    /// Makes a value without a box.
     pub(crate) fn none() -> Kept<F>
         ensures { (result.is_open ≡ false) × (result.session ≡ ended) }
     {
@@ -35,7 +35,7 @@ impl<F: Name> Kept<F> {
         }
     }
 
-    /// This box.
+    /// Keeps this box.
     pub(crate) fn of(session: Apart<Session<F>, Global>) -> Kept<F>
         ensures { (result.is_open ≡ true) × (result.session ≡ session.value) }
     {
@@ -43,7 +43,7 @@ impl<F: Name> Kept<F> {
         Kept { at, is_open: true }
     }
 
-    /// The box, if there is one.
+    /// Returns the box, if there is one.
     pub(crate) fn into_apart(self, alloc: Global) -> Option<Apart<Session<F>, Global>>
         ensures { MatchOption result ((self.is_open ≡ false) × (self.session ≡ ended))
             (λ session. (self.is_open ≡ true) × (session.value ≡ self.session)) }

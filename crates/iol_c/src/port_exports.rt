@@ -1,4 +1,4 @@
-//! What a port wants of its device, and what is handed to it.
+//! What a port wants of its device, and what is handed to the port.
 
 ghost use Rattle.std.specs.Prelude.{◌≡◌};
 ghost use Rattle.iol_c.specs.Asks.{Asks, IfValid, IsInvalid, port_of};
@@ -15,7 +15,7 @@ use iol_handed::{Answer, Ask, PortAsk};
 use iol_link::PAGE_OCTETS;
 use std::alloc::Global;
 
-/// What a port wants of its device.
+/// Returns what a port wants of its device.
 #[unsafe(no_mangle)]
 pub extern "C" fn iolm_port_next(
     alloc: Global,
@@ -38,7 +38,7 @@ pub extern "C" fn iolm_port_next(
     code_of(answer)
 }
 
-/// A port is to look again.
+/// Has a port look again.
 #[unsafe(no_mangle)]
 pub extern "C" fn iolm_port_wake(alloc: Global, handle: &mut Handle, port: u8) -> u32
     ensures { AsksPort (port_of port) PortAsk.Wake handle.old handle.new result }
@@ -46,7 +46,7 @@ pub extern "C" fn iolm_port_wake(alloc: Global, handle: &mut Handle, port: u8) -
     asks_port(alloc, handle, port, PortAsk::Wake)
 }
 
-/// The page of a port's device.
+/// Hands in the page of a port's device.
 #[unsafe(no_mangle)]
 pub extern "C" fn iolm_port_page(
     alloc: Global,
@@ -59,7 +59,7 @@ pub extern "C" fn iolm_port_page(
     asks_port(alloc, handle, port, PortAsk::Page(*octets))
 }
 
-/// What a port's device has answered to the request.
+/// Hands in the answer of a port's device to the request.
 #[unsafe(no_mangle)]
 pub extern "C" fn iolm_port_answer(
     alloc: Global,
@@ -76,7 +76,7 @@ pub extern "C" fn iolm_port_answer(
     asks_port(alloc, handle, port, PortAsk::Answer(answer))
 }
 
-/// The device of a port is gone.
+/// Reports that the device of a port is gone.
 #[unsafe(no_mangle)]
 pub extern "C" fn iolm_port_lost(alloc: Global, handle: &mut Handle, port: u8) -> u32
     ensures { AsksPort (port_of port) PortAsk.Lost handle.old handle.new result }
@@ -84,7 +84,7 @@ pub extern "C" fn iolm_port_lost(alloc: Global, handle: &mut Handle, port: u8) -
     asks_port(alloc, handle, port, PortAsk::Lost)
 }
 
-/// The device of a port has raised an event.
+/// Reports an event of a port's device.
 #[unsafe(no_mangle)]
 pub extern "C" fn iolm_port_event(alloc: Global, handle: &mut Handle, port: u8, code: u16) -> u32
     ensures { AsksPort (port_of port) (PortAsk.Event code) handle.old handle.new result }
@@ -92,7 +92,7 @@ pub extern "C" fn iolm_port_event(alloc: Global, handle: &mut Handle, port: u8, 
     asks_port(alloc, handle, port, PortAsk::Event(code))
 }
 
-// Asks something of a port.
+// Makes a request about a port.
 fn asks_port(alloc: Global, handle: &mut Handle, port: u8, ask: PortAsk) -> u32
     ensures { AsksPort (port_of port) ask handle.old handle.new result }
 {

@@ -1,4 +1,4 @@
-//! How answers are written to structs of C.
+//! The answers, as they are written to structs of C.
 
 ghost use Rattle.std.specs.Prelude.{◌≡◌};
 ghost use Rattle.iol_c.specs.Shown.{failed_status, failure_octet, mismatch_octet, plain_status, set_struct, status_struct, view_struct};
@@ -9,7 +9,7 @@ use iol_handed::{SetView, View};
 use iol_ident::IdentFault;
 use iol_port::{PortFault, PortStatus};
 
-/// A status.
+/// Returns a status as C has it.
 pub(crate) fn status_struct(status: PortStatus) -> Status
     ensures { result ≡ status_struct status }
 {
@@ -31,7 +31,7 @@ pub(crate) fn status_struct(status: PortStatus) -> Status
     }
 }
 
-// A status with no more to it.
+// Returns a status with no further detail.
 fn plain_status(status: u8) -> Status
     ensures { result ≡ plain_status status }
 {
@@ -43,7 +43,7 @@ fn plain_status(status: u8) -> Status
     }
 }
 
-// A failure, with ErrorCode and AdditionalCode where a device has refused a request.
+// Returns a failure, with ErrorCode and AdditionalCode if a device has refused a request.
 fn failed_status(fault: PortFault) -> Status
     ensures { result ≡ failed_status fault }
 {
@@ -60,7 +60,7 @@ fn failed_status(fault: PortFault) -> Status
     }
 }
 
-// Why a device is not the one that is wanted.
+// Returns the number for why a device is not the wanted one.
 fn mismatch_octet(fault: IdentFault) -> u8
     ensures { result ≡ mismatch_octet fault }
 {
@@ -72,7 +72,7 @@ fn mismatch_octet(fault: IdentFault) -> u8
     }
 }
 
-// What has failed.
+// Returns the number for what has failed.
 fn failure_octet(fault: PortFault) -> u8
     ensures { result ≡ failure_octet fault }
 {
@@ -98,7 +98,7 @@ fn failure_octet(fault: PortFault) -> u8
     }
 }
 
-/// The durable state of a port.
+/// Returns the durable state of a port as C has it.
 pub(crate) fn view_struct(view: &View) -> PortView
     ensures { result ≡ view_struct view.now }
 {
@@ -110,7 +110,7 @@ pub(crate) fn view_struct(view: &View) -> PortView
     }
 }
 
-// How large a set is.
+// Returns the size and the checksum of a set as C has them.
 fn set_struct(set: Option<SetView>) -> SetSize
     ensures { result ≡ set_struct set }
 {

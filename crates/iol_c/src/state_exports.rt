@@ -14,7 +14,7 @@ use crate::structs::{Entry, PortView, Status};
 use iol_handed::{Answer, Ask, WhichSet};
 use std::alloc::Global;
 
-/// The number of the last durable command.
+/// Writes down the number of the last durable command.
 #[unsafe(no_mangle)]
 pub extern "C" fn iolm_durable(alloc: Global, handle: &mut Handle, number: &mut u64) -> u32
     ensures { Asks Ask.Numbers handle.old handle.new (λ said. (result ≡ code_of said) × (number.new ≡ durable_after said number.old)) }
@@ -26,7 +26,7 @@ pub extern "C" fn iolm_durable(alloc: Global, handle: &mut Handle, number: &mut 
     code_of(answer)
 }
 
-/// The number of the last command that was accepted.
+/// Writes down the number of the last accepted command.
 #[unsafe(no_mangle)]
 pub extern "C" fn iolm_accepted(alloc: Global, handle: &mut Handle, number: &mut u64) -> u32
     ensures { Asks Ask.Numbers handle.old handle.new (λ said. (result ≡ code_of said) × (number.new ≡ accepted_after said number.old)) }
@@ -38,7 +38,7 @@ pub extern "C" fn iolm_accepted(alloc: Global, handle: &mut Handle, number: &mut
     code_of(answer)
 }
 
-/// How a port is.
+/// Writes down the status of a port.
 #[unsafe(no_mangle)]
 pub extern "C" fn iolm_port_status(
     alloc: Global,
@@ -59,7 +59,7 @@ pub extern "C" fn iolm_port_status(
     code_of(answer)
 }
 
-/// The durable state of a port.
+/// Writes down the durable state of a port.
 #[unsafe(no_mangle)]
 pub extern "C" fn iolm_port_view(
     alloc: Global,
@@ -80,7 +80,8 @@ pub extern "C" fn iolm_port_view(
     code_of(answer)
 }
 
-/// An entry, from 0, of a set of a port: of the present one, 0, or the previous one, 1.
+/// Writes down an entry, counted from 0, of a set of a port: of the present one, 0, or of the previous one,
+/// 1.
 #[unsafe(no_mangle)]
 pub extern "C" fn iolm_entry(
     alloc: Global,
@@ -110,7 +111,7 @@ pub extern "C" fn iolm_entry(
     code_of(answer)
 }
 
-// The set with this number, if it is 0 or 1.
+// Returns the set with this number, if it is 0 or 1.
 fn set_of(number: u8) -> Option<WhichSet>
     ensures { result ≡ set_of number }
 {

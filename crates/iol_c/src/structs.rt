@@ -4,7 +4,7 @@ use iol_disk::SECTOR_OCTETS;
 use iol_isdu::ISDU_OCTETS;
 use iol_types::{MOST_ENTRY_OCTETS, MOST_LABEL_OCTETS};
 
-/// A call of the disk (`struct iolm_disk_call`): a sector, and its octets where it is to be written.
+/// A call of the disk (`struct iolm_disk_call`): a sector, and its octets if it is to be written.
 #[repr(C)]
 #[derive(Drop)]
 pub struct DiskCall {
@@ -12,7 +12,7 @@ pub struct DiskCall {
     pub octets: [u8; SECTOR_OCTETS],
 }
 
-/// A request to a device (`struct iolm_request`): so many octets, and zeros behind them.
+/// A request to a device (`struct iolm_request`): `count` octets, followed by zeros.
 #[repr(C)]
 #[derive(Drop)]
 pub struct Request {
@@ -32,7 +32,7 @@ pub struct Config {
     pub label: [u8; MOST_LABEL_OCTETS],
 }
 
-/// An entry of a parameter set (`struct iolm_entry`): so many octets, and zeros behind them.
+/// An entry of a parameter set (`struct iolm_entry`): `count` octets, followed by zeros.
 #[repr(C)]
 #[derive(Drop)]
 pub struct Entry {
@@ -42,7 +42,7 @@ pub struct Entry {
     pub octets: [u8; MOST_ENTRY_OCTETS],
 }
 
-/// How large a stored set is, and its checksum (`struct iolm_set`); all is 0 where there is none.
+/// The size of a stored set, and its checksum (`struct iolm_set`); all is 0 if there is no set.
 #[repr(C)]
 #[derive(Clone, Copy)]
 pub struct SetSize {
@@ -62,7 +62,7 @@ pub struct PortView {
     pub previous: SetSize,
 }
 
-/// How a port is (`struct iolm_status`).
+/// The status of a port (`struct iolm_status`).
 #[repr(C)]
 #[derive(Drop)]
 pub struct Status {

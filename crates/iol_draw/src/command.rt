@@ -17,12 +17,12 @@ use std::io::Write;
 use std::os::unix::fs::FileExt;
 use std::rt::Files;
 
-/// Draws the run of the script of this name in SVG into the file at `picture`, which is made if there is none, writes a line to `out`
-/// (docs/FORMATS.md, "Pictures of runs"), and returns the exit status: 0 once that is done; 2 where the script or its
-/// geometry is not valid, and else 1.
+/// Draws the run of the script of this name in SVG into the file at `picture`, which is made if there is none. Then writes a line to
+/// `out` (docs/FORMATS.md, "Pictures of runs"), and returns the exit status: 0 once that is done; 2 if the script or its geometry is
+/// not valid, and else 1.
 ///
-/// Where the run fails, or the picture cannot be opened, made or written, or is in use, a line on `err` says why, and nothing
-/// is written to `out`. Where writing to `out` fails, nothing is written to `err`.
+/// If the run fails, or the picture cannot be opened, made or written, or is in use, a line on `err` says why, and nothing is written
+/// to `out`. If writing to `out` fails, nothing is written to `err`.
 pub fn draw_text<
     F: FileExt + OpenFile + LockFile + Drop,
     R: Files<File = F> + AllocGlobal,
@@ -37,7 +37,7 @@ pub fn draw_text<
     ensures untouched { result ≡ 2 → out.new ≡ out.old }
     ensures printed { result ≡ 0
         → (text : List ℕ) × TellsDrawn script.now text × Appends (W.contents out.old) (W.contents out.new) text }
-    // Else a fault is why, and nothing is written to `out`; or writing to `out` failed.
+    // Otherwise a fault is why, and nothing is written to `out`; or writing to `out` failed.
     ensures silent { (result ≡ 0 → ⊥) → IsSilentOver TellsDrawn script.now result out.old out.new err.old err.new }
 {
     match draw(rt, name, script, picture) {
@@ -46,7 +46,7 @@ pub fn draw_text<
     }
 }
 
-// Draws the run of a script into the file at `picture`; what is printed of that. All that takes memory comes before the file.
+// Draws the run of a script into the file at `picture`, and returns the line to print. All that needs memory comes before the file.
 fn draw<'a, F: FileExt + OpenFile + LockFile + Drop, R: Files<File = F> + AllocGlobal>(
     rt: &R,
     name: &str,
@@ -65,14 +65,14 @@ fn draw<'a, F: FileExt + OpenFile + LockFile + Drop, R: Files<File = F> + AllocG
     Ok(line)
 }
 
-// What is printed of a picture, and the picture.
+// The line that is printed of a picture, and the picture.
 #[derive(Drop)]
 struct Drawn {
     line: String,
     picture: String,
 }
 
-// The run of a script, drawn.
+// Draws the run of a script.
 fn drawn_run(alloc: Global, name: &str, script: &[u8]) -> Result<Drawn, Fault<'static>>
     ensures ran { OnOk result (CanRun script.now) }
     ensures printed { IfOk result (λ drawn. TellsDrawn script.now (string_bytes drawn.line)) }
@@ -84,7 +84,7 @@ fn drawn_run(alloc: Global, name: &str, script: &[u8]) -> Result<Drawn, Fault<'s
     drawing_of(alloc, name, &explained, &ready.script, numbers)
 }
 
-// The picture of a script's run.
+// Makes the picture of a script's run, and its line.
 fn drawing_of(
     alloc: Global,
     name: &str,
@@ -101,7 +101,7 @@ fn drawing_of(
     })
 }
 
-// What is printed of a picture of so many events.
+// Returns the line that is printed of a picture of this number of events.
 fn line_of(alloc: Global, events: usize) -> Result<String, AllocError>
     ensures { IfOk result (λ text. string_bytes text ≡ drawn_text events) }
 {

@@ -1,19 +1,19 @@
-//! These are the labels of a script's ports.
+//! The labels of a script's ports.
 
 use iol_script::Step;
 use iol_types::{Label, PORTS, PortId};
 
-// There are so many numbers of ports, with 0, which is that of none.
+// The number of port numbers, with 0, which is that of no port.
 pub(crate) const NUMBERS: usize = PORTS as usize + 1;
 
-// It holds what the ports of a script are called, by their numbers.
+// The labels of a script's ports, by their numbers.
 #[derive(Clone, Copy)]
 pub(crate) struct Labels {
     labels: [Label; NUMBERS],
 }
 
 impl Labels {
-    // The label of each port is that of its last configuration among these steps, and empty where there is none.
+    // Takes the label of each port from its last configuration among these steps; it is empty if there is none.
     pub(crate) fn of(steps: &[Step]) -> Labels {
         let mut labels = [Label::empty(); NUMBERS];
         for step in steps {
@@ -24,12 +24,12 @@ impl Labels {
         Labels { labels }
     }
 
-    // It returns the label of a port.
+    // Returns the label of a port.
     pub(crate) fn of_port(&self, port: PortId) -> Label {
         self.labels[usize::from(port.number())]
     }
 
-    // It returns how many letters the longest label has, 0 to 32.
+    // Returns the number of letters of the longest label, 0 to 32.
     pub(crate) fn longest(&self) -> usize {
         let mut longest = 0;
         for label in &self.labels {

@@ -1,4 +1,5 @@
-//! The lane of a port has from top to bottom the words of short statuses, the bars of statuses, signs, and devices.
+//! The lane of a port has, from top to bottom, the words of short statuses, the bars of statuses, signs, and
+//! devices.
 
 use crate::labels::Labels;
 use crate::look::look_of;
@@ -9,13 +10,13 @@ use crate::scale::{LETTER, Scale};
 use iol_types::{Label, PortId};
 use std::alloc::{AllocError, Global};
 
-// The bars of a lane end so far below its top, where no words are above them.
+// The distance from the top of a lane to the end of its bars, if no words are above them.
 const BARS: usize = 21;
-// The signs are so far below the bars, and the first row of devices is.
+// The distances from the bars down to the signs, and to the first row of devices.
 const SIGNS: usize = 9;
 
 const DEVICES: usize = 27;
-// The lane ends so far below the bars, where no devices are.
+// The distance from the bars to the end of the lane, if there are no devices.
 const REST: usize = 18;
 
 #[derive(Drop)]
@@ -29,7 +30,7 @@ pub(crate) struct Lane<'a> {
 }
 
 impl<'a> Lane<'a> {
-    // It makes the lane of a port that begins at this height.
+    // Makes the lane of a port that begins at this height.
     pub(crate) fn of(
         alloc: Global,
         scale: Scale,
@@ -50,44 +51,44 @@ impl<'a> Lane<'a> {
         })
     }
 
-    // Its bars end at this height.
+    // Returns the height at which its bars end.
     pub(crate) fn bars_bottom(&self) -> usize {
         self.top
             .saturating_add(BARS)
             .saturating_add(self.words.height())
     }
 
-    // Its signs are at this height.
+    // Returns the height of its signs.
     pub(crate) fn signs(&self) -> usize {
         self.bars_bottom().saturating_add(SIGNS)
     }
 
-    // The texts of its first row of devices are at this height.
+    // Returns the height of the texts of its first row of devices.
     pub(crate) fn devices_top(&self) -> usize {
         self.bars_bottom().saturating_add(DEVICES)
     }
 
-    // It ends at this height.
+    // Returns the height at which it ends.
     pub(crate) fn bottom(&self) -> usize {
         self.bars_bottom()
             .saturating_add(REST)
             .saturating_add(self.devices.height())
     }
 
-    // Its texts reach so far to the right.
+    // Returns how far its texts reach to the right.
     pub(crate) fn right(&self) -> usize {
         self.words.right().max(self.devices.right())
     }
 }
 
-// It says whether the words of a status fit into its bar.
+// Returns whether the words of a status fit into its bar.
 pub(crate) fn has_room(scale: Scale, bar: Bar) -> bool {
     let width = scale.right(bar.to).saturating_sub(scale.left(bar.from));
     let letters = look_of(bar.status).letters;
     LETTER.saturating_mul(letters).saturating_add(2 * INSET) <= width
 }
 
-// These words do not fit into their bars; there are none where columns are too near one another for them.
+// Returns the words that do not fit into their bars. There are none if columns are too near one another for them.
 fn words_beside<'a>(
     alloc: Global,
     scale: Scale,
@@ -106,7 +107,7 @@ fn words_beside<'a>(
     Ok(notes)
 }
 
-// Each device is at the page by which it was found.
+// Returns the devices, each at the page by which it was found.
 fn devices_below<'a>(
     alloc: Global,
     scale: Scale,

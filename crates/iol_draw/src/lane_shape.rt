@@ -1,5 +1,5 @@
-//! A lane is drawn as a light band, on which nothing is struck through, with its name beside it. That of a port has the bars
-//! of statuses, and texts at poles.
+//! Draws a lane as a light band, on which nothing is struck through, with its name beside it. That of a port has the bars of
+//! statuses, and texts at poles.
 
 use crate::escaped::Escaped;
 use crate::lane::{Lane, has_room};
@@ -11,22 +11,23 @@ use crate::scale::{EDGE, Scale};
 use iol_texts::StatusText;
 use std::fmt;
 
-// A band begins so far before the first column.
+// The distance from the start of a band to the first column.
 const FRONT: usize = 8;
-// The words in a bar are so far above its lower edge, and so far above it are the words beside bars.
+// The distances from the lower edge of a bar up to the words in it, and up to the words beside bars.
 const INSIDE: usize = 3;
 
 const BESIDE: usize = 20;
-// A pole beside bars is so much higher than the lower edge of its words, and that of a device begins so far below its sign.
+// The height of a pole beside bars above the lower edge of its words, and the distance from the sign of a device down to its
+// pole.
 const LETTER_HEIGHT: usize = 8;
 
 const BELOW_SIGN: usize = 5;
-// The poles of bars end so far above their lower edge.
+// The distance from the lower edge of bars up to the end of their poles.
 const BAR: usize = 12;
-// The label of a port is so far below its name.
+// The distance from the name of a port down to its label.
 const LABEL: usize = 13;
 
-// It writes the band of a lane from one height to another.
+// Writes the band of a lane from one height to another.
 pub(crate) fn write_band<W: fmt::Write>(
     f: &mut fmt::Formatter<W>,
     scale: Scale,
@@ -42,7 +43,7 @@ pub(crate) fn write_band<W: fmt::Write>(
     )
 }
 
-// It writes the name of a lane, or of a row of one.
+// Writes the name of a lane, or of a row of one.
 pub(crate) fn write_name<W: fmt::Write>(
     f: &mut fmt::Formatter<W>,
     top: usize,
@@ -51,7 +52,7 @@ pub(crate) fn write_name<W: fmt::Write>(
     writeln!(f, "<text x='{EDGE}' y='{top}'>{name}</text>")
 }
 
-// It writes the lane of a port, but for its signs.
+// Writes the lane of a port, without its signs.
 pub(crate) fn write_lane<W: fmt::Write>(
     f: &mut fmt::Formatter<W>,
     scale: Scale,
@@ -65,7 +66,7 @@ pub(crate) fn write_lane<W: fmt::Write>(
     write_devices(f, lane)
 }
 
-// It writes the name of a port, and its label where it has one.
+// Writes the name of a port, and its label if it has one.
 fn write_port<W: fmt::Write>(f: &mut fmt::Formatter<W>, lane: &Lane) -> fmt::Result {
     let number = lane.port.number();
     let top = lane.bars_bottom().saturating_sub(INSIDE);
@@ -96,7 +97,7 @@ fn write_bars<W: fmt::Write>(
     Ok(())
 }
 
-// It writes the bar of a status, which ends at this height.
+// Writes the bar of a status, which ends at this height.
 fn write_bar<W: fmt::Write>(
     f: &mut fmt::Formatter<W>,
     scale: Scale,
@@ -116,7 +117,7 @@ fn write_bar<W: fmt::Write>(
     f.write_str("</rect>\n")
 }
 
-// It writes the words of a status in its bar.
+// Writes the words of a status in its bar.
 fn write_inside<W: fmt::Write>(
     f: &mut fmt::Formatter<W>,
     scale: Scale,
@@ -132,7 +133,7 @@ fn write_inside<W: fmt::Write>(
     )
 }
 
-// It writes the words of statuses above the bars in which they have no room.
+// Writes the words of statuses above the bars that are too narrow for them.
 fn write_words<W: fmt::Write>(f: &mut fmt::Formatter<W>, lane: &Lane) -> fmt::Result {
     for note in &lane.words.notes {
         let rows = ROW_STEP.saturating_mul(note.row);
@@ -149,7 +150,7 @@ fn write_words<W: fmt::Write>(f: &mut fmt::Formatter<W>, lane: &Lane) -> fmt::Re
     Ok(())
 }
 
-// It writes devices below the pages by which they were found.
+// Writes devices below the pages by which they were found.
 fn write_devices<W: fmt::Write>(f: &mut fmt::Formatter<W>, lane: &Lane) -> fmt::Result {
     for note in &lane.devices.notes {
         let rows = ROW_STEP.saturating_mul(note.row);
@@ -163,14 +164,14 @@ fn write_devices<W: fmt::Write>(f: &mut fmt::Formatter<W>, lane: &Lane) -> fmt::
     Ok(())
 }
 
-// A pole reaches from one height to another.
+// The pole of a text, from one height to another.
 #[derive(Clone, Copy)]
 struct Pole {
     top: usize,
     bottom: usize,
 }
 
-// It writes a text of this class at its pole.
+// Writes a text of this class at its pole.
 fn write_note<W: fmt::Write>(
     f: &mut fmt::Formatter<W>,
     class: &str,

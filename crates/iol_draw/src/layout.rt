@@ -1,4 +1,4 @@
-//! The lanes of a picture are one below the other.
+//! The lanes of a picture, one below the other.
 
 use crate::labels::Labels;
 use crate::lane::Lane;
@@ -9,8 +9,8 @@ use iol_explain::Place;
 use iol_types::PortId;
 use std::alloc::{AllocError, Global};
 
-// The lane of the clients begins and ends there. It has the commands that are accepted or refused, and below them those that
-// are acknowledged.
+// The heights at which the lane of the clients begins and ends. It has the commands that are accepted or refused, and below
+// them those that are acknowledged.
 pub(crate) const CLIENTS_TOP: usize = 30;
 
 pub(crate) const CLIENTS_BOTTOM: usize = 86;
@@ -18,9 +18,9 @@ pub(crate) const CLIENTS_BOTTOM: usize = 86;
 pub(crate) const ACCEPTED_TOP: usize = 50;
 
 pub(crate) const ACKNOWLEDGED_TOP: usize = 76;
-// Lanes are so far apart.
+// The distance between lanes.
 const GAP: usize = 4;
-// The rows of the disk's lane are so far below its top, and it is so high.
+// The distances from the top of the disk's lane down to its rows, and its height.
 pub(crate) const BATCHES: usize = 16;
 
 pub(crate) const CHECKPOINTS: usize = 40;
@@ -30,13 +30,13 @@ const DISK_HEIGHT: usize = 56;
 #[derive(Drop)]
 pub(crate) struct Layout<'a> {
     pub scale: Scale,
-    // They are ordered by the port's place.
+    // ordered by the port's place
     pub lanes: Vec<Lane<'a>>,
     pub disk_top: usize,
 }
 
 impl<'a> Layout<'a> {
-    // It makes the lanes of these ports, at this scale or at one that reaches farther.
+    // Makes the lanes of these ports, at this scale or at one that reaches farther.
     pub(crate) fn of(
         alloc: Global,
         scale: Scale,
@@ -59,12 +59,12 @@ impl<'a> Layout<'a> {
         })
     }
 
-    // The lanes end at this height.
+    // Returns the height at which the lanes end.
     pub(crate) fn bottom(&self) -> usize {
         self.disk_top.saturating_add(DISK_HEIGHT)
     }
 
-    // A sign is so far below the top of the picture.
+    // Returns the distance from the top of the picture to a sign.
     pub(crate) fn top(&self, what: What) -> usize {
         match what {
             What::Accepted { .. } | What::Refused => ACCEPTED_TOP,
@@ -80,7 +80,7 @@ impl<'a> Layout<'a> {
         }
     }
 
-    // The signs of a port are at this height.
+    // Returns the height of the signs of a port.
     fn signs_of(&self, port: PortId) -> usize {
         match self.lanes.get(port.place()) {
             Some(lane) => lane.signs(),
@@ -89,7 +89,7 @@ impl<'a> Layout<'a> {
     }
 }
 
-// It returns the row of a write, since a batch writes the body of a slot and opens its gate.
+// Returns the row of a write. A batch writes the body of a slot and opens its gate.
 fn row_of(place: Place, is_gate_open: bool) -> usize {
     match place {
         Place::Body(_, _) => BATCHES,

@@ -1,4 +1,4 @@
-//! The legend says what each sign means that a picture has.
+//! The legend, which says what each sign of a picture means.
 
 use crate::marks::Marks;
 use crate::scale::{EDGE, LETTER, LINE_STEP};
@@ -6,23 +6,23 @@ use crate::sign::{SIGNS, Sign, write_small_sign};
 use std::alloc::{AllocError, Global};
 use std::fmt;
 
-// The first sign of a line is so far from the edge, and words are so far after their sign.
+// The place of the first sign of a line, and the distance from a sign to its words.
 const LEFT: usize = EDGE + 6;
 
 const WORDS: usize = 11;
-// The words of a sign and the next sign are so far apart.
+// The distance between the words of a sign and the next sign.
 const APART: usize = 16;
-// A sign is so far above the lower edge of its words.
+// The distance from the lower edge of the words up to their sign.
 const ABOVE: usize = 4;
 
-// It holds the signs that a picture has, in lines.
+// The signs that a picture has, in lines.
 #[derive(Drop)]
 pub(crate) struct Legend {
     entries: Vec<Entry>,
     lines: usize,
 }
 
-// It is a sign in a line of the legend, which counts from 1.
+// A sign in a line of the legend. Lines are counted from 1.
 #[derive(Clone, Copy)]
 struct Entry {
     sign: Sign,
@@ -31,7 +31,7 @@ struct Entry {
 }
 
 impl Legend {
-    // It makes the legend of these marks, in lines of this width.
+    // Makes the legend of these marks, in lines of this width.
     pub(crate) fn of(alloc: Global, marks: &Marks, width: usize) -> Result<Legend, AllocError> {
         let mut entries = Vec::new(alloc);
         let (mut left, mut lines) = (LEFT, 1usize);
@@ -53,13 +53,13 @@ impl Legend {
         Ok(Legend { entries, lines })
     }
 
-    // It is so high.
+    // Returns its height.
     pub(crate) fn height(&self) -> usize {
         LINE_STEP.saturating_mul(self.lines)
     }
 }
 
-// It says whether a picture of these marks has this sign.
+// Returns whether a picture of these marks has this sign.
 fn occurs(marks: &Marks, sign: Sign) -> bool {
     match sign {
         Sign::Waits => !marks.waits.is_empty(),
@@ -67,14 +67,14 @@ fn occurs(marks: &Marks, sign: Sign) -> bool {
     }
 }
 
-// The words of a sign that is here end there.
+// Returns where the words of a sign at this place end.
 fn after(left: usize, sign: Sign) -> usize {
     let (_, meaning) = sign.name();
     left.saturating_add(WORDS)
         .saturating_add(LETTER.saturating_mul(meaning.len()))
 }
 
-// It writes the legend, below this height.
+// Writes the legend, below this height.
 pub(crate) fn write_legend<W: fmt::Write>(
     f: &mut fmt::Formatter<W>,
     top: usize,
@@ -87,7 +87,7 @@ pub(crate) fn write_legend<W: fmt::Write>(
     Ok(())
 }
 
-// It writes a sign and what it means, on the line at this height.
+// Writes a sign and its meaning, on the line at this height.
 fn write_entry<W: fmt::Write>(f: &mut fmt::Formatter<W>, entry: Entry, top: usize) -> fmt::Result {
     let (_, meaning) = entry.sign.name();
     f.write_str("<g class='legend'>")?;

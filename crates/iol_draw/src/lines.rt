@@ -1,4 +1,4 @@
-//! The lines of an explained run are the titles of a picture's marks.
+//! The lines of an explained run, which are the titles of a picture's marks.
 
 use crate::escaped::Escaped;
 use iol_commands::{is_said_loss, lost_port};
@@ -6,24 +6,24 @@ use iol_engine::Event;
 use iol_types::PortId;
 use std::fmt;
 
-// So many lines say what a mark shows, from this one on, counted from 0.
+// The lines for a mark: `count` of them, from `first` on, counted from 0.
 #[derive(Clone, Copy)]
 pub(crate) struct Lines {
     first: usize,
     count: usize,
 }
 
-// It holds the lines of an explained run, and how many of them are taken.
+// The lines of an explained run, and the number of them that are taken.
 #[derive(Drop)]
 pub(crate) struct Told<'a> {
     lines: &'a [&'a str],
     taken: usize,
-    // The last event has lost the device of this port.
+    // the port whose device the last event has lost
     lost: Option<PortId>,
 }
 
 impl<'a> Told<'a> {
-    // It begins at the first line.
+    // Begins at the first line.
     pub(crate) fn new(lines: &'a [&'a str]) -> Told<'a> {
         Told {
             lines,
@@ -32,12 +32,12 @@ impl<'a> Told<'a> {
         }
     }
 
-    // It takes the line of the next disk call.
+    // Takes the line of the next disk call.
     pub(crate) fn call(&mut self) -> Lines {
         self.take(1)
     }
 
-    // It takes the lines of the next event. A status that has none shows the loss that was said right before.
+    // Takes the lines of the next event. A status that has none shows the line of the loss right before it.
     pub(crate) fn event(&mut self, event: &Event) -> Lines {
         let count = line_count(event, self.lost);
         self.lost = lost_port(event);
@@ -57,7 +57,7 @@ impl<'a> Told<'a> {
         }
     }
 
-    // It returns the numbers of a device, with which the words for its page begin.
+    // Returns the numbers of a device, with which the words for its page begin.
     pub(crate) fn numbers(&self, page: Lines) -> &'a str {
         match self.lines.get(page.first) {
             Some(line) => numbers_in(line),
@@ -66,7 +66,8 @@ impl<'a> Told<'a> {
     }
 }
 
-// An explained run has so many lines of an event, after one that has reported the loss of this port's device.
+// Returns the number of lines that an explained run has of an event, after one that has reported the loss of
+// this port's device.
 fn line_count(event: &Event, lost: Option<PortId>) -> usize {
     match event {
         Event::Attended { .. } => 0,
@@ -80,7 +81,7 @@ fn line_count(event: &Event, lost: Option<PortId>) -> usize {
     }
 }
 
-// It returns what the words for a page have before the revision.
+// Returns the part of the words for a page before the revision.
 fn numbers_in(line: &str) -> &str {
     let words = match line.split_once("  # ") {
         Some((_, words)) => words,
@@ -92,7 +93,7 @@ fn numbers_in(line: &str) -> &str {
     }
 }
 
-// It writes the title of a mark, which is what the explained run says of it.
+// Writes the title of a mark: the lines of the explained run for it.
 pub(crate) fn write_title<W: fmt::Write>(
     f: &mut fmt::Formatter<W>,
     lines: &[&str],

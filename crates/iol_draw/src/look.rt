@@ -1,9 +1,9 @@
-//! How a status looks: its bar, and what is written in it. Bars differ in black and white too: transfers are higher, and what
-//! went wrong is dark.
+//! The look of a status: its bar, and what is written in it. Bars differ in black and white too: transfers are higher, and
+//! what went wrong is dark.
 
 use iol_port::PortStatus;
 
-// A bar: the colours of its inside and of its text, its height, and how many letters its text has at most.
+// A bar: the colours of its inside and of its text, its height, and the most letters that its text has.
 #[derive(Clone, Copy)]
 pub(crate) struct Look {
     pub fill: &'static str,
@@ -12,7 +12,7 @@ pub(crate) struct Look {
     pub letters: usize,
 }
 
-// How a status looks.
+// Returns the look of a status.
 pub(crate) fn look_of(status: PortStatus) -> Look {
     match status {
         PortStatus::Off => quiet("white", 3),
@@ -32,7 +32,7 @@ pub(crate) fn look_of(status: PortStatus) -> Look {
     }
 }
 
-// The bar of a status in which no parameters are moved.
+// Returns the bar of a status in which no parameters are moved.
 fn quiet(fill: &'static str, letters: usize) -> Look {
     Look {
         fill,
@@ -42,7 +42,7 @@ fn quiet(fill: &'static str, letters: usize) -> Look {
     }
 }
 
-// The bar of a transfer.
+// Returns the bar of a transfer.
 fn transfer(fill: &'static str, letters: usize) -> Look {
     Look {
         fill,

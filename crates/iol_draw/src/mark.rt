@@ -1,4 +1,4 @@
-//! Marks are what a picture shows of a run. A column is a place in the order of the run, from 0 on.
+//! The marks that a picture shows of a run. A column is a place in the order of the run, from 0 on.
 
 use crate::lines::Lines;
 use crate::sign::Sign;
@@ -6,7 +6,7 @@ use iol_explain::Place;
 use iol_port::PortStatus;
 use iol_types::PortId;
 
-// This happened in one column, with what an explained run says of it.
+// What happened in one column, with the lines of the explained run for it.
 #[derive(Clone, Copy)]
 pub(crate) struct Mark {
     pub what: What,
@@ -37,7 +37,7 @@ pub(crate) enum What {
 }
 
 impl What {
-    // This sign shows it.
+    // Returns the sign that shows it.
     pub(crate) fn sign(self) -> Sign {
         match self {
             What::Accepted { .. } => Sign::Accepted,
@@ -56,7 +56,7 @@ impl What {
     }
 }
 
-// It returns the sign of a write, by which a gate may be opened or closed.
+// Returns the sign of a write, which may open or close a gate.
 fn sign_of_write(place: Place, is_gate_open: bool) -> Sign {
     match place {
         Place::DiskGate | Place::AreaGate(_) | Place::SlotGate(_, _) if is_gate_open =>
@@ -66,7 +66,7 @@ fn sign_of_write(place: Place, is_gate_open: bool) -> Sign {
     }
 }
 
-// A command was accepted in one column, and acknowledged in another.
+// The wait of a command, from the column where it was accepted to the one where it was acknowledged.
 #[derive(Clone, Copy)]
 pub(crate) struct Wait {
     pub number: u64,
@@ -74,7 +74,7 @@ pub(crate) struct Wait {
     pub to: usize,
 }
 
-// A port has had this status from one column up to another.
+// The status of a port, from one column up to another.
 #[derive(Clone, Copy)]
 pub(crate) struct Bar {
     pub status: PortStatus,
@@ -83,7 +83,7 @@ pub(crate) struct Bar {
     pub said: Lines,
 }
 
-// A port has found a device with these numbers.
+// A device with these numbers, which a port has found.
 #[derive(Clone, Copy)]
 pub(crate) struct Device<'a> {
     pub column: usize,
@@ -91,7 +91,7 @@ pub(crate) struct Device<'a> {
     pub arrival: Arrival,
 }
 
-// It says whether a port has found another device before.
+// Whether a port has found another device before.
 #[derive(Clone, Copy)]
 pub(crate) enum Arrival {
     First,

@@ -1,4 +1,4 @@
-//! Marks are made of what happens in a run, one after another.
+//! The marks of what happens in a run, made one after another.
 
 use crate::lines::{Lines, Told};
 use crate::mark::{Mark, Wait, What};
@@ -11,7 +11,7 @@ use iol_port::PortStatus;
 use iol_types::PortId;
 use std::alloc::{AllocError, Global};
 
-// It holds the marks so far, and what they are made of.
+// The marks so far, and what they are made of.
 #[derive(Drop)]
 pub(crate) struct Marking<'a> {
     geometry: Geometry,
@@ -20,12 +20,12 @@ pub(crate) struct Marking<'a> {
     pub column: usize,
     pub signs: Vec<Mark>,
     pub waits: Vec<Wait>,
-    // They are ordered by the port's place.
+    // ordered by the port's place
     pub ports: Vec<PortMarks<'a>>,
 }
 
 impl<'a> Marking<'a> {
-    // It has no mark yet; titles are taken from these lines of the explained run.
+    // Begins without a mark. Titles are taken from these lines of the explained run.
     pub(crate) fn new(
         alloc: Global,
         geometry: Geometry,
@@ -42,7 +42,7 @@ impl<'a> Marking<'a> {
         })
     }
 
-    // The disk was called.
+    // Marks a call of the disk.
     pub(crate) fn call(&mut self, call: ToldCall) -> Result<(), AllocError> {
         let said = self.told.call();
         match call {
@@ -63,7 +63,7 @@ impl<'a> Marking<'a> {
         }
     }
 
-    // This happened.
+    // Marks an event.
     pub(crate) fn event(&mut self, event: &Event) -> Result<(), AllocError> {
         let said = self.told.event(event);
         match event {
@@ -83,7 +83,7 @@ impl<'a> Marking<'a> {
         }
     }
 
-    // Nothing more happens: each port has had its status up to here.
+    // Ends the status of each port here, as nothing more happens.
     pub(crate) fn end(&mut self) -> Result<(), AllocError> {
         for marks in self.ports.iter_mut() {
             marks.end(self.column)?;
@@ -91,7 +91,7 @@ impl<'a> Marking<'a> {
         Ok(())
     }
 
-    // It adds a mark, and goes on to the next column.
+    // Adds a mark, and goes to the next column.
     fn add(&mut self, what: What, said: Lines) -> Result<(), AllocError> {
         self.signs.push(Mark {
             what,
@@ -121,7 +121,7 @@ impl<'a> Marking<'a> {
         self.add(What::Page { port }, said)
     }
 
-    // A port has another status from here on, which takes a column.
+    // Gives a port another status from here on, which takes a column.
     fn status(&mut self, port: PortId, status: PortStatus, said: Lines) -> Result<(), AllocError> {
         if let Some(marks) = self.ports.get_mut(port.place()) {
             marks.begin(status, self.column, said)?;
@@ -131,7 +131,7 @@ impl<'a> Marking<'a> {
     }
 }
 
-// It makes the ports of a geometry, of which nothing is shown yet.
+// Makes the ports of a geometry, of which nothing is shown yet.
 fn ports_of<'a>(alloc: Global, geometry: Geometry) -> Result<Vec<PortMarks<'a>>, AllocError> {
     let mut ports = Vec::new(alloc);
     for number in 1..=geometry.ports() {

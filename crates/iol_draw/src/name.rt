@@ -3,7 +3,7 @@
 use crate::escaped::write_escaped;
 use std::fmt;
 
-// No more characters of a name are shown.
+// The most characters of a name that are shown.
 const MOST: usize = 60;
 
 // The last part of a script's path.

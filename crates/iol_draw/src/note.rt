@@ -7,11 +7,11 @@ use iol_port::PortStatus;
 use iol_texts::StatusText;
 use std::fmt;
 
-// A text is so far from its pole, or from the edges of its bar.
+// The distance from a text to its pole, or to the edges of its bar.
 pub(crate) const INSET: usize = 3;
-// Rows of notes are so far apart.
+// The distance between rows of notes.
 pub(crate) const ROW_STEP: usize = 12;
-// The words before the numbers of a device have so many letters, and those numbers do.
+// The most letters of the words before the numbers of a device, and of those numbers.
 const ANEW_LETTERS: usize = 16;
 
 const NUMBERS_LETTERS: usize = 30;
@@ -23,7 +23,7 @@ pub(crate) enum Said<'a> {
 }
 
 impl Said<'_> {
-    // Its text is at most so wide.
+    // Returns the largest width of its text.
     fn width(self) -> usize {
         let letters = match self {
             Said::Status(status) => look_of(status).letters,
@@ -65,7 +65,7 @@ impl Note<'_> {
     }
 }
 
-// It holds notes in their order from left to right, and how many rows they take.
+// Notes in their order from left to right, and the number of their rows.
 #[derive(Drop)]
 pub(crate) struct Notes<'a> {
     pub notes: Vec<Note<'a>>,
@@ -73,7 +73,8 @@ pub(crate) struct Notes<'a> {
 }
 
 impl<'a> Notes<'a> {
-    // It puts notes into rows. One is farther than those after it whose poles it would cover, so that no pole strikes a text.
+    // Puts notes into rows. A note is farther than those after it whose poles it would cover, so that no pole strikes through
+    // a text.
     pub(crate) fn of(mut notes: Vec<Note<'a>>) -> Notes<'a> {
         let mut rows = 0;
         for at in (0..notes.len()).rev() {
@@ -86,12 +87,12 @@ impl<'a> Notes<'a> {
         Notes { notes, rows }
     }
 
-    // The rows are so high.
+    // Returns the height of the rows.
     pub(crate) fn height(&self) -> usize {
         ROW_STEP.saturating_mul(self.rows)
     }
 
-    // The notes end there, counted from the left.
+    // Returns where the notes end, counted from the left.
     pub(crate) fn right(&self) -> usize {
         let mut right = 0;
         for note in &self.notes {
@@ -101,7 +102,7 @@ impl<'a> Notes<'a> {
     }
 }
 
-// It returns the row of a note, once those after it have theirs.
+// Returns the row of a note, once those after it have theirs.
 fn row_at(notes: &[Note], at: usize) -> usize {
     match notes.get(at..) {
         Some([note, later @ ..]) => row_before(note.right(), later),
@@ -109,7 +110,7 @@ fn row_at(notes: &[Note], at: usize) -> usize {
     }
 }
 
-// It returns the row of a note that ends there, before these notes.
+// Returns the row of a note that ends at `right`, before these notes.
 fn row_before(right: usize, later: &[Note]) -> usize {
     let mut row = 0;
     for note in later {

@@ -1,4 +1,4 @@
-//! What is recovered of a run's disk, by what the stop keeps of each sector that no sync has settled.
+//! Finds what is recovered of a run's disk, by what the stop keeps of each sector that no sync has settled.
 ghost use Rattle.std.specs.Prelude.{◌≡◌, All, IfErr};
 ghost use Rattle.iol_script.specs.Script.{said_of};
 ghost use Rattle.iol_commands.specs.Devices.{MayVisit};
@@ -12,10 +12,10 @@ use iol_journal::Geometry;
 use iol_script::Script;
 use std::alloc::Global;
 
-// What is recovered after each kind of stop of a script's run, which is made once for each.
+// Returns what is recovered after each kind of stop of a script's run, which is made once for each kind.
 //
 // # Errors
-// As `make_run` and `stop` of `iol_commands`.
+// The faults are those of `make_run` and `stop` of `iol_commands`.
 pub(crate) fn numbers_of(
     alloc: Global,
     geometry: Geometry,
@@ -33,7 +33,7 @@ pub(crate) fn numbers_of(
     })
 }
 
-// What is recovered after a stop that keeps this.
+// Returns what is recovered after a stop that keeps this.
 fn number_after(
     alloc: Global,
     geometry: Geometry,

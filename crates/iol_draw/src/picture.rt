@@ -1,4 +1,4 @@
-//! A picture of a run is its lanes with their signs, and texts above and below.
+//! The picture of a run: its lanes with their signs, and texts above and below.
 
 use crate::labels::Labels;
 use crate::lane_shape::{write_band, write_lane, write_name};
@@ -19,17 +19,17 @@ use iol_script::Script;
 use std::alloc::{AllocError, Global};
 use std::fmt;
 
-// A picture is at least so wide, for the lines below its lanes.
+// The least width of a picture, for the lines below its lanes.
 const LEAST_WIDTH: usize = 960;
-// The title is so far below the top of the picture, and so far apart are the texts below the lanes and the legend.
+// The distance from the top of the picture down to the title, and that between the texts below the lanes and the legend.
 const TITLE: usize = 20;
 
 const APART: usize = 8;
-// The name of a row is so far below its middle.
+// The distance from the middle of a row down to its name.
 const NAME: usize = 4;
 
-// It draws a script's run in SVG (docs/FORMATS.md, "Pictures of runs"), with the numbers of the last commands that are
-// recovered after each kind of stop.
+// Draws a script's run in SVG (docs/FORMATS.md, "Pictures of runs"), with the numbers of the last commands that are recovered
+// after each kind of stop.
 pub(crate) fn picture_of(
     alloc: Global,
     name: &str,
@@ -55,7 +55,7 @@ pub(crate) fn picture_of(
     )
 }
 
-// It draws a run with these lines.
+// Draws a run with these lines.
 fn drawn(
     alloc: Global,
     name: Name<'_>,
@@ -86,7 +86,7 @@ fn drawn(
     picture.to_string(alloc)
 }
 
-// It is what a picture shows: a run's marks, with their lines, and what its stop leaves.
+// What a picture shows: a run's marks, with their lines, and what its stop leaves.
 #[derive(Drop)]
 struct Picture<'a> {
     name: Name<'a>,
@@ -108,7 +108,7 @@ impl Picture<'_> {
             .max(LEAST_WIDTH)
     }
 
-    // The texts of the stop end at this height, and the legend begins.
+    // Returns the height at which the texts of the stop end, and the legend begins.
     fn legend_top(&self) -> usize {
         self.layout
             .bottom()
@@ -137,7 +137,7 @@ impl fmt::Display for Picture<'_> {
     }
 }
 
-// It writes the head of a picture of this size, and its background. A picture is as wide as the page that shows it, and no wider
+// Writes the head of a picture of this size, and its background. A picture is as wide as the page that shows it, and no wider
 // than its size.
 fn write_head<W: fmt::Write>(
     f: &mut fmt::Formatter<W>,
@@ -153,7 +153,7 @@ fn write_head<W: fmt::Write>(
     writeln!(f, "<rect width='{width}' height='{height}' fill='white'/>")
 }
 
-// It writes the title, and the name of the stop above it.
+// Writes the title, and the name of the stop above it.
 fn write_front<W: fmt::Write>(
     f: &mut fmt::Formatter<W>,
     name: Name<'_>,
@@ -172,7 +172,7 @@ fn write_front<W: fmt::Write>(
     )
 }
 
-// It writes the lanes of the clients, of all ports and of the disk, but for their signs.
+// Writes the lanes of the clients, of all ports and of the disk, without their signs.
 fn write_lanes<W: fmt::Write>(
     f: &mut fmt::Formatter<W>,
     lines: &[&str],
@@ -189,7 +189,7 @@ fn write_lanes<W: fmt::Write>(
     write_name(f, top.saturating_add(CHECKPOINTS), "checkpoints")
 }
 
-// It writes the stop, a dashed line at the end of all lanes.
+// Writes the stop, a dashed line at the end of all lanes.
 fn write_end<W: fmt::Write>(f: &mut fmt::Formatter<W>, left: usize, bottom: usize) -> fmt::Result {
     writeln!(
         f,

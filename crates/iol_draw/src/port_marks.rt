@@ -1,4 +1,4 @@
-//! Beside signs a picture shows of a port its statuses, and the devices that it finds.
+//! What a picture shows of a port besides signs: its statuses, and the devices that it finds.
 
 use crate::lines::Lines;
 use crate::mark::{Arrival, Bar, Device};
@@ -11,13 +11,13 @@ pub(crate) struct PortMarks<'a> {
     pub port: PortId,
     pub bars: Vec<Bar>,
     pub devices: Vec<Device<'a>>,
-    // It has this status, which ends later.
+    // the status that it has, which ends later
     has: Option<Bar>,
-    // It has found this device last.
+    // the device that it has found last
     found: Option<Found<'a>>,
 }
 
-// It is a device that was found: the connection of its link, and its numbers.
+// A device that was found: the connection of its link, and its numbers.
 #[derive(Clone, Copy)]
 struct Found<'a> {
     connection: u64,
@@ -35,7 +35,7 @@ impl<'a> PortMarks<'a> {
         }
     }
 
-    // The port has this status from here on.
+    // Gives the port this status from here on.
     pub(crate) fn begin(
         &mut self,
         status: PortStatus,
@@ -52,7 +52,7 @@ impl<'a> PortMarks<'a> {
         Ok(())
     }
 
-    // The port has had its status up to here.
+    // Ends the port's status here.
     pub(crate) fn end(&mut self, column: usize) -> Result<(), AllocError> {
         if let Some(bar) = self.has {
             self.bars.push(Bar {
@@ -65,7 +65,8 @@ impl<'a> PortMarks<'a> {
         Ok(())
     }
 
-    // The port has read a page with these numbers. A device is shown where it differs from the one before.
+    // Notes that the port has read a page with these numbers. A device is shown if it differs from the one
+    // before.
     pub(crate) fn find(
         &mut self,
         connection: u64,

@@ -1,23 +1,23 @@
-//! The scale says where columns are in a picture, in its units, from left to right.
+//! The scale, which says where columns are in a picture, in its units, from left to right.
 
-// The columns begin there or farther to the right, after the names of the lanes.
+// The least start of the columns, after the names of the lanes.
 const LEAST_START: usize = 92;
-// The stop is at least so far after the last column, so that the words of each status fit there.
+// The least distance from the last column to the stop, so that the words of each status fit there.
 const REST: usize = 136;
-// Few columns are so far apart, and for words at each they are at least so far apart.
+// The distance between few columns, and the least distance between columns with words at each.
 const WIDEST_STEP: usize = 16;
 
 const WORDS_STEP: usize = 8;
-// For a number at each, columns are at least so far apart.
+// The least distance between columns with a number at each.
 const NUMBERS_STEP: usize = 12;
-// A letter of a small text is at most so wide.
+// The largest width of a letter of a small text.
 pub(crate) const LETTER: usize = 6;
-// Lines of text are so far apart.
+// The distance between lines of text.
 pub(crate) const LINE_STEP: usize = 16;
-// The texts beside and below the lanes begin so far from the left edge.
+// The distance from the left edge to the texts beside and below the lanes.
 pub(crate) const EDGE: usize = 8;
 
-// It holds where columns begin, how far apart they are, how many there are, and where the stop is.
+// The start of the columns, the distance between them, their number, and the place of the stop.
 #[derive(Clone, Copy)]
 pub(crate) struct Scale {
     start: usize,
@@ -27,7 +27,7 @@ pub(crate) struct Scale {
 }
 
 impl Scale {
-    // It makes the scale of a run of so many columns, beside labels of at most so many letters.
+    // Makes the scale of a run of `columns` columns, beside labels of at most `letters` letters.
     pub(crate) fn of(columns: usize, letters: usize) -> Scale {
         let names = LETTER.saturating_mul(letters).saturating_add(4 * EDGE);
         let start = names.max(LEAST_START);
@@ -42,7 +42,7 @@ impl Scale {
         }
     }
 
-    // It is the same scale with a stop at this place or after it.
+    // Returns the same scale with a stop at this place or after it.
     pub(crate) fn reaching(self, right: usize) -> Scale {
         Scale {
             start: self.start,
@@ -52,17 +52,18 @@ impl Scale {
         }
     }
 
-    // The columns begin there.
+    // Returns where the columns begin.
     pub(crate) fn start(self) -> usize {
         self.start
     }
 
-    // A column is there.
+    // Returns where a column is.
     pub(crate) fn left(self, column: usize) -> usize {
         self.start.saturating_add(self.step.saturating_mul(column))
     }
 
-    // A status that is left in a column ends there. The last ones reach on to the stop, so that they can be read.
+    // Returns where a status ends that is left in a column. The last ones reach to the stop, so that they can be
+    // read.
     pub(crate) fn right(self, column: usize) -> usize {
         if column < self.columns {
             self.left(column)
@@ -71,23 +72,23 @@ impl Scale {
         }
     }
 
-    // The stop is there.
+    // Returns where the stop is.
     pub(crate) fn end(self) -> usize {
         self.end
     }
 
-    // It says whether columns are far enough apart for words beside the bars of statuses.
+    // Returns whether columns are far enough apart for words beside the bars of statuses.
     pub(crate) fn has_words(self) -> bool {
         WORDS_STEP <= self.step
     }
 
-    // It says whether columns are far enough apart for a number at each.
+    // Returns whether columns are far enough apart for a number at each.
     pub(crate) fn has_numbers(self) -> bool {
         NUMBERS_STEP <= self.step
     }
 }
 
-// So many columns are so far apart: the more there are, the nearer they are.
+// Returns the distance between this number of columns: the more there are, the nearer they are.
 fn step_of(columns: usize) -> usize {
     match columns {
         0..=50 => WIDEST_STEP,

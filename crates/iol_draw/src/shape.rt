@@ -1,4 +1,4 @@
-//! Each sign is drawn in its column and lane, with its title, and the waits of commands are drawn between signs.
+//! Draws each sign in its column and lane, with its title, and the waits of commands between signs.
 
 use crate::layout::{ACCEPTED_TOP, ACKNOWLEDGED_TOP, Layout};
 use crate::lines::write_title;
@@ -7,7 +7,7 @@ use crate::scale::Scale;
 use crate::sign::write_sign;
 use std::fmt;
 
-// The number of a command is so far above its sign, and the line of a wait ends so far from signs.
+// The distance from the sign of a command up to its number, and the distance from signs to the line of a wait.
 const NUMBER: usize = 9;
 
 const FROM_SIGN: usize = 6;
@@ -40,7 +40,7 @@ fn write_mark<W: fmt::Write>(
     }
 }
 
-// It writes the number of a command that is accepted.
+// Writes the number of a command that is accepted.
 fn write_number<W: fmt::Write>(f: &mut fmt::Formatter<W>, number: u64, left: usize) -> fmt::Result {
     let top = ACCEPTED_TOP - NUMBER;
     writeln!(
@@ -60,7 +60,7 @@ pub(crate) fn write_waits<W: fmt::Write>(
     Ok(())
 }
 
-// It writes a line from below the sign of a command to above that of its acknowledgement, so that no sign is struck through.
+// Writes a line from below the sign of a command to above that of its acknowledgement, so that no sign is struck through.
 fn write_wait<W: fmt::Write>(f: &mut fmt::Formatter<W>, scale: Scale, wait: Wait) -> fmt::Result {
     let (number, from, to) = (wait.number, scale.left(wait.from), scale.left(wait.to));
     let (top, bottom) = (ACCEPTED_TOP + FROM_SIGN, ACKNOWLEDGED_TOP - FROM_SIGN);

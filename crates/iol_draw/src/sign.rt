@@ -1,4 +1,4 @@
-//! Each sign of a picture has a shape of its own, which differs from the others in black and white too.
+//! The signs of a picture. Each has a shape of its own, which differs from the others in black and white too.
 
 use std::fmt;
 
@@ -47,7 +47,7 @@ pub(crate) const SIGNS: [Sign; 12] = [
 ];
 
 impl Sign {
-    // It returns the class of the sign, and what it means.
+    // Returns the class of the sign, and its meaning.
     pub(crate) fn name(self) -> (&'static str, &'static str) {
         match self {
             Sign::Accepted => ("accepted", "command accepted"),
@@ -65,7 +65,7 @@ impl Sign {
         }
     }
 
-    // This is its shape around its place in a lane. A sync goes from one row of the disk to the other.
+    // Returns its shape around its place in a lane. A sync goes from one row of the disk to the other.
     fn shape(self) -> &'static str {
         match self {
             Sign::Sync => "M0 -12v48M-3 -12h6M-3 36h6",
@@ -73,7 +73,7 @@ impl Sign {
         }
     }
 
-    // This is its shape around its place in the legend.
+    // Returns its shape around its place in the legend.
     fn small_shape(self) -> &'static str {
         match self {
             Sign::Accepted => "M0 -5l4 8h-8z",
@@ -90,7 +90,7 @@ impl Sign {
         }
     }
 
-    // It says whether the inside is black.
+    // Returns whether its inside is black.
     fn is_filled(self) -> bool {
         matches!(
             self,
@@ -99,7 +99,7 @@ impl Sign {
     }
 }
 
-// It begins a sign at this place in a lane; its title and its end are to follow.
+// Begins a sign at this place in a lane; its title and its end are to follow.
 pub(crate) fn write_sign<W: fmt::Write>(
     f: &mut fmt::Formatter<W>,
     sign: Sign,
@@ -109,7 +109,7 @@ pub(crate) fn write_sign<W: fmt::Write>(
     write_shape(f, sign, sign.shape(), left, top)
 }
 
-// It begins a sign at this place in the legend; its end is to follow.
+// Begins a sign at this place in the legend; its end is to follow.
 pub(crate) fn write_small_sign<W: fmt::Write>(
     f: &mut fmt::Formatter<W>,
     sign: Sign,

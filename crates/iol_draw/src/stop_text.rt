@@ -1,5 +1,4 @@
-//! Below the lanes it is said of the stop after a run what is recovered by what a stop keeps, and which sectors are not
-//! synced.
+//! The lines below the lanes: what is recovered after a stop, by what the stop keeps, and which sectors are not synced.
 
 use crate::recovered::{Answered, RecoveredWords};
 use crate::scale::{EDGE, LINE_STEP};
@@ -7,31 +6,31 @@ use crate::unsynced::Span;
 use iol_disk::Pick;
 use std::fmt;
 
-// It holds the number of the last command that is recovered after a stop, by what the stop keeps of each sector that no sync
-// has settled.
+// The number of the last command that is recovered after a stop, by what the stop keeps of each sector that no sync has
+// settled.
 #[derive(Clone, Copy)]
 pub(crate) struct Numbers {
     // The stop keeps what was durable before.
     pub old: u64,
-    // It keeps what was written.
+    // The stop keeps what was written.
     pub new: u64,
-    // It leaves zeros.
+    // The stop leaves zeros.
     pub zero: u64,
-    // It leaves a pattern.
+    // The stop leaves a pattern.
     pub pattern: u64,
 }
 
 impl Numbers {
-    // It says whether the number is the same whatever the stop keeps.
+    // Returns whether the number is the same whatever the stop keeps.
     fn agree(self) -> bool {
         self.old == self.new && self.old == self.zero && self.old == self.pattern
     }
 }
 
-// It holds what is said of a stop.
+// The facts of a stop that its lines say.
 #[derive(Drop)]
 pub(crate) struct StopText {
-    // The stop of the script keeps this.
+    // what the stop of the script keeps
     pub keep: Pick,
     pub numbers: Numbers,
     pub answered: Answered,
@@ -39,7 +38,7 @@ pub(crate) struct StopText {
 }
 
 impl StopText {
-    // Its lines are so high.
+    // Returns the height of its lines.
     pub(crate) fn height(&self) -> usize {
         let stops = if self.numbers.agree() { 1 } else { 4 };
         let lines = self.unsynced.len().saturating_add(2 + stops);
@@ -47,7 +46,7 @@ impl StopText {
     }
 }
 
-// It writes the lines, below this height.
+// Writes the lines, below this height.
 pub(crate) fn write_stop<W: fmt::Write>(
     f: &mut fmt::Formatter<W>,
     top: usize,
@@ -76,7 +75,7 @@ pub(crate) fn write_stop<W: fmt::Write>(
     }
 }
 
-// Scripts have this word for what a stop keeps.
+// Returns the word that scripts have for what a stop keeps.
 fn word_of(keep: Pick) -> &'static str {
     match keep {
         Pick::Old => "old",
@@ -86,7 +85,7 @@ fn word_of(keep: Pick) -> &'static str {
     }
 }
 
-// It writes what is recovered after each kind of stop, in lines from this height on.
+// Writes what is recovered after each kind of stop, in lines from this height on.
 fn write_each<W: fmt::Write>(
     f: &mut fmt::Formatter<W>,
     top: usize,
@@ -107,7 +106,7 @@ fn write_each<W: fmt::Write>(
     Ok(())
 }
 
-// It writes what is recovered after a stop of this kind.
+// Writes what is recovered after a stop of this kind.
 fn write_after<W: fmt::Write>(
     f: &mut fmt::Formatter<W>,
     top: usize,
@@ -120,7 +119,7 @@ fn write_after<W: fmt::Write>(
     )
 }
 
-// It writes the sectors that are not synced, below the line at this height.
+// Writes the sectors that are not synced, below the line at this height.
 fn write_unsynced<W: fmt::Write>(
     f: &mut fmt::Formatter<W>,
     line: usize,

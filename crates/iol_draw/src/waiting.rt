@@ -1,9 +1,9 @@
-//! Commands wait for the disk from where they are accepted to where they are acknowledged.
+//! The commands that wait for the disk, from where they are accepted to where they are acknowledged.
 
 use crate::mark::Wait;
 use std::alloc::{AllocError, Global};
 
-// It holds the commands that were accepted, with their columns, and how many of them are acknowledged.
+// The commands that were accepted, with their columns, and the number of them that are acknowledged.
 #[derive(Drop)]
 pub(crate) struct Waiting {
     accepted: Vec<(u64, usize)>,
@@ -18,13 +18,13 @@ impl Waiting {
         }
     }
 
-    // A command was accepted under this number.
+    // Adds a command that was accepted under this number.
     pub(crate) fn accept(&mut self, number: u64, column: usize) -> Result<(), AllocError> {
         self.accepted.push((number, column))?;
         Ok(())
     }
 
-    // All commands up to this number were acknowledged: adds the wait of each that waited.
+    // Adds the wait of each command up to this number that waited, as all of them were acknowledged.
     pub(crate) fn acknowledge(
         &mut self,
         number: u64,

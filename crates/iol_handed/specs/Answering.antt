@@ -1,4 +1,4 @@
--- Answers of a master as those of a session.
+-- The answers of a master as those of a session.
 use Rattle.std.specs.Prelude.{◌≡◌, ℕ, Option, None, Some, Result, Ok, Err, length, slice_get}
 use Rattle.std.specs.Option.{option_map}
 use Rattle.iol_types.specs.DataSet.{Entry, octets_of}
@@ -17,7 +17,7 @@ use Rattle.iol_handed.specs.declared.ask.View.{View}
 use Rattle.iol_handed.specs.declared.ask.WhichSet.{WhichSet}
 use Rattle.iol_handed.specs.declared.ask.WhichSet.TheVariants as which
 
--- what is wanted of the disk (own)
+-- the session's answer for what is wanted of the disk (own)
 abbrev pub disk_answer : DiskAnswer → Answer
 disk_answer disk.Stopped = answer.Stopped
 disk_answer (disk.Call (call.Write sector octets)) = answer.Write sector octets
@@ -26,7 +26,7 @@ disk_answer disk.Again = answer.Again
 disk_answer disk.Nothing = answer.Nothing
 disk_answer disk.Memory = answer.Memory
 
--- what a port answers (own)
+-- the session's answer for the answer of a port (own)
 abbrev pub port_answer : PortAnswer → Answer
 port_answer port.Absent = answer.Absent
 port_answer port.Misfit = answer.Misfit
@@ -37,17 +37,17 @@ port_answer port.Again = answer.Again
 port_answer port.Page = answer.Page
 port_answer (port.Request octets) = answer.Request octets
 
--- a change is accepted under a number, or refused (own)
+-- the answer to a change: it is accepted under a number, or refused (own)
 abbrev pub submit_answer : Result ℕ SubmitFault → Answer
 submit_answer (Ok number) = answer.Accepted number
 submit_answer (Err fault) = answer.Refused fault
 
--- the status of a port that is there (own)
+-- the answer with the status of a port, if the master has the port (own)
 abbrev pub status_answer : Option PortStatus → Answer
 status_answer None = answer.Absent
 status_answer (Some status) = answer.Status status
 
--- how large a set is (own)
+-- the size of a set, and its checksum (own)
 abbrev pub set_view : Stored → SetView
 set_view stored = record {
   entries = length stored.set.entries;
@@ -55,7 +55,7 @@ set_view stored = record {
   checksum = stored.set.checksum;
 }
 
--- the durable state of a port (own)
+-- the durable state of a port, and the answer with it (own)
 abbrev pub view_of : Port → View
 view_of port = record {
   config = port.config;
@@ -73,7 +73,7 @@ abbrev pub set_in : WhichSet → Port → Option Stored
 set_in which.Present port = port.stored
 set_in which.Previous port = port.previous
 
--- an entry of a set (own)
+-- the answer is an entry of a set, or says that there is no such entry or no such port (own)
 abbrev pub IsEntry : Option Entry → Answer → Type 0
 IsEntry None answered = answered ≡ answer.Nothing
 IsEntry (Some entry) (answer.Entry key octets) = (key ≡ entry.0) × (octets.items ≡ entry.1)

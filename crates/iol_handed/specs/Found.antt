@@ -1,4 +1,4 @@
--- What a master begins with.
+-- The values with which a master begins.
 use Rattle.std.specs.Prelude.{◌≡◌, []}
 use Rattle.iol_types.specs.State.{State}
 use Rattle.iol_front.specs.Fronts.{FrontId}
@@ -11,7 +11,7 @@ pub record FoundView : Type 0 where
   pub journal : JournalView HandedDiskView
   pub state : State
 
--- the front begins where the journal does, which has done nothing yet (own)
+-- the front begins where the journal does, and the journal has no commands yet (own)
 pub record IsFound (found : FoundView) : Type 0 where
   pub number : found.front.start.number ≡ found.journal.history.first
   pub begins : found.front.start.state ≡ found.journal.history.start

@@ -1,4 +1,4 @@
--- A master whose disk and devices are in the hands of its caller.
+-- A master whose caller makes all calls of its disk and of its devices.
 use Rattle.std.specs.Prelude.{◌≡◌, ◌==◌, ℕ, if◌then◌else◌, List, [], length, replicate, Option, None}
 use Rattle.iol_disk.specs.Calls.{Call}
 use Rattle.iol_flush.specs.Stages.{disk_of}
@@ -12,23 +12,22 @@ use Rattle.iol_handed.specs.declared.notes.PortNotes.{PortNotes}
 use Rattle.iol_handed.specs.declared.reports.Reports.{Reports}
 use Rattle.iol_handed.specs.declared.reports.Reports.TheVariants.{UpTo}
 
--- a master as contracts see it: its engine and flusher, what was reported of its disk, and what was reported of its ports, port 1
--- first, and was not used yet (own)
+-- a master as contracts see it: its engine and flusher, the reports of its disk, and the notes of its ports, port 1 first (own)
 pub record HandedMasterView : Type 0 where
   pub made : EngineOnDiskView HandedDiskView
   pub reports : Reports
   pub notes : List PortNotes
 
--- its disk (own)
+-- the disk of a master (own)
 abbrev pub disk_in : HandedMasterView → HandedDiskView
 disk_in master = disk_of master.made.master.flusher.stage
 
--- the call that its disk has handed out after so many, if any (own)
+-- the call that the disk has handed out after this number of calls, if there is one (own)
 abbrev pub call_after : ℕ → HandedDiskView → Option Call
 call_after calls disk = if disk.calls == calls then None else disk.call
 
--- a master has begun with what was found: nothing waits, no call is in hand, and nothing was reported of its ports, which are new,
--- each on its first connection (own)
+-- a master has begun with what was found: nothing waits, no call is in hand, and nothing was reported of its ports; each port is new, on
+-- its first connection (own)
 pub record IsBegun (found : FoundView) (master : HandedMasterView) : Type 0 where
   pub journal : master.made.master.flusher.stage ≡ Resting found.journal
   pub published : master.made.master.flusher.published ≡ []

@@ -6,7 +6,7 @@ use Rattle.iol_handed.specs.declared.opening.HandFault.TheVariants.{Misfit, Memo
 use Rattle.iol_handed.specs.declared.opening.OpeningWant.{OpeningWant}
 use Rattle.iol_handed.specs.declared.opening.OpeningWant.TheVariants.{Sync, Read, Nothing}
 
--- an opening as contracts see it: the size of its disk, what was handed in, and what it wants (own)
+-- an opening as contracts see it: the size of its disk, the sectors that were handed in, and what it wants (own)
 pub record OpeningView : Type 0 where
   pub sectors : ℕ
   pub held : List HeldSector
@@ -19,7 +19,7 @@ pub record HasTaken (sector : ℕ) (octets : List ℕ) (old new : OpeningView) :
   pub octets_are : one.octets.value ≡ octets
   pub new_is : new ≡ record old { held = old.held ++ one ∷ []; want = Nothing }
 
--- octets are handed in: they are those of the sector that is wanted, and are taken or memory ran out; or no sector is wanted (own)
+-- octets are handed in: they are taken for the wanted sector, or memory ran out; or no sector is wanted (own)
 abbrev pub HandsIn : OpeningWant → List ℕ → OpeningView → OpeningView → Result Unit HandFault → Type 0
 HandsIn (Read sector) octets old new (Ok done) = HasTaken sector octets old new
 HandsIn (Read sector) octets old new (Err Memory) = new ≡ old
@@ -28,12 +28,12 @@ HandsIn want octets old new (Ok done) = ⊥
 HandsIn want octets old new (Err Memory) = ⊥
 HandsIn want octets old new (Err Misfit) = new ≡ old
 
--- the opening after the sync that it wants was made (own)
+-- the opening once the wanted sync was made (own)
 abbrev pub synced : OpeningWant → OpeningView → OpeningView
 synced Sync opening = record opening { want = Nothing }
 synced want opening = opening
 
--- a sector that is wanted is one that the disk has (own)
+-- a wanted sector is one that the disk has (own)
 abbrev pub WantsBelow : ℕ → OpeningWant → Type 0
 WantsBelow sectors (Read sector) = sector < sectors
 WantsBelow sectors want = Unit {0}

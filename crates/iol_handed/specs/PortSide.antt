@@ -1,4 +1,4 @@
--- What a port wants of its device, and what is reported of it.
+-- What a port wants of its device, and the reports of it.
 use Rattle.std.specs.Prelude.{◌≡◌, ◌-◌, ℕ, Bool, true, false, ◌||◌, ◌&&◌, is_none, List, [], Option, Some, None}
 use Rattle.std.specs.Prelude.{slice_get, slice_set}
 use Rattle.iol_isdu.specs.Isdu.{IsShortestRequest}
@@ -21,7 +21,7 @@ use Rattle.iol_handed.specs.declared.notes.PortNotes.{PortNotes}
 use Rattle.iol_handed.specs.declared.port_answer.PortAnswer.{PortAnswer}
 use Rattle.iol_handed.specs.declared.port_answer.PortAnswer.TheVariants as told
 
--- what a link hands over: its answer and the event that was noted, on its connection; on the last one no octets and no event (own)
+-- a link hands over its answer and the noted event, on its connection; on the last connection it hands over no octets and no event (own)
 pub record IsHandedOver (connection : ℕ) (event : Option ℕ) (answer : Answered) (handed : Handed) : Type 0 where
   pub connection_is : handed.connection ≡ connection
   pub event_is : (connection ≡ last_connection → ⊥) → handed.event ≡ event
@@ -33,7 +33,7 @@ abbrev pub is_gone : Answered → Bool
 is_gone answered.Gone = true
 is_gone _ = false
 
--- a port makes its step with this answer and the event that was noted of its device; nothing else changes (own)
+-- a port makes its step with this answer and the noted event of its device; nothing else changes (own)
 pub record MakesStep (port : ℕ) (notes : PortNotes) (answer : Answered) (old new : HandedMasterView) : Type 0 where
   pub connection : ℕ
   pub handed : Handed
@@ -48,13 +48,13 @@ pub record MakesStep (port : ℕ) (notes : PortNotes) (answer : Answered) (old n
       ≡ slice_set old.notes (port - 1)
       (noted_after notes.attention (is_gone answer) (settled_in (slice_get new.made.machines (port - 1))))
 
--- the answer does not count for the port: it does not fit what is wanted (own)
+-- the answer does not count for the port, as it does not fit what the port wants (own)
 abbrev pub DoesNotFit : ℕ → PortNotes → Answered → HandedMasterView → Type 0
 DoesNotFit port notes answer master =
     (connection : ℕ) × (handed : Handed) × IsHandedOver connection notes.event answer handed
     × NeverFits port handed (engine_in master.made [])
 
--- a step that was made; a port that is not there, an answer that does not fit, and want of memory change nothing (own)
+-- a step was made; if there is no such port, the answer does not fit, or memory runs out, nothing changes (own)
 abbrev pub StepsPort : ℕ → PortNotes → Answered → HandedMasterView → HandedMasterView → PortAnswer → Type 0
 StepsPort port notes answer old new told.Again = MakesStep port notes answer old new
 StepsPort port notes answer old new told.Absent = (slice_get old.made.connections (port - 1) ≡ None) × (new ≡ old)
@@ -67,11 +67,11 @@ abbrev pub is_uncalled : Attention → Bool
 is_uncalled attention.None = true
 is_uncalled _ = false
 
--- nothing was reported of a port that its next step has not used (own)
+-- the next step of a port has no report to use (own)
 abbrev pub is_quiet : PortNotes → Bool
 is_quiet notes = is_none notes.event && is_uncalled notes.attention
 
--- a port that wants nothing of its device has nothing to do: it waits for the disk, or it is settled and not called (own)
+-- a port that wants nothing of its device has nothing to do: it waits for the disk, or it is settled and nothing was reported of it (own)
 abbrev pub rests : HandedMasterView → ℕ → PortNotes → Bool
 rests master port notes =
     waits_at (engine_in master.made []) port || (is_quiet notes && settled_in (slice_get master.made.machines (port - 1)))
@@ -81,7 +81,7 @@ abbrev pub AsksAtNothing : Bool → ℕ → PortNotes → HandedMasterView → H
 AsksAtNothing true port notes old new answer = (answer ≡ told.Nothing) × (new ≡ old)
 AsksAtNothing false port notes old new answer = StepsPort port notes answered.Nothing old new answer
 
--- what a port wants of its device; where that is gone the port hears so in a step (own)
+-- the answer is what a port wants of its device; if the device is gone, the port learns this in a step (own)
 abbrev pub AsksAt : Want → Attention → ℕ → PortNotes → HandedMasterView → HandedMasterView → PortAnswer → Type 0
 AsksAt want.Nothing called port notes old new answer = AsksAtNothing (rests old port notes) port notes old new answer
 AsksAt wanted attention.Gone port notes old new answer = StepsPort port notes answered.Gone old new answer
@@ -89,7 +89,7 @@ AsksAt want.Page called port notes old new answer = (answer ≡ told.Page) × (n
 AsksAt (want.Answer request) called port notes old new (told.Request octets) = IsShortestRequest octets.items request × (new ≡ old)
 AsksAt (want.Answer request) called port notes old new _ = ⊥
 
--- what holds of the notes of a port; a port that is not there is absent, and nothing changes (own)
+-- a fact holds of the notes of a port; a port that does not exist is absent, and nothing changes (own)
 abbrev pub WithNotes : Option PortNotes → HandedMasterView → HandedMasterView → PortAnswer → (PortNotes → Type 0) → Type 0
 WithNotes None old new answer fact = (answer ≡ told.Absent) × (new ≡ old)
 WithNotes (Some notes) old new answer fact = fact notes
@@ -117,7 +117,7 @@ IsNoted port change old new answer =
     WithNotes (slice_get old.notes (port - 1)) old new answer
     (λ notes. (answer ≡ told.Noted) × (new ≡ noting port (change notes) old))
 
--- a port that wants something of its device hears at once that it is gone; of another it is noted (own)
+-- a port that wants something of its device learns at once that the device is gone; for any other port it is noted (own)
 abbrev pub LosesAt : Want → ℕ → PortNotes → HandedMasterView → HandedMasterView → PortAnswer → Type 0
 LosesAt want.Nothing port notes old new answer =
     (answer ≡ told.Noted) × (new ≡ noting port (record notes { attention = attention.Gone }) old)

@@ -1,4 +1,4 @@
--- What a master answers.
+-- The answers of a master.
 use Rattle.std.specs.Prelude.{◌≡◌, ◌-◌, ℕ, Bool, true, false, Result, slice_get}
 use Rattle.iol_types.specs.Command.{command_of}
 use Rattle.iol_types.specs.State.{port_numbered}
@@ -23,7 +23,7 @@ use Rattle.iol_handed.specs.declared.ask.Ask.TheVariants as ask
 use Rattle.iol_handed.specs.declared.ask.PortAsk.{PortAsk}
 use Rattle.iol_handed.specs.declared.ask.PortAsk.TheVariants as port
 
--- what is asked of a port is asked of it (own)
+-- a request about a port is made of that port (own)
 abbrev pub PortServes : PortAsk → ℕ → HandedMasterView → HandedMasterView → PortAnswer → Type 0
 PortServes port.Next number old new told = AsksPort number old new told
 PortServes port.Wake number old new told = IsNoted number woken old new told
@@ -33,12 +33,12 @@ PortServes port.Lost number old new told = Loses number old new told
 PortServes (port.Event code) number old new told =
     IsNoted number (λ notes. record notes { event = event_kept notes.event code }) old new told
 
--- whether a call was in hand (own)
+-- the answer by whether a call was in hand (own)
 abbrev pub done_answer : Bool → Answer
 done_answer true = answer.Done
 done_answer false = answer.Misfit
 
--- a master answers as its own calls do; what only reads changes nothing (own)
+-- a master answers as its own calls do; a request that only reads changes nothing (own)
 abbrev pub Answers : Ask → HandedMasterView → HandedMasterView → Answer → Type 0
 Answers (ask.Submit change) old new said =
     (told : Result ℕ SubmitFault) × Submits (command_of change) old new told × (said ≡ submit_answer told)
@@ -58,12 +58,12 @@ Answers (ask.Entry number which place) old new said =
 Answers (ask.Open flash) old new said = (said ≡ answer.Misfit) × (new ≡ old)
 Answers ask.End old new said = (said ≡ answer.Misfit) × (new ≡ old)
 
--- a session is to end (own)
+-- a request is to end the session (own)
 abbrev pub is_end : Ask → Bool
 is_end ask.End = true
 is_end asked = false
 
--- the master has ended, or it answers and goes on (own)
+-- the master has ended, or it answers and continues (own)
 abbrev pub EndsOrAnswers : Bool → Ask → HandedMasterView → SessionView → Answer → Type 0
 EndsOrAnswers true asked master new said = (said ≡ answer.Closed) × (new ≡ ended)
 EndsOrAnswers false asked master new said = (after : HandedMasterView) × (new ≡ running after) × Answers asked master after said

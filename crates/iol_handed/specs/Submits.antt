@@ -1,4 +1,4 @@
--- What a client's change does.
+-- The effect of a client's change.
 use Rattle.std.specs.Prelude.{◌≡◌, ℕ, Result}
 use Rattle.iol_types.specs.Command.{CommandValue}
 use Rattle.iol_core.specs.Submit.{IsSubmit}

@@ -1,4 +1,4 @@
-//! What is asked of a session, and what it answers.
+//! The requests to a session, and its answers.
 
 use crate::flash::UnknownFlash;
 use crate::found::Found;
@@ -12,47 +12,47 @@ use iol_link::PAGE_OCTETS;
 use iol_port::PortStatus;
 use iol_types::{Change, Key, MOST_ENTRY_OCTETS, PortConfig, PortId};
 
-/// What is asked of a session.
+/// A request to a session.
 #[derive(Drop)]
 pub enum Ask {
-    /// A client's change.
+    /// Submits a client's change.
     Submit(Change),
-    /// What is wanted of the disk.
+    /// Asks which call of the disk is wanted.
     DiskNext,
-    /// The sync or the write in hand was made, or the call in hand has failed.
+    /// Reports that the sync or the write in hand was made, or that the call in hand has failed.
     DiskDone(bool),
-    /// The sector in hand was read.
+    /// Hands in the octets of the sector in hand, which was read.
     DiskRead([u8; SECTOR_OCTETS]),
-    /// Something of a port.
+    /// Makes a request about a port.
     Port(PortId, PortAsk),
-    /// The status of a port.
+    /// Asks for the status of a port.
     Status(PortId),
-    /// The numbers of the last durable and of the last accepted command.
+    /// Asks for the numbers of the last durable and of the last accepted command.
     Numbers,
-    /// The durable state of a port.
+    /// Asks for the durable state of a port.
     View(PortId),
-    /// An entry of a stored set, from 0.
+    /// Asks for an entry of a stored set, counted from 0.
     Entry(PortId, WhichSet, usize),
-    /// A flash is to be opened, from its beginning or further on.
+    /// Opens a flash, from its beginning or further on.
     Open(Opening<UnknownFlash>),
-    /// It is to end.
+    /// Ends the session.
     End,
 }
 
-/// What is asked of a port.
+/// A request about a port.
 #[derive(Drop)]
 pub enum PortAsk {
-    /// What it wants of its device.
+    /// Asks what the port wants of its device.
     Next,
-    /// It is to look again.
+    /// Has the port look again.
     Wake,
-    /// The page of its device.
+    /// Hands in the page of its device.
     Page([u8; PAGE_OCTETS]),
-    /// The answer of its device.
+    /// Hands in the answer of its device.
     Answer(ArrayVec<u8, ISDU_OCTETS>),
-    /// Its device is gone.
+    /// Reports that its device is gone.
     Lost,
-    /// An event of its device.
+    /// Reports an event of its device.
     Event(u16),
 }
 
@@ -63,7 +63,7 @@ pub enum WhichSet {
     Previous,
 }
 
-/// How large a stored set is, and its checksum.
+/// The size of a stored set, and its checksum.
 #[derive(Clone, Copy)]
 pub struct SetView {
     pub entries: usize,
@@ -80,30 +80,30 @@ pub struct View {
     pub previous: Option<SetView>,
 }
 
-/// What a session answers.
+/// An answer of a session.
 #[derive(Drop)]
 pub enum Answer {
-    /// It has no master.
+    /// The session has no master.
     Closed,
-    /// Its flash is still being opened.
+    /// The session's flash is still being opened.
     Opening,
-    /// The flash has no journal that can be used; it is closed.
+    /// The flash has no usable journal; the session is closed.
     NotOpened(RecoverCause),
-    /// The journal was found; it is closed until a master is begun with it.
+    /// The journal was found; the session is closed until a master is begun with it.
     Found(Found<UnknownFlash>),
-    /// Out of memory: nothing changed, and it may be asked again.
+    /// Out of memory: nothing changed, and the request may be made again.
     Memory,
-    /// A call of the disk has failed: nothing more is wanted of it.
+    /// A call of the disk has failed: no more calls are wanted.
     Stopped,
     /// Nothing like it is waited for.
     Misfit,
-    /// The master does not have this port, or no such entry is there.
+    /// The master does not have this port.
     Absent,
-    /// It is done.
+    /// The request was carried out.
     Done,
-    /// Something was done, and it is to be asked again.
+    /// Something was done, and the request is to be made again.
     Again,
-    /// There is nothing to do.
+    /// There is nothing to do, or the set has no such entry.
     Nothing,
     /// The disk is to be synced.
     Sync,
@@ -125,6 +125,6 @@ pub enum Answer {
     Numbers(u64, u64),
     /// The durable state of a port.
     View(View),
-    /// An entry.
+    /// An entry of a stored set.
     Entry(Key, ArrayVec<u8, MOST_ENTRY_OCTETS>),
 }

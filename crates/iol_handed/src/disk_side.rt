@@ -1,4 +1,4 @@
-//! What a master wants of its disk, and what is reported of it.
+//! The calls that a master wants of its disk, and the reports of them.
 
 ghost use Rattle.std.specs.Prelude.{◌≡◌, Some, None};
 ghost use Rattle.std.specs.Option.{option_map};
@@ -17,11 +17,11 @@ use iol_front::Name;
 use iol_run::{Turn, Turned};
 
 impl<W: Flash, F: Name> HandedMaster<W, F> {
-    /// What is wanted of the disk: the call that is in hand, or where none is what the next turn of the flusher comes to. A call is in
-    /// hand until it is reported.
+    /// Returns what is wanted of the disk: the call in hand or, if there is none, what the next turn of the flusher comes to. A call
+    /// is in hand until it is reported.
     pub fn disk_next(&mut self) -> DiskAnswer
         ensures asks { AsksDisk (handed_disk W.image W.truthful) self.old self.new result }
-        // Whatever a power stop leaves of the flash, while the call in hand is made, has all that was acknowledged.
+        // Whatever a power stop leaves of the flash while the call in hand is made, it has all that was acknowledged.
         ensures run { KeepsRunning (handed_disk W.image W.truthful) F.front.start self.old.made.master self.new.made.master }
     {
         let Reports::UpTo(calls) = self.reports else {
@@ -33,7 +33,7 @@ impl<W: Flash, F: Name> HandedMaster<W, F> {
         }
     }
 
-    // The call that the disk has handed out after so many, if any.
+    // Returns the call that the disk has handed out after this number of calls, if there is one.
     fn call_after(&self, calls: u64) -> Option<HandedCall>
         ensures { option_map call_of result ≡ call_after calls (disk_in self.now) }
     {
@@ -45,7 +45,7 @@ impl<W: Flash, F: Name> HandedMaster<W, F> {
         }
     }
 
-    // One turn of the flusher. So many calls were reported.
+    // Makes one turn of the flusher, after this number of reported calls.
     fn turn(&mut self, calls: u64) -> DiskAnswer
         requires reported { self.old.reports ≡ Reports.UpTo calls }
         ensures turns { AnswersTurn (handed_disk W.image W.truthful) calls self.old self.new result }
@@ -62,8 +62,8 @@ impl<W: Flash, F: Name> HandedMaster<W, F> {
         }
     }
 
-    /// Reports that the call in hand was made, or has failed. After one that has failed nothing more is wanted of the disk, and no
-    /// command is accepted. Returns whether a call is in hand; where none is nothing changes.
+    /// Reports that the call in hand was made, or that it has failed. After a failed call nothing more is wanted of the disk, and no
+    /// command is accepted. Returns whether a call was in hand; if none was, nothing changes.
     pub fn disk_done(&mut self, made: bool) -> bool
         ensures reported { HasReported made self.old self.new result }
         ensures run { KeepsRunning (handed_disk W.image W.truthful) F.front.start self.old.made.master self.new.made.master }
@@ -85,14 +85,14 @@ impl<W: Flash, F: Name> HandedMaster<W, F> {
     }
 }
 
-// Whether a turn tells that a disk call has failed.
+// Returns whether a turn reports that a disk call has failed.
 fn tells_failure(event: &Option<Event>) -> bool
     ensures { result ≡ tells_failure (told_of event.now) }
 {
     matches!(event, Some(Event::DiskFailed))
 }
 
-// The answer to a turn that handed out no call.
+// Returns the answer to a turn that handed out no call.
 fn without_call(turned: Turned) -> DiskAnswer
     ensures { result ≡ without_call turned }
 {

@@ -7,7 +7,7 @@ ghost use Rattle.iol_handed.specs.Log.{content_of, logged, numbers_of};
 ghost use Rattle.iol_handed.specs.Notes.{event_kept, left_after};
 ghost use Rattle.iol_handed.specs.declared.notes.Attention.TheVariants as attention;
 
-/// Which event of a device is kept: the last one, but a DS_UPLOAD_REQ (FF91) always.
+/// Of the events of a device the last one is kept, but a DS_UPLOAD_REQ (FF91) always.
 pub fn kept_events()
     ensures first { event_kept None 0x8C00 ≡ Some 0x8C00 }
     ensures last { event_kept (Some 0x8C00) 0x8C10 ≡ Some 0x8C10 }
@@ -15,7 +15,7 @@ pub fn kept_events()
     ensures then_upload { event_kept (Some 0x8C00) 0xFF91 ≡ Some 0xFF91 }
 {}
 
-/// What calls a port after a step: a device that is gone, until the port has heard it or is settled.
+/// After a step only a device that is gone calls its port, until the port has heard it or is settled.
 pub fn left_after_a_step()
     ensures gone { left_after attention.Gone false ≡ attention.Gone }
     ensures heard { left_after attention.Gone true ≡ attention.None }
@@ -23,7 +23,8 @@ pub fn left_after_a_step()
     ensures uncalled { left_after attention.None false ≡ attention.None }
 {}
 
-/// A log of a write of 512 octets A5 to sector 3, and of a sync after it: its numbers, and what the flash then reads as.
+/// A log of a write of 512 octets A5 to sector 3, and of a sync after it, has these numbers, and the flash then reads
+/// this way.
 pub fn a_log()
     ensures written { numbers_of (write 3 (replicate 512 0xA5)) ≡ 4 ∷ replicate 512 0xA5 }
     ensures length { length (numbers_of sync) ≡ 513 }

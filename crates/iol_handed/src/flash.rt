@@ -1,4 +1,4 @@
-//! What the flash of a caller holds, which contracts alone see.
+//! What the flash of a caller holds, which only contracts see.
 
 /// What the sectors of a flash held when it was opened, and whether the caller reports truly: what it hands in is what the flash
 /// holds, and a call that it reports as made was made. A value of this type has no octets.

@@ -7,8 +7,8 @@ use iol_journal::Journal;
 use iol_types::MasterState;
 use std::marker::Model;
 
-/// What a master begins with: the journal that was found on a disk, its state, and a front of its number and state. A contract sees
-/// the record `FoundView` of `specs/Found.antt`.
+/// The values with which a master begins: the journal that was found on a disk, its state, and a front of its number and state. A
+/// contract sees the record `FoundView` of `specs/Found.antt`.
 #[derive(Drop)]
 pub struct Found<W: Flash> {
     pub(crate) front: Front,

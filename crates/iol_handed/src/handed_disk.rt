@@ -1,4 +1,4 @@
-//! A disk whose calls are handed out.
+//! A disk that hands out its calls.
 
 use crate::flash::Flash;
 use crate::handed_call::HandedCall;
@@ -16,20 +16,20 @@ enum Last {
     Sync,
 }
 
-/// A disk that makes no call itself. A write or a sync is handed out: whoever holds the disk makes it before the disk is called
-/// again. A read is answered from the sectors that were handed in, until the first write. Contracts see the content that the flash has
-/// once all calls that were handed out are made.
+/// A disk that makes no call itself. It hands out each write and each sync: the holder of the disk makes that call before the disk is
+/// called again. It answers a read from the sectors that were handed in, until the first write. Contracts see the content that the
+/// flash has once all calls that were handed out are made.
 #[derive(Drop)]
 pub struct HandedDisk<W: Flash> {
     sectors: usize,
-    // until the first write
+    // the sectors that were handed in, until the first write
     held: Option<Vec<HeldSector>>,
-    // the sector that a read did not find
+    // the sector that the last failed read did not find
     missing: Option<usize>,
     // the call that was handed out last, and the octets of the last write
     last: Last,
     octets: Box<[u8; SECTOR_OCTETS]>,
-    // how many calls were handed out, modulo 2^64
+    // the number of calls that were handed out, modulo 2^64
     calls: u64,
     failures: u64,
     log: Tag,
@@ -56,7 +56,7 @@ impl<W: Flash> Model for HandedDisk<W> {
         × HasMissed d.sectors d.failures d.missing };
 }
 
-// A log with the last call of its disk added.
+// Adds the last call of a disk to its log.
 struct WithCall;
 
 impl<W: Flash> Names<HandedDisk<W>> for WithCall {
@@ -71,10 +71,10 @@ impl<W: Flash> HandedDisk<W> {
     ghost use Rattle.iol_handed.specs.HandedDisk.{HasMissed, call_of};
     ghost use Rattle.iol_handed.specs.Held.{Agree};
 
-    /// A disk of so many sectors, of which these were handed in.
+    /// Makes a disk of this number of sectors, of which these were handed in.
     ///
     /// # Errors
-    /// Out of memory; what was handed in comes back.
+    /// Out of memory; returns what was handed in.
     pub(crate) fn over(
         alloc: Global,
         sectors: usize,
@@ -108,7 +108,8 @@ impl<W: Flash> HandedDisk<W> {
         })
     }
 
-    // The sector that a read did not find last, if any. There is one where a call has failed, and the disk has it.
+    // Returns the sector that the last failed read did not find, if there is one. There is one if a call has failed, and the disk has
+    // that sector.
     pub(crate) fn missing(&self) -> Option<usize>
         ensures is { result ≡ self.now.missing }
         ensures missed { HasMissed self.now.sectors self.now.failures result }
@@ -116,21 +117,21 @@ impl<W: Flash> HandedDisk<W> {
         self.missing
     }
 
-    // How many calls it has handed out, modulo 2^64.
+    // Returns the number of calls that were handed out, modulo 2^64.
     pub(crate) fn calls(&self) -> u64
         ensures { result ≡ self.now.calls }
     {
         self.calls
     }
 
-    // What was handed in, if nothing was written since.
+    // Returns the sectors that were handed in, if nothing was written since.
     pub(crate) fn into_held(self) -> Option<Vec<HeldSector>>
         ensures { IfSome result (λ held. IsTrue W.truthful → Agree W.image held.items) }
     {
         self.held
     }
 
-    // The call that was handed out last, if one was.
+    // Returns the call that was handed out last, if there is one.
     pub(crate) fn last_call(&self) -> Option<HandedCall>
         ensures { option_map call_of result ≡ self.now.call }
     {
@@ -158,7 +159,7 @@ impl<W: Flash> SectorDisk for HandedDisk<W> {
         self.sectors
     }
 
-    /// Reads a sector that was handed in. Where it was not, the read fails, and the sector counts as missing.
+    /// Reads a sector that was handed in. If it was not, the read fails, and the sector counts as missing.
     fn read(&mut self, n: usize, octets: &mut [u8; SECTOR_OCTETS]) -> Result<(), DiskFault>
         requires { n < (handed_disk W.image W.truthful self.old).sectors }
         ensures read { OnOk result (IsTrue (handed_disk W.image W.truthful self.old).honest
@@ -179,7 +180,7 @@ impl<W: Flash> SectorDisk for HandedDisk<W> {
         Err(DiskFault::Read)
     }
 
-    /// Hands a write out. What was handed in is let go.
+    /// Hands out a write, and drops the sectors that were handed in.
     fn write(&mut self, n: usize, octets: &[u8; SECTOR_OCTETS]) -> Result<(), DiskFault>
         requires { n < (handed_disk W.image W.truthful self.old).sectors }
         ensures wrote { OnOk result (After (wrote n octets.now)
@@ -200,7 +201,7 @@ impl<W: Flash> SectorDisk for HandedDisk<W> {
         Ok(())
     }
 
-    /// Hands a sync out.
+    /// Hands out a sync.
     fn sync(&mut self) -> Result<(), DiskFault>
         ensures synced { OnOk result (After synced (handed_disk W.image W.truthful self.old) (handed_disk W.image W.truthful self.new)) }
         ensures same { OnErr result (Same (handed_disk W.image W.truthful self.old) (handed_disk W.image W.truthful self.new)) }

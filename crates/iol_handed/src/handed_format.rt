@@ -1,4 +1,4 @@
-//! A format whose calls are handed out.
+//! A format that hands out its calls.
 
 ghost use Rattle.std.specs.Prelude.{◌≡◌, ◌++◌, IfOk, map, slice_get};
 ghost use Rattle.std.specs.Option.{option_map};
@@ -21,7 +21,7 @@ use iol_slots::GATE_MARK;
 use iol_types::MasterState;
 use std::alloc::{AllocError, Global};
 
-/// A format of a flash for so many ports and slots, whose calls are handed out.
+/// A format of a flash, for a number of ports and of slots, which hands out its calls.
 #[derive(Drop)]
 pub struct HandedFormat {
     pub geometry: Geometry,
@@ -30,7 +30,7 @@ pub struct HandedFormat {
 }
 
 impl HandedFormat {
-    /// The format for a geometry.
+    /// Makes the format for a geometry.
     ///
     /// # Errors
     /// Out of memory.
@@ -49,7 +49,7 @@ impl HandedFormat {
         Ok(HandedFormat { geometry, plan })
     }
 
-    /// The call with this number, counted from 0, if there is one.
+    /// Returns the call with this number, counted from 0, if there is one.
     pub fn call(&self, number: usize) -> Option<HandedCall>
         ensures { option_map call_of result ≡ slice_get (format_calls newest self.now.geometry) number }
     {
@@ -60,7 +60,7 @@ impl HandedFormat {
         }
     }
 
-    // A call after the first sync.
+    // Returns a call after the first sync.
     fn call_of_journal(&self, number: usize) -> Option<HandedCall>
         ensures { option_map call_of result ≡ slice_get (journal_writes newest self.now.geometry ++ opening_calls) number }
     {
@@ -71,7 +71,7 @@ impl HandedFormat {
         }
     }
 
-    // A call after those of the geometry and of the gates of the areas.
+    // Returns a call after those of the geometry and of the gates of the areas.
     fn call_after_gates(&self, number: usize) -> Option<HandedCall>
         ensures { option_map call_of result ≡ slice_get ((slot_writes (laid_out newest self.now.geometry) A
             ++ header_writes newest self.now.geometry ++ port_writes (laid_out newest self.now.geometry) A 0
@@ -85,7 +85,7 @@ impl HandedFormat {
         }
     }
 
-    // A call after those of the slots.
+    // Returns a call after those of the slots.
     fn call_after_slots(&self, number: usize) -> Option<HandedCall>
         ensures { option_map call_of result ≡ slice_get ((header_writes newest self.now.geometry
             ++ port_writes (laid_out newest self.now.geometry) A 0 (empty_state self.now.geometry.ports)) ++ opening_calls) number }
@@ -97,7 +97,7 @@ impl HandedFormat {
         }
     }
 
-    // A call after those of the headers.
+    // Returns a call after those of the headers.
     fn call_after_headers(&self, number: usize) -> Option<HandedCall>
         ensures { option_map call_of result ≡ slice_get (port_writes (laid_out newest self.now.geometry) A 0
             (empty_state self.now.geometry.ports) ++ opening_calls) number }
@@ -110,14 +110,14 @@ impl HandedFormat {
         }
     }
 
-    // The layout of the flash.
+    // Returns the layout of the flash.
     fn layout(&self) -> Layout
         ensures { result ≡ laid_out newest self.now.geometry }
     {
         Layout::of(Version::newest(), self.geometry)
     }
 
-    // A write of the geometry, or of the gate of an area.
+    // Returns a write of the geometry, or of the gate of an area.
     fn gate_write(&self, number: usize) -> Option<HandedCall>
         ensures { option_map call_of result ≡ slice_get (gate_writes newest self.now.geometry) number }
     {
@@ -132,7 +132,7 @@ impl HandedFormat {
         }
     }
 
-    // A write that closes the gate of a slot of area A.
+    // Returns a write that closes the gate of a slot of area A.
     fn slot_write(&self, number: usize) -> Option<HandedCall>
         ensures { option_map call_of result ≡ slice_get (slot_writes (laid_out newest self.now.geometry) A) number }
     {
@@ -144,7 +144,7 @@ impl HandedFormat {
         }
     }
 
-    // A write of a header.
+    // Returns a write of a header.
     fn header_write(&self, number: usize) -> Option<HandedCall>
         ensures { option_map call_of result ≡ slice_get (header_writes newest self.now.geometry) number }
     {
@@ -161,7 +161,7 @@ impl HandedFormat {
         }
     }
 
-    // A write of a record of a port.
+    // Returns a write of a record of a port.
     fn record_write(&self, number: usize) -> Option<HandedCall>
         ensures { option_map call_of result ≡ slice_get (port_writes (laid_out newest self.now.geometry) A 0 (empty_state
             self.now.geometry.ports)) number }
@@ -178,7 +178,7 @@ impl HandedFormat {
     }
 }
 
-// A call that opens the disk, once all else is made.
+// Returns a call that opens the disk, once all others are made.
 fn opening_call(number: usize) -> Option<HandedCall>
     ensures { option_map call_of result ≡ slice_get opening_calls number }
 {
@@ -189,7 +189,7 @@ fn opening_call(number: usize) -> Option<HandedCall>
     }
 }
 
-// A write that opens a gate.
+// Returns a write that opens a gate.
 #[tactic(auto, unfolding(iol_slots::specs::Gate::open_gate))]
 fn open_gate(sector: usize) -> HandedCall
     ensures { call_of result ≡ write sector open_gate }
@@ -199,7 +199,7 @@ fn open_gate(sector: usize) -> HandedCall
     HandedCall::Write { sector, octets }
 }
 
-// A write that closes a gate.
+// Returns a write that closes a gate.
 #[tactic(auto, unfolding(iol_slots::specs::Gate::closed_gate))]
 fn closed_gate(sector: usize) -> HandedCall
     ensures { call_of result ≡ write sector closed_gate }

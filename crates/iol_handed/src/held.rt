@@ -12,7 +12,7 @@ pub struct HeldSector {
     pub(crate) octets: Box<[u8; SECTOR_OCTETS]>,
 }
 
-// Copies the octets of a sector, if it was handed in.
+// Copies the octets of a sector if it was handed in, and returns whether it was.
 pub(crate) fn copy_held(
     held: &[HeldSector],
     sector: usize,

@@ -1,17 +1,17 @@
-//! A master whose disk and devices are in the hands of its caller: it makes no call of its own.
+//! A master whose caller makes all calls of its disk and of its devices: the master makes none.
 //!
-//! An [`Opening`] asks for a sync and for one sector after the other, until the journal on a flash is found. A [`HandedMaster`] then
-//! says which call of the disk it wants next, and what each port wants of its device; the caller makes that call and reports what
-//! became of it. A call that was handed out counts for nothing before it is reported. `iol_c` offers it to C.
+//! An [`Opening`] asks for a sync and for one sector after another, until the journal on a flash is found. A [`HandedMaster`] then says
+//! which call of the disk it wants next, and what each port wants of its device; the caller makes that call and reports its result. A
+//! call that was handed out counts for nothing before it is reported. `iol_c` offers this to C.
 //!
 //! Modules in reading order:
-//! - `flash` is what contracts alone see of the caller's flash, `handed_call` a call that is handed out, `held` what was handed in, and
-//!   `handed_disk` the disk that a journal calls.
+//! - `flash` is what contracts alone see of the caller's flash, `handed_call` a call that is handed out, `held` a sector that was
+//!   handed in, and `handed_disk` the disk that a journal calls.
 //! - `opening` asks for sectors, `opened` looks for the journal among them, and `found` is what a master begins with.
 //! - `handed_format` hands out the calls of a format.
 //! - `reports`, `notes` and `port_answer` are what is reported and answered, and `master` with `disk_side` and `port_side` the master.
-//! - `ask` is what is asked of a `session`, which is an opening or a master, and `serving` what it answers; `examples` are facts
-//!   with values.
+//! - `ask` has the requests to a `session`, which is an opening or a master, and `serving` its answers; `examples` are facts with
+//!   values.
 #![tactic(auto)]
 
 mod ask;

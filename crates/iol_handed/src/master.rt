@@ -1,4 +1,4 @@
-//! A master whose disk and devices are in the hands of its caller.
+//! A master whose caller makes all calls of its disk and of its devices.
 
 ghost use Rattle.std.specs.Prelude.{◌≡◌, ◌-◌, length, map, replicate, slice_get, IfOk, IfErr};
 ghost use Rattle.iol_types.specs.Command.{command_of};
@@ -25,13 +25,13 @@ use iol_types::{Change, MasterState, PortId};
 use std::alloc::{AllocError, Global};
 use std::marker::Model;
 
-/// A master that makes no call of a disk and of a device itself: it says which it wants, and is handed what became of it. A contract
-/// sees the record `HandedMasterView` of `specs/Master.antt`. It must be ended.
+/// A master that makes no call of a disk or of a device itself: it says which call it wants, and its caller hands in the result. A
+/// contract sees the record `HandedMasterView` of `specs/Master.antt`. It must be ended.
 pub struct HandedMaster<W: Flash, F: Name> {
     pub(crate) alloc: Global,
     pub(crate) made: EngineOnDisk<HandedDisk<W>, F>,
     pub(crate) reports: Reports,
-    // of each port, port 1 first
+    // the notes of each port, port 1 first
     pub(crate) notes: Vec<PortNotes>,
     // a buffer for the next exchange, so that a step needs no memory of its own
     pub(crate) spare: Option<Box<Exchanged>>,
@@ -45,7 +45,7 @@ impl<W: Flash, F: Name> Model for HandedMaster<W, F> {
     ghost view = { λ m. record { made = m.made; reports = m.reports; notes = m.notes.items } };
 }
 
-// What a master takes memory for when it begins, its engine apart.
+// What a master allocates when it begins, besides its engine.
 #[derive(Drop)]
 struct Buffers {
     links: Vec<Handed>,
@@ -53,7 +53,7 @@ struct Buffers {
     spare: Box<Exchanged>,
 }
 
-// The buffers of so many ports. Each link is on its first connection.
+// Makes the buffers of this number of ports. Each link is on its first connection.
 fn buffers_for(alloc: Global, ports: u8) -> Result<Buffers, AllocError>
     ensures links { IfOk result (λ buffers. length buffers.links.items ≡ ports) }
     ensures connections { IfOk result (λ buffers. map handed_number buffers.links.items ≡ replicate ports 0) }
@@ -74,7 +74,7 @@ impl<W: Flash, F: Name> HandedMaster<W, F> {
     /// Begins a master with what was found on a disk.
     ///
     /// # Errors
-    /// Out of memory; the opening is to be asked again.
+    /// Out of memory; returns the opening, which is to be asked again.
     pub fn begin(alloc: Global, found: Found<W>) -> Result<HandedMaster<W, F>, Opening<W>>
         requires name { found.front ≡ F.front }
         ensures begun { IfOk result (IsBegun found) }
@@ -106,7 +106,7 @@ impl<W: Flash, F: Name> HandedMaster<W, F> {
         }
     }
 
-    /// Ends a master. Each permit that a port holds is returned, and what was not reported as made counts for nothing.
+    /// Ends a master. Each permit that a port holds is returned, and a call that was not reported as made counts for nothing.
     pub fn end(self) {
         let HandedMaster {
             alloc: _,
@@ -118,10 +118,10 @@ impl<W: Flash, F: Name> HandedMaster<W, F> {
         let _ended = made.end();
     }
 
-    /// Takes a client's change, and returns its number.
+    /// Submits a client's change, and returns its number.
     ///
     /// # Errors
-    /// As `Core::submit` has them, in that order; nothing changes.
+    /// The faults are those of `Core::submit`, in that order; nothing changes.
     pub fn submit(&mut self, change: Change) -> Result<u64, SubmitFault>
         ensures submits { Submits (command_of change) self.old self.new result }
     {
@@ -132,28 +132,28 @@ impl<W: Flash, F: Name> HandedMaster<W, F> {
         }
     }
 
-    /// The number of the last durable command.
+    /// Returns the number of the last durable command.
     pub fn durable_number(&self) -> u64
         ensures { result ≡ self.now.made.master.core.number }
     {
         self.made.engine().number()
     }
 
-    /// The number of the last command that was accepted.
+    /// Returns the number of the last accepted command.
     pub fn accepted_number(&self) -> u64
         ensures { result ≡ live_number self.now.made.master.core }
     {
         self.made.engine().live_number()
     }
 
-    /// The durable state.
+    /// Returns the durable state.
     pub fn durable(&self) -> &MasterState
         ensures { result.now ≡ self.now.made.master.core.durable }
     {
         self.made.engine().durable()
     }
 
-    /// The status of a port that is there.
+    /// Returns the status of a port, if the master has the port.
     pub fn status(&self, port: PortId) -> Option<PortStatus>
         ensures { result ≡ status_in (slice_get self.now.made.machines (port - 1)) }
     {

@@ -1,37 +1,38 @@
-//! What a caller has reported of a port, and its next step has not used yet.
+//! The reports of a port that its next step has not used yet.
 
 ghost use Rattle.std.specs.Prelude.{◌≡◌};
 ghost use Rattle.iol_handed.specs.Notes.{event_kept, noted_after};
 
 use iol_port::UPLOAD_REQUEST;
 
-/// What calls a settled port.
+/// The reason why a settled port is called.
 #[derive(Clone, Copy, PartialEq, Eq)]
 pub enum Attention {
-    /// Nothing does.
+    /// There is none.
     None,
-    /// It is to look at its device again.
+    /// The port is to look at its device again.
     Woken,
-    /// Its device is gone.
+    /// The port's device is gone.
     Gone,
 }
 
-/// What a caller has reported of a port, and its next step has not used yet.
+/// The reports of a port that its next step has not used yet.
 #[derive(Clone, Copy)]
 pub struct PortNotes {
-    /// The EventCode of an event of its device.
+    /// The EventCode of an event of the port's device.
     pub event: Option<u16>,
-    /// What calls it.
+    /// The reason why the port is called.
     pub attention: Attention,
 }
 
-/// Nothing was reported.
+/// The notes of a port of which nothing was reported.
 pub const NO_NOTES: PortNotes = PortNotes {
     event: None,
     attention: Attention::None,
 };
 
-// The event that is kept once one more comes: the last one, but that by which a device asks for an upload.
+// Returns the event that is kept once one more comes: the last one, but always one by which a device asks for
+// an upload.
 pub(crate) fn event_kept(kept: Option<u16>, code: u16) -> Option<u16>
     ensures { result ≡ event_kept kept code }
 {
@@ -42,7 +43,8 @@ pub(crate) fn event_kept(kept: Option<u16>, code: u16) -> Option<u16>
     }
 }
 
-// What is left after a step: that a device is gone, until the port has heard it or is settled.
+// Returns the notes that are left after a step: that a device is gone, until the port has heard it or is
+// settled.
 pub(crate) fn noted_after(attention: Attention, heard: bool, settled: bool) -> PortNotes
     ensures { result ≡ noted_after attention heard settled }
 {

@@ -1,4 +1,4 @@
-//! What becomes of an opening: the journal is looked for among the sectors that were handed in.
+//! The outcome of an opening: it looks for the journal among the sectors that were handed in.
 
 ghost use Rattle.std.specs.Prelude.{◌≡◌, IsTrue, [], Ok, Some};
 ghost use Rattle.std.specs.Option.{option_map};
@@ -17,26 +17,26 @@ use iol_types::MasterState;
 use std::alloc::Global;
 use std::marker::PhantomData;
 
-/// What became of an opening.
+/// The outcome of an opening.
 #[derive(Drop)]
 pub enum Opened<W: Flash> {
-    /// It goes on. Where it wants nothing it was out of memory.
+    /// The opening continues. If it wants nothing, it was out of memory.
     GoesOn(Opening<W>),
     /// The journal was found.
     Found(Found<W>),
-    /// There is no journal that can be used.
+    /// There is no usable journal.
     Refused(RecoverCause),
 }
 
 impl<W: Flash> Opening<W> {
-    /// Looks for the journal among the sectors that were handed in, where it wants nothing.
+    /// Looks for the journal among the sectors that were handed in, if the opening wants nothing.
     pub fn go_on(self) -> Opened<W>
-        // What is found is what the flash meant.
+        // The journal that is found is the one that the flash means.
         ensures found { IfFound result (λ found. IsTrue W.truthful → standing_in self.sectors W.image ≡ Ok found.journal.standing) }
         ensures refused { IfRefused result (λ cause. IsTrue W.truthful → SaysWhy (standing_in self.sectors W.image) cause) }
-        // Where a sector is missing, or memory runs out, it goes on.
+        // If a sector is missing, or memory runs out, the opening continues.
         ensures remembers { IfRefused result IsOfFlash }
-        // What it wants it wants until it is reported.
+        // The opening wants what it wants until that is reported.
         ensures waits { (self.want ≡ OpeningWant.Nothing → ⊥) → result ≡ Opened.GoesOn self }
         ensures sectors { IfGoesOn result (λ more. more.sectors ≡ self.sectors) }
     {
@@ -62,7 +62,7 @@ impl<W: Flash> Opening<W> {
     }
 }
 
-// Recovers a disk from what was handed in of it. A sector that is missing is asked for.
+// Recovers a disk from the sectors that were handed in. If one is missing, the opening wants it.
 fn recovered<W: Flash>(alloc: Global, disk: HandedDisk<W>) -> Opened<W>
     requires fresh { (disk.log ≡ []) }
     ensures found { IfFound result (λ found. IsTrue W.truthful → standing_in disk.sectors W.image ≡ Ok found.journal.standing) }
@@ -81,7 +81,8 @@ fn recovered<W: Flash>(alloc: Global, disk: HandedDisk<W>) -> Opened<W>
     }
 }
 
-// The opening goes on with what was handed in of a disk, and wants the sector that a read did not find.
+// Continues the opening with what was handed in of a disk. The opening wants the sector that a read did not
+// find.
 fn wanting_missing<W: Flash>(alloc: Global, disk: HandedDisk<W>) -> Opening<W>
     requires failed { disk.failures ≡ 0 → ⊥ }
     ensures { (result.sectors ≡ disk.sectors) × (option_map OpeningWant.Read disk.missing ≡ Some result.want) }
@@ -96,7 +97,7 @@ fn wanting_missing<W: Flash>(alloc: Global, disk: HandedDisk<W>) -> Opening<W>
     }
 }
 
-// What was found, with a front, if there is memory for it.
+// Returns what was found, with a front, if there is memory for it.
 fn found<W: Flash>(
     alloc: Global,
     sectors: usize,
@@ -120,7 +121,7 @@ fn found<W: Flash>(
 }
 
 impl<W: Flash> Opening<W> {
-    // The opening goes on with what was handed in of a disk, and wants nothing.
+    // Continues the opening with what was handed in of a disk. The opening wants nothing.
     pub(crate) fn of_disk(alloc: Global, sectors: usize, disk: HandedDisk<W>) -> Opening<W>
         ensures { (result.sectors ≡ sectors) × (result.want ≡ OpeningWant.Nothing) }
     {
@@ -139,7 +140,7 @@ impl<W: Flash> Opening<W> {
 }
 
 impl<W: Flash> Found<W> {
-    /// The opening that has found it, which is to be asked again.
+    /// Returns the opening that has found it, which is to be asked again.
     pub fn into_opening(self, alloc: Global) -> Opening<W>
         ensures { (result.sectors ≡ self.journal.disk.sectors) × (result.want ≡ OpeningWant.Nothing) }
     {

@@ -1,4 +1,4 @@
-//! A disk is opened: its caller is asked for a sync, and for one sector after the other, until the journal on it is found.
+//! Opens a disk: the caller is asked for a sync, and for one sector after another, until the journal on the disk is found.
 
 ghost use Rattle.std.specs.Prelude.{◌≡◌, ℕ, IsTrue, []};
 ghost use Rattle.iol_handed.specs.Opening.{HandsIn, WantsBelow, synced};
@@ -14,9 +14,9 @@ use std::marker::{Model, PhantomData};
 pub enum OpeningWant {
     /// All that was written to the flash is to be made durable.
     Sync,
-    /// The octets of the sector with this number.
+    /// The sector with this number is to be read.
     Read(usize),
-    /// To be asked again.
+    /// The opening is to be asked again.
     Nothing,
 }
 
@@ -31,12 +31,12 @@ pub struct Opening<W: Flash> {
     pub(crate) flash: PhantomData<W>,
 }
 
-/// Why a sector is not taken.
+/// The reason why a sector is not taken.
 #[derive(Clone, Copy, Debug, PartialEq, Eq)]
 pub enum HandFault {
     /// No sector was wanted.
     Misfit,
-    /// Out of memory; it may be handed in again.
+    /// Out of memory; the sector may be handed in again.
     Memory,
 }
 
@@ -53,7 +53,7 @@ impl<W: Flash> Model for Opening<W> {
 }
 
 impl<W: Flash> Opening<W> {
-    /// The opening of a disk of so many sectors. It wants a sync first.
+    /// Makes the opening of a disk of this number of sectors. It wants a sync first.
     pub fn new(alloc: Global, sectors: usize) -> Opening<W>
         ensures { result ≡ record { sectors = sectors; held = []; want = OpeningWant.Sync } }
     {
@@ -66,7 +66,7 @@ impl<W: Flash> Opening<W> {
         }
     }
 
-    /// What it wants of its caller. A sector that it wants is below the number of its sectors.
+    /// Returns what the opening wants of its caller. A sector that it wants is one that the disk has.
     pub fn want(&self) -> OpeningWant
         ensures is { result ≡ self.now.want }
         ensures below { WantsBelow self.now.sectors result }
@@ -74,7 +74,7 @@ impl<W: Flash> Opening<W> {
         self.want
     }
 
-    /// The sync that it wants was made. Where it wants none nothing changes.
+    /// Reports that the wanted sync was made. If no sync is wanted, nothing changes.
     pub fn synced(&mut self)
         ensures { self.new ≡ synced self.old.want self.old }
     {
@@ -84,10 +84,10 @@ impl<W: Flash> Opening<W> {
         }
     }
 
-    /// Hands in the octets of the sector that it wants.
+    /// Hands in the octets of the wanted sector.
     ///
     /// # Errors
-    /// `Misfit` and `Memory`, in this order. Nothing changes.
+    /// `Misfit` if no sector is wanted, and `Memory` if memory runs out, in this order. Nothing changes.
     pub fn hand(&mut self, octets: &[u8; SECTOR_OCTETS]) -> Result<(), HandFault>
         requires truthful { (sector : ℕ) → self.old.want ≡ OpeningWant.Read sector → IsTrue W.truthful → octets.now ≡ W.image sector }
         ensures hands { HandsIn self.old.want octets.now self.old self.new result }

@@ -1,20 +1,20 @@
-//! What a port answers its caller.
+//! The answers of a port to its caller.
 
 use arrayvec::ArrayVec;
 use iol_isdu::ISDU_OCTETS;
 
-/// What a port answers its caller.
+/// The answer of a port to its caller.
 #[derive(Drop)]
 pub enum PortAnswer {
     /// The master does not have this port.
     Absent,
     /// Nothing like it is waited for.
     Misfit,
-    /// Out of memory: nothing changed, and it may be asked again.
+    /// Out of memory: nothing changed, and the call may be made again.
     Memory,
-    /// It is noted for the port's next step.
+    /// The report is noted for the port's next step.
     Noted,
-    /// Nothing is to be done until the port is woken, or what it has stored is durable.
+    /// Nothing is to be done until the port is woken, or until what it has stored is durable.
     Nothing,
     /// The port has made a step, and is to be asked again.
     Again,

@@ -1,4 +1,4 @@
-//! What a port wants of its device, and what is reported of it.
+//! What a port wants of its device, and the reports of it.
 
 ghost use Rattle.std.specs.Prelude.{◌≡◌, ◌-◌, [], Some, slice_get};
 ghost use Rattle.iol_engine.specs.HandedSteps.{want_at};
@@ -22,7 +22,8 @@ use iol_port::Want;
 use iol_types::PortId;
 
 impl<W: Flash, F: Name> HandedMaster<W, F> {
-    /// What a port wants of its device. Where it wants nothing and is called, or is not settled, it makes a step.
+    /// Returns what a port wants of its device. A port that wants nothing makes a step, unless it waits for the disk, or is
+    /// settled and nothing was reported of it. A port whose device is gone makes a step in place of what it wants.
     pub fn port_next(&mut self, port: PortId) -> PortAnswer
         ensures asks { AsksPort port self.old self.new result }
         ensures run { KeepsRunning (handed_disk W.image W.truthful) F.front.start self.old.made.master self.new.made.master }
@@ -33,7 +34,7 @@ impl<W: Flash, F: Name> HandedMaster<W, F> {
         }
     }
 
-    // The same of a port of which this was reported.
+    // Does the same for a port with these notes.
     fn next(&mut self, port: PortId, notes: PortNotes) -> PortAnswer
         requires notes { slice_get self.old.notes (port - 1) ≡ Some notes }
         ensures asks { AsksAt (want_at (engine_in self.old.made []) port) notes.attention port notes self.old self.new result }
@@ -50,7 +51,7 @@ impl<W: Flash, F: Name> HandedMaster<W, F> {
         }
     }
 
-    // The same of a port that wants nothing of its device.
+    // Does the same for a port that wants nothing of its device.
     fn at_nothing(&mut self, port: PortId, notes: PortNotes) -> PortAnswer
         requires notes { slice_get self.old.notes (port - 1) ≡ Some notes }
         ensures asks { AsksAtNothing (rests self.old port notes) port notes self.old self.new result }
@@ -63,7 +64,7 @@ impl<W: Flash, F: Name> HandedMaster<W, F> {
         }
     }
 
-    // What was reported of a port that is there.
+    // Returns the notes of a port, if the master has the port.
     fn notes_of(&self, port: PortId) -> Option<PortNotes>
         ensures { result ≡ slice_get self.now.notes (port - 1) }
     {
@@ -78,7 +79,7 @@ impl<W: Flash, F: Name> HandedMaster<W, F> {
         self.hand(port, Answered::Page(octets))
     }
 
-    /// Hands in what a port's device has answered to the request.
+    /// Hands in the answer of a port's device to the request.
     pub fn port_answer(&mut self, port: PortId, octets: ArrayVec<u8, ISDU_OCTETS>) -> PortAnswer
         ensures hands { HandsPort port (Answered.Octets octets) self.old self.new result }
         ensures run { KeepsRunning (handed_disk W.image W.truthful) F.front.start self.old.made.master self.new.made.master }
@@ -86,7 +87,8 @@ impl<W: Flash, F: Name> HandedMaster<W, F> {
         self.hand(port, Answered::Octets(octets))
     }
 
-    /// Reports that the device of a port is gone. A port that wants nothing of it hears so where it next wants something.
+    /// Reports that the device of a port is gone. A port that wants nothing of its device learns this when it next wants
+    /// something.
     pub fn port_lost(&mut self, port: PortId) -> PortAnswer
         ensures loses { Loses port self.old self.new result }
         ensures run { KeepsRunning (handed_disk W.image W.truthful) F.front.start self.old.made.master self.new.made.master }
@@ -97,7 +99,7 @@ impl<W: Flash, F: Name> HandedMaster<W, F> {
         }
     }
 
-    // The same of a port of which this was reported.
+    // Does the same for a port with these notes.
     fn lose(&mut self, port: PortId, notes: PortNotes) -> PortAnswer
         requires notes { slice_get self.old.notes (port - 1) ≡ Some notes }
         ensures loses { LosesAt (want_at (engine_in self.old.made []) port) port notes self.old self.new result }
@@ -116,7 +118,7 @@ impl<W: Flash, F: Name> HandedMaster<W, F> {
         }
     }
 
-    /// Reports an event of a port's device, by its EventCode. Of several the last is kept for the port's next step, and a
+    /// Reports an event of a port's device, by its EventCode. Of several events the last is kept for the port's next step, and a
     /// DS_UPLOAD_REQ always.
     pub fn port_event(&mut self, port: PortId, code: u16) -> PortAnswer
         ensures { IsNoted port (λ notes. record notes { event = event_kept notes.event code }) self.old self.new result }
@@ -152,7 +154,7 @@ impl<W: Flash, F: Name> HandedMaster<W, F> {
         }
     }
 
-    // The same of a port of which this was reported.
+    // Does the same for a port with these notes.
     fn hand_at(&mut self, port: PortId, notes: PortNotes, answer: Answered) -> PortAnswer
         requires notes { slice_get self.old.notes (port - 1) ≡ Some notes }
         ensures hands { HandsAt notes.attention port notes answer self.old self.new result }
@@ -164,7 +166,8 @@ impl<W: Flash, F: Name> HandedMaster<W, F> {
         }
     }
 
-    // Whether a port that wants nothing of its device has nothing to do: it waits for the disk, or it is settled and not called.
+    // Returns whether a port that wants nothing of its device has nothing to do: it waits for the disk, or it is settled and
+    // nothing was reported of it.
     fn rests(&self, port: PortId, notes: PortNotes) -> bool
         ensures { result ≡ rests self.now port notes }
     {
@@ -201,7 +204,7 @@ impl<W: Flash, F: Name> HandedMaster<W, F> {
         }
     }
 
-    // The buffer for an exchange, or a new one; none if there is no memory for it.
+    // Returns the spare buffer or a new one, or `None` if memory runs out.
     fn buffer(&mut self) -> Option<Box<Exchanged>>
         ensures { self.new ≡ self.old }
     {
@@ -212,7 +215,7 @@ impl<W: Flash, F: Name> HandedMaster<W, F> {
     }
 }
 
-// Whether the device is gone.
+// Returns whether the device is gone.
 fn is_gone(answer: &Answered) -> bool
     ensures { result ≡ is_gone answer.now }
 {

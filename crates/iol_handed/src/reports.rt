@@ -1,8 +1,8 @@
-//! What a caller has reported of the disk, and what it is answered.
+//! The reports of a caller on the disk, and the answers to it.
 
 use crate::handed_call::HandedCall;
 
-/// What a caller has reported of the calls that the disk handed out.
+/// The reports of a caller on the calls that the disk handed out.
 #[derive(Clone, Copy)]
 pub enum Reports {
     /// The calls up to this number, modulo 2^64, were made.
@@ -18,10 +18,10 @@ pub enum DiskAnswer {
     Stopped,
     /// This call is to be made.
     Call(HandedCall),
-    /// Something was done without the disk, and it is to be asked again.
+    /// Something was done without the disk, and the master is to be asked again.
     Again,
     /// Nothing is to be done.
     Nothing,
-    /// Out of memory: it may be asked again.
+    /// Out of memory: the master may be asked again.
     Memory,
 }

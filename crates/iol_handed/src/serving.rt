@@ -1,4 +1,4 @@
-//! What a session answers.
+//! The answers of a session.
 
 ghost use Rattle.std.specs.Prelude.{◌≡◌};
 ghost use Rattle.std.specs.Option.{option_map};
@@ -26,7 +26,7 @@ use iol_types::{PortId, PortState, StoredSet};
 use std::mem::ManuallyDrop;
 
 impl<F: Name> Session<F> {
-    /// A session with neither a flash nor a master.
+    /// Makes a session with neither a flash nor a master.
     pub fn ended() -> Session<F>
         ensures { result ≡ ended }
     {
@@ -35,7 +35,7 @@ impl<F: Name> Session<F> {
         }
     }
 
-    /// A session with a flash that is being opened.
+    /// Makes a session with a flash that is being opened.
     pub fn opening(flash: Opening<UnknownFlash>) -> Session<F>
         ensures { result ≡ opening flash }
     {
@@ -44,7 +44,7 @@ impl<F: Name> Session<F> {
         }
     }
 
-    /// A session with this master.
+    /// Makes a session with this master.
     pub fn running(master: HandedMaster<UnknownFlash, F>) -> Session<F>
         ensures { result ≡ running master }
     {
@@ -63,7 +63,8 @@ impl<F: Name> Session<F> {
         }
     }
 
-    /// Serves what is asked. `Ask::Open` ends what the session has, and opens a flash; `Ask::End` ends it.
+    /// Serves a request. `Ask::Open` ends what the session has, and opens a flash; `Ask::End` ends the
+    /// session.
     pub fn serve(self, ask: Ask) -> (Session<F>, Answer)
         ensures { Serves ask self result.0 result.1 }
     {
@@ -76,7 +77,7 @@ impl<F: Name> Session<F> {
         }
     }
 
-    // The same of what opens no flash.
+    // Serves a request that opens no flash.
     fn serve_asked(self, ask: Ask) -> (Session<F>, Answer)
         ensures { ServesAt self.opening self.running ask result.0 result.1 }
     {
@@ -93,7 +94,7 @@ fn end_master<F: Name>(master: HandedMaster<UnknownFlash, F>) {
     master.end();
 }
 
-// The flash that is to be opened, or else what is asked.
+// Returns the flash that the request opens, or else the request.
 fn opened_by(ask: Ask) -> Result<Opening<UnknownFlash>, Ask>
     ensures { OpensOrIs ask result }
 {
@@ -103,7 +104,7 @@ fn opened_by(ask: Ask) -> Result<Opening<UnknownFlash>, Ask>
     }
 }
 
-// What a flash that is being opened answers.
+// Serves a request to a flash that is being opened.
 fn serve_opening<F: Name>(flash: Opening<UnknownFlash>, ask: Ask) -> (Session<F>, Answer)
     ensures { OpeningServes ask flash result.0 result.1 }
 {
@@ -130,7 +131,8 @@ fn serve_opening<F: Name>(flash: Opening<UnknownFlash>, ask: Ask) -> (Session<F>
     }
 }
 
-// What an opening wants of the disk. Where it wants nothing it looks for the journal among what was handed in.
+// Returns what an opening wants of the disk. If it wants nothing, it looks for the journal among what was
+// handed in.
 fn opening_next<F: Name>(flash: Opening<UnknownFlash>) -> (Session<F>, Answer)
     ensures { AsksOpening flash.want flash result.0 result.1 }
 {
@@ -144,7 +146,7 @@ fn opening_next<F: Name>(flash: Opening<UnknownFlash>) -> (Session<F>, Answer)
     }
 }
 
-// What an opening wants, as an answer.
+// Returns the answer that says what an opening wants.
 fn want_answer(want: OpeningWant) -> Answer
     ensures { result ≡ want_answer want }
 {
@@ -155,7 +157,7 @@ fn want_answer(want: OpeningWant) -> Answer
     }
 }
 
-// The sync that an opening wants was made, or the call that it wants has failed.
+// Takes the report that the wanted sync was made, or that the wanted call has failed.
 fn opening_done<F: Name>(flash: Opening<UnknownFlash>, made: bool) -> (Session<F>, Answer)
     ensures { Reports flash.want made flash result.0 result.1 }
 {
@@ -173,7 +175,7 @@ fn opening_done<F: Name>(flash: Opening<UnknownFlash>, made: bool) -> (Session<F
     }
 }
 
-// A call of an opening has failed.
+// Ends an opening a call of which has failed.
 fn failed<F: Name>(fault: DiskFault) -> (Session<F>, Answer)
     ensures { (result.0 ≡ ended) × (result.1 ≡ Answer.NotOpened (RecoverCause.Disk fault)) }
 {
@@ -183,7 +185,7 @@ fn failed<F: Name>(fault: DiskFault) -> (Session<F>, Answer)
     )
 }
 
-// What a master answers.
+// Serves a request to a master.
 fn serve_running<F: Name>(master: HandedMaster<UnknownFlash, F>, ask: Ask) -> (Session<F>, Answer)
     ensures { RunningServes ask master result.0 result.1 }
 {
@@ -196,14 +198,14 @@ fn serve_running<F: Name>(master: HandedMaster<UnknownFlash, F>, ask: Ask) -> (S
     (Session::running(master), answer)
 }
 
-/// Whether a session is to end.
+/// Returns whether the request is to end the session.
 pub fn is_end(ask: &Ask) -> bool
     ensures { result ≡ is_end ask.now }
 {
     matches!(ask, Ask::End)
 }
 
-// The same of what does not end it.
+// Serves a request to a master that does not end it.
 fn answer_running<F: Name>(master: &mut HandedMaster<UnknownFlash, F>, ask: Ask) -> Answer
     ensures { Answers ask master.old master.new result }
 {
@@ -239,7 +241,7 @@ fn answer_running<F: Name>(master: &mut HandedMaster<UnknownFlash, F>, ask: Ask)
     }
 }
 
-// What a port answers.
+// Serves a request about a port.
 fn serve_port<F: Name>(
     master: &mut HandedMaster<UnknownFlash, F>,
     port: PortId,
@@ -257,7 +259,7 @@ fn serve_port<F: Name>(
     }
 }
 
-// The answer of a disk.
+// Returns the session's answer for what is wanted of the disk.
 fn disk_answer(answer: DiskAnswer) -> Answer
     ensures { result ≡ disk_answer answer }
 {
@@ -271,7 +273,7 @@ fn disk_answer(answer: DiskAnswer) -> Answer
     }
 }
 
-// The answer of a port.
+// Returns the session's answer for the answer of a port.
 fn port_answer(answer: PortAnswer) -> Answer
     ensures { result ≡ port_answer answer }
 {
@@ -287,7 +289,7 @@ fn port_answer(answer: PortAnswer) -> Answer
     }
 }
 
-// The durable state of a port.
+// Returns the durable state of a port.
 fn view_of(port: &PortState) -> View
     ensures { result ≡ view_of port.now }
 {
@@ -299,7 +301,7 @@ fn view_of(port: &PortState) -> View
     }
 }
 
-// How large a set is, if it is there.
+// Returns the size of a set and its checksum, if there is a set.
 fn set_view(stored: Option<&StoredSet>) -> Option<SetView>
     ensures { result ≡ option_map (λ present. set_view (stored_of present.now)) stored.entry }
 {
@@ -313,7 +315,7 @@ fn set_view(stored: Option<&StoredSet>) -> Option<SetView>
     }
 }
 
-// An entry of one of the sets of a port.
+// Returns an entry of one of the sets of a port.
 fn entry_of(port: &PortState, which: WhichSet, place: usize) -> Answer
     ensures { IsEntryAt (set_in which port.now) place result }
 {

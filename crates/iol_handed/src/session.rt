@@ -7,14 +7,14 @@ use iol_front::Name;
 use std::marker::Model;
 use std::mem::ManuallyDrop;
 
-// How far a session is.
+// The stage of a session.
 #[derive(Drop)]
 pub(crate) enum Stage<F: Name> {
     // A flash is being opened.
     Opening(Opening<UnknownFlash>),
-    // A master runs, which is ended by `Ask::End`.
+    // A master runs; `Ask::End` ends it.
     Running(ManuallyDrop<HandedMaster<UnknownFlash, F>>),
-    // There is neither.
+    // There is neither a flash nor a master.
     Ended,
 }
 

@@ -1,4 +1,4 @@
-//! The clients of a script: one for each port that is asked for something, each in a thread of its own.
+//! The clients of a script: one for each port that has changes, each in a thread of its own.
 ghost use Rattle.std.specs.Prelude.{◌≡◌, IfErr, IfOk, MatchResult, None, Some};
 ghost use Rattle.iol_commands.specs.Fault.{status_of};
 ghost use Rattle.iol_live.specs.Asked.{changes_of};
@@ -18,18 +18,18 @@ use std::sync::Wait;
 use std::thread;
 use std::thread::{JoinHandle, Threads};
 
-// How many receipts may wait until they are told.
+// The most receipts that wait to be reported.
 const ROOM: usize = 64;
 
-// The clients that were started: each ends with why one of its calls has no receipt, if one has none.
+// The clients that were started. Each ends with the fault of its first call without a receipt, if it has one.
 type Asking = Vec<JoinHandle<Result<(), CallFault>>>;
 
-// Asks a master for changes, those of each port one after another, and tells each receipt as it comes. There is one for each
-// change.
+// Has clients request changes of a master, those of each port one after another, and reports each receipt as it comes. On success
+// there is one receipt for each change.
 //
 // # Errors
-// `Memory`, also where memory ran out for a change that was taken, `Thread` where a client's thread was not made, and `Call` where
-// another change has no receipt, once all clients have ended. Where the disk failed that is told in its place.
+// `Memory` if memory runs out, also for an accepted change, `Thread` if a client's thread cannot be made, and `Call` if another
+// change has no receipt, once all clients have ended. If the disk failed, that is reported instead.
 pub(crate) fn ask_all<
     D: SectorDisk + Drop + Send + 'static,
     F: Name + 'static,
@@ -64,10 +64,10 @@ pub(crate) fn ask_all<
     }
 }
 
-// Starts a client for each port that is asked for something, port 1 first. The clients alone tell receipts then.
+// Starts a client for each port that has changes, port 1 first. After that only the clients report receipts.
 //
 // # Errors
-// `Memory`, or `Thread`; those that were started go on.
+// `Memory` if memory runs out, `Thread` if a thread cannot be made; the clients that were started continue.
 fn start_clients<
     D: SectorDisk + Drop + Send + 'static,
     F: Name + 'static,
@@ -90,10 +90,10 @@ fn start_clients<
     Ok(())
 }
 
-// Starts a client for the port with this number, if it is asked for something.
+// Starts a client for the port with this number, if it has changes.
 //
 // # Errors
-// `Memory`, or `Thread`.
+// `Memory` if memory runs out, `Thread` if the thread cannot be made.
 fn start_at<
     D: SectorDisk + Drop + Send + 'static,
     F: Name + 'static,
@@ -119,7 +119,7 @@ fn start_at<
     }
 }
 
-// The changes that are asked of the port with this number, in their order.
+// Returns the changes of the port with this number, in their order.
 fn changes_of(alloc: Global, changes: &[Change], number: u8) -> Result<Vec<Change>, AllocError>
     ensures { IfOk result (λ asked. asked.items ≡ changes_of number changes.now) }
 {
@@ -132,10 +132,10 @@ fn changes_of(alloc: Global, changes: &[Change], number: u8) -> Result<Vec<Chang
     Ok(asked)
 }
 
-// Starts a client that asks for these changes.
+// Starts a client that requests these changes.
 //
 // # Errors
-// `Memory`, or `Thread`.
+// `Memory` if memory runs out, `Thread` if the thread cannot be made.
 fn start_client<
     D: SectorDisk + Drop + Send + 'static,
     F: Name + 'static,
@@ -157,7 +157,7 @@ fn start_client<
     }
 }
 
-// A further client of a master, and what its receipts are told by.
+// Makes a further client of a master, and the sender for its receipts.
 fn ends_of<D: SectorDisk + Drop + Send + 'static, F: Name + 'static>(
     master: &mut Master<D, F>,
     told: &Sender<Told, Global>,
@@ -174,7 +174,7 @@ fn ends_of<D: SectorDisk + Drop + Send + 'static, F: Name + 'static>(
 // Starts the thread of a client.
 //
 // # Errors
-// `Memory`, or `Thread`.
+// `Memory` if memory runs out, `Thread` if the thread cannot be made.
 fn spawn_client<F: Name + 'static, R: Threads + Wait + Copy + Send + 'static>(
     rt: &R,
     client: Client<F>,
@@ -192,7 +192,7 @@ fn spawn_client<F: Name + 'static, R: Threads + Wait + Copy + Send + 'static>(
     }
 }
 
-// Asks for changes, one after another, and tells each receipt. Ends at the first that has none.
+// Requests changes, one after another, and reports each receipt. Ends at the first change that has none.
 fn ask<F: Name, R: Wait>(
     rt: &R,
     mut client: Client<F>,
@@ -208,12 +208,12 @@ fn ask<F: Name, R: Wait>(
     Ok(())
 }
 
-// Tells a receipt. One that is not heard is not counted.
+// Reports a receipt. A receipt that nobody receives is not counted.
 fn tell<R: Wait>(rt: &R, told: &Sender<Told, Global>, port: PortId, number: u64) {
     let _ = told.send(rt, Told { port, number });
 }
 
-// The number under which a change is durable, where the client gets its receipt.
+// Requests a change, and returns the number under which it is durable, if the client gets its receipt.
 fn number_of<F: Name, R: Wait>(
     rt: &R,
     client: &mut Client<F>,
@@ -230,7 +230,7 @@ fn number_of<F: Name, R: Wait>(
     }
 }
 
-// Tells each receipt as it comes, until all clients have ended, and says how many there were.
+// Reports each receipt as it comes, until all clients have ended, and returns the number of receipts.
 fn hear<E: Write, R: Wait>(
     rt: &R,
     heard: Receiver<Told, Global>,
@@ -248,10 +248,10 @@ fn hear<E: Write, R: Wait>(
     count
 }
 
-// Waits until these clients have ended, and says why one has no receipt.
+// Waits until these clients have ended.
 //
 // # Errors
-// `Memory` where memory ran out for a change that was taken, or else `Call` where one has no receipt.
+// `Memory` if memory ran out for an accepted change, or else `Call` if a change has no receipt.
 fn join_all<R: Threads>(rt: &R, clients: Asking) -> Result<(), Fault<'static>>
     ensures cause { IfErr result IsRunCause }
     ensures status { IfErr result (λ fault. status_of fault ≡ 1) }
@@ -266,7 +266,8 @@ fn join_all<R: Threads>(rt: &R, clients: Asking) -> Result<(), Fault<'static>>
     told_of(missing.unwritten, missing.refused)
 }
 
-/// Which receipts clients miss: memory ran out for a change that was taken, and one was refused or is not known to be durable.
+/// The receipts that clients miss: of an accepted change for which memory ran out, and of a change that was refused or is not
+/// known to be durable.
 #[derive(Clone, Copy)]
 struct Missing {
     unwritten: bool,
@@ -274,7 +275,7 @@ struct Missing {
 }
 
 impl Missing {
-    // The same, once one more client has ended so.
+    // Returns the missing receipts once one more client has ended with this result.
     fn with(self, ended: Result<(), CallFault>) -> Missing
         ensures { result ≡ missing_with self ended }
     {
@@ -292,7 +293,7 @@ impl Missing {
     }
 }
 
-// Why not all changes have their receipts: memory ran out for one that was taken, or else one was refused.
+// Returns why receipts are missing, if any are: memory ran out for an accepted change, or else a change was refused.
 fn told_of(unwritten: bool, refused: bool) -> Result<(), Fault<'static>>
     ensures told { MatchResult result (λ _. unreceived unwritten refused ≡ None) (λ fault. unreceived unwritten refused ≡ Some fault) }
     ensures cause { IfErr result IsRunCause }

@@ -1,4 +1,4 @@
-//! The command `live`, over a writer for its output and one for what is told beside it.
+//! The command `live`, over a writer for its output, and one for receipts and faults.
 ghost use Rattle.std.specs.Prelude.{◌≡◌, ◌≤◌, ℕ, List, IfErr, IfOk, None, string_bytes};
 ghost use Rattle.std.specs.Io.KnownBytes.{Appends};
 ghost use Rattle.iol_script.specs.LiveScript.{live_in};
@@ -18,12 +18,12 @@ use std::sync::Wait;
 use std::thread::Threads;
 use std::time::Clock;
 
-/// Runs a master on the image file at `path`, with the devices of a script and its clients, and returns the exit status: 0 once
-/// how many receipts there are and the recovered state are written to `out`, 2 where the script is not valid, and else 1.
+/// Runs a master on the image file at `path`, with the devices and the clients of a script, and returns the exit status: 0 once
+/// the number of receipts and the recovered state are written to `out`, 2 if the script is not valid, and else 1.
 ///
-/// Where the command fails, a line on `err` says why, and nothing is written to `out`. Where writing to `out` fails, nothing is
-/// written to `err` behind what was told of receipts. No signal is heard: a program that is ended in the middle is a power stop,
-/// and each receipt that was told is on the image then.
+/// If the command fails, a line on `err` says why, and nothing is written to `out`. If writing to `out` fails, nothing is
+/// written to `err` after the reports of receipts. The command handles no signal: a program that is killed is a power stop, and
+/// the image then holds each change whose receipt was reported.
 pub fn live_image<
     F: FileExt + OpenFile + LockFile + Drop + Send + 'static,
     R: Files<File = F> + AllocGlobal + Threads + Wait + Clock + Copy + Send + 'static,
@@ -34,7 +34,7 @@ pub fn live_image<
     ensures not_valid { result ≡ 2 → IsText script.now → live_in script.now ≡ None }
     ensures untouched { result ≡ 2 → out.new ≡ out.old }
     ensures printed { result ≡ 0 → (text : List ℕ) × TellsRun script.now text × Appends (W.contents out.old) (W.contents out.new) text }
-    // Else a fault is why, and nothing is written to `out`; or the status is 1, as where writing to `out` failed.
+    // Otherwise a fault is why, and nothing is written to `out`; or the status is 1, as when writing to `out` failed.
     ensures silent { (result ≡ 0 → ⊥) → IsSilent script.now result out.old out.new }
     ensures quiet { telling ≡ Telling.Nothing → result ≡ 0 → err.new ≡ err.old }
 {
@@ -44,7 +44,7 @@ pub fn live_image<
     }
 }
 
-// What is printed. The script is judged before the image is opened.
+// Returns the text to print. The script is judged before the image is opened.
 fn text_of_live<
     'a,
     F: FileExt + OpenFile + LockFile + Drop + Send + 'static,

@@ -1,5 +1,5 @@
-//! What is printed of a running master, worked out by the check: a text that is wrong in a definition and in the code alike is
-//! refused here.
+//! Worked examples of what is printed of a running master, which the check computes. A text that is wrong both in a definition
+//! and in the code is refused here.
 ghost use Rattle.std.specs.Prelude.{◌≡◌, true, false, [], ◌∷◌, codes};
 ghost use Rattle.iol_texts.specs.Recovered.{recovered_text};
 ghost use Rattle.iol_types.specs.declared.command.Change.TheVariants.{Clear, Rollback};
@@ -7,18 +7,18 @@ ghost use Rattle.iol_live.specs.Asked.{changes_of};
 ghost use Rattle.iol_live.specs.Lived.{fits, lived_text};
 ghost use Rattle.iol_script.specs.declared.device.Device.{Device};
 
-/// How many receipts there are stands above the state.
+/// The number of receipts is above the state.
 pub fn receipts()
     ensures { lived_text 3 (recovered_text 4 []) ≡ codes "receipts 3\nrecovered 4\n" }
 {}
 
-/// A device fits at the last port, and behind it not.
+/// A device fits at the last port, but not after it.
 pub fn last_ports()
     ensures last { (device : Device) → device.port ≡ 2 → fits 2 (device ∷ []) ≡ true }
     ensures behind { (device : Device) → device.port ≡ 3 → fits 2 (device ∷ []) ≡ false }
 {}
 
-/// A port is asked for what is its own, in order.
+/// A port is asked for its own changes, in their order.
 pub fn of_a_port()
     ensures { changes_of 2 (Clear 2 ∷ Clear 1 ∷ Rollback 2 ∷ Rollback 1 ∷ []) ≡ Clear 2 ∷ Rollback 2 ∷ [] }
 {}

@@ -1,4 +1,4 @@
-//! A running master on a disk, and what is printed of it.
+//! A running master on a disk, and the text that is printed of it.
 ghost use Rattle.std.specs.Prelude.{◌≡◌, true, List, ℕ, [], length, vec_len, All, IfErr, IfOk, OnOk, IsTrue, Ok, string_bytes};
 ghost use Rattle.iol_disk.specs.Content.{reads};
 ghost use Rattle.iol_journal.specs.Kept.{IsKept};
@@ -34,12 +34,14 @@ use std::sync::Wait;
 use std::thread::Threads;
 use std::time::Clock;
 
-/// Runs a master on a disk, with the devices of a script at its ports and a client for each port that the script asks for
-/// something; what is printed once all clients have their receipts, the master has ended, and the disk is recovered anew.
+/// Runs a master on a disk, with the devices of a script at its ports, and a client for each port that has changes in the
+/// script. Returns the text to print, once all clients have their receipts, the master has ended, and the disk is recovered
+/// again.
 ///
 /// # Errors
-/// Why the disk is not recovered; `Fit` where a device is at a port that is not there; `Thread`; `Disk` where a disk call
-/// fails; `Call` where a client has no receipt; and `Memory`. What has a receipt is on the disk also then.
+/// Why the disk is not recovered; `Fit` if a device is at a port that does not exist; `Thread` if a thread cannot be made;
+/// `Disk` if a disk call fails; `Call` if a client has no receipt; and `Memory` if memory runs out. A change that has a
+/// receipt is on the disk in each case.
 pub fn live_on_disk<
     D: SectorDisk + Drop + Send + 'static,
     E: Write,
@@ -53,16 +55,16 @@ pub fn live_on_disk<
     err: &mut E,
 ) -> Result<String, Fault<'static>>
     requires devices { All MayVisit script.now.devices.items }
-    // On a disk that reads as it was written, and on which a journal stands: what is printed is the state after some commands,
-    // behind what was there.
+    // On a disk that reads as it was written and that holds a journal, the text is the state after what the journal held and
+    // some further commands.
     ensures lived { ((d : D) → IsTrue (D.disk d).honest) → IsKept (D.disk disk).sectors (reads (D.disk disk).content)
         → (there : Standing) → standing_in (D.disk disk).sectors (reads (D.disk disk).content) ≡ Ok there
         → IfOk result (λ text. IsAfterWhatIsThere (vec_len script.now.changes) there (string_bytes text)) }
-    // On any disk it is as many receipts as the script has steps, and a state.
+    // On any disk, the text reports one receipt for each step of the script, and a state.
     ensures text { IfOk result (λ text. TellsReceipts (vec_len script.now.changes) (string_bytes text)) }
     ensures fits { OnOk result (Fits (D.disk disk) script.now.devices.items true) }
     ensures silent { telling ≡ Telling.Nothing → err.new ≡ err.old }
-    // On such a disk nothing else is a cause.
+    // On a disk that reads as it was written and that holds a journal, nothing else is a cause.
     ensures cause { ((d : D) → IsTrue (D.disk d).honest) → IsKept (D.disk disk).sectors (reads (D.disk disk).content)
         → IfErr result (IsLiveCause (D.disk disk) script.now.devices.items) }
     ensures status { IfErr result (λ fault. status_of fault ≡ 1) }
@@ -75,7 +77,7 @@ pub fn live_on_disk<
     live_behind::<D, Brand, E, R>(rt, alloc, front, journal, state, script, telling, err)
 }
 
-// Whether each device is at one of so many ports.
+// Returns whether each device is at one of this number of ports.
 fn fits(devices: &[Device], ports: u8) -> bool
     ensures { result ≡ fits ports devices.now }
 {
@@ -121,10 +123,10 @@ fn live_behind<
     }
 }
 
-// A master over a journal that was just recovered, with a link for each port.
+// Starts a master over a journal that was just recovered, with a link for each port.
 //
 // # Errors
-// `Memory`, or `Thread`.
+// `Memory` if memory runs out, `Thread` if a thread cannot be made.
 fn started<
     D: SectorDisk + Drop + Send + 'static,
     F: Name + 'static,
@@ -154,7 +156,7 @@ fn started<
     }
 }
 
-// Has the clients of a script ask a running master, ends it, and says what is printed.
+// Has the clients of a script request their changes of a running master, ends the master, and returns the text to print.
 fn live_with<
     D: SectorDisk + Drop + Send + 'static,
     F: Name + 'static,
@@ -183,7 +185,7 @@ fn live_with<
     text_of(alloc, disk, script.changes.len())
 }
 
-// The disk that a master leaves on which no call failed, and on which all is written.
+// Returns the disk that a master leaves, if no call of it failed and all is written.
 fn left_by<D: SectorDisk + Drop, F: Name>(ending: Ending<D, F>) -> Result<D, Fault<'static>>
     ensures left { (start : Start) (first : JournalView D) → IsEnding D.disk start first ending
         → IfOk result (λ disk. (last : JournalView D) × (published : List CommandValue)
@@ -199,7 +201,7 @@ fn left_by<D: SectorDisk + Drop, F: Name>(ending: Ending<D, F>) -> Result<D, Fau
     }
 }
 
-// Why a master does not start that has a link for each port.
+// Returns why a master that has a link for each port does not start.
 fn of_start<D: SectorDisk>(fault: &StartFault<D>) -> Fault<'static>
     requires links { HasLinks fault.now }
     ensures cause { IsStartCause fault.now result }
@@ -211,10 +213,10 @@ fn of_start<D: SectorDisk>(fault: &StartFault<D>) -> Fault<'static>
     }
 }
 
-// What is printed of a disk behind so many receipts.
+// Returns the text to print of a disk, after this number of receipts.
 //
 // # Errors
-// Why the disk is not recovered, or `Memory`.
+// Why the disk is not recovered, or `Memory` if memory runs out.
 fn text_of<D: SectorDisk + Drop>(
     alloc: Global,
     disk: D,

@@ -1,4 +1,4 @@
-//! What is told of receipts while a master runs.
+//! The reports of receipts while a master runs.
 ghost use Rattle.std.specs.Prelude.{◌≡◌};
 
 use iol_types::PortId;
@@ -7,15 +7,15 @@ use std::io::{self, Write};
 /// What is written to standard error while a master runs (docs/FORMATS.md, "Texts").
 #[derive(Clone, Copy, Debug, PartialEq, Eq)]
 pub enum Telling {
-    /// Nothing.
+    /// Nothing is written.
     Nothing,
-    /// A line for each receipt, as it comes.
+    /// A line is written for each receipt, as it comes.
     Receipts,
-    /// On one line that is written anew, how many receipts there are so far.
+    /// One line is rewritten with the number of receipts so far.
     Progress,
 }
 
-/// A receipt, as its client tells it.
+/// A receipt, as its client reports it.
 #[derive(Clone, Copy, Debug)]
 pub(crate) struct Told {
     pub(crate) port: PortId,
@@ -23,7 +23,7 @@ pub(crate) struct Told {
 }
 
 impl Telling {
-    // Tells a receipt, with which there are so many. A writing that fails changes nothing of the run.
+    // Reports a receipt; `count` includes it. A failed write changes nothing of the run.
     pub(crate) fn tell<E: Write>(self, err: &mut E, told: Told, count: usize)
         ensures { self ≡ Telling.Nothing → err.new ≡ err.old }
     {
@@ -34,7 +34,7 @@ impl Telling {
         };
     }
 
-    // Ends what is told of so many receipts: a line that was written anew is left.
+    // Ends the reports of `count` receipts: a line that was rewritten is ended.
     pub(crate) fn end<E: Write>(self, err: &mut E, count: usize)
         ensures { self ≡ Telling.Nothing → err.new ≡ err.old }
     {

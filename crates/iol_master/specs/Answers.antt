@@ -1,4 +1,4 @@
--- What a call has of the answer to its change.
+-- The result of a call, from the answer to its change.
 use Rattle.std.specs.Prelude.{◌≡◌, Option, Some, None, Result, Ok, Err}
 use Rattle.iol_master.specs.declared.caller.Answer.{Answer}
 use Rattle.iol_master.specs.declared.caller.Answer.TheVariants as answer
@@ -6,7 +6,7 @@ use Rattle.iol_master.specs.declared.client.CallFault.{CallFault}
 use Rattle.iol_master.specs.declared.client.CallFault.TheVariants as call
 use Rattle.iol_master.specs.Receipts.{NoticeView}
 
--- a change is durable by its notice, it is not written, or where no answer comes nobody knows (own)
+-- a notice means that the change is durable, the answer Unwritten that it is not written, and no answer that nobody knows (own)
 abbrev pub IsToldBy : {F : Type 0} → Option (Answer F) → Result NoticeView CallFault → Type 0
 IsToldBy (Some (answer.Durable notice)) told = told ≡ Ok notice
 IsToldBy (Some answer.Unwritten) told = told ≡ Err call.Unwritten

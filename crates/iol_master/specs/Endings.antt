@@ -1,4 +1,4 @@
--- How the run of a flusher ends, and of a master.
+-- The ends of a flusher's run, and of a master.
 use Rattle.std.specs.Prelude.{◌≡◌, ◌≢◌, ◌⊎◌, ◌+◌, ℕ, true, false, List, length}
 use Rattle.iol_types.specs.Command.{CommandValue}
 use Rattle.iol_disk.specs.Disk.{Disk, HasFailed}
@@ -31,73 +31,73 @@ RestsOlder stage = ⊥
 abbrev pub IsOver : {D : Type 0} → FlushStage D → Type 0
 IsOver stage = (names_batch (need_of stage) ≡ true) ⊎ (need_of stage ≡ need.Stopped) ⊎ RestsOlder stage
 
--- a flusher that ends may end (own)
+-- if a turn ends the flusher, the flusher may end (own)
 abbrev pub MayEnd : {D : Type 0} → FlushStage D → Turned → Type 0
 MayEnd stage Made = Unit {0}
 MayEnd stage Waited = Unit {0}
 MayEnd stage (Ended leaves) = IsOver stage
 
--- a flusher waits for memory where no disk call of a batch is made: its journal is at rest (own)
+-- a flusher may wait for memory only if its journal is at rest, so that no batch has a disk call underway (own)
 abbrev pub MayWait : {D : Type 0} → FlushStage D → Type 0
 MayWait (Resting journal) = Unit {0}
 MayWait (Given journal batch) = Unit {0}
 MayWait stage = ⊥
 
--- a turn leaves a flusher where it may wait, or where it may end, if it does, and then nothing is left unwritten (own)
+-- after a turn, a flusher that waits may wait, and one that ends may end and leaves nothing unwritten (own)
 abbrev pub MayTurn : {D : Type 0} → FlushStage D → Turned → Type 0
 MayTurn stage Made = Unit {0}
 MayTurn stage Waited = MayWait stage
 MayTurn stage (Ended leaves) = IsOver stage × (leaves ≡ Nothing)
 
--- a flusher that ends for want of memory leaves what waits (own)
+-- a flusher that ends because memory ran out leaves the waiting commands (own)
 abbrev pub LeavesWaiting : Turned → Type 0
 LeavesWaiting (Ended leaves) = leaves ≡ Unwritten
 LeavesWaiting turned = Unit {0}
 
--- how often in a row a flusher has waited for memory, after so many times before: a turn that was made begins anew (own)
+-- the count of waits for memory in a row: a turn that was made sets it to 0, and one that waited sets it to 0 or adds one (own)
 abbrev pub HasWaited : Turned → ℕ → ℕ → Type 0
 HasWaited Made before after = after ≡ 0
 HasWaited Waited before after = (after ≡ 0) ⊎ (after ≡ before + 1)
 HasWaited (Ended leaves) before after = Unit {0}
 
--- all that a journal has written in this run is published; and where each image was kept at the start, each is, and means the state
--- after what is published (own)
+-- all that a journal has written in this run is published; if each image was kept at the start, each is, and means the state after the
+-- published commands (own)
 pub record IsWhole {D : Type 0} (disk : D → Disk) (start : Start) (first last : JournalView D) (published : List CommandValue) : Type 0
   where
     pub behind : StandsBehind start published last.standing last.history
     pub images : Rests disk first → EachMeans (disk last.disk) last.standing.number last.standing.state
 
--- how a flusher ends that was given a journal: all that it wrote is published, or a disk call has failed (own)
+-- a flusher that was given a journal has ended: all that it wrote is published, or a disk call has failed (own)
 abbrev pub EndsFrom : {D F : Type 0} → (D → Disk) → Start → JournalView D → FlushEnd D F → Type 0
 EndsFrom disk start first (flush.Closed journal published) = IsWhole disk start first journal published
 EndsFrom disk start first (flush.Midway left) = ⊥
 EndsFrom disk start first (flush.Faulted left fault) = HasFailed (disk first.disk) (disk left)
 
--- a flusher that ended had no disk call of a batch on its way (own)
+-- a flusher did not end between two disk calls of a batch (own)
 abbrev pub NeverMidway : {D F : Type 0} → FlushEnd D F → Type 0
 NeverMidway (flush.Midway left) = ⊥
 NeverMidway end = Unit {0}
 
--- a master says that all is written only where its flusher leaves nothing, and that something is not only where it leaves it (own)
+-- a master reports that all is written only if its flusher leaves nothing, and that something is not only if it leaves something (own)
 abbrev pub LeavesAs : {D F : Type 0} → Leaves → Ending D F → Type 0
 LeavesAs leaves (ending.Closed journal published) = leaves ≡ Nothing
 LeavesAs leaves (ending.Unwritten journal published) = leaves ≡ Unwritten
 LeavesAs leaves (ending.Faulted left fault) = Unit {0}
 
--- how a master ends that was started with a journal (own)
+-- a master that was started with a journal has ended: all that it wrote is published, or a disk call has failed (own)
 abbrev pub IsEnding : {D F : Type 0} → (D → Disk) → Start → JournalView D → Ending D F → Type 0
 IsEnding disk start first (ending.Closed journal published) = IsWhole disk start first journal published
 IsEnding disk start first (ending.Unwritten journal published) = IsWhole disk start first journal published
 IsEnding disk start first (ending.Faulted left fault) = HasFailed (disk first.disk) (disk left)
 
--- the disk of a journal once a run over it has ended: a disk call has failed, or it is that of a journal that is whole (own)
+-- a run over a journal has ended and leaves this disk: a disk call has failed, or the disk is that of a whole journal (own)
 abbrev pub IsLeft : {D : Type 0} → (D → Disk) → Start → JournalView D → D → Type 0
 IsLeft {D} disk start first left =
     HasFailed (disk first.disk) (disk left)
     ⊎ ((last : JournalView D) × (published : List CommandValue) × IsWhole disk start first last published × (left ≡ last.disk))
 
--- why a master does not start, and what it hands back: there is not one link for each port, and the disk is the journal's. Where there
--- is one, memory is out, and the disk is the journal's; or a thread was not made, and the threads that were have ended again (own)
+-- a master does not start, and returns a disk: there is not one link for each port, and the disk is the journal's; or there is one. Then
+-- memory ran out, and the disk is the journal's, or a thread could not be made, and the other threads have ended (own)
 abbrev pub IsStartFault : {D : Type 0} → (D → Disk) → Start → JournalView D → ℕ → StartFault D → Type 0
 IsStartFault disk start first links (start_fault.Ports left) = (left ≡ first.disk) × (links ≢ length start.state)
 IsStartFault disk start first links (start_fault.Memory left) = (left ≡ first.disk) × (links ≡ length start.state)

@@ -1,4 +1,4 @@
--- What the flusher finds where it looks for a batch.
+-- The results of the flusher's search for a batch.
 use Rattle.std.specs.Prelude.{◌≡◌, ◌≢◌, ◌&&◌, not, nat_eq, ℕ, Bool, true, false, if◌then◌else◌, length}
 use Rattle.iol_core.specs.Batches.{IsTaken, has_batch}
 use Rattle.iol_master.specs.Callers.{GuardedView}
@@ -7,7 +7,7 @@ use Rattle.iol_master.specs.declared.finding.Found.TheVariants as found
 use Rattle.iol_master.specs.declared.guarded.Phase.{Phase}
 use Rattle.iol_master.specs.declared.guarded.Phase.TheVariants.{Running, Ending, Closed}
 
--- no more commands come (own)
+-- the run is closed: no more commands come (own)
 abbrev pub is_closed : Phase → Bool
 is_closed Running = false
 is_closed Ending = false
@@ -17,16 +17,16 @@ is_closed Closed = true
 abbrev pub is_idle : GuardedView → Bool
 is_idle guarded = not (is_closed guarded.phase) && nat_eq (length guarded.callers) 0
 
--- nothing is to be written any more: no command is in the queue, and no more come (own)
+-- nothing is left to write: no command is in the queue, and no more come (own)
 abbrev pub is_over : GuardedView → Bool
 is_over guarded = is_closed guarded.phase && nat_eq (length guarded.callers) 0
 
--- what the flusher finds if it takes no batch (own)
+-- the result of a search that takes no batch (own)
 abbrev pub end_found : GuardedView → Found
 end_found guarded = if is_over guarded then found.Closed else found.Nothing
 
--- the flusher finds the batch that may be taken, or no memory for it. Where there is none it finds that none comes any more only once
--- the run is closed, and that one may come only before (own)
+-- the flusher finds the batch that may be taken, or no memory for it. If there is no batch, it finds that none comes any more only once the
+-- run is closed, and that one may come only before (own)
 abbrev pub Finds : GuardedView → ℕ → GuardedView → Found → Type 0
 Finds old room new (found.Batch batch) = IsTaken old.engine.core room new.engine.core batch
 Finds old room new found.Nothing = (has_batch old.engine.core ≡ false) × (old.phase ≢ Closed) × (new.engine.core ≡ old.engine.core)

@@ -1,4 +1,4 @@
--- What a receipt says.
+-- The claims of a receipt and of a notice.
 use Rattle.std.specs.Prelude.{◌≡◌, ℕ, ◌+◌, ◌-◌, ◌<◌, ◌≤◌, List, length, Some, slice_get}
 use mathlib.Core.List.{IsPrefix}
 use Rattle.iol_types.specs.Command.{CommandValue, command_of}
@@ -11,15 +11,15 @@ pub record StandsAt (start : Start) (seen : List CommandValue) (number : ℕ) (c
   pub above : start.number < number
   pub there : slice_get seen (number - start.number - 1) ≡ Some command
 
--- a notice as contracts see it: a number, the change that is durable under it, and the list that its pass has seen (own)
+-- a notice, as contracts see it: a number, the change that is durable under it, and the list that its pass has seen (own)
 pub record NoticeView : Type 0 where
   pub number : ℕ
   pub change : Change
   pub seen : List CommandValue
 
--- a receipt for a change that a client asked for, whose list was the first before the call and the second after it: the change stands
--- at the receipt's number in the list that its pass has seen. The number is above all that the client had seen, and the client has
--- then seen all that the pass has (own)
+-- a receipt for a change that a client requested, with the client's list before and after the call: the change has the receipt's number in
+-- the list that its pass has seen. The number is above all that the client had seen, and the client has then seen all that the pass has
+-- (own)
 pub record IsReceiptFor {F : Type 0} (start : Start) (change : Change) (before after : List CommandValue) (receipt : Receipt F) : Type 0
   where
     pub command : receipt.command ≡ change

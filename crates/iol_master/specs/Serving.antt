@@ -1,4 +1,4 @@
--- Which workers sleep, and which ports are served on.
+-- Which workers sleep, and which ports are still served.
 use Rattle.std.specs.Prelude.{◌-◌, ◌==◌, ◌&&◌, ◌||◌, not, ℕ, Bool, true, false, Option, Some, slice_get, slice_index}
 use Rattle.iol_port.specs.declared.status.PortStatus.{PortStatus}
 use Rattle.iol_port.specs.declared.status.PortStatus.TheVariants.{Off}
@@ -11,19 +11,19 @@ abbrev pub is_off : Option PortStatus → Bool
 is_off (Some Off) = true
 is_off _ = false
 
--- a port was woken since its worker answered so many wakes (own)
+-- a port was woken since its worker had answered this number of wakes (own)
 abbrev pub was_woken : GuardedView → ℕ → ℕ → Bool
 was_woken guarded port answered = not (slice_index guarded.wakes (port - 1) == answered)
 
--- the worker of a port sleeps, which has answered so many wakes. Its port waits for the disk. Or ports are served as they come, its
--- port is off, and was not woken since (own)
+-- the worker of a port sleeps, which has answered this number of wakes: its port waits for the disk; or ports are served as they come, and
+-- its port is off and was not woken since (own)
 abbrev pub sleeps : GuardedView → ℕ → ℕ → Bool
 sleeps guarded port answered =
     waits_at guarded.engine port
     || (is_off (status_in (slice_get guarded.engine.machines (port - 1))) && not (ends guarded.phase)
     && not (was_woken guarded port answered))
 
--- a port is served on, whose worker has answered so many wakes: it is not settled, ports are served as they come, or it was woken
+-- a port is still served, whose worker has answered this number of wakes: it is not settled, ports are served as they come, or it was woken
 -- since, as each is at the end (own)
 abbrev pub is_served : GuardedView → ℕ → ℕ → Bool
 is_served guarded port answered =

@@ -6,13 +6,13 @@ use Rattle.iol_flush.specs.Flushing.{IsSound}
 use Rattle.iol_flush.specs.Stages.{disk_of, failure_of}
 use Rattle.iol_flush.specs.declared.stage.FlushStage.{FlushStage}
 
--- a disk has counted a failure since where one is told, and else none (own)
+-- a disk has counted a failure since, if one is reported, and none otherwise (own)
 abbrev pub CountsAs : Option DiskFault → Disk → Disk → Type 0
 CountsAs None first last = last.failures ≡ first.failures
 CountsAs (Some fault) first last = HasFailed first last
 
--- a flusher came from one stage to another: where each image that a stop might leave was kept, each is; the disk counts what it
--- tells; and once a disk call has failed nothing changes (own)
+-- a flusher went from one stage to another: if each image that a stop might leave was kept, each is; the disk counts the failure that the
+-- flusher reports; and once a disk call has failed, nothing changes (own)
 pub record IsSince {D : Type 0} (disk : D → Disk) (old new : FlushStage D) : Type 0 where
   pub sound : IsSound disk old → IsSound disk new
   pub counts : failure_of old ≡ None → CountsAs (failure_of new) (disk (disk_of old)) (disk (disk_of new))

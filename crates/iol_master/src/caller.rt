@@ -1,4 +1,4 @@
-//! Who waits for a change, and what is answered.
+//! The callers that wait for a change, and their answers.
 
 ghost use Rattle.std.specs.Prelude.{◌≡◌};
 ghost use Rattle.iol_types.specs.Command.{command_of};
@@ -10,7 +10,7 @@ use iol_types::Change;
 use std::alloc::Global;
 use std::marker::Model;
 
-/// A change is durable under this number: it stands there in the list that the pass has seen. A contract sees the record
+/// Evidence that a change is durable: it has this number in the list that the pass has seen. A contract sees the record
 /// `NoticeView` of `specs/Receipts.antt`.
 #[derive(Drop)]
 pub(crate) struct Notice<F: Name> {
@@ -31,7 +31,7 @@ impl<F: Name> Model for Notice<F> {
 }
 
 impl<F: Name> Notice<F> {
-    // The change stands at this number in the list that the pass has seen.
+    // Makes a notice of a change that has this number in the list that the pass has seen.
     pub(crate) fn new(number: u64, change: Change, pass: Pass<F>) -> Notice<F>
         requires { StandsAt F.front.start pass number (command_of change) }
         ensures { result ≡ record { number = number; change = change; seen = pass } }
@@ -43,7 +43,7 @@ impl<F: Name> Notice<F> {
         }
     }
 
-    // What it says, and the pass.
+    // Returns the number, the change and the pass.
     pub(crate) fn into_parts(self) -> (u64, Change, Pass<F>)
         ensures parts { self ≡ record { number = result.0; change = result.1; seen = result.2 } }
         ensures stands { StandsAt F.front.start result.2 result.0 (command_of result.1) }
@@ -57,7 +57,7 @@ impl<F: Name> Notice<F> {
     }
 }
 
-/// What a caller that waits is answered.
+/// The answer to a waiting caller.
 #[derive(Drop)]
 pub(crate) enum Answer<F: Name> {
     // Its change is durable.
@@ -66,8 +66,8 @@ pub(crate) enum Answer<F: Name> {
     Unwritten,
 }
 
-/// A caller that waits for its change: the pass that is to see it, and where the answer goes. One that is let go without an answer
-/// hears that the disk has failed.
+/// A caller that waits for its change, with the pass that is to see the change, and the channel for the answer. If it is dropped
+/// without an answer, the disk has failed, and the client's call returns `Unsure`.
 #[derive(Drop)]
 pub(crate) struct Caller<F: Name> {
     pub(crate) change: Change,

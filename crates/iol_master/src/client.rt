@@ -1,4 +1,4 @@
-//! Clients, which any threads may have.
+//! Clients of a master, which any threads may hold.
 
 ghost use Rattle.std.specs.Prelude.{◌≡◌, ◌≢◌, ◌+◌, ◌-◌, ◌<◌, ◌≤◌, length, take, IfErr, IfNone, IfOk, IfSome, IsNone, IsTrue, OnErr, Some};
 ghost use mathlib.Core.List.{IsPrefix};
@@ -27,19 +27,19 @@ use std::marker::Model;
 use std::sync::{Arc, Condvar, Mutex, Wait};
 use thiserror::Error;
 
-/// What the threads of a master share.
+/// The values that the threads of a master share.
 #[derive(Drop)]
 pub(crate) struct Shared<F: Name> {
     pub(crate) guarded: Mutex<Guarded<F>>,
-    // the flusher has something to do
+    // notified when the flusher has something to do
     pub(crate) work: Condvar,
-    // a port was woken, what a port waits for is known, or the run ends
+    // notified when a port was woken, when what a port waits for is known, or when the run ends
     pub(crate) woken: Condvar,
-    // a port has another status, more commands are durable, or the run has ended
+    // notified when a port has another status, when more commands are durable, or when the run has ended
     pub(crate) reported: Condvar,
 }
 
-/// A client of a master: it asks for changes, and reads what is durable. A contract sees the list of commands that it has seen.
+/// A client of a master: it requests changes, and reads what is durable. A contract sees the list of commands that it has seen.
 #[derive(Drop)]
 pub struct Client<F: Name> {
     alloc: Global,
@@ -56,42 +56,42 @@ impl<F: Name> Model for Client<F> {
     ghost view = { λ c. c.pass };
 }
 
-/// A change that is durable: it stands under this number in the list of commands that the pass has seen.
+/// A durable change: it has this number in the list of commands that the pass has seen.
 #[derive(Drop)]
 pub struct Receipt<F: Name> {
     /// The command's number, 1 to 2^62.
     pub number: u64,
-    /// What was asked for.
+    /// The change that was requested.
     pub command: Change,
-    /// What has seen the command, and all before it.
+    /// A pass that has seen the command, and all before it.
     pub pass: Pass<F>,
 }
 
-/// Why there is no receipt for a change.
+/// The reason why a change has no receipt.
 #[derive(Clone, Copy, Debug, PartialEq, Eq, Error)]
 pub enum CallFault {
-    /// Memory ran out; nothing was asked for.
+    /// Out of memory; nothing was requested.
     #[error("out of memory")]
     Memory,
-    /// The core did not take it.
+    /// The core refused the change.
     #[error("{0}")]
     Submit(SubmitFault),
-    /// The disk failed before it was known to be durable: after a recovery it may be there or not.
+    /// The disk failed before the change was known to be durable: a recovery may find it or not.
     #[error("not known to be durable")]
     Unsure,
-    /// It was taken, and is not written, as memory ran out for its batch. It is written later if memory is there before the master
-    /// ends.
+    /// The change was accepted but is not written, as memory ran out for its batch. It is written later if memory is available before the
+    /// master ends.
     #[error("out of memory to write it")]
     Unwritten,
 }
 
-/// Why there is no answer to a read.
+/// The reason why a read returns nothing.
 #[derive(Clone, Copy, Debug, PartialEq, Eq, Error)]
 pub enum ReadFault {
     /// The master has no such port.
     #[error("no such port")]
     UnknownPort,
-    /// Memory ran out.
+    /// Out of memory.
     #[error("out of memory")]
     Memory,
     /// The client has seen the commands up to this number, and the core has acknowledged fewer: call again.
@@ -103,7 +103,7 @@ pub enum ReadFault {
 }
 
 impl<F: Name> Client<F> {
-    // A client that has seen what the pass has.
+    // Makes a client that has seen what the pass has.
     pub(crate) fn new(alloc: Global, shared: Arc<Shared<F>, Global>, pass: Pass<F>) -> Client<F>
         ensures { result ≡ pass }
     {
@@ -114,12 +114,12 @@ impl<F: Name> Client<F> {
         }
     }
 
-    /// Gives a port a configuration, and waits until that is durable. The client has then seen it.
+    /// Gives a port a configuration, and waits until the change is durable. The client has then seen the command.
     ///
     /// # Errors
-    /// `Memory` before anything is asked for; `Submit` with the first cause for which the core refuses it; `Unsure` where the disk
-    /// failed meanwhile; `Unwritten` where the flusher was out of memory for a second: the command is still written once memory
-    /// is there. What the client has seen is as before.
+    /// `Memory`: out of memory, and nothing was requested. `Submit`: the core refuses the change, for this first cause. `Unsure`: the
+    /// disk failed meanwhile. `Unwritten`: the flusher was out of memory for a second; the command is still written once memory is
+    /// available. What the client has seen does not change.
     pub fn configure<R: Wait>(
         &mut self,
         rt: &R,
@@ -134,10 +134,10 @@ impl<F: Name> Client<F> {
         self.ask(rt, Change::Configure { port, config })
     }
 
-    /// Deletes the parameter sets of a port, and waits until that is durable. The client has then seen it.
+    /// Deletes the parameter sets of a port, and waits until the change is durable. The client has then seen the command.
     ///
     /// # Errors
-    /// As `configure`.
+    /// The errors are those of `configure`.
     pub fn clear<R: Wait>(&mut self, rt: &R, port: PortId) -> Result<Receipt<F>, CallFault>
         ensures kept { IsPrefix self.old self.new }
         ensures receipt { IfOk result (IsReceiptFor F.front.start (Change.Clear port) self.old self.new) }
@@ -147,10 +147,11 @@ impl<F: Name> Client<F> {
         self.ask(rt, Change::Clear { port })
     }
 
-    /// Exchanges the parameter set of a port and its previous one, and waits until that is durable. The client has then seen it.
+    /// Exchanges the parameter set of a port and its previous one, and waits until the change is durable. The client has then seen the
+    /// command.
     ///
     /// # Errors
-    /// As `configure`.
+    /// The errors are those of `configure`.
     pub fn rollback<R: Wait>(&mut self, rt: &R, port: PortId) -> Result<Receipt<F>, CallFault>
         ensures kept { IsPrefix self.old self.new }
         ensures receipt { IfOk result (IsReceiptFor F.front.start (Change.Rollback port) self.old self.new) }
@@ -160,7 +161,7 @@ impl<F: Name> Client<F> {
         self.ask(rt, Change::Rollback { port })
     }
 
-    // Asks for a change, and waits until it is durable.
+    // Requests a change, and waits until it is durable.
     fn ask<R: Wait>(&mut self, rt: &R, change: Change) -> Result<Receipt<F>, CallFault>
         ensures kept { IsPrefix self.old self.new }
         ensures receipt { IfOk result (IsReceiptFor F.front.start change self.old self.new) }
@@ -187,7 +188,7 @@ impl<F: Name> Client<F> {
             Err(fault) => return Err(fault),
         };
         let (at, said, mut pass) = notice.into_parts();
-        // No contract follows a channel, so what comes out of it is compared.
+        // No contract follows a value through a channel, so the notice is compared with the request.
         if at != number || !is_same(&said, &change) {
             return Err(CallFault::Unsure);
         }
@@ -199,10 +200,12 @@ impl<F: Name> Client<F> {
         })
     }
 
-    /// The durable state of a port, with the number of the last durable command: no fewer than the client had seen.
+    /// Returns the durable state of a port, with the number of the last durable command, which is not less than that of the last command
+    /// that the client had seen.
     ///
     /// # Errors
-    /// `Memory`, of a port that the master has; `UnknownPort`; and `Behind`, after which the call may be made again.
+    /// `Memory` if memory runs out, for a port that the master has; `UnknownPort` if it has no such port; `Behind` if the core has
+    /// acknowledged fewer commands than the client has seen: call again.
     pub fn read<R: Wait>(&mut self, rt: &R, port: PortId) -> Result<View, ReadFault>
         ensures kept { IsPrefix self.old self.new }
         ensures number { IfOk result (λ view. (F.front.start.number + length self.old ≤ view.number)
@@ -224,7 +227,8 @@ impl<F: Name> Client<F> {
         }
     }
 
-    /// Returns the status of a port, or none if the master has no such port. It is what a lawful trace reported of the port last.
+    /// Returns the status of a port, or `None` if the master has no such port. It is the status that a lawful trace reported last of the
+    /// port.
     pub fn status<R: Wait>(&self, rt: &R, port: PortId) -> Option<PortStatus>
         ensures reported { IfSome result (IsLastReported F.front.start port) }
         ensures unknown { IfNone result (IsUnknown F.front.start.state port) }
@@ -232,13 +236,13 @@ impl<F: Name> Client<F> {
         self.shared.guarded.lock(rt).status(port)
     }
 
-    /// Waits until a port has another status than `last`, and returns that. It is what a lawful trace reported of the port last. Of the
-    /// statuses that a port has one after another, a client that asks late hears the last alone. It polls nothing: the port's thread
+    /// Waits until a port has another status than `last`, and returns that status. It is the one that a lawful trace reported last of the
+    /// port. If several changes came before the call, the client gets only the last status. The call does not poll: the port's thread
     /// wakes it.
     ///
     /// # Errors
-    /// `UnknownPort`; and `Ended` once no port makes a step any more and the port still has the status `last`. `shutdown` wakes who
-    /// waits.
+    /// `UnknownPort` if the master has no such port; `Ended` once no port makes a step any more and the port still has the status `last`.
+    /// `shutdown` wakes the waiting clients.
     pub fn watch<R: Wait>(
         &self,
         rt: &R,
@@ -252,11 +256,11 @@ impl<F: Name> Client<F> {
         watch(rt, &self.shared, port, last)
     }
 
-    /// Waits until something is new since what is known, and returns it: a port has another status, or more commands are durable, which
-    /// the client has then seen. What is known is then with it. Of the statuses that a port has one after another a client that asks
-    /// late hears the last alone. Returns none once no port makes a step any more and nothing is new.
+    /// Waits until something is new since `known`, and returns it: a port has another status, or more commands are durable, which the
+    /// client has then seen. The news is then part of `known`. If a status changed several times before the call, the client gets only
+    /// the last one. Returns `None` once no port makes a step any more and nothing is new.
     ///
-    /// It polls nothing: the threads of the ports and the flusher wake it. After `shutdown` it never waits.
+    /// The call does not poll: the threads of the ports and the flusher wake it. After `shutdown` it never waits.
     pub fn news<R: Wait>(&mut self, rt: &R, known: &mut Known) -> Option<News>
         ensures kept { IsPrefix self.old self.new }
         ensures new { IfSome result (IsNew known.old) }
@@ -266,8 +270,8 @@ impl<F: Name> Client<F> {
         wait_for_news(rt, &self.shared, &mut self.pass, known)
     }
 
-    /// The client has then seen all that the pass has, and what the pass has seen begins what the client has. It waits for nobody,
-    /// and takes no memory.
+    /// Shows the client all that the pass has seen. What the pass has seen is then a prefix of what the client has seen. The call does
+    /// not wait, and allocates nothing.
     pub fn meet(&mut self, pass: &mut Pass<F>)
         ensures kept { IsPrefix self.old self.new }
         ensures given { IsPrefix pass.old pass.new }
@@ -277,7 +281,7 @@ impl<F: Name> Client<F> {
     }
 }
 
-// Waits for what becomes of a change that was taken: it is durable, or why that is not known.
+// Waits for the answer to an accepted change: the notice that it is durable, or why that is not known.
 fn hear<F: Name, R: Wait>(
     rt: &R,
     heard: &Receiver<Answer<F>, Global>,
@@ -287,7 +291,7 @@ fn hear<F: Name, R: Wait>(
     told_by(heard.recv(rt).ok())
 }
 
-// What an answer says of a change, or that none comes any more: then the disk has failed.
+// Turns an answer into a notice or a fault. If no answer comes any more, the disk has failed.
 fn told_by<F: Name>(answer: Option<Answer<F>>) -> Result<Notice<F>, CallFault>
     ensures answer { IsToldBy answer result }
     ensures untold { IfErr result IsUntold }
@@ -299,14 +303,14 @@ fn told_by<F: Name>(answer: Option<Answer<F>>) -> Result<Notice<F>, CallFault>
     }
 }
 
-// Whether two changes are the same.
+// Returns whether two changes are the same.
 fn is_same(one: &Change, other: &Change) -> bool
     ensures { IsTrue result → one.now ≡ other.now }
 {
     one == other
 }
 
-// Asks the core for a change, once it has as many commands as the client has seen.
+// Submits a change to the core, once the core has as many commands as the client has seen.
 fn submit<F: Name, R: Wait>(
     rt: &R,
     shared: &Shared<F>,
@@ -336,7 +340,7 @@ fn submit<F: Name, R: Wait>(
     unreachable!()
 }
 
-// The durable state of a port; the pass has then seen each durable command.
+// Returns the durable state of a port. The pass has then seen each durable command.
 fn view<F: Name, R: Wait>(
     rt: &R,
     shared: &Shared<F>,

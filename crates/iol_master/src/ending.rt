@@ -1,28 +1,28 @@
-//! How a master ends, and why it does not start.
+//! The ways in which a master ends, and the faults for which it does not start.
 
 use iol_disk::{DiskFault, SectorDisk};
 use iol_front::{Name, Publisher};
 use iol_journal::Journal;
 
-/// How a master ends.
+/// The way in which a master ended.
 #[derive(Drop)]
 pub enum Ending<D: SectorDisk, F: Name> {
-    /// All that was taken is durable, published and acknowledged.
+    /// All accepted commands are durable, published and acknowledged.
     Closed(Journal<D>, Publisher<F>),
-    /// What was taken last is not known to be durable: memory ran out for it, or the core has not acknowledged it. All before it is
-    /// durable and published.
+    /// The last accepted commands are not known to be durable: memory ran out for them, or the core has not acknowledged them. All
+    /// before them are durable and published.
     Unwritten(Journal<D>, Publisher<F>),
-    /// A disk call failed. The disk may be recovered again, unless it was a sync: such a disk is not gone on with.
+    /// A disk call failed. The disk may be recovered again, unless the call was a sync: stop using a disk after a failed sync.
     Faulted(D, DiskFault),
 }
 
-/// Why a master does not start. No thread of it runs any more, and the disk may be recovered again.
+/// The reason why a master does not start. None of its threads runs any more, and the disk may be recovered again.
 #[derive(Drop)]
 pub enum StartFault<D: SectorDisk> {
     /// There is not one link for each port.
     Ports(D),
-    /// Memory ran out.
+    /// Out of memory.
     Memory(D),
-    /// A thread was not made.
+    /// A thread could not be made.
     Thread(D),
 }

@@ -1,4 +1,4 @@
-//! What the flusher finds where it looks for a batch.
+//! The flusher's search for a batch.
 
 ghost use Rattle.std.specs.Prelude.{◌≡◌, ◌≤◌};
 ghost use Rattle.iol_record.specs.declared.encode.TheConstants.{LARGEST_COMMAND_RECORD};
@@ -8,19 +8,19 @@ use crate::guarded::{Guarded, Phase};
 use iol_front::Name;
 use iol_journal::Batch;
 
-/// What the flusher finds where it looks for a batch.
+/// The result of the flusher's search for a batch.
 #[derive(Drop)]
 pub(crate) enum Found {
     Batch(Batch),
     Nothing,
-    // Nothing, and no more comes.
+    // There is no batch, and no more commands come.
     Closed,
-    // A batch, and no memory for it.
+    // There is a batch, but no memory for it.
     NoMemory,
 }
 
 impl<F: Name> Guarded<F> {
-    // Takes the first batch that fits. Only where there is none it may be found that no more comes.
+    // Takes the first batch that fits. Returns `Closed` only if there is no batch.
     pub(crate) fn find(&mut self, room: usize) -> Found
         requires { LARGEST_COMMAND_RECORD ≤ room }
         ensures finds { Finds self.old room self.new result }
@@ -33,7 +33,7 @@ impl<F: Name> Guarded<F> {
             Err(_) => Found::NoMemory,
         }
     }
-    // Takes no batch: finds only whether no more comes.
+    // Takes no batch. Returns `Closed` if nothing waits and no more commands come.
     pub(crate) fn find_end(&self) -> Found
         ensures { result ≡ end_found self.now }
     {

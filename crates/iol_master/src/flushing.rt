@@ -27,13 +27,14 @@ use std::thread;
 use std::thread::Promise;
 use std::time::{Clock, Duration};
 
-// How often in a row the flusher waits for memory until those who wait are told so, and how long each time: a second in all.
+// The flusher waits this many times in a row for memory before the waiting callers get an answer, this long each time: a second in
+// all.
 const MOST_WAITS: u32 = 100;
 
 const WAIT_MILLISECONDS: u64 = 10;
 
-/// What the thread of the flusher is given: a journal and the publisher of its list. It makes the flusher itself, which may hold a
-/// batch that is durable and so goes into no closure. A contract sees the journal.
+/// The journal and the publisher of its list that the thread of the flusher receives. The thread makes the flusher itself: a flusher
+/// may hold a batch that is durable, and so goes into no closure. A contract sees the journal.
 #[derive(Drop)]
 pub(crate) struct Charge<D: SectorDisk, F: Name> {
     journal: Journal<D>,
@@ -52,7 +53,7 @@ impl<D: SectorDisk, F: Name> Model for Charge<D, F> {
 }
 
 impl<D: SectorDisk, F: Name> Charge<D, F> {
-    // A journal and the publisher of its list.
+    // Makes a charge of a journal and the publisher of its list.
     pub(crate) fn new(journal: Journal<D>, publisher: Publisher<F>) -> Charge<D, F>
         requires { HasHistory F.front.start publisher journal.history }
         ensures { result ≡ journal }
@@ -60,7 +61,7 @@ impl<D: SectorDisk, F: Name> Charge<D, F> {
         Charge { journal, publisher }
     }
 
-    // Its flusher, at rest.
+    // Returns the flusher of this charge, at rest.
     fn flusher(self) -> Flusher<D, F>
         ensures { result.stage ≡ stage.Resting self }
     {
@@ -69,7 +70,7 @@ impl<D: SectorDisk, F: Name> Charge<D, F> {
     }
 }
 
-/// The thread ends with the journal that it was given, brought on.
+/// The promise of the flusher's thread: it ends with the journal that it received, continued.
 #[derive(Drop)]
 pub(crate) struct FromCharge<D: SectorDisk, F: Name>(pub(crate) Snapshot<Charge<D, F>>);
 
@@ -79,8 +80,8 @@ impl<D: SectorDisk, F: Name> Promise<Ending<D, F>> for FromCharge<D, F> {
     ghost kept_by = { λ p ending. IsEnding D.disk F.front.start p.0.value ending };
 }
 
-// Brings batches to the disk until no more is taken and nothing waits, or a disk call fails; or until memory ran out for a batch or a
-// checkpoint, where the run is to end.
+// Writes batches to the disk until no more commands are accepted and none waits, or until a disk call fails. If the run is to end, it
+// also ends once memory ran out for a batch or a checkpoint.
 pub(crate) fn flush_all<D: SectorDisk, F: Name, R: Wait + Clock + Copy>(
     rt: R,
     shared: Arc<Shared<F>, Global>,
@@ -99,7 +100,7 @@ pub(crate) fn flush_all<D: SectorDisk, F: Name, R: Wait + Clock + Copy>(
     unreachable!()
 }
 
-// How a master ends whose flusher ended so.
+// Returns how the master ends, from the end of its flusher.
 fn ending_of<D: SectorDisk, F: Name>(end: FlushEnd<D, F>, leaves: Leaves) -> Ending<D, F>
     requires whole { NeverMidway end }
     ensures ending { (first : JournalView D) → EndsFrom D.disk F.front.start first end → IsEnding D.disk F.front.start first result }
@@ -117,15 +118,15 @@ fn ending_of<D: SectorDisk, F: Name>(end: FlushEnd<D, F>, leaves: Leaves) -> End
     }
 }
 
-/// What a flusher that ends leaves.
+/// What a flusher leaves unwritten at its end.
 #[derive(Clone, Copy)]
 pub(crate) enum Leaves {
     Nothing,
-    // What waits, as memory ran out for it.
+    // The waiting commands, as memory ran out for them.
     Unwritten,
 }
 
-/// Whether the flusher goes on.
+/// The result of one turn of the flusher.
 #[derive(Clone, Copy)]
 pub(crate) enum Turned {
     Made,
@@ -156,8 +157,9 @@ fn turn<D: SectorDisk, F: Name, R: Wait + Clock>(
     }
 }
 
-// Waits for memory. After `MOST_WAITS` waits in a row all who wait for a command hear that it is not written. If the run is to end,
-// the flusher ends too, and leaves what waits. Nothing tells when memory comes back, so that no notification ends a wait.
+// Waits for memory. After `MOST_WAITS` waits in a row, each waiting caller gets the answer that its command is not written. If the
+// run is to end, the flusher ends too, and leaves the waiting commands. Nothing reports when memory is available again, so no
+// notification ends a wait.
 fn wait<D: SectorDisk, F: Name, R: Wait + Clock>(
     rt: &R,
     shared: &Shared<F>,
@@ -204,7 +206,7 @@ fn meet_need<D: SectorDisk, F: Name, R: Wait + Clock>(
     }
 }
 
-// Makes the next disk call, without the lock. One that finds no memory, or whose batch does not fit, is made again.
+// Makes the next disk call, without the lock. If memory runs out, or the batch does not fit, the call is made again.
 fn call_disk<D: SectorDisk, F: Name, R: Wait>(
     rt: &R,
     shared: &Shared<F>,
@@ -227,7 +229,7 @@ fn call_disk<D: SectorDisk, F: Name, R: Wait>(
     }
 }
 
-// Publishes the batch that is durable, and has it acknowledged.
+// Publishes the durable batch, and has it acknowledged.
 fn publish<D: SectorDisk, F: Name, R: Wait + Clock>(
     rt: &R,
     shared: &Shared<F>,
@@ -247,14 +249,15 @@ fn publish<D: SectorDisk, F: Name, R: Wait + Clock>(
     Turned::Made
 }
 
-// Looks for a batch, and lets go of the lock.
+// Looks for a batch, and releases the lock.
 fn look<F: Name>(mut guarded: MutexGuard<'_, Guarded<F>>, room: usize) -> Found
     requires { LARGEST_COMMAND_RECORD ≤ room }
 {
     guarded.find(room)
 }
 
-// Looks for a batch for a while, and not again if none comes; not at all if one is owed to the checkpoint that is under way.
+// Waits a while for a batch, and takes it. If none comes, the next call does not wait. If a batch is owed to the checkpoint underway,
+// looks for none.
 fn look_again<F: Name, R: Wait + Clock>(
     rt: &R,
     shared: &Shared<F>,
@@ -292,7 +295,7 @@ fn wait_for_batch<'a, F: Name, R: Wait + Clock>(
         .0
 }
 
-// Waits for a batch, or for the end.
+// Waits for a batch, which it gives to the flusher, or for the end.
 fn take<D: SectorDisk, F: Name, R: Wait + Clock>(
     rt: &R,
     shared: &Shared<F>,
@@ -314,12 +317,13 @@ fn take<D: SectorDisk, F: Name, R: Wait + Clock>(
             Turned::Made
         }
         Found::Closed => Turned::Ended(Leaves::Nothing),
-        // (none is in flight here, so that a command that waits is found)
+        // No batch is in flight here, so a waiting command is found.
         Found::Nothing | Found::NoMemory => Turned::Waited,
     }
 }
 
-// Takes a batch, or if none comes in a while makes the next disk call of the checkpoint that is due. At the end it is left paused.
+// Takes a batch, or makes the next disk call of the due checkpoint if none comes in a while. At the end the checkpoint is left
+// paused.
 fn take_or_call<D: SectorDisk, F: Name, R: Wait + Clock>(
     rt: &R,
     shared: &Shared<F>,

@@ -1,4 +1,4 @@
-//! What the lock guards: the engine, who waits for which of its commands, and what wakes the ports.
+//! What the lock guards: the engine, the callers that wait for its commands, and the counts that wake the ports.
 
 ghost use Rattle.std.specs.Prelude.{◌≡◌, ◌++◌, ◌≤◌, [], ◌∷◌, drop, length, map, replicate, take, true, IfErr, IfOk, OnErr, OnOk};
 ghost use Rattle.std.specs.Prelude.{None, Some, IsSome, IfNone, IfSome, ◌-◌, slice_get, slice_index};
@@ -36,24 +36,24 @@ use std::collections::VecDeque;
 use std::marker::Model;
 use std::sync::Wait;
 
-/// How far a run is.
+/// The phase of a run.
 #[derive(Clone, Copy, Debug, PartialEq, Eq)]
 pub(crate) enum Phase {
     /// Ports are served.
     Running,
-    /// Each port is woken once more, and ends where it settles.
+    /// Each port is woken once more, and ends once it is settled.
     Ending,
-    /// No more is taken; what waits is still written.
+    /// No more commands are accepted; the waiting ones are still written.
     Closed,
 }
 
-/// The engine, and for each command of its queue the caller that waits for it, if one does. A contract sees the record `GuardedView`
-/// of `specs/Callers.antt`.
+/// The engine, and for each command of its queue the caller that waits for it, if there is one. A contract sees the record
+/// `GuardedView` of `specs/Callers.antt`.
 #[derive(Drop)]
 pub(crate) struct Guarded<F: Name> {
     engine: Engine<F>,
     callers: VecDeque<Option<Caller<F>>>,
-    // how often each port was woken, port 1 first
+    // the number of times that each port was woken, port 1 first
     wakes: Vec<u64>,
     phase: Phase,
 }
@@ -72,7 +72,7 @@ impl<F: Name> Model for Guarded<F> {
 }
 
 impl<F: Name> Guarded<F> {
-    // An engine for whose commands nobody waits, of this many ports, each woken once.
+    // Makes the guarded value of an engine with this number of ports. Nobody waits for its commands, and each port is woken once.
     pub(crate) fn new(alloc: Global, engine: Engine<F>, ports: u8) -> Result<Guarded<F>, AllocError>
         requires { engine.core.queue ≡ [] }
         ensures { IfOk result (λ guarded. guarded ≡ record {
@@ -92,14 +92,15 @@ impl<F: Name> Guarded<F> {
         })
     }
 
-    // The engine, to read of.
+    // Returns the engine, to be read.
     pub(crate) fn engine(&self) -> &Engine<F>
         ensures { result.now ≡ self.now.engine }
     {
         &self.engine
     }
 
-    // Takes a change, for which this caller waits; its port is woken, unless ports are to end. As `Core::submit`.
+    // Submits a caller's change, as `Core::submit` does. The caller then waits for it, and its port is woken, unless ports are to
+    // end.
     pub(crate) fn submit(&mut self, caller: Caller<F>) -> Result<u64, SubmitFault>
         ensures submit { IsSubmit self.old.engine.core (command_of caller.change) self.new.engine.core result }
         ensures reported { self.new.engine.told ≡ self.old.engine.told ++ submit_told (command_of caller.change) result }
@@ -117,7 +118,7 @@ impl<F: Name> Guarded<F> {
         Ok(ticket.number())
     }
 
-    // As `Core::view`.
+    // Returns the durable state of a port, as `Core::view` does.
     pub(crate) fn view(
         &mut self,
         port: PortId,
@@ -141,7 +142,8 @@ impl<F: Name> Guarded<F> {
         view
     }
 
-    // As `Core::meet`. The durable commands that the pass has then seen are those of a lawful trace.
+    // Shows the pass the durable commands, as `Core::meet` does, and returns the number of the last. They are those of a lawful
+    // trace.
     pub(crate) fn meet(&mut self, pass: &mut Pass<F>) -> u64
         ensures lawful { IsLawfulList F.front.start result (take (result - F.front.start.number) self.new.engine.core.seen) }
         ensures kept { IsPrefix pass.old pass.new }
@@ -153,7 +155,7 @@ impl<F: Name> Guarded<F> {
         number
     }
 
-    // Returns the status of a port that is there, which is the one that was reported last.
+    // Returns the status of a port, which is the one that was reported last, or `None` if there is no such port.
     pub(crate) fn status(&self, port: PortId) -> Option<PortStatus>
         ensures status { result ≡ status_in (slice_get self.now.engine.machines (port - 1)) }
         ensures reported { IfSome result (IsLastReported F.front.start port) }
@@ -162,7 +164,7 @@ impl<F: Name> Guarded<F> {
         iol_headline::engine::status(&self.engine, port)
     }
 
-    // Makes a step of a port with what its link answered. Nobody waits for a Store that it takes.
+    // Makes a step of a port with the answer of its link. If the step accepts a Store, no caller waits for it.
     pub(crate) fn step(
         &mut self,
         port: PortId,
@@ -184,7 +186,7 @@ impl<F: Name> Guarded<F> {
         told
     }
 
-    // As `Core::take_batch`.
+    // Takes a batch of the queue, as `Core::take_batch` does.
     pub(crate) fn take_batch(&mut self, room: usize) -> Result<Option<Batch>, AllocError>
         requires { LARGEST_COMMAND_RECORD ≤ room }
         ensures take { IfOk result (λ batch. IsTake self.old.engine.core room self.new.engine.core batch) }
@@ -195,7 +197,7 @@ impl<F: Name> Guarded<F> {
         self.engine.take_batch(room)
     }
 
-    // As `Core::acknowledge`; who waits for a command of the batch is told, and waits no more.
+    // Acknowledges a batch, as `Core::acknowledge` does. Callers that wait for its commands get their notices, and wait no more.
     pub(crate) fn acknowledge<R: Wait>(
         &mut self,
         rt: &R,
@@ -216,7 +218,7 @@ impl<F: Name> Guarded<F> {
         self.engine.acknowledge(committed)
     }
 
-    // The disk has failed: nobody is told any more, and who waits hears that.
+    // Records that the disk has failed: no caller gets a notice any more, and the calls of waiting clients return `Unsure`.
     pub(crate) fn fail(&mut self)
         ensures core { self.new.engine.core ≡ record self.old.engine.core {
           stopped = Some (stopped_by self.old.engine.core.stopped DiskFailed);
@@ -229,7 +231,7 @@ impl<F: Name> Guarded<F> {
         let_go(&mut self.callers);
     }
 
-    // Memory ran out for what waits: who waits hears that. Where the run is to end nothing more is written, which is answered.
+    // Answers all waiting callers that memory ran out. Returns whether the run is to end; if so, nothing more is written.
     pub(crate) fn give_up<R: Wait>(&mut self, rt: &R) -> bool
         ensures core { self.new.engine.core ≡ given_up self.old.phase self.old.engine.core }
         ensures callers { self.new.callers ≡ replicate (length self.old.callers) None }
@@ -246,7 +248,7 @@ impl<F: Name> Guarded<F> {
         true
     }
 
-    // Ports end where they settle, once each has been woken.
+    // Has the ports end once they are settled, after each has been woken.
     pub(crate) fn end_ports(&mut self)
         ensures core { (self.new.engine.core ≡ self.old.engine.core) × (self.new.callers ≡ self.old.callers) }
         ensures phase { self.new.phase ≡ phase.Ending }
@@ -256,7 +258,7 @@ impl<F: Name> Guarded<F> {
         wake_all(&mut self.wakes);
     }
 
-    // No more is taken; what waits is still written.
+    // Has the core accept no more commands; the waiting ones are still written.
     pub(crate) fn close(&mut self)
         ensures core { self.new.engine.core ≡ record self.old.engine.core {
           stopped = Some (stopped_by self.old.engine.core.stopped Closed);
@@ -268,28 +270,28 @@ impl<F: Name> Guarded<F> {
         self.phase = Phase::Closed;
     }
 
-    // Returns how far the run is.
+    // Returns the phase of the run.
     pub(crate) fn phase(&self) -> Phase
         ensures { result ≡ self.now.phase }
     {
         self.phase
     }
 
-    // Whether there is nothing to write, and more may come: the flusher sleeps.
+    // Returns whether nothing waits to be written but more may come: the flusher sleeps.
     pub(crate) fn is_idle(&self) -> bool
         ensures { result ≡ is_idle self.now }
     {
         self.phase != Phase::Closed && self.callers.is_empty()
     }
 
-    // Whether there is nothing to write, and no more comes.
+    // Returns whether nothing waits to be written and no more comes.
     pub(crate) fn is_over(&self) -> bool
         ensures { result ≡ is_over self.now }
     {
         self.phase == Phase::Closed && self.callers.is_empty()
     }
 
-    // Returns how often a port was woken; 0 for one that is not there.
+    // Returns the number of times that a port was woken, or 0 if there is no such port.
     pub(crate) fn wakes(&self, port: PortId) -> u64
         ensures { result ≡ slice_index self.now.wakes (port - 1) }
     {
@@ -300,7 +302,7 @@ impl<F: Name> Guarded<F> {
     }
 }
 
-// Wakes a port while ports are served.
+// Wakes a port, while ports are served.
 fn wake(phase: Phase, wakes: &mut [u64], port: PortId)
     ensures { wakes.new ≡ woken phase port wakes.old }
 {
@@ -322,7 +324,7 @@ fn wake_all(wakes: &mut [u64])
     }
 }
 
-// Tells all who wait that memory ran out.
+// Answers all waiting callers that memory ran out.
 fn tell_unwritten<F: Name, R: Wait>(rt: &R, callers: &VecDeque<Option<Caller<F>>>) {
     for caller in callers.iter().flatten() {
         // A caller that is gone needs no answer.
@@ -330,7 +332,7 @@ fn tell_unwritten<F: Name, R: Wait>(rt: &R, callers: &VecDeque<Option<Caller<F>>
     }
 }
 
-// Lets go who waits, and keeps their places.
+// Drops the waiting callers, and keeps their places.
 fn let_go<F: Name>(callers: &mut VecDeque<Option<Caller<F>>>)
     ensures none { map asked callers.new.items ≡ replicate (length callers.old.items) None }
     ensures room { deque_capacity callers.new ≡ deque_capacity callers.old }
@@ -344,7 +346,7 @@ fn let_go<F: Name>(callers: &mut VecDeque<Option<Caller<F>>>)
     }
 }
 
-// Tells those who wait for the first commands, which are those of a batch.
+// Sends the notices to the callers that wait for the first commands, which are those of a batch.
 fn tell_all<F: Name, R: Wait>(
     rt: &R,
     callers: &mut VecDeque<Option<Caller<F>>>,
@@ -362,7 +364,7 @@ fn tell_all<F: Name, R: Wait>(
     }
 }
 
-// Tells a caller that waits for this command of a batch.
+// Sends the notice to a caller that waits for this command of a batch.
 fn tell<F: Name, R: Wait>(rt: &R, caller: Caller<F>, committed: &mut Committed<F>, place: usize)
     requires { slice_get committed.old.commands place ≡ Some (command_of caller.change) }
     ensures { committed.new ≡ committed.old }

@@ -1,19 +1,19 @@
-//! A running master: a worker for each port, one flusher, and clients in any threads.
+//! Runs a master in threads: a worker for each port, one flusher, and clients in any threads.
 //!
 //! [`Master::start`] takes a journal that was just recovered, and a link for each port. From then on each port makes its steps in a
-//! thread of its own, at its link's pace, and one more thread brings what is accepted to the disk. A [`Client`] asks for a change and
-//! waits until it is durable; its [`Receipt`] says under which number it stands. [`Master::shutdown`] ends all threads, and hands
-//! back the journal, or the disk where a call of it has failed.
+//! thread of its own, at its link's pace, and one more thread writes the accepted commands to the disk. A [`Client`] requests a change
+//! and waits until it is durable; its [`Receipt`] holds the command's number. [`Master::shutdown`] ends all threads, and returns the
+//! journal, or the disk if a call of it has failed.
 //!
-//! One lock guards the engine, and each time it is held one call of it is made; a call of the disk or of a link is made without
-//! it. What is decided is decided in `iol_core`, `iol_port` and `iol_flush`, by the same calls that a run on one thread makes
-//! (`iol_run`). Of all that a master stands on, this crate alone has threads and waits. A run on one thread is offered here too, with
-//! what holds of its whole trace: [`run_schedule`].
+//! One lock guards the engine. Each time it is held, one call of the engine is made; calls of the disk and of links are made without
+//! it. `iol_core`, `iol_port` and `iol_flush` make all decisions, by the same calls that a run on one thread makes (`iol_run`). Of all
+//! crates under a master, this one alone has threads and waits. It also offers a run on one thread, with what holds of its whole
+//! trace: [`run_schedule`].
 //!
-//! Modules in reading order: `caller`, who waits and what is told; `guarded`, what the lock guards; `serving`, which ports sleep;
-//! `watching` and `news`, who waits for a status, or for what is new; `finding` and `pace`, what the flusher finds, and how it paces a
-//! checkpoint; `client`; `flushing` and `working`, the two kinds of thread; `ending` and `settling`, how a master ends; `master`,
-//! which starts and ends them.
+//! Modules in reading order: `caller`, the callers that wait and their answers; `guarded`, what the lock guards; `serving`, which
+//! ports sleep; `watching` and `news`, clients that wait for a status or for news; `finding` and `pace`, the flusher's search for a
+//! batch, and how it paces a checkpoint; `client`; `flushing` and `working`, the two kinds of thread; `ending` and `settling`, how a
+//! master ends; `master`, which starts and ends them.
 #![tactic(auto)]
 
 mod caller;

@@ -1,4 +1,4 @@
-//! The master: it starts its threads, and ends them.
+//! Starts and ends the threads of a master.
 
 ghost use Rattle.std.specs.Prelude.{◌≡◌, ◌≤◌, [], length, vec_capacity, vec_len, IfErr, IfOk};
 ghost use Rattle.iol_flush.specs.Stages.{HasHistory};
@@ -26,8 +26,8 @@ use std::thread;
 use std::thread::{JoinHandle, PromisedHandle, Threads};
 use std::time::Clock;
 
-/// A running master. It is ended by `shutdown`: one that is let go leaves its threads running, and its disk with them. A contract sees
-/// the journal that it was started with.
+/// A running master. Call `shutdown` to end it: a master that is dropped leaves its threads running, and its disk with them. A
+/// contract sees the journal that it was started with.
 #[derive(Drop)]
 pub struct Master<D: SectorDisk, F: Name> {
     alloc: Global,
@@ -45,17 +45,17 @@ impl<D: SectorDisk, F: Name> Model for Master<D, F> {
 
     ghost view = { λ m. m.flusher.promise.0.value };
 
-    // What a client begins with has seen nothing of the run, and each port has a worker.
+    // The pass that each client begins with has seen nothing of the run, and each port has a worker.
     ghost invariant = { λ m. (m.pass ≡ []) × (vec_len m.workers ≡ length F.front.start.state) };
 }
 
 impl<D: SectorDisk + Drop + Send + 'static, F: Name + 'static> Master<D, F> {
-    /// Starts a master over a journal that was just recovered, with its state, the publisher of a front of that number and state,
-    /// which has published nothing, and a link for each port, port 1 first.
+    /// Starts a master over a journal that was just recovered. It takes the journal's state, the publisher of a front of that number
+    /// and state, which has published nothing, and a link for each port, port 1 first.
     ///
     /// # Errors
-    /// `Ports` where there is not one link for each port, `Memory` and `Thread`, in this order, each with the disk. The links are
-    /// gone then.
+    /// `Ports` if there is not one link for each port, `Memory` if memory runs out, and `Thread` if a thread cannot be made, checked
+    /// in this order. Each returns the disk. The links are dropped.
     pub fn start<
         L: DeviceLink + Drop + Send + 'static,
         R: Threads + Wait + Clock + Copy + Send + 'static,
@@ -83,10 +83,10 @@ impl<D: SectorDisk + Drop + Send + 'static, F: Name + 'static> Master<D, F> {
         begin(rt, alloc, Charge::new(journal, publisher), room)
     }
 
-    /// A further client, which has seen nothing of this run.
+    /// Returns a further client, which has seen nothing of this run.
     ///
     /// # Errors
-    /// Memory ran out; nothing changes.
+    /// Out of memory; nothing changes.
     pub fn client(&mut self) -> Result<Client<F>, AllocError>
         ensures same { self.new ≡ self.old }
         ensures client { IfOk result (λ client. client ≡ []) }
@@ -96,12 +96,12 @@ impl<D: SectorDisk + Drop + Send + 'static, F: Name + 'static> Master<D, F> {
         Ok(Client::new(self.alloc, shared, pass))
     }
 
-    /// Ends the run: each port is woken once more and runs until it is settled, what waits is brought to the disk, and all threads
-    /// have ended. Where memory stays out for a second, what waits is not written, which `Unwritten` says; those who waited for it
-    /// heard so.
+    /// Ends the run: wakes each port once more and runs it until it is settled, writes the waiting commands to the disk, and waits
+    /// until all threads have ended. If memory stays out for a second, the waiting commands are not written: the ending is
+    /// `Unwritten`, and their callers have got that answer.
     pub fn shutdown<R: Threads + Wait>(self, rt: &R) -> Ending<D, F>
         ensures ending { IsEnding D.disk F.front.start self result }
-        // A master that is closed has published a list of commands that a lawful trace accepted and acknowledged, whole.
+        // A closed master has published a list of commands that a lawful trace accepted and acknowledged, whole.
         ensures settled { IsSettled F.front.start result }
     {
         let Master {
@@ -133,12 +133,12 @@ fn end<D: SectorDisk, F: Name, R: Threads + Wait>(
     flusher.join(rt)
 }
 
-// All that a master needs memory for, made before its first thread.
+// Everything that a master allocates, made before its first thread starts.
 #[derive(Drop)]
 struct Room<L: DeviceLink + Drop, F: Name> {
     pass: Pass<F>,
     shared: Arc<Shared<F>, Global>,
-    // the flusher's own
+    // the flusher's handle to what the threads share
     theirs: Arc<Shared<F>, Global>,
     served: Vec<ServedPort<L, F>>,
     workers: Vec<JoinHandle<()>>,
@@ -177,7 +177,7 @@ impl<L: DeviceLink + Drop, F: Name> Room<L, F> {
     }
 }
 
-// What the threads share, over a state that is durable.
+// Makes what the threads share, over a durable state.
 fn share<L: DeviceLink, F: Name>(
     alloc: Global,
     state: MasterState,
@@ -201,7 +201,7 @@ fn share<L: DeviceLink, F: Name>(
     }
 }
 
-// Starts the flusher, and then a worker for each port. Where a thread is not made, those that were end again.
+// Starts the flusher, and then a worker for each port. If a thread cannot be made, ends the threads that were started.
 fn begin<
     D: SectorDisk + Drop + Send + 'static,
     L: DeviceLink + Drop + Send + 'static,
@@ -257,7 +257,7 @@ fn begin<
 // Starts a worker for each port.
 //
 // # Errors
-// A thread was not made; the workers that were started come back.
+// A thread could not be made; returns the workers that were started.
 fn start_workers<
     L: DeviceLink + Drop + Send + 'static,
     F: Name + 'static,
@@ -284,14 +284,14 @@ fn start_workers<
     Ok(workers)
 }
 
-// Waits until these threads have ended.
+// Waits until these workers have ended.
 fn join_all<R: Threads>(rt: &R, workers: Vec<JoinHandle<()>>) {
     for worker in workers {
         worker.join(rt);
     }
 }
 
-// The disk that a master leaves.
+// Returns the disk that a master leaves.
 fn disk_of<D: SectorDisk, F: Name>(ending: Ending<D, F>) -> D
     ensures { (first : JournalView D) → IsEnding D.disk F.front.start first ending → IsLeft D.disk F.front.start first result }
 {

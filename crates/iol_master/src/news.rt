@@ -1,4 +1,4 @@
-//! Clients that wait for what is new: another status of any port, or more durable commands.
+//! Clients that wait for news: another status of any port, or more durable commands.
 
 ghost use Rattle.std.specs.Prelude.{◌≡◌, IfOk, IfSome, IsTrue, replicate};
 ghost use mathlib.Core.List.{IsPrefix};
@@ -16,7 +16,7 @@ use std::alloc::{AllocError, Global};
 use std::marker::Model;
 use std::sync::Wait;
 
-/// What is new at a master.
+/// Something new at a master.
 #[derive(Clone, Copy, Debug, PartialEq, Eq)]
 pub enum News {
     /// A port has this status now.
@@ -25,13 +25,13 @@ pub enum News {
     Durable { number: u64 },
 }
 
-/// What is known of a master: the status of each port that was reported last, and how far commands are durable. A contract sees the
-/// record `KnownView` of `specs/News.antt`.
+/// What is known of a master: the status that was reported last of each port, and the number of the last durable command. A
+/// contract sees the record `KnownView` of `specs/News.antt`.
 #[derive(Drop)]
 pub struct Known {
     statuses: Vec<PortStatus>,
     number: u64,
-    // The place of the port that is compared first: the one after the port that was reported last, so that none is passed over.
+    // The place of the port that is compared first: the one after the port that was reported last, so that no port is passed over.
     next: usize,
 }
 
@@ -44,7 +44,7 @@ impl Model for Known {
 }
 
 impl Known {
-    /// What is known of a master that starts with `ports` ports, after the command with this number: all ports are off.
+    /// Returns what is known of a master that starts with `ports` ports, after the command with this number: all ports are off.
     ///
     /// # Errors
     /// Out of memory.
@@ -59,7 +59,7 @@ impl Known {
         })
     }
 
-    // Whether another status is known of a port.
+    // Returns whether the status is another than the one known of the port.
     fn is_new(&self, port: PortId, status: PortStatus) -> bool
         ensures { IsTrue result → IsNew self.now (Status port status) }
     {
@@ -72,7 +72,7 @@ impl Known {
         true
     }
 
-    // Knows what was reported, too.
+    // Adds news to what is known.
     fn learn(&mut self, news: &News)
         ensures { self.new ≡ known_with self.old news.now }
     {
@@ -89,7 +89,7 @@ impl Known {
     }
 }
 
-// Why nothing is reported.
+// The reason why nothing is reported.
 #[derive(Clone, Copy)]
 enum Silence {
     // Nothing is new so far.
@@ -99,7 +99,7 @@ enum Silence {
 }
 
 impl<F: Name> Guarded<F> {
-    // What is new. The pass has then seen each command that is reported as durable.
+    // Returns what is new. The pass has then seen each command that is reported as durable.
     fn news(&self, pass: &mut Pass<F>, known: &Known) -> Result<News, Silence>
         ensures kept { IsPrefix pass.old pass.new }
         ensures new { IfOk result (IsNew known.now) }
@@ -116,7 +116,8 @@ impl<F: Name> Guarded<F> {
         }
     }
 
-    // The first port that has another status than is known, from the one after that which was reported last, and its status.
+    // Returns the first port whose status is another than the known one, with its status. The search starts after the port that was
+    // reported last.
     fn changed(&self, known: &Known) -> Option<(PortId, PortStatus)>
         ensures new { IfSome result (λ found. IsNew known.now (Status found.0 found.1)) }
         ensures reported { IfSome result (λ found. IsLastReported F.front.start found.0 found.1) }
@@ -128,7 +129,7 @@ impl<F: Name> Guarded<F> {
         }
     }
 
-    // The first port that has another status than is known, from one place up to another, and its status.
+    // Returns the first port from one place up to another whose status is another than the known one, with its status.
     fn changed_among(&self, known: &Known, from: usize, to: usize) -> Option<(PortId, PortStatus)>
         ensures new { IfSome result (λ found. IsNew known.now (Status found.0 found.1)) }
         ensures reported { IfSome result (λ found. IsLastReported F.front.start found.0 found.1) }
@@ -141,7 +142,7 @@ impl<F: Name> Guarded<F> {
         None
     }
 
-    // The port at a place and its status, if that is another than is known.
+    // Returns the port at a place and its status, if that is another than the known one.
     fn changed_at(&self, known: &Known, place: usize) -> Option<(PortId, PortStatus)>
         ensures new { IfSome result (λ found. IsNew known.now (Status found.0 found.1)) }
         ensures reported { IfSome result (λ found. IsLastReported F.front.start found.0 found.1) }
@@ -156,7 +157,7 @@ impl<F: Name> Guarded<F> {
     }
 }
 
-// Waits until something is new, or the master has ended and nothing is.
+// Waits until something is new, and returns it, or `None` if the master has ended and nothing is new.
 pub(crate) fn wait_for_news<F: Name, R: Wait>(
     rt: &R,
     shared: &Shared<F>,

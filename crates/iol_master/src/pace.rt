@@ -1,4 +1,4 @@
-//! How the flusher paces a checkpoint that it makes between batches.
+//! The flusher's pace for a checkpoint that it makes between batches.
 
 ghost use Rattle.std.specs.Prelude.{◌≡◌, min, IfNone, IfSome};
 ghost use Rattle.iol_master.specs.Pace.{Follows, is_owing, longest_delay};
@@ -10,24 +10,25 @@ use std::time::{Clock, Duration, Instant};
 
 const LONGEST_MICROSECONDS: u64 = 20_000;
 
-/// How far a checkpoint is that is made between batches.
+/// The progress of a checkpoint that is made between batches.
 #[derive(Clone, Copy, Debug, PartialEq, Eq)]
 pub(crate) enum Checkpoint {
-    /// No call of it was made.
+    /// None of its calls was made.
     Due,
-    /// A call of it was made, and no batch was given since.
+    /// One of its calls was made, and no batch was given since.
     Begun,
-    /// A batch was given since, which it has to carry.
+    /// A batch was given since, which the checkpoint has to carry.
     Owing,
 }
 
-/// How the flusher paces a checkpoint that is due. Before its first call it waits for a batch, as long as the last batch took, 20 ms at
-/// most, and not again once it has waited and nobody came: a client that asks again at once meets no checkpoint until no slot is free.
-/// Once the checkpoint has begun, one batch may be given before it is done. It would have to carry each further one, and the batch that
-/// finds no free slot would wait for all of them. A contract sees the record `PaceView` of `specs/Pace.antt`.
+/// The flusher's pace for a due checkpoint. Before the first call of the checkpoint, the flusher waits for a batch as long as the last
+/// batch took, at most 20 ms. Once it has waited and no batch came, it does not wait again. So a client that asks again at once meets
+/// no checkpoint until no slot is free. Once the checkpoint has begun, one batch may be given before it is done. It would have to carry
+/// each further batch, and the batch that finds no free slot would wait for all of them. A contract sees the record `PaceView` of
+/// `specs/Pace.antt`.
 #[derive(Drop)]
 pub(crate) struct Pace {
-    // when the batch was given that is on its way, if the clock could be read
+    // when the batch underway was given, if the clock could be read
     given: Option<Instant>,
     microseconds: u64,
     checkpoint: Checkpoint,
@@ -45,7 +46,7 @@ impl Model for Pace {
 }
 
 impl Pace {
-    // No batch was written so far.
+    // Makes the pace before any batch was written.
     pub(crate) fn new() -> Pace
         ensures { result ≡ record { microseconds = 0; checkpoint = checkpoint.Due } }
     {
@@ -56,14 +57,14 @@ impl Pace {
         }
     }
 
-    // Whether the checkpoint's calls come before the next batch.
+    // Returns whether the checkpoint's calls come before the next batch.
     pub(crate) fn is_owing(&self) -> bool
         ensures { result ≡ is_owing self.now.checkpoint }
     {
         self.checkpoint == Checkpoint::Owing
     }
 
-    // How long a batch is waited for; `None` if it is not.
+    // Returns how long to wait for a batch, or `None` if not at all.
     pub(crate) fn limit(&self) -> Option<Duration>
         ensures none { IfNone result (self.now.microseconds ≡ 0) }
     {
@@ -73,14 +74,14 @@ impl Pace {
         }
     }
 
-    // A batch is given now.
+    // Notes that a batch is given now.
     pub(crate) fn begin(&mut self, clock: &impl Clock)
         ensures { self.new ≡ self.old }
     {
         self.given = Instant::now(clock).ok();
     }
 
-    // The batch that was given is durable now. If the clock cannot be read nothing is waited for.
+    // Notes that the given batch is durable now. If the clock cannot be read, the flusher will not wait for the next.
     pub(crate) fn end(&mut self, clock: &impl Clock)
         ensures { self.new.checkpoint ≡ self.old.checkpoint }
     {
@@ -88,14 +89,14 @@ impl Pace {
         self.microseconds = took.map_or(0, |took| delay_after(took.as_micros()));
     }
 
-    // No checkpoint is due.
+    // Notes that no checkpoint is due.
     pub(crate) fn rest(&mut self)
         ensures { self.new ≡ record self.old { checkpoint = checkpoint.Due } }
     {
         self.checkpoint = Checkpoint::Due;
     }
 
-    // This was found.
+    // Updates the pace with what the flusher found.
     pub(crate) fn follow(&mut self, found: &Found)
         ensures { Follows self.old found.now self.new }
     {
@@ -111,7 +112,7 @@ impl Pace {
     }
 }
 
-// How many microseconds are waited if the last batch took this many.
+// Returns the number of microseconds to wait after a batch that took this many.
 fn delay_after(took: u128) -> u64
     ensures { result ≡ min took longest_delay }
 {

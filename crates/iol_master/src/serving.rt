@@ -1,4 +1,4 @@
-//! Which workers sleep, and which ports are served on.
+//! Which workers sleep, and which ports are still served.
 
 ghost use Rattle.std.specs.Prelude.{◌≡◌};
 ghost use Rattle.iol_master.specs.Serving.{is_served, sleeps};
@@ -9,8 +9,8 @@ use iol_port::PortStatus;
 use iol_types::PortId;
 
 impl<F: Name> Guarded<F> {
-    // Whether the worker of a port sleeps, which has answered `answered` wakes: its port waits for the disk, or it is off and was not
-    // woken since.
+    // Returns whether the worker of a port sleeps, if it has answered `answered` wakes: the port waits for the disk, or, while the
+    // run goes on, it is off and was not woken since.
     pub(crate) fn sleeps(&self, port: PortId, answered: u64) -> bool
         ensures { result ≡ sleeps self.now port answered }
     {
@@ -19,7 +19,8 @@ impl<F: Name> Guarded<F> {
             || (is_off && self.phase() == Phase::Running && self.wakes(port) == answered)
     }
 
-    // Whether a port is served on, whose worker has answered `answered` wakes. At the end that is once more, for the wake of the end.
+    // Returns whether a port is still served, if its worker has answered `answered` wakes. At the end it is served once more, for the
+    // wake of the end.
     pub(crate) fn is_served(&self, port: PortId, answered: u64) -> bool
         ensures { result ≡ is_served self.now port answered }
     {

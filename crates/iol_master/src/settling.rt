@@ -1,4 +1,4 @@
-//! What is known of a master's list of commands once its threads have ended.
+//! Checks the published commands of a master once its threads have ended.
 
 ghost use Rattle.std.specs.Prelude.{◌≡◌, ◌≤◌, ◌+◌, ◌-◌, length, take, IsTrue};
 ghost use Rattle.iol_headline.specs.Lists.{IsLawfulList};
@@ -12,7 +12,7 @@ use iol_disk::SectorDisk;
 use iol_front::{Name, Pass, Publisher};
 use std::sync::Wait;
 
-// A master is closed only where all that its flusher has published is acknowledged.
+// Leaves a master closed only if all that its flusher has published is acknowledged.
 pub(crate) fn settle<D: SectorDisk, F: Name, R: Wait>(
     rt: &R,
     shared: &Shared<F>,
@@ -34,7 +34,7 @@ pub(crate) fn settle<D: SectorDisk, F: Name, R: Wait>(
     }
 }
 
-// Whether all that is published is acknowledged. If so, a lawful trace has accepted it.
+// Returns whether all that is published is acknowledged. If so, a lawful trace has accepted it.
 fn is_acknowledged<F: Name, R: Wait>(
     rt: &R,
     shared: &Shared<F>,
@@ -49,7 +49,7 @@ fn is_acknowledged<F: Name, R: Wait>(
     number == publisher.number()
 }
 
-// The number of the last durable command. The pass has then seen all of them.
+// Returns the number of the last durable command. The pass has then seen all of them.
 fn acknowledged<F: Name, R: Wait>(rt: &R, shared: &Shared<F>, pass: &mut Pass<F>) -> u64
     ensures lawful { IsLawfulList F.front.start result (take (result - F.front.start.number) pass.new) }
     ensures number { result ≤ F.front.start.number + length pass.new }

@@ -11,7 +11,7 @@ use iol_types::PortId;
 use std::sync::Wait;
 use thiserror::Error;
 
-/// Why a client that waits for another status of a port hears of none.
+/// The reason why a waiting client gets no other status of a port.
 #[derive(Clone, Copy, Debug, PartialEq, Eq, Error)]
 pub enum WatchFault {
     /// The master has no such port.
@@ -23,8 +23,8 @@ pub enum WatchFault {
 }
 
 impl<F: Name> Guarded<F> {
-    // What a client hears of a port, that has seen the status `last` of it; nothing while it waits. It waits while the port has that
-    // status and a worker may still make a step.
+    // Returns the answer to a client that has seen the status `last` of a port, or `None` if the client has to wait. It waits while
+    // the port has that status and a worker may still make a step.
     pub(crate) fn heard(
         &self,
         port: PortId,

@@ -14,7 +14,7 @@ use std::alloc::{AllocError, Global};
 use std::sync::{Arc, Wait};
 use std::thread;
 
-/// What a worker is given: its port, the port's link, what the threads share, and a buffer for an exchange, so that no step needs
+/// What a worker receives: its port, the port's link, what the threads share, and a buffer for an exchange, so that no step needs
 /// memory.
 #[derive(Drop)]
 pub(crate) struct ServedPort<L: DeviceLink + Drop, F: Name> {
@@ -24,7 +24,7 @@ pub(crate) struct ServedPort<L: DeviceLink + Drop, F: Name> {
     buffer: Box<Exchanged>,
 }
 
-// A port to serve for each link, port 1 first.
+// Makes a port to serve for each link, port 1 first.
 pub(crate) fn served_ports<L: DeviceLink + Drop, F: Name>(
     alloc: Global,
     shared: &Arc<Shared<F>, Global>,
@@ -51,8 +51,8 @@ pub(crate) fn served_ports<L: DeviceLink + Drop, F: Name>(
     Ok(served)
 }
 
-// Serves a port until it is settled at the end of the run. The link is asked without the lock, and the port's machine makes a step with
-// the answer under the lock. A port that is off waits until it is woken. Once a port has settled it holds no permit.
+// Serves a port until it is settled at the end of the run. It asks the link without the lock, and the port's machine makes a step with
+// the answer under the lock. A port that is off waits until it is woken. A settled port holds no permit.
 pub(crate) fn serve<L: DeviceLink + Drop, F: Name, R: Wait + Copy>(
     rt: R,
     alloc: Global,
@@ -74,13 +74,13 @@ pub(crate) fn serve<L: DeviceLink + Drop, F: Name, R: Wait + Copy>(
         if let Some(buffer) = buffer_of(alloc, spare.take()) {
             spare = step(&rt, &shared, port, &mut link, buffer);
         }
-        // A link that answers at once is asked again at once, so that other threads have the processor first.
+        // A link that answers at once is asked again at once, so other threads get the processor first.
         thread::yield_now();
     }
     unreachable!()
 }
 
-// The buffer that is there, or a new one; none if there is no memory for it.
+// Returns the spare buffer or a new one, or `None` if memory runs out.
 fn buffer_of(alloc: Global, spare: Option<Box<Exchanged>>) -> Option<Box<Exchanged>> {
     match spare {
         Some(buffer) => Some(buffer),
@@ -88,8 +88,8 @@ fn buffer_of(alloc: Global, spare: Option<Box<Exchanged>>) -> Option<Box<Exchang
     }
 }
 
-// Whether a port is served on. Its worker sleeps first for as long as the port has nothing to do. The next step of a settled port
-// answers all its wakes.
+// Returns whether a port is still served. Its worker first sleeps as long as the port has nothing to do. The next step of a settled
+// port answers all its wakes.
 fn goes_on<F: Name, R: Wait>(rt: &R, shared: &Shared<F>, port: PortId, answered: &mut u64) -> bool {
     let last = *answered;
     let guarded = shared.woken.wait_while(
@@ -103,8 +103,8 @@ fn goes_on<F: Name, R: Wait>(rt: &R, shared: &Shared<F>, port: PortId, answered:
     guarded.is_served(port, last)
 }
 
-// Makes one step of a port. Wakes the flusher for a Store that it takes, and who waits for a status that it reports. The buffer comes
-// back.
+// Makes one step of a port, and returns the buffer. It wakes the flusher if the step accepts a Store, and the waiting clients if the
+// step reports a status.
 fn step<L: DeviceLink, F: Name, R: Wait>(
     rt: &R,
     shared: &Shared<F>,
@@ -132,12 +132,12 @@ fn step<L: DeviceLink, F: Name, R: Wait>(
     }
 }
 
-// Whether a step took a Store.
+// Returns whether a step accepted a Store.
 fn has_stored(told: &PortTold) -> bool {
     matches!(&told.called, Some(Event::Accepted { .. }))
 }
 
-// Asks the link for what the engine wants.
+// Asks the link what the engine wants to know.
 fn answer_of<L: DeviceLink>(link: &mut L, want: &Want) -> Answered {
     match want {
         Want::Nothing => Answered::Nothing,

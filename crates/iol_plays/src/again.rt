@@ -1,4 +1,4 @@
-//! Two masters, one after another, on a disk in memory of which a call fails.
+//! Two masters, one after another, on a disk in memory of which one call fails.
 
 use crate::clients::{empty_links, meeting, play_clients};
 use crate::two_clients::formatted;
@@ -10,8 +10,8 @@ use std::sync::Wait;
 use std::thread::Threads;
 use std::time::Clock;
 
-/// Runs a master on a new disk of which one call of a kind fails, this one counted from its recovery, and a second master on the disk
-/// that it hands back, and gives that disk. Prints what the clients of each are answered, and how each ends.
+/// Runs a master on a new disk of which one call of a kind fails: the `nth`, counted from the recovery. Then runs a second master on
+/// the disk that the first returns, and returns that disk. Prints what the clients of each are answered, and how each ends.
 pub(crate) fn play_again<R: Threads + Wait + Clock + Input + Copy + Send + 'static>(
     rt: &R,
     alloc: Global,
@@ -26,7 +26,7 @@ pub(crate) fn play_again<R: Threads + Wait + Clock + Input + Copy + Send + 'stat
     Ok(disk.disk())
 }
 
-// A call of the disk, by its name.
+// Returns the fault of a disk call, by the name of the call.
 fn fault_named(kind: &str) -> DiskFault {
     match kind {
         "read" => DiskFault::Read,
@@ -35,7 +35,7 @@ fn fault_named(kind: &str) -> DiskFault {
     }
 }
 
-// Runs a master at whose ports no device is, and gives the disk that it hands back.
+// Runs a master without devices at its ports, and returns the disk that it leaves.
 fn serve<R: Threads + Wait + Clock + Input + Copy + Send + 'static>(
     rt: &R,
     alloc: Global,

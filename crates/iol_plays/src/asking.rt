@@ -1,4 +1,4 @@
-//! What a client asks for in a thread of its own, and what it is answered.
+//! The calls that a client makes in a thread of its own, and their answers.
 
 use crossbeam_channel::{Receiver, Sender};
 use iol_front::Name;
@@ -9,10 +9,10 @@ use std::alloc::Global;
 use std::sync::Wait;
 use std::{fmt, thread};
 
-// The device that examples speak of.
+// The DeviceID that the examples use.
 const SENSOR: u32 = 0xABCD;
 
-/// A client, where its answers go, and where its receipts go and others' come from.
+/// A client, with the channels for its answers, for its receipts, and for the receipts of other clients.
 #[derive(Drop)]
 pub(crate) struct Asking<F: Name> {
     pub(crate) number: usize,
@@ -22,7 +22,7 @@ pub(crate) struct Asking<F: Name> {
     pub(crate) receipts: Receiver<Receipt<F>, Global>,
 }
 
-/// What a client was answered, with the client's number.
+/// The answer to a client, with the client's number.
 #[derive(Clone, Copy)]
 pub(crate) struct Told {
     client: usize,
@@ -75,7 +75,7 @@ impl<F: Name> Asking<F> {
         }
     }
 
-    // Makes one call, at this place of its word.
+    // Makes one call, which has this place in its word.
     fn ask<R: Wait>(&mut self, rt: &R, place: usize, what: u8, port: PortId) {
         match what {
             b'c' => {
@@ -110,7 +110,7 @@ impl<F: Name> Asking<F> {
         }
     }
 
-    // Waits for another's receipt, and meets it.
+    // Waits for another client's receipt, and meets it.
     fn meet<R: Wait>(&mut self, rt: &R) {
         if let Ok(mut receipt) = self.receipts.recv(rt) {
             self.client.meet(&mut receipt.pass);
@@ -118,7 +118,7 @@ impl<F: Name> Asking<F> {
         }
     }
 
-    // Reads a port, and again for as long as the answer is behind.
+    // Reads a port. After a fault other than `UnknownPort` it reads again.
     fn read<R: Wait>(&mut self, rt: &R, port: PortId) {
         for _ in rt.forever() {
             match self.client.read(rt, port) {
@@ -141,7 +141,7 @@ impl<F: Name> Asking<F> {
         }
     }
 
-    // Tells the status of a port.
+    // Reports the status of a port.
     fn look<R: Wait>(&mut self, rt: &R, port: PortId) {
         match self.client.status(rt, port) {
             Some(status) => self.tell(rt, Answer::Status(status)),
@@ -149,7 +149,7 @@ impl<F: Name> Asking<F> {
         }
     }
 
-    // Tells the next status of a port that is off.
+    // Reports the next status of a port that is off.
     fn wait<R: Wait>(&mut self, rt: &R, port: PortId) {
         match self.client.watch(rt, port, PortStatus::Off) {
             Ok(status) => self.tell(rt, Answer::Status(status)),
@@ -157,7 +157,8 @@ impl<F: Name> Asking<F> {
         }
     }
 
-    // Watches a port until it has settled with its device, and tells its status then. A port that is off is watched on.
+    // Watches a port until it has settled with its device, and then reports its status. It continues to watch a port
+    // that is off.
     fn watch<R: Wait>(&mut self, rt: &R, port: PortId) {
         let mut last = PortStatus::Off;
         for _ in rt.forever() {
@@ -175,7 +176,7 @@ impl<F: Name> Asking<F> {
     }
 }
 
-// Whether a port has done all that it has to with its device.
+// Returns whether a port has done all that it has to do with its device.
 fn is_settled(status: PortStatus) -> bool {
     match status {
         PortStatus::Ready | PortStatus::ReadyLocked | PortStatus::ReadyEmpty => true,
@@ -185,7 +186,7 @@ fn is_settled(status: PortStatus) -> bool {
     }
 }
 
-// The configuration for the device with this number, whose parameters are kept.
+// Returns the configuration for the device with this number, whose parameters are kept.
 fn config_for(device: u32) -> Option<PortConfig> {
     Some(PortConfig {
         mode: PortMode::IolManual,

@@ -1,4 +1,4 @@
-//! A client in a thread of its own, its receipt, and what another client reads behind it.
+//! A client in a thread of its own, its receipt, and what another client reads after it.
 
 ghost use Rattle.std.specs.Prelude.{◌≡◌, ◌≤◌, IfOk};
 
@@ -12,7 +12,8 @@ use std::sync::Wait;
 use std::thread;
 use std::thread::{JoinHandle, Threads};
 
-/// A receipt of a client: its command stands at its number in the list that its pass has seen. A contract sees the number.
+/// A receipt of a client: its command has the receipt's number in the list that its pass has seen. A contract sees the
+/// number.
 #[derive(Drop)]
 pub(crate) struct Granted<F: Name> {
     receipt: Receipt<F>,
@@ -31,13 +32,13 @@ impl<F: Name> Model for Granted<F> {
 }
 
 impl<F: Name> Granted<F> {
-    /// The port that was configured.
+    /// Returns the port that was configured.
     pub(crate) fn port(&self) -> PortId {
         self.receipt.command.port()
     }
 }
 
-// The configuration of a port for a sensor whose parameters are kept.
+// Returns the configuration of a port for a sensor whose parameters are kept.
 fn config() -> anyhow::Result<PortConfig> {
     Ok(PortConfig {
         mode: PortMode::IolManual,
@@ -48,7 +49,8 @@ fn config() -> anyhow::Result<PortConfig> {
     })
 }
 
-/// A thread in which a client configures the port with this number, and brings back its receipt, if it gets one.
+/// Starts a thread in which a client configures the port with this number. The thread returns the client's receipt, if it
+/// gets one.
 pub(crate) fn configuring<F: Name + 'static, R: Threads + Wait + Copy + Send + 'static>(
     rt: &R,
     client: Client<F>,
@@ -75,7 +77,7 @@ fn configure<F: Name, R: Wait>(
     }
 }
 
-/// What a client reads of a port once it has met a receipt: the state behind that command, or a later one.
+/// Has a client meet a receipt and then read a port. Returns the state after the receipt's command, or a later one.
 pub(crate) fn read_behind<F: Name, R: Wait>(
     rt: &R,
     client: &mut Client<F>,

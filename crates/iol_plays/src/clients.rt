@@ -23,8 +23,8 @@ use std::thread;
 use std::thread::{JoinHandle, Threads};
 use std::time::Clock;
 
-/// Runs a master on a disk with these links and a client for each word, and gives the disk. Prints what each is answered, as it
-/// comes; where the passes of all receipts stand, once each has met the one before; and how the master ends.
+/// Runs a master on a disk with these links and a client for each word, and returns the disk. Prints each answer as it comes,
+/// then the count of the last receipt's pass once each pass has met the one before, and then how the master ends.
 pub(crate) fn play_clients<
     D: SectorDisk + Drop + Send + 'static,
     R: Threads + Wait + Clock + Input + Copy + Send + 'static,
@@ -44,7 +44,7 @@ pub(crate) fn play_clients<
     play::<D, Brand, R>(rt, alloc, front, journal, state, links, words, out)
 }
 
-/// So many links, at which no device ever is.
+/// Makes this number of links, at which no device ever is.
 pub(crate) fn empty_links(alloc: Global, count: u8) -> anyhow::Result<Vec<SimLink>> {
     let mut links = Vec::new(alloc);
     for _link in 0..count {
@@ -53,7 +53,8 @@ pub(crate) fn empty_links(alloc: Global, count: u8) -> anyhow::Result<Vec<SimLin
     Ok(links)
 }
 
-/// These links, none of which gives a page before so many were asked for, or answers a request before so many were made.
+/// Makes links of these, none of which gives a page before `least` pages were requested, or answers a request before `least`
+/// requests were made.
 pub(crate) fn meeting(
     alloc: Global,
     links: Vec<SimLink>,
@@ -75,7 +76,7 @@ pub(crate) fn meeting(
     Ok(made)
 }
 
-// A master runs until its clients have ended.
+// Runs a master until its clients have ended.
 fn play<
     D: SectorDisk + Drop + Send + 'static,
     F: Name + 'static,
@@ -113,7 +114,7 @@ fn play<
     Ok(disk)
 }
 
-// Ends the master, prints how, and gives its disk.
+// Ends the master, prints how it ended, and returns its disk.
 fn end<D: SectorDisk + Drop + Send + 'static, F: Name + 'static, R: Threads + Wait>(
     rt: &R,
     master: Master<D, F>,
@@ -135,7 +136,7 @@ fn end<D: SectorDisk + Drop + Send + 'static, F: Name + 'static, R: Threads + Wa
     }
 }
 
-// Starts a client for each word, and prints what they are answered.
+// Starts a client for each word, and prints their answers.
 fn ask<
     D: SectorDisk + Drop + Send + 'static,
     F: Name + 'static,
@@ -162,7 +163,7 @@ fn ask<
     Ok(())
 }
 
-// Starts a client for each word, ends the master while they ask, and prints what they were answered by then.
+// Starts a client for each word, ends the master while they make their calls, and prints their answers.
 fn end_beside<
     D: SectorDisk + Drop + Send + 'static,
     F: Name + 'static,
@@ -189,7 +190,7 @@ fn end_beside<
     Ok(disk)
 }
 
-// What clients share: where their answers go, and where their receipts go and others' come from.
+// What clients share: the channels for their answers, for their receipts, and for the receipts of other clients.
 #[derive(Drop)]
 struct Ends<F: Name> {
     told: Sender<Told, Global>,
@@ -198,7 +199,7 @@ struct Ends<F: Name> {
 }
 
 impl<F: Name> Ends<F> {
-    // What a client with this number asks with.
+    // Makes what the client with this number makes its calls with.
     fn asking(&self, number: usize, client: Client<F>) -> Result<Asking<F>, AllocError> {
         Ok(Asking {
             number,
@@ -209,7 +210,7 @@ impl<F: Name> Ends<F> {
         })
     }
 
-    // Where receipts come from. The other ends are let go, so that what is heard ends with the last client.
+    // Returns the receiver of the receipts. The other ends are dropped, so that the answers end with the last client.
     fn receipts(self) -> Receiver<Receipt<F>, Global> {
         self.receipts
     }
@@ -239,14 +240,14 @@ fn start_all<
     Ok(clients)
 }
 
-// Waits until these threads have ended.
+// Waits until these clients have ended.
 fn join_all<R: Threads>(rt: &R, clients: Vec<JoinHandle<()>>) {
     for client in clients {
         client.join(rt);
     }
 }
 
-// A thread in which a client makes the calls of a word.
+// Starts a thread in which a client makes the calls of a word.
 fn start<F: Name + 'static, R: Threads + Wait + Copy + Send + 'static>(
     rt: &R,
     asking: Asking<F>,
@@ -269,7 +270,7 @@ fn hear<R: Wait>(rt: &R, heard: &Receiver<Told, Global>, out: &mut Stdout) -> an
     Ok(())
 }
 
-// The count of the last receipt's pass, once each has met the one before; 0 where there is no receipt.
+// Returns the count of the last receipt's pass, once each pass has met the one before, or 0 if there is no receipt.
 fn meet_all<F: Name, R: Wait>(rt: &R, receipts: &Receiver<Receipt<F>, Global>) -> u64 {
     let mut last: Option<Pass<F>> = None;
     for receipt in receipts.iter(rt) {

@@ -10,7 +10,8 @@ use std::sync::Wait;
 use std::thread::Threads;
 use std::time::Clock;
 
-/// Runs a master of two ports and four slots, and says how many receipts there are and the state that is recovered.
+/// Runs a master of two ports and four slots, and returns the text with the number of receipts and the recovered
+/// state.
 pub(crate) fn text_of_live<R: Threads + Wait + Clock + Copy + Send + 'static>(
     rt: &R,
     alloc: Global,

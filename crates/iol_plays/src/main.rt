@@ -1,23 +1,23 @@
-//! `iol_plays`, a program that tests and measurements are made with: it plays what no command of `iolmaster` does.
+//! `iol_plays`, a program for tests and measurements: it runs what no command of `iolmaster` does.
 //!
-//! - `iol_plays schedule SCRIPT` makes the steps of a script on a disk in memory, also where memory runs out, and prints how they
-//!   ended, what was told of them, and what a recovery with memory finds behind a power stop.
+//! - `iol_plays schedule SCRIPT` makes the steps of a script on a disk in memory, also if memory runs out. It prints how they ended, what
+//!   was reported of them, and what a recovery with memory finds after a power stop.
 //! - `iol_plays live SCRIPT` runs a master in threads on a disk in memory, and prints what `iolmaster live` prints of an image.
-//! - `iol_plays clients IMAGE LINKS LEAST CLIENT..` runs a master on an image, and prints what each call of each client is answered.
-//!   It has so many links, which give no page before so many were asked for, and answer no request before so many were made. A client
+//! - `iol_plays clients IMAGE LINKS LEAST CLIENT..` runs a master on an image, and prints the answer to each call of each client. It has
+//!   LINKS links, which give no page before LEAST pages were requested, and answer no request before LEAST requests were made. A client
 //!   is a word of calls, two letters each: what is asked (`c` for Clear, `f` and `s` for Configure, `r` for a read, `t` for the status,
 //!   `n` for the next one while the port is off, `w` to watch until it has settled with its device, `m` to meet another's receipt) and of
-//!   which port; `s` is for device 43981. In the place of a client, `-` waits for a line of standard input. Behind the last one, `end`
-//!   ends the master while they ask.
+//!   which port; `s` is for device 43981. In the place of a client, `-` waits for a line of standard input. After the last one, `end`
+//!   ends the master while they make their calls.
 //! - `iol_plays clients SCRIPT.toml 2 LEAST CLIENT..` runs it on a new disk in memory with the devices of a script, and prints what a
-//!   recovery then finds behind a power stop.
+//!   recovery then finds after a power stop.
 //! - `iol_plays again KIND N CLIENT..` runs a master on a new disk in memory of which the N-th `read`, `write` or `sync` fails, counted
-//!   from its recovery, and a second one on the disk that it hands back. Prints what a recovery then finds behind a power stop.
-//! - `iol_plays misfit` hands a journal a batch that does not follow, also where memory runs out, and prints why it is refused.
+//!   from its recovery, and a second one on the disk that the first returns. It prints what a recovery then finds after a power stop.
+//! - `iol_plays misfit` gives a journal a batch that does not follow, also if memory runs out, and prints why it is refused.
 //! - `iol_plays two_clients` plays an example to read (`two_clients`).
 //! - `iol_plays measure FOLDER ROUNDS` times a journal on files in a folder (`measures`); `bench/run` makes medians of it.
-//! - `iol_plays longest FOLDER TURNS` times commits with so many turns of the flusher between two of them; `bench/longest` shows the
-//!   median and the longest.
+//! - `iol_plays longest FOLDER TURNS` times commits with TURNS turns of the flusher between two of them; `bench/longest` shows the median
+//!   and the longest.
 #![tactic(auto)]
 
 mod again;
@@ -52,7 +52,7 @@ fn main(rt: HostRuntime) -> anyhow::Result<()> {
     play(&rt, &rt, words.as_slice())
 }
 
-// Plays what the words of the program name. What runs threads takes the handle for them.
+// Plays what the words of the program name. The functions that run threads take the handle for them.
 fn play<R: Threads + Wait + Clock + Input + Copy + Send + 'static>(
     rt: &R,
     host: &HostRuntime,
@@ -79,7 +79,7 @@ fn play<R: Threads + Wait + Clock + Input + Copy + Send + 'static>(
     }
 }
 
-// Plays what names no file.
+// Plays what needs no file.
 fn play_alone<R: Threads + Wait + Clock + Copy + Send + 'static>(
     rt: &R,
     host: &HostRuntime,

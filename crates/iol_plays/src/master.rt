@@ -13,8 +13,8 @@ use std::sync::Wait;
 use std::thread::Threads;
 use std::time::Clock;
 
-/// Runs a master of two ports and four slots with the devices of a script and a client for each word, and gives its disk. Prints
-/// what each is answered, and how the master ends.
+/// Runs a master of two ports and four slots, with the devices of a script and a client for each word, and returns its disk.
+/// Prints what each client is answered, and how the master ends.
 pub(crate) fn play_in_memory<R: Threads + Wait + Clock + Input + Copy + Send + 'static>(
     rt: &R,
     alloc: Global,

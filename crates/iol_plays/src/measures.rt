@@ -1,8 +1,8 @@
-//! What durable commits, checkpoints, stores and recoveries of a journal on an image file cost, beside the same calls of a plain file in
-//! the same folder. Nothing is promised of times.
+//! The costs of durable commits, checkpoints, stores and recoveries of a journal on an image file, compared with the same calls of a
+//! plain file in the same folder. Nothing is promised of times.
 //!
-//! Modules in reading order: `commits`, `stores`, `encoding`, `recovery` and `longest`, the five measurements; `commands`, what is
-//! written; `plain`, the calls of a plain file.
+//! Modules in reading order: `commits`, `stores`, `encoding`, `recovery` and `longest`, the five measurements; `commands`, the commands
+//! that are written; `plain`, the calls of a plain file.
 
 mod commands;
 mod commits;
@@ -20,7 +20,7 @@ use plain::Files;
 use recovery::measure_recovery;
 use stores::measure_stores;
 
-/// Times a journal on files in a folder, which it makes and removes, in 1 to 99 rounds, and prints a line for each measurement of each
+/// Times a journal on files in a folder, which it makes and removes, in 1 to 99 rounds. Prints a line for each measurement of each
 /// round: what was measured, and the nanoseconds of the journal and of the plain file.
 pub(crate) fn measure(rt: &HostRuntime, folder: &str, rounds: usize) -> anyhow::Result<()> {
     if rounds < 1 || 99 < rounds {

@@ -8,15 +8,15 @@ use std::sync::Arc;
 use std::sync::atomic::{AtomicU64, Ordering};
 use std::thread;
 
-/// How many pages were asked for, and how many requests were made, of all links together.
+/// The number of pages that were requested, and of requests that were made, of all links together.
 #[derive(Drop)]
 pub(crate) struct Meetings {
     pub(crate) pages: AtomicU64,
     pub(crate) requests: AtomicU64,
 }
 
-/// Another link, which gives no page before so many were asked for, and answers no request before so many were made, of all links
-/// together.
+/// A link over another link. It gives no page before `least` pages were requested, and answers no request before `least` requests
+/// were made, of all links together.
 #[derive(Drop)]
 pub(crate) struct MeetingLink<L: DeviceLink> {
     pub(crate) link: L,
@@ -24,7 +24,7 @@ pub(crate) struct MeetingLink<L: DeviceLink> {
     pub(crate) least: u64,
 }
 
-// Counts one more call, and waits until there are so many.
+// Counts one more call, and waits until `least` calls were made.
 fn meet(calls: &AtomicU64, least: u64) {
     calls.fetch_add(1, Ordering::SeqCst);
     for _turn in 0..u64::MAX {

@@ -1,4 +1,4 @@
-//! A batch that does not follow its journal, also where memory runs out.
+//! A batch that does not follow its journal, also if memory runs out.
 
 use crate::two_clients::formatted;
 use anyhow::{Context, bail};
@@ -9,7 +9,7 @@ use std::alloc::Global;
 use std::io::Write;
 use std::rt::Stdout;
 
-/// Hands an empty journal a batch behind a gap, and prints why it is refused, and behind how many commands the journal then is.
+/// Gives an empty journal a batch after a gap, and prints why it is refused, and the number of commands of the journal then.
 pub(crate) fn play_misfit(alloc: Global, out: &mut Stdout) -> anyhow::Result<()> {
     let Ok((journal, _)) = Journal::recover(alloc, formatted(alloc)?) else {
         bail!("no recovery")
@@ -23,7 +23,7 @@ pub(crate) fn play_misfit(alloc: Global, out: &mut Stdout) -> anyhow::Result<()>
     Ok(())
 }
 
-// Why a journal refuses a batch, and behind how many commands it then is; none where it takes the batch.
+// Returns why a journal refuses a batch, and its number of commands then, or `None` if it takes the batch.
 fn refused(journal: Journal<MemoryDisk>, batch: Batch) -> Option<(BeginCause, u64)> {
     match journal.begin(batch) {
         Ok(_) => None,

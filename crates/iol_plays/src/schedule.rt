@@ -1,4 +1,4 @@
-//! The steps of a script, made on a new disk in memory, and what is found on the disk behind a power stop.
+//! The steps of a script, made on a new disk in memory, and what is found on the disk after a power stop.
 
 use iol_commands::{links_of, read_playable};
 use iol_disk::{MemoryDisk, Pick};
@@ -24,7 +24,7 @@ pub(crate) fn play_schedule(rt: &HostRuntime, script: &[u8]) -> anyhow::Result<(
     show(rt, disk)
 }
 
-// Makes the steps on a disk, prints how they ended, and gives the disk.
+// Makes the steps on a disk, prints how they ended, and returns the disk.
 fn play(
     rt: &HostRuntime,
     steps: &[Step],
@@ -38,14 +38,14 @@ fn play(
     }
 }
 
-// Prints what a run has told, and gives its disk.
+// Prints what a run has reported, and returns its disk.
 fn told(rt: &HostRuntime, trace: Trace<MemoryDisk, SimLink>) -> anyhow::Result<MemoryDisk> {
     tell(rt, trace.events.as_slice())?;
     println!(rt; "ended {:?}, {} waits", trace.ended, trace.waits)?;
     Ok(trace.disk)
 }
 
-// The tasks of steps, in their order.
+// Returns the tasks of steps, in their order.
 fn tasks_of(alloc: Global, steps: &[Step]) -> Result<Vec<Task>, AllocError> {
     let mut tasks = Vec::with_capacity(alloc, steps.len())?;
     for step in steps {
@@ -61,7 +61,7 @@ fn tasks_of(alloc: Global, steps: &[Step]) -> Result<Vec<Task>, AllocError> {
     Ok(tasks)
 }
 
-// Prints why no run was made, and gives its disk.
+// Prints why no run was made, and returns its disk.
 fn without_run(rt: &HostRuntime, fault: RunFault<MemoryDisk>) -> anyhow::Result<MemoryDisk> {
     match fault {
         RunFault::Recover(RecoverFault { cause, disk }) => {
@@ -79,7 +79,7 @@ fn without_run(rt: &HostRuntime, fault: RunFault<MemoryDisk>) -> anyhow::Result<
     }
 }
 
-// Prints what a run has told of its commands, its disk and the status of its ports.
+// Prints what a run has reported of its commands, its disk and the status of its ports.
 fn tell(rt: &HostRuntime, events: &[Stamped]) -> anyhow::Result<()> {
     for stamped in events {
         match &stamped.event {
@@ -94,7 +94,8 @@ fn tell(rt: &HostRuntime, events: &[Stamped]) -> anyhow::Result<()> {
     Ok(())
 }
 
-/// Stops the power, and prints what is then recovered. A recovery that finds no memory is made again.
+/// Stops the power, and prints what is then recovered. A recovery that fails, as it does if memory runs out,
+/// is made again.
 pub(crate) fn show(rt: &HostRuntime, disk: MemoryDisk) -> anyhow::Result<()> {
     println!(rt; "stopped")?;
     match Journal::recover(rt.alloc(), disk.stop(Pick::Pattern)) {

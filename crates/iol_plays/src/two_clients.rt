@@ -1,7 +1,8 @@
-//! An example: two clients of one running master, in threads of their own, and what a third reads behind their receipts.
+//! An example: two clients of one running master, in threads of their own, and what a third reads after their receipts.
 //!
-//! A disk in memory is formatted for two ports, and a master started over it, at whose ports no device is. Each client configures a
-//! port and brings back its receipt. The third meets both receipts, so what it reads is no older than what the two asked for.
+//! A disk in memory is formatted for two ports, and a master is started over it, without devices at its ports. Each client
+//! configures a port and returns its receipt. The third meets both receipts, so what it reads is no older than what the two
+//! requested.
 ghost use Rattle.std.specs.Prelude.{◌≡◌, []};
 ghost use Rattle.iol_flush.specs.Stages.{HasHistory};
 
@@ -23,7 +24,7 @@ use std::time::Clock;
 
 const PORTS: u16 = 2;
 
-/// A disk with an empty journal of two ports and four slots.
+/// Makes a disk with an empty journal of two ports and four slots.
 pub(crate) fn formatted(alloc: Global) -> anyhow::Result<MemoryDisk> {
     let Some(geometry) = Geometry::new(PORTS, 4) else {
         bail!("no geometry")
@@ -33,7 +34,7 @@ pub(crate) fn formatted(alloc: Global) -> anyhow::Result<MemoryDisk> {
     Ok(disk)
 }
 
-// Links of two ports, at which no device ever is.
+// Makes the links of two ports, at which no device ever is.
 fn unplugged(alloc: Global) -> anyhow::Result<Vec<SimLink>> {
     let mut links = Vec::new(alloc);
     for _port in 0..PORTS {
@@ -42,7 +43,7 @@ fn unplugged(alloc: Global) -> anyhow::Result<Vec<SimLink>> {
     Ok(links)
 }
 
-// A master of these two ports runs, until its clients have their receipts and a third has read behind them.
+// Runs a master of these two ports, until its clients have their receipts and a third client has read after them.
 fn play<F: Name + 'static, R: Threads + Wait + Clock + Copy + Send + 'static>(
     rt: &R,
     alloc: Global,
@@ -65,7 +66,7 @@ fn play<F: Name + 'static, R: Threads + Wait + Clock + Copy + Send + 'static>(
     read
 }
 
-// Ends the master, and tells behind how many commands.
+// Ends the master, and prints the number of commands after which it closed.
 fn end<F: Name + 'static, R: Threads + Wait>(
     rt: &R,
     master: Master<MemoryDisk, F>,
@@ -80,7 +81,7 @@ fn end<F: Name + 'static, R: Threads + Wait>(
     Ok(())
 }
 
-// Two clients configure a port each, at once, and a third reads both ports behind their receipts.
+// Has two clients configure a port each, at once, and a third read both ports after their receipts.
 fn ask<F: Name + 'static, R: Threads + Wait + Copy + Send + 'static>(
     rt: &R,
     master: &mut Master<MemoryDisk, F>,
@@ -92,7 +93,7 @@ fn ask<F: Name + 'static, R: Threads + Wait + Copy + Send + 'static>(
     tell(rt, &mut third, second, out)
 }
 
-// The receipts of two clients, each of which configures a port in a thread of its own.
+// Returns the receipts of two clients, each of which configures a port in a thread of its own.
 fn configured<F: Name + 'static, R: Threads + Wait + Copy + Send + 'static>(
     rt: &R,
     master: &mut Master<MemoryDisk, F>,
@@ -105,7 +106,7 @@ fn configured<F: Name + 'static, R: Threads + Wait + Copy + Send + 'static>(
     }
 }
 
-// Tells what a client reads of the port of a receipt, once it has met that.
+// Prints what a client reads of the port of a receipt, once it has met that receipt.
 fn tell<F: Name, R: Wait>(
     rt: &R,
     client: &mut Client<F>,

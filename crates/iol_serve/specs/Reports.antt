@@ -1,4 +1,4 @@
--- What is answered of statuses.
+-- The statuses in answers.
 use Rattle.iol_front.specs.Fronts.{Start}
 use Rattle.iol_headline.specs.Statuses.{IsLastReported}
 use Rattle.iol_answers.specs.declared.report.PortReport.{PortReport}

@@ -1,4 +1,4 @@
--- How answers and events are spelled.
+-- The spelling of answers and events.
 use Rattle.std.specs.Prelude.{◌≡◌, ℕ, List, Option, Some, None, string_bytes}
 use Rattle.iol_requests.specs.declared.id.Id.{Id}
 use Rattle.iol_requests.specs.declared.id.Id.TheVariants as id
@@ -13,24 +13,24 @@ use Rattle.iol_answers.specs.declared.event.Event.{Event}
 use Rattle.iol_answers.specs.declared.request_id.RequestId.{RequestId}
 use Rattle.iol_answers.specs.declared.request_id.RequestId.TheVariants as given
 
--- the id of a request, as its answer gives it back (format, Requests)
+-- the id in the answer is the id of its request (format, Requests)
 abbrev pub IsSameId : Id → RequestId → Type 0
 IsSameId (id.Number number) (given.Number again) = again ≡ number
 IsSameId (id.Text text) (given.Text again) = again.now ≡ string_bytes text
 IsSameId one other = ⊥
 
--- the id is given back, where there is one (format, Requests)
+-- the answer gives back the id if there is one, and else none (format, Requests)
 abbrev pub IsGivenBack : Option Id → Option RequestId → Type 0
 IsGivenBack None None = Unit {0}
 IsGivenBack (Some id_) (Some again) = IsSameId id_ again
 IsGivenBack one other = ⊥
 
--- a text is the answer to a request that is spelled so and has this id (format, Lines of a serving master)
+-- a text is this answer to a request with this spelling and id (format, Lines of a serving master)
 abbrev pub IsAnswerText : Spelling → Option Id → Answer → List ℕ → Type 0
 IsAnswerText Words id_ answer text = text ≡ answer_lines answer
 IsAnswerText Json id_ answer text = (again : Option RequestId) × IsGivenBack id_ again × IsJsonLine (answer_data again answer) text
 
--- a text is the event, in this spelling (format, Lines of a serving master)
+-- a text is this event in this spelling (format, Lines of a serving master)
 abbrev pub IsEventText : Spelling → Event → List ℕ → Type 0
 IsEventText Words event text = text ≡ event_line event
 IsEventText Json event text = IsJsonLine (event_data event) text

@@ -1,4 +1,4 @@
-//! The thread of a port: what is asked of the port, one request after another.
+//! The thread of a port, which carries out the requests of that port one after another.
 
 ghost use Rattle.std.specs.Prelude.{◌≡◌, ◌+◌, IfErr, IfOk, length};
 ghost use mathlib.Core.List.{IsPrefix};
@@ -21,10 +21,10 @@ use std::sync::{Arc, Wait};
 use std::thread;
 use std::time::{Clock, Duration};
 
-// How often a port is read at most, a millisecond apart, until what the client has seen is acknowledged.
+// The most reads of a port for one request, a millisecond apart, until what the client has seen is acknowledged.
 const MOST_READS: u32 = 1000;
 
-/// What is asked of a port.
+/// A task of a port's thread: a change to request, or a port to read.
 #[derive(Clone, Copy, Debug)]
 pub(crate) enum Task {
     Ask(Change),
@@ -32,7 +32,7 @@ pub(crate) enum Task {
 }
 
 impl Task {
-    // The port that is asked.
+    // Returns the port of the task.
     pub(crate) fn port(&self) -> PortId
         ensures { result ≡ port_of self.now }
     {
@@ -43,7 +43,7 @@ impl Task {
     }
 }
 
-/// A request of a port that is counted among those that wait, and how its answer is spelled.
+/// A request of a port, which is counted among those that wait, and the spelling of its answer.
 #[derive(Drop)]
 pub(crate) struct PortRequest {
     pub(crate) task: Task,
@@ -51,7 +51,7 @@ pub(crate) struct PortRequest {
     pub(crate) counted: Counted,
 }
 
-// Answers the requests of a port, in their order, until no more come.
+// Answers the requests of a port in their order, until no more come.
 pub(crate) fn answer_all<F: Name, R: Wait + Clock>(
     rt: &R,
     alloc: Global,
@@ -72,10 +72,10 @@ pub(crate) fn answer_all<F: Name, R: Wait + Clock>(
     }
 }
 
-/// What comes of a request of a port.
+/// The outcome of a request of a port.
 #[derive(Drop)]
 enum Outcome {
-    // A change is durable under this number.
+    // The change is durable under this number.
     Durable(u64),
     // The port has this durable state.
     Found(PortId, View),
@@ -83,12 +83,12 @@ enum Outcome {
 }
 
 impl Outcome {
-    // Whether a read is to be made again.
+    // Returns whether a read is to be made again.
     fn is_behind(&self) -> bool {
         matches!(self, Outcome::Refused(Refusal::Behind))
     }
 
-    // The answer that says so.
+    // Returns the answer that says this outcome.
     fn answer(&self) -> Answer<'_>
         ensures { SaysOutcome self.now result }
     {
@@ -103,7 +103,7 @@ impl Outcome {
     }
 }
 
-// What comes of a task.
+// Carries out a task, and returns its outcome.
 fn outcome_of<F: Name, R: Wait + Clock>(rt: &R, client: &mut Client<F>, task: Task) -> Outcome
     ensures kept { IsPrefix client.old client.new }
     ensures outcome { HasDone F.front.start client.old client.new task result }
@@ -114,7 +114,7 @@ fn outcome_of<F: Name, R: Wait + Clock>(rt: &R, client: &mut Client<F>, task: Ta
     }
 }
 
-// What comes of a change that is asked for.
+// Requests a change, and returns its outcome.
 fn ask<F: Name, R: Wait>(rt: &R, client: &mut Client<F>, change: Change) -> Outcome
     ensures kept { IsPrefix client.old client.new }
     ensures outcome { HasAsked F.front.start client.old client.new (command_of change) result }
@@ -125,7 +125,7 @@ fn ask<F: Name, R: Wait>(rt: &R, client: &mut Client<F>, change: Change) -> Outc
     }
 }
 
-// Asks for a change.
+// Requests a change, and returns its receipt.
 fn receipt_for<F: Name, R: Wait>(
     rt: &R,
     client: &mut Client<F>,
@@ -143,7 +143,7 @@ fn receipt_for<F: Name, R: Wait>(
     }
 }
 
-// Why a change has no receipt, as it is answered.
+// Returns the refusal that answers a fault of a change.
 fn call_refusal(fault: CallFault) -> Refusal
     ensures { result ≡ call_refusal fault }
 {
@@ -155,7 +155,8 @@ fn call_refusal(fault: CallFault) -> Refusal
     }
 }
 
-// Reads the durable state of a port, again for a second while fewer commands are acknowledged than the client has seen, which passes.
+// Reads the durable state of a port. While fewer commands are acknowledged than the client has seen, it reads again, for a second;
+// that state passes.
 fn read<F: Name, R: Wait + Clock>(rt: &R, client: &mut Client<F>, port: PortId) -> Outcome
     ensures kept { IsPrefix client.old client.new }
     ensures outcome { HasRead F.front.start client.old client.new port result }
@@ -170,7 +171,7 @@ fn read<F: Name, R: Wait + Clock>(rt: &R, client: &mut Client<F>, port: PortId) 
     Outcome::Refused(Refusal::Behind)
 }
 
-// Reads the durable state of a port.
+// Reads the durable state of a port once.
 fn read_once<F: Name, R: Wait>(rt: &R, client: &mut Client<F>, port: PortId) -> Outcome
     ensures kept { IsPrefix client.old client.new }
     ensures outcome { HasRead F.front.start client.old client.new port result }
@@ -181,7 +182,7 @@ fn read_once<F: Name, R: Wait>(rt: &R, client: &mut Client<F>, port: PortId) -> 
     }
 }
 
-// Why a port was not read, as it is answered.
+// Returns the refusal that answers a fault of a read.
 fn read_refusal(fault: ReadFault) -> Refusal
     ensures { result ≡ read_refusal fault }
 {

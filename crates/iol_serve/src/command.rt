@@ -25,7 +25,7 @@ use std::sync::{Arc, Wait};
 use std::thread::Threads;
 use std::time::{Clock, Duration};
 
-/// The driver at a port: where its answers are read, and where requests are written to it.
+/// The driver at a port: the file from which its answers are read, and the file to which its requests are written.
 #[derive(Clone, Copy, Debug)]
 pub struct Driver<'a> {
     pub port: PortId,
@@ -33,18 +33,18 @@ pub struct Driver<'a> {
     pub to: &'a str,
 }
 
-/// What is served beside the image.
+/// What is served besides the image.
 #[derive(Clone, Copy, Debug)]
 pub struct Serving<'a> {
     pub drivers: &'a [Driver<'a>],
-    /// The octets of a script whose simulated devices are at other ports.
+    /// The octets of a script with simulated devices, which are at other ports.
     pub devices: Option<&'a [u8]>,
-    /// How long a driver may be silent before its device is lost.
+    /// The time that a driver may be silent before its device is lost.
     pub silence: Duration,
 }
 
-/// Serves a master on the image file at `path`, until no more is asked of it, and returns the exit status: 0 once it has ended and all
-/// is printed, 2 where the script of devices is not valid, and else 1. Where the command fails, a line on `err` says why. All files
+/// Serves a master on the image file at `path` until no more is requested, and returns the exit status: 0 once the master has ended
+/// and all is printed, 2 if the script of devices is not valid, and else 1. If the command fails, a line on `err` says why. All files
 /// are those of `files`; two threads for each driver open its files, read and write them.
 pub fn serve_image<
     R: AllocGlobal + Threads + Wait + Clock + Copy + Send + 'static,
@@ -133,7 +133,7 @@ fn serve_disk<
     }
 }
 
-// Serves a master over a journal that was just recovered, where the devices and the drivers fit its ports.
+// Serves a master over a journal that was just recovered, if the devices and the drivers fit its ports.
 fn serve_recovered<
     D: SectorDisk + Drop + Send + 'static,
     R: AllocGlobal + Threads + Wait + Clock + Copy + Send + 'static,
@@ -167,10 +167,11 @@ fn serve_recovered<
     }
 }
 
-// The link of each port, and what tells the drivers that the ports are to settle.
+// Makes the link of each port, and the flag by which the links to drivers see that the ports are to settle.
 //
 // # Errors
-// `Fit` and `Drivers` where a device or a driver is at another port; `Memory` and `Thread`.
+// `Fit` if a device is at a port that does not exist; `Drivers` if a driver is, or if its port has a device too; `Memory` if memory
+// runs out; `Thread` if a thread cannot be made.
 fn linked<R: AllocGlobal + Threads + Wait + Clock + Copy + Send + 'static>(
     rt: &R,
     files: HostRuntime,
@@ -191,7 +192,7 @@ fn linked<R: AllocGlobal + Threads + Wait + Clock + Copy + Send + 'static>(
     }
 }
 
-// Why devices and drivers do not fit so many ports, if they do not.
+// Returns why devices and drivers do not fit this number of ports, or `None` if they fit.
 fn misfit(drivers: &[Driver<'_>], ports: u8, devices: &[Device]) -> Option<Fault<'static>> {
     if !devices.iter().all(|device| device.port.number() <= ports) {
         return Some(Fault::Fit);
@@ -202,7 +203,7 @@ fn misfit(drivers: &[Driver<'_>], ports: u8, devices: &[Device]) -> Option<Fault
     None
 }
 
-// The devices of a script, if there is one.
+// Returns the devices of the script, or none if there is no script.
 fn devices_of(alloc: Global, script: Option<&[u8]>) -> Result<Vec<Device>, Fault<'static>>
     ensures { IfOk result (λ devices. All MayVisit devices.items) }
 {
@@ -212,7 +213,7 @@ fn devices_of(alloc: Global, script: Option<&[u8]>) -> Result<Vec<Device>, Fault
     }
 }
 
-// The devices that a script says.
+// Reads the devices of a script.
 fn said_devices(alloc: Global, script: &[u8]) -> Result<Vec<Device>, Fault<'static>>
     ensures { IfOk result (λ devices. All MayVisit devices.items) }
 {
@@ -224,7 +225,7 @@ fn said_devices(alloc: Global, script: &[u8]) -> Result<Vec<Device>, Fault<'stat
     Ok(devices)
 }
 
-// Whether the port of each driver is there, and has no simulated device.
+// Returns whether the port of each driver exists, and has no simulated device.
 fn all_fit(drivers: &[Driver<'_>], ports: u8, devices: &[Device]) -> bool {
     for driver in drivers {
         if driver.port.number() > ports || has_device(devices, driver.port) {
@@ -234,7 +235,7 @@ fn all_fit(drivers: &[Driver<'_>], ports: u8, devices: &[Device]) -> bool {
     true
 }
 
-// Whether a simulated device is at a port.
+// Returns whether a simulated device is at a port.
 fn has_device(devices: &[Device], port: PortId) -> bool {
     for device in devices {
         if device.port == port {
@@ -247,7 +248,7 @@ fn has_device(devices: &[Device], port: PortId) -> bool {
 /// A link to a driver, or to simulated devices.
 type PortLink<R> = PacedLink<EitherLink<WireLink<FileTransport<R>>, SimLink>, R>;
 
-// The link of each port, port 1 first: to its driver, or else to the simulated devices that are there, which may be none.
+// Makes the link of each port, port 1 first: to its driver, or else to the simulated devices at the port, of which there may be none.
 fn port_links<R: Threads + Wait + Clock + Copy + Send + 'static>(
     rt: &R,
     files: HostRuntime,
@@ -262,7 +263,7 @@ fn port_links<R: Threads + Wait + Clock + Copy + Send + 'static>(
 {
     let mut simulated = links_of(alloc, devices, ports)?;
     let mut links = Vec::with_capacity(alloc, usize::from(ports))?;
-    // The last port first, as a vector gives its last item.
+    // The last port comes first, since `pop` returns the last link.
     for place in 0..ports {
         if let Some(link) = simulated.pop() {
             links.push(link_at(rt, files, alloc, serving, ports - place, link, ending)?)?;
@@ -272,7 +273,7 @@ fn port_links<R: Threads + Wait + Clock + Copy + Send + 'static>(
     Ok(links)
 }
 
-// The driver at the port with this number, if there is one.
+// Returns the driver at the port with this number, if there is one.
 fn driver_at<'a>(drivers: &'a [Driver<'a>], number: u8) -> Option<&'a Driver<'a>> {
     for driver in drivers {
         if driver.port.number() == number {
@@ -282,7 +283,7 @@ fn driver_at<'a>(drivers: &'a [Driver<'a>], number: u8) -> Option<&'a Driver<'a>
     None
 }
 
-// The link of the port with this number.
+// Makes the link of the port with this number.
 fn link_at<R: Threads + Wait + Clock + Copy + Send + 'static>(
     rt: &R,
     files: HostRuntime,
@@ -301,7 +302,7 @@ fn link_at<R: Threads + Wait + Clock + Copy + Send + 'static>(
     Ok(PacedLink::new(link, *rt))
 }
 
-// The link to a driver.
+// Makes the link to a driver.
 fn link_to<R: Threads + Wait + Clock + Copy + Send + 'static>(
     rt: &R,
     files: HostRuntime,

@@ -1,4 +1,4 @@
-//! Requests are read and answered, and then the master is ended.
+//! Has requests read and answered, and then ends the master.
 
 ghost use Rattle.std.specs.Prelude.{◌≡◌};
 ghost use Rattle.iol_serve.specs.Ended.{fault_for};
@@ -21,22 +21,22 @@ use std::thread;
 use std::thread::{JoinHandle, Threads};
 use std::time::Clock;
 
-/// What is served.
+/// A master that is served, as it started.
 #[derive(Clone, Copy)]
 pub(crate) struct Served {
     pub(crate) ports: u8,
     /// The number of the last command that was durable at the start.
     pub(crate) number: u64,
-    /// How events are spelled.
+    /// The spelling of events.
     pub(crate) spelling: Spelling,
 }
 
-/// Why nothing could be served.
+/// The reason why nothing could be served.
 #[derive(Clone, Copy, Debug)]
 pub(crate) enum Unserved {
     /// Out of memory.
     Memory,
-    /// A thread was not made.
+    /// A thread could not be made.
     Thread,
 }
 
@@ -63,14 +63,14 @@ impl From<Unserved> for Fault<'_> {
     }
 }
 
-/// How a serving master ended.
+/// The way in which a serving master ended.
 #[derive(Drop)]
 pub(crate) struct Conducted<D: SectorDisk, F: Name> {
     pub(crate) ending: Ending<D, F>,
     pub(crate) started: Result<(), Unserved>,
 }
 
-// Serves a master until no more is asked of it, and ends it then.
+// Serves a master until no more is requested, and then ends it.
 pub(crate) fn conduct<
     D: SectorDisk + Drop + Send + 'static,
     F: Name + 'static,
@@ -98,7 +98,7 @@ pub(crate) fn conduct<
         Ok(_) => serve(rt, alloc, &mut master, served, heard, &printer),
         Err(unserved) => Err(*unserved),
     };
-    // Links to drivers that are silent wait no longer.
+    // Links to silent drivers wait no longer.
     ending.store(true, Ordering::SeqCst);
     let ending = master.shutdown(rt);
     if let Ok(reporter) = reporter {
@@ -144,10 +144,10 @@ fn start_reporter<
     }
 }
 
-// Has the requests answered that come, by a thread for each port, until no more are to be.
+// Has the requests answered as they come, by a thread for each port, until no more are to be answered.
 //
 // # Errors
-// `Memory`, or `Thread`; nothing was read then.
+// `Memory` if memory runs out, `Thread` if a thread cannot be made; nothing was read then.
 fn serve<
     D: SectorDisk + Drop + Send + 'static,
     F: Name + 'static,

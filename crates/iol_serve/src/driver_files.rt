@@ -4,7 +4,7 @@ use std::fs::{File, OpenOptions};
 use std::io;
 use std::sync::{Mutex, Wait};
 
-/// Where a driver is reached: a file that is read and one that is written, which may be the same.
+/// The paths of a driver: of a file that is read, and of one that is written, which may be the same.
 #[derive(Debug, Drop)]
 pub(crate) struct DriverPaths {
     pub(crate) from_driver: String,
@@ -19,14 +19,14 @@ pub(crate) struct DriverFiles {
 }
 
 impl DriverPaths {
-    // Opens the files, and waits for no driver.
+    // Opens the files, without waiting for a driver.
     pub(crate) fn open(&self, files: HostRuntime) -> io::Result<DriverFiles> {
         if self.from_driver == self.to_driver {
             let reading = open_both_ways(files, &self.from_driver)?;
             let writing = reading.try_clone()?;
             return Ok(DriverFiles { reading, writing });
         }
-        // To open one end of a FIFO waits for the other end, but not while a file is open in both ways.
+        // Opening one end of a FIFO waits for the other end, but not while the file is open both ways.
         let other_end = open_both_ways(files, &self.from_driver)?;
         let reading = File::open(&files, self.from_driver.as_str())?;
         drop(other_end);
@@ -46,7 +46,7 @@ fn open_both_ways(files: HostRuntime, path: &String) -> io::Result<File> {
         .open(&files, path.as_str())
 }
 
-/// The file that was opened last to write to a driver, until it is taken.
+/// The file that was opened last for writing to a driver, until it is taken.
 #[derive(Drop)]
 pub(crate) struct OpenedFile {
     file: Mutex<Option<File>>,

@@ -10,37 +10,37 @@ use std::sync::Wait;
 use std::thread;
 use std::time::{Clock, Duration};
 
-/// How many octets are read at once.
+/// The number of octets that are read at once.
 pub(crate) const CHUNK_OCTETS: usize = 256;
 
-// How long is waited before the files are opened again.
+// The wait before the files are opened again.
 const PAUSE_MILLISECONDS: u64 = 100;
 
-// How often a line is written that the driver does not take, and how long is waited before it is written again.
+// The most writes of a line that the driver does not take, and the wait before it is written again.
 const WRITES: u32 = 5;
 
 const REST_MILLISECONDS: u64 = 20;
 
-/// What is heard of the files of a driver.
+/// A report of the thread that reads the files of a driver.
 #[derive(Clone, Copy)]
 pub(crate) enum Chunk {
-    /// They are open.
+    /// The files are open.
     Opened,
-    /// The first so many of these octets were read.
+    /// Octets were read: the beginning of this array, of this length.
     Octets([u8; CHUNK_OCTETS], usize),
     /// The driver is gone.
     Closed,
 }
 
-/// A line that is written to a driver: the first so many octets.
+/// A line to write to a driver: the first `count` octets.
 #[derive(Clone, Copy)]
 pub(crate) struct RequestLine {
     pub(crate) octets: [u8; REQUEST_LINE_OCTETS],
     pub(crate) count: usize,
 }
 
-// Opens the files of a driver again and again, and hands on what is read there, until nobody hears it. The thread that writes finds its
-// file in `opened`.
+// Opens the files of a driver again and again, and sends on what it reads there, until nobody receives it. The thread that writes finds
+// its file in `opened`.
 pub(crate) fn read_driver<R: Wait + Clock>(
     rt: &R,
     files: HostRuntime,
@@ -63,7 +63,7 @@ pub(crate) fn read_driver<R: Wait + Clock>(
     }
 }
 
-// Hands on what is read of a file, to its end. Returns whether somebody still hears it.
+// Sends on what it reads from a file, up to its end. Returns whether somebody still receives it.
 fn hand_octets_on<R: Wait>(rt: &R, file: &mut File, hearer: &Sender<Chunk, Global>) -> bool {
     if hearer.send(rt, Chunk::Opened).is_err() {
         return false;
@@ -81,7 +81,7 @@ fn hand_octets_on<R: Wait>(rt: &R, file: &mut File, hearer: &Sender<Chunk, Globa
     unreachable!()
 }
 
-// Writes lines to a driver as they come, until no more do. A line that a driver reads late does no harm: its number is that of an
+// Writes lines to a driver as they come, until no more come. A line that a driver reads late does no harm: its number is that of an
 // earlier request.
 pub(crate) fn write_driver<R: Wait + Clock>(
     rt: &R,
@@ -96,8 +96,8 @@ pub(crate) fn write_driver<R: Wait + Clock>(
     }
 }
 
-// Writes octets to the file that was opened last, once the driver takes them; they are dropped if it does not. Returns the file, and
-// takes the one that was written to before.
+// Writes octets to the file that was opened last, once the driver takes them, and drops them if it does not. It takes the file that was
+// written before, and returns the latest.
 fn written<R: Wait + Clock>(
     rt: &R,
     opened: &OpenedFile,

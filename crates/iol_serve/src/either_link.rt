@@ -1,4 +1,4 @@
-//! A link of one kind or of another, as ports of one master have drivers and simulated devices.
+//! A link of one of two kinds, since ports of one master may have drivers or simulated devices.
 
 use arrayvec::ArrayVec;
 use iol_isdu::ISDU_OCTETS;

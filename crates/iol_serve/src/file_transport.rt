@@ -12,13 +12,13 @@ use std::thread;
 use std::thread::Threads;
 use std::time::{Clock, Duration, Instant};
 
-// How long a call waits for a driver that is not there.
+// The time that a call waits for an absent driver.
 const ABSENCE_MILLISECONDS: u64 = 100;
 
-// What comes so soon after the file was opened, or after what came before, is of no request.
+// Octets that come this soon after the file was opened, or after earlier octets, belong to no request.
 const STALE_MILLISECONDS: u64 = 20;
 
-// How long a call drops such octets at most, so that a driver that never rests is asked.
+// The longest time for which a call drops such octets, so that a driver that never rests is asked.
 const MOST_STALE_MILLISECONDS: u64 = 100;
 
 #[derive(Clone, Copy, Debug, PartialEq, Eq)]
@@ -27,8 +27,8 @@ enum Presence {
     Present,
 }
 
-/// A transport over the files of a driver. Two threads open, read and write them, and no call waits for a file: it waits for these
-/// threads, and no longer than a driver may be silent. Of a file nothing is known but what it gives.
+/// A transport over the files of a driver. Two threads open, read and write the files. No call waits for a file: it waits for
+/// these threads, and no longer than a driver may be silent. Nothing is known of a file but what is read from it.
 #[derive(Drop)]
 pub(crate) struct FileTransport<R: Wait + Clock> {
     rt: R,
@@ -42,7 +42,7 @@ pub(crate) struct FileTransport<R: Wait + Clock> {
 }
 
 impl<R: Threads + Wait + Clock + Copy + Send + 'static> FileTransport<R> {
-    // Has threads read and write the files at these paths. They end with the program.
+    // Starts the threads that read and write the files at these paths. They end with the program.
     pub(crate) fn start(
         rt: R,
         files: HostRuntime,
@@ -79,7 +79,7 @@ impl<R: Threads + Wait + Clock + Copy + Send + 'static> FileTransport<R> {
 }
 
 impl<R: Wait + Clock> FileTransport<R> {
-    // Waits until the file is open, and drops what came before.
+    // Waits until the file is open, and drops the stale octets.
     fn open(&mut self) -> Result<Opening, TransportFault> {
         self.next = 0;
         self.count = 0;
@@ -94,7 +94,7 @@ impl<R: Wait + Clock> FileTransport<R> {
         Err(TransportFault::Absent)
     }
 
-    // How long the call still waits for a driver that is not there.
+    // Returns how long the call still waits for an absent driver.
     fn absence_left(&self) -> Duration {
         let limit = Duration::from_millis(ABSENCE_MILLISECONDS);
         match self.patience.waited(&self.rt) {
@@ -103,7 +103,7 @@ impl<R: Wait + Clock> FileTransport<R> {
         }
     }
 
-    // Drops what comes at once, up to such a place.
+    // Drops the octets that come at once, and returns at which position of a line they end.
     fn drop_stale(&mut self) -> Result<Opening, TransportFault> {
         let began = Instant::now(&self.rt).ok();
         let mut position = Position::LineStart;
@@ -124,7 +124,7 @@ impl<R: Wait + Clock> FileTransport<R> {
         }
     }
 
-    // Whether octets were dropped for so long that the driver never rests, or the master is to end.
+    // Returns whether octets were dropped for so long that the driver never rests, or whether the master is to end.
     fn has_dropped_long(&self, began: Option<Instant>) -> bool {
         if self.patience.is_ending() {
             return true;
@@ -138,7 +138,7 @@ impl<R: Wait + Clock> FileTransport<R> {
         }
     }
 
-    // What is heard next, within such a time.
+    // Returns the next report of the thread that reads, if it comes within this time.
     fn hear(&mut self, limit: Duration) -> Option<Chunk> {
         let chunk = self.chunks.recv_timeout(&self.rt, limit).ok()?;
         match chunk {
@@ -149,7 +149,7 @@ impl<R: Wait + Clock> FileTransport<R> {
         Some(chunk)
     }
 
-    // Takes the next octets, once there are any.
+    // Waits for the next octets, and takes them.
     fn fill(&mut self) -> Result<(), TransportFault> {
         for _ in 0..u64::MAX {
             let Some(wait) = self.patience.next_wait(&self.rt) else {
@@ -169,7 +169,7 @@ impl<R: Wait + Clock> FileTransport<R> {
         Err(TransportFault::Silent)
     }
 
-    // Hands a line to the thread that writes, once it has taken the one before.
+    // Hands a line to the thread that writes, once that thread has taken the line before.
     fn hand_over(&mut self, line: RequestLine) -> Result<(), TransportFault> {
         for _ in 0..u64::MAX {
             let Some(wait) = self.patience.next_wait(&self.rt) else {

@@ -1,4 +1,4 @@
-//! Lines of requests, which a thread of their own reads.
+//! The lines of requests, which a thread of their own reads.
 
 use crossbeam_channel::Sender;
 use iol_requests::LINE_OCTETS;
@@ -6,35 +6,35 @@ use std::alloc::{AllocError, Global};
 use std::io::Read;
 use std::sync::Wait;
 
-// How many octets are read at once.
+// The number of octets that are read at once.
 const CHUNK_OCTETS: usize = 512;
 
-/// What the thread hears that has requests answered.
+/// A message to the thread that has requests answered.
 #[derive(Drop)]
 pub(crate) enum Heard {
-    /// A line, without its line feed. Of one that is too long it is the start, with one octet too many.
+    /// A line, without its line feed. A line that is too long is cut to its start, with one octet too many.
     Line(Vec<u8>),
     /// There was no memory for a line.
     OutOfMemory,
-    /// No line comes any more.
+    /// No more lines come.
     Ended,
     /// Nothing can be printed any more.
     PrintingFailed,
 }
 
-/// The lines of what is read.
+/// The lines of an input.
 #[derive(Drop)]
 pub(crate) struct Lines<I> {
     input: I,
     chunk: [u8; CHUNK_OCTETS],
-    // The octets of the chunk that are not taken yet: those from `from` to before `to`.
+    // The octets of the chunk from `from` to before `to` are not taken yet.
     from: usize,
     to: usize,
     line: Vec<u8>,
 }
 
 impl<I: Read + Drop> Lines<I> {
-    // The lines of what is read from now on.
+    // Makes the lines of what is read from now on.
     pub(crate) fn new(alloc: Global, input: I) -> Result<Lines<I>, AllocError> {
         Ok(Lines {
             input,
@@ -45,7 +45,7 @@ impl<I: Read + Drop> Lines<I> {
         })
     }
 
-    // Waits for the next line. A line that is not ended is one where nothing follows.
+    // Waits for the next line. The last line needs no line feed.
     fn next(&mut self) -> Option<&[u8]> {
         self.line.clear();
         for _ in 0..u64::MAX {
@@ -84,14 +84,14 @@ impl<I: Read + Drop> Lines<I> {
     }
 }
 
-// Adds an octet to a line. What is too much for a line is dropped.
+// Adds an octet to a line, or drops it if the line has no capacity for it.
 fn keep(line: &mut Vec<u8>, octet: u8) {
     if line.len() < line.capacity() {
         line.push_reserved(octet);
     }
 }
 
-// Hands on what is read, line by line, until nothing follows or nobody hears it.
+// Sends on what is read, line by line, until nothing follows or nobody receives it.
 pub(crate) fn hand_on<I: Read + Drop, R: Wait>(
     rt: &R,
     alloc: Global,

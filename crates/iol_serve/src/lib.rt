@@ -1,15 +1,15 @@
 //! `iolmaster serve`: a master that runs until it is told to end, on an image file, with drivers at its ports.
 //!
-//! In come the path of an image, the drivers at its ports, and lines of requests; out go lines of answers and events. A request of a
-//! port is asked by a thread of that port, so that requests of different ports do not wait for one another; a status is answered at
-//! once. One thread alone prints. The files of a driver are read and written by two threads, for which a port's link waits.
+//! It takes the path of an image, the drivers at its ports, and lines of requests; it prints lines of answers and events. A thread
+//! of each port carries out the requests of that port, so that requests of different ports do not wait for one another; a status is
+//! answered at once. One thread alone prints. Two threads read and write the files of each driver, and a port's link waits for them.
 //!
-//! Modules in reading order: `hearing`, the thread that reads lines; `spelling` and `printing`, what is printed and who prints it;
-//! `waiting`, how many requests wait; `asking`, the thread of a port; `responding`, who has requests answered; `reporting`, the
-//! thread that tells what is new; `conducting`, the thread that has requests answered and ends the master; `serving`, a master on
-//! any disk with any links; `either_link` and `paced_link`, links over links; `driver_files` and `driver_threads`, the files of a
-//! driver and who reads and writes them; `file_transport` and `patience`, a transport over these threads, and how long it waits;
-//! `command`, the command on an image file.
+//! Modules in reading order: `hearing`, the thread that reads lines; `spelling` and `printing`, the texts and the thread that prints
+//! them; `waiting`, the number of requests that wait; `asking`, the thread of a port; `responding`, which has requests answered;
+//! `reporting`, the thread that reports what is new; `conducting`, the thread that has requests answered and ends the master;
+//! `serving`, a master on any disk with any links; `either_link` and `paced_link`, links over links; `driver_files` and
+//! `driver_threads`, the files of a driver and the threads that read and write them; `file_transport` and `patience`, a transport
+//! over these threads, and how long it waits; `command`, the command on an image file.
 #![tactic(auto)]
 
 mod asking;

@@ -1,4 +1,4 @@
-//! A link that rests between two looks at its device.
+//! A link that rests between two reads of its device's page.
 
 use arrayvec::ArrayVec;
 use iol_isdu::ISDU_OCTETS;
@@ -6,13 +6,13 @@ use iol_link::{DeviceLink, Lost, PAGE_OCTETS};
 use std::thread;
 use std::time::{Clock, Duration, Instant};
 
-/// How much time passes at least between two reads of a device's page, in milliseconds.
+/// The least time between two reads of a device's page, in milliseconds.
 ///
 /// A port that is ready reads its device's page again and again, so as to find a loss. A driver that answers at once would keep two
 /// processors busy.
 pub const CYCLE_MILLISECONDS: u64 = 20;
 
-/// A link whose reads of the page are at least `CYCLE_MILLISECONDS` apart. It is else as the link that it holds.
+/// A link whose reads of the page are at least `CYCLE_MILLISECONDS` apart. In all else it is the link that it holds.
 #[derive(Drop)]
 pub struct PacedLink<L: DeviceLink, R: Clock> {
     link: L,
@@ -21,7 +21,7 @@ pub struct PacedLink<L: DeviceLink, R: Clock> {
 }
 
 impl<L: DeviceLink, R: Clock> PacedLink<L, R> {
-    /// The link, at which no page was read so far.
+    /// Makes a paced link of a link whose page was not read so far.
     pub fn new(link: L, rt: R) -> PacedLink<L, R> {
         PacedLink {
             link,
@@ -37,7 +37,7 @@ impl<L: DeviceLink, R: Clock> PacedLink<L, R> {
         }
     }
 
-    // How much time is left until then, if the clock can be read.
+    // Returns the time that is left until then, if the clock can be read.
     fn left(&self) -> Option<Duration> {
         let passed = self.read?.elapsed(&self.rt).ok()?;
         Some(Duration::from_millis(CYCLE_MILLISECONDS).saturating_sub(passed))

@@ -1,4 +1,4 @@
-//! What a serving master prints, by one thread.
+//! The texts that a serving master prints, by one thread.
 
 use crate::hearing::Heard;
 use crate::spelling::{Spelled, event_line};
@@ -11,21 +11,21 @@ use std::sync::Wait;
 use std::thread;
 use std::time::{Clock, Duration};
 
-// How many texts may wait to be printed.
+// The most texts that wait to be printed.
 const MOST_TEXTS: usize = 64;
 
-// How often a text is made again that finds no memory, and how long is waited each time: a second in all.
+// The most tries to make a text for which there is no memory, and the wait after each: a second in all.
 const MOST_TRIES: u32 = 100;
 
 const WAIT_MILLISECONDS: u64 = 10;
 
 const PROMPT: &[u8] = b"> ";
 
-/// Whether all was printed that was to be.
+/// Whether all texts were printed.
 #[derive(Clone, Copy, Debug, PartialEq, Eq)]
 pub enum Printed {
     Whole,
-    /// Printing failed, and the master was ended then.
+    /// Printing failed, and then the master was ended.
     Broken,
 }
 
@@ -39,11 +39,11 @@ pub enum Prompt {
 /// A text to print.
 #[derive(Drop)]
 pub(crate) enum Text {
-    // Whole lines.
+    // It has whole lines.
     Lines(String),
-    // The last line.
+    // It is the last line.
     Last(String),
-    // No line: the prompt alone, if one is shown.
+    // It has no line: only the prompt is printed, if one is shown.
     Blank,
     // Memory stayed out for an answer.
     OutOfMemory,
@@ -58,26 +58,26 @@ impl Text {
         }
     }
 
-    // Whether a prompt stands behind it.
+    // Returns whether a prompt is printed after the text.
     fn is_prompted(&self) -> bool {
         !matches!(self, Text::Last(_))
     }
 }
 
-/// Where texts go that are to be printed. Each thread has its own.
+/// A sender of texts to print. Each thread has its own.
 #[derive(Drop)]
 pub(crate) struct Printer {
     texts: Sender<Text, Global>,
 }
 
-/// What prints: it hears the texts of all printers.
+/// The printing thread's part: it receives the texts of all printers.
 #[derive(Drop)]
 pub(crate) struct PrintingThread {
     texts: Receiver<Text, Global>,
     prompt: Prompt,
 }
 
-// A printer, and what prints its texts.
+// Makes a printer, and the part that prints its texts.
 pub(crate) fn printing(
     alloc: Global,
     prompt: Prompt,
@@ -93,14 +93,14 @@ pub(crate) fn printing(
 }
 
 impl Printer {
-    // One more, for another thread.
+    // Makes one more printer, for another thread.
     pub(crate) fn another(&self) -> Result<Printer, AllocError> {
         Ok(Printer {
             texts: self.texts.clone()?,
         })
     }
 
-    // Prints an answer. One that finds no memory for a second is told by a line that needs none.
+    // Prints an answer. If memory stays out for a second, prints a line that needs none instead.
     pub(crate) fn answer<R: Wait + Clock>(
         &self,
         rt: &R,
@@ -142,15 +142,15 @@ impl Printer {
         self.print(rt, Text::Blank);
     }
 
-    // Once a write has failed nobody takes texts any more.
+    // Sends a text to be printed. Once a write has failed, nobody takes texts any more.
     fn print<R: Wait>(&self, rt: &R, text: Text) {
         let _ = self.texts.send(rt, text);
     }
 }
 
 impl PrintingThread {
-    // Prints texts as they come, until all printers have ended or a write has failed. Texts are taken no longer then, before it is said:
-    // so no printer waits, and who hears it is not waited for by a printer.
+    // Prints texts as they come, until all printers have ended or a write has failed. After a failed write it takes no more texts, and
+    // only then reports the failure. So no printer waits, not even for the thread that receives that report.
     pub(crate) fn run<W: Write + Drop, R: Wait>(
         self,
         rt: &R,
@@ -186,13 +186,13 @@ fn print_all<W: Write, R: Wait>(
     Printed::Whole
 }
 
-// Writes a text by one write, where the system takes it whole.
+// Writes a text by one write, if the system takes it whole.
 fn write<W: Write>(out: &mut W, text: &Text) -> io::Result<()> {
     out.write_all(text.as_bytes())?;
     out.flush()
 }
 
-// Writes a text over the prompt, and the prompt behind it.
+// Writes a text over the prompt, and the prompt after it.
 fn write_prompted<W: Write>(out: &mut W, text: &Text) -> io::Result<()> {
     out.write_all(b"\r")?;
     out.write_all(text.as_bytes())?;

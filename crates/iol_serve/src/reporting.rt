@@ -15,18 +15,18 @@ use std::alloc::{AllocError, Global};
 use std::sync::Wait;
 use std::time::Clock;
 
-/// A client that reports what is new to it.
+/// A client that prints an event for what is new to it.
 #[derive(Drop)]
 pub(crate) struct Reporter<F: Name> {
     client: Client<F>,
     known: Known,
-    // of each port, port 1 first, the status that was told last
+    // the status of each port in its last event, port 1 first
     told: Vec<PortStatus>,
     spelling: Spelling,
 }
 
 impl<F: Name> Reporter<F> {
-    // A client of a master that starts with so many ports, after the command with this number.
+    // Makes a reporter of a master that starts with this number of ports, after the command with this number.
     pub(crate) fn new(
         alloc: Global,
         client: Client<F>,
@@ -42,7 +42,8 @@ impl<F: Name> Reporter<F> {
         })
     }
 
-    // The event that says what is new, unless it is that a port looks again for a device that it has lost.
+    // Returns the event that says what is new. There is none if a port looks again for a device that it has lost, or if it has
+    // the status of its last event.
     fn event_of(&mut self, news: News) -> Option<Event>
         ensures { Tells self.old.told.items news result self.new.told.items }
     {
@@ -52,7 +53,7 @@ impl<F: Name> Reporter<F> {
         }
     }
 
-    // The event that says a new status of a port, if it is told. It is then the one that was told last.
+    // Returns the event that says a new status of a port, if it gets one. The port's last event is then this one.
     fn status_event(&mut self, port: PortId, status: PortStatus) -> Option<Event>
         ensures { Tells self.old.told.items (Status port status) result self.new.told.items }
     {
@@ -66,7 +67,7 @@ impl<F: Name> Reporter<F> {
     }
 }
 
-// Whether a status is told behind the one that was told last.
+// Returns whether a status gets an event, after the status of the port's last event.
 fn is_told(last: PortStatus, status: PortStatus) -> bool
     ensures { IsTrue result ↔ IsTold last status }
 {
@@ -76,7 +77,8 @@ fn is_told(last: PortStatus, status: PortStatus) -> bool
     }
 }
 
-// Reports what is new until no port makes a step any more and nothing is. The reporter comes back, for what is new after that.
+// Reports what is new until no port makes a step any more and nothing is new. Returns the reporter, for what is new after
+// that.
 pub(crate) fn report_all<F: Name, R: Wait + Clock>(
     rt: &R,
     alloc: Global,

@@ -1,4 +1,4 @@
-//! Who answers requests: a thread for each port, and a client for the rest.
+//! The answers to requests: by a thread for each port, and by a client for the rest.
 
 ghost use Rattle.std.specs.Prelude.{◌≡◌, All, IfNone, IfOk, IfSome};
 ghost use Rattle.iol_master.specs.Faults.{IsUnknown};
@@ -23,11 +23,11 @@ use std::thread;
 use std::thread::{JoinHandle, Threads};
 use std::time::Clock;
 
-/// Who answers requests: a thread for each port, and for the rest a client.
+/// Answers requests: by a thread for each port, and by a client for the rest.
 pub(crate) struct Responder<F: Name> {
     client: Client<F>,
     waiting: Arc<Waiting, Global>,
-    // of each port, port 1 first, where its requests go
+    // the channel to the thread of each port, port 1 first
     requests: Vec<Sender<PortRequest, Global>>,
     threads: Vec<JoinHandle<()>>,
 }
@@ -86,7 +86,7 @@ impl<F: Name> Responder<F> {
     {
         self.requests.reserve(1)?;
         self.threads.reserve(1)?;
-        // No more than MOST_WAITING requests wait, of all ports together, so that a channel takes memory for few.
+        // At most MOST_WAITING requests wait, of all ports together, so a channel needs memory for few.
         let Ok((requests, asked)) = crossbeam_channel::unbounded(alloc) else {
             return Err(Unserved::Memory);
         };
@@ -97,7 +97,7 @@ impl<F: Name> Responder<F> {
             move || answer_all(&rt, alloc, client, asked, &printer, &waiting),
         ) {
             Ok(thread) => {
-                // There is room for both.
+                // Both vectors have capacity for it.
                 self.threads.push_reserved(thread);
                 self.requests.push_reserved(requests);
                 Ok(())
@@ -106,7 +106,7 @@ impl<F: Name> Responder<F> {
         }
     }
 
-    // Has the requests answered that are heard, until no more are to be, or nothing can be printed any more.
+    // Has the received requests answered, until no more are to be answered, or nothing can be printed any more.
     pub(crate) fn serve<R: Wait + Clock>(
         &mut self,
         rt: &R,
@@ -129,7 +129,7 @@ impl<F: Name> Responder<F> {
         }
     }
 
-    // Takes a line. Returns whether more are to be read.
+    // Handles a line. Returns whether more are to be read.
     fn take<R: Wait + Clock>(
         &mut self,
         rt: &R,
@@ -185,7 +185,7 @@ impl<F: Name> Responder<F> {
         true
     }
 
-    // Hands a request to the thread of its port, once fewer than the most wait.
+    // Hands a request to the thread of its port, once fewer than MOST_WAITING wait.
     fn hand<R: Wait + Clock>(
         &mut self,
         rt: &R,
@@ -215,7 +215,7 @@ impl<F: Name> Responder<F> {
         }
     }
 
-    // Answers the status of a port, or of each.
+    // Answers with the status of a port, or of each.
     fn tell<R: Wait + Clock>(
         &self,
         rt: &R,
@@ -230,7 +230,7 @@ impl<F: Name> Responder<F> {
         }
     }
 
-    // Answers the status of a port.
+    // Answers with the status of a port.
     fn tell_one<R: Wait + Clock>(
         &self,
         rt: &R,
@@ -247,7 +247,7 @@ impl<F: Name> Responder<F> {
         }
     }
 
-    // Answers the status of each port.
+    // Answers with the status of each port.
     fn tell_all<R: Wait + Clock>(
         &self,
         rt: &R,
@@ -266,7 +266,7 @@ impl<F: Name> Responder<F> {
         }
     }
 
-    // Each port and its status, port 1 first.
+    // Returns each port and its status, port 1 first.
     fn reports<R: Wait>(&self, rt: &R, alloc: Global) -> Result<Vec<PortReport>, AllocError>
         ensures reported { IfOk result (λ reports. All (IsReported F.front.start) reports.items) }
     {
@@ -283,7 +283,7 @@ impl<F: Name> Responder<F> {
         Ok(reports)
     }
 
-    // A port and its status, if the master has it.
+    // Returns a port and its status, if the master has the port.
     fn report<R: Wait>(&self, rt: &R, port: PortId) -> Option<PortReport>
         ensures port { IfSome result (λ report. report.port ≡ port) }
         ensures reported { IfSome result (IsReported F.front.start) }
@@ -293,7 +293,7 @@ impl<F: Name> Responder<F> {
         Some(PortReport { port, status })
     }
 
-    // Ends the threads of the ports, once all that was handed to them is answered.
+    // Ends the threads of the ports, once all requests that were handed to them are answered.
     pub(crate) fn end<R: Threads>(self, rt: &R) {
         let Responder {
             client: _,

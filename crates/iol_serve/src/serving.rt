@@ -25,23 +25,23 @@ use std::thread;
 use std::thread::{JoinHandle, Threads};
 use std::time::Clock;
 
-/// Where requests are read, where answers and events are printed, and how.
+/// The input from which requests are read, the output to which answers and events are printed, and how.
 #[derive(Drop)]
 pub struct Conversation<I, W> {
     pub input: I,
     pub output: W,
-    /// How events are spelled.
+    /// The spelling of events.
     pub spelling: Spelling,
     pub prompt: Prompt,
 }
 
-/// Serves a master over a journal that was just recovered, with its state and a link for each port, until no more is asked of it.
-/// Answers and events are printed as they come. `ending` is set once all that was asked is answered, and before the ports are to settle.
-/// A thread that still waits for a line is left behind then.
+/// Serves a master over a journal that was just recovered, with its state and a link for each port, until no more is requested. Answers
+/// and events are printed as they come. `ending` is set once all requests are answered, and before the ports are to settle. A thread
+/// that still waits for a line is left behind then.
 ///
 /// # Errors
-/// `Memory` and `Thread`, after which nothing more is served, and `Disk` where a disk call failed. What has a receipt is durable also
-/// then.
+/// `Memory` and `Thread`, after which nothing more is served, and `Disk` if a disk call failed. What has a receipt is durable in each
+/// case.
 pub fn serve<
     D: SectorDisk + Drop + Send + 'static,
     L: DeviceLink + Drop + Send + 'static,
@@ -116,7 +116,7 @@ fn serve_behind<
     }
 }
 
-// Why a master does not start that has a link for each port.
+// Returns the fault if a master with a link for each port does not start.
 fn of_start<D: SectorDisk>(fault: &StartFault<D>) -> Fault<'static>
     ensures { status_of result ≡ 1 }
 {
@@ -127,7 +127,7 @@ fn of_start<D: SectorDisk>(fault: &StartFault<D>) -> Fault<'static>
     }
 }
 
-// Has threads read and print, and conducts the master meanwhile, until all is answered and printed.
+// Starts the threads that read and print, and conducts the master meanwhile, until all is answered and printed.
 fn run<
     D: SectorDisk + Drop + Send + 'static,
     F: Name + 'static,
@@ -161,7 +161,7 @@ fn run<
     }
 }
 
-/// The threads that read and print, as the others see them.
+/// The handles to the threads that read and print.
 #[derive(Drop)]
 struct StreamThreads {
     printer: Printer,
@@ -172,7 +172,7 @@ struct StreamThreads {
 // Starts the threads that print and read.
 //
 // # Errors
-// `Memory` and `Thread`.
+// `Memory` if memory runs out, `Thread` if a thread cannot be made.
 fn start_streams<
     I: Read + Drop + Send + 'static,
     W: Write + Drop + Send + 'static,
@@ -227,7 +227,7 @@ fn start_printing<
     }
 }
 
-// Starts the thread that reads. Nobody waits for its end, since it may wait for a line for ever.
+// Starts the thread that reads. Nobody waits for its end, since it may wait for a line forever.
 fn start_reader<I: Read + Drop + Send + 'static, R: Threads + Wait + Clock + Copy + Send + 'static>(
     rt: &R,
     alloc: Global,
@@ -243,7 +243,7 @@ fn start_reader<I: Read + Drop + Send + 'static, R: Threads + Wait + Clock + Cop
     }
 }
 
-// What is answered of a master that has ended.
+// Returns the result of serving a master that has ended.
 fn ended<D: SectorDisk + Drop, F: Name>(
     conducted: Conducted<D, F>,
     printed: Printed,

@@ -1,4 +1,4 @@
-//! How an answer is spelled: as its request was.
+//! The spelling of an answer, which is that of its request.
 
 ghost use Rattle.std.specs.Prelude.{◌≡◌, IfOk, string_bytes};
 ghost use Rattle.iol_serve.specs.Spelled.{IsAnswerText, IsEventText, IsGivenBack, IsSameId};
@@ -7,7 +7,7 @@ use iol_answers::{Answer, Event, RequestId, answer_json, answer_words, event_jso
 use iol_requests::{Id, Spelling};
 use std::alloc::{AllocError, Global};
 
-// The line of an event.
+// Returns the line of an event.
 pub(crate) fn event_line(
     alloc: Global,
     spelling: Spelling,
@@ -21,7 +21,7 @@ pub(crate) fn event_line(
     }
 }
 
-/// How a request was spelled, and what is given back with its answer.
+/// The spelling of a request, and the id that its answer gives back.
 #[derive(Drop)]
 pub(crate) struct Spelled {
     pub(crate) id: Option<Id>,
@@ -29,7 +29,7 @@ pub(crate) struct Spelled {
 }
 
 impl Spelled {
-    // In words, with nothing given back.
+    // Returns the spelling in words, without an id.
     pub(crate) fn in_words() -> Spelled {
         Spelled {
             id: None,
@@ -37,7 +37,7 @@ impl Spelled {
         }
     }
 
-    // The lines of an answer.
+    // Returns the lines of an answer.
     pub(crate) fn lines(&self, alloc: Global, answer: &Answer<'_>) -> Result<String, AllocError>
         ensures { IfOk result (λ text. IsAnswerText self.now.spelling self.now.id answer.now (string_bytes text)) }
     {
@@ -47,7 +47,7 @@ impl Spelled {
         }
     }
 
-    // The id, as an answer gives it back.
+    // Returns the id in the form in which an answer gives it back.
     fn given_back(&self) -> Option<RequestId<'_>>
         ensures { IsGivenBack self.now.id result }
     {
@@ -58,7 +58,7 @@ impl Spelled {
     }
 }
 
-// The id of a request, as its answer gives it back.
+// Turns the id of a request into the form in which its answer gives it back.
 fn given_back(id: &Id) -> RequestId<'_>
     ensures { IsSameId id.now result }
 {

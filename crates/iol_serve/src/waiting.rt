@@ -1,14 +1,14 @@
-//! How many requests wait for their answers.
+//! The number of requests that wait for their answers.
 
 ghost use Rattle.std.specs.Prelude.{◌≡◌, ◌≤◌, ◌-◌};
 ghost use Rattle.iol_serve.specs.Waiting.{BeginsWait, most_waiting};
 
 use std::sync::{Condvar, Mutex, Wait};
 
-/// The most requests that wait for their answers at once; further lines are read only once fewer wait.
+/// The most requests that wait for their answers at once. Further lines are read only once fewer wait.
 pub const MOST_WAITING: usize = 64;
 
-/// How many requests wait, which are never more than the most.
+/// The number of requests that wait, which is never above `MOST_WAITING`.
 #[derive(Drop)]
 pub(crate) struct Count {
     requests: usize,
@@ -22,7 +22,7 @@ impl Count {
         Count { requests: 0 }
     }
 
-    // Counts one more request, unless the most wait. Returns whether it is counted.
+    // Counts one more request, unless `MOST_WAITING` wait. Returns whether it is counted.
     fn begin(&mut self) -> bool
         ensures { BeginsWait result self.old.requests self.new.requests }
     {
@@ -41,7 +41,7 @@ impl Count {
     }
 }
 
-/// A request that is counted, until its answer is there.
+/// Evidence that a request is counted, until it is answered.
 #[derive(Drop)]
 pub(crate) struct Counted(());
 
@@ -53,7 +53,7 @@ pub(crate) struct Waiting {
 }
 
 impl Waiting {
-    // No request waits.
+    // Makes a count of no requests.
     pub(crate) fn new() -> Waiting {
         Waiting {
             count: Mutex::new(Count::new()),
@@ -73,7 +73,7 @@ impl Waiting {
         unreachable!()
     }
 
-    // A request that was counted is answered.
+    // Counts one request less, which is answered.
     pub(crate) fn end<R: Wait>(&self, rt: &R, _counted: Counted) {
         let mut count = self.count.lock(rt);
         count.end();

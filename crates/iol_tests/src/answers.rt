@@ -20,14 +20,14 @@ use iol_types::{Change, DeviceId, Label, PortConfig, PortId, PortMode, Validatio
 use std::alloc::Global;
 use std::process::Abort;
 
-// The answer with this data to a read.
+// Returns the answer with this data to a read.
 fn read(rt: &impl Abort, octets: &[u8]) -> ArrayVec<u8, ISDU_OCTETS> {
     let mut data = ArrayVec::new();
     data.try_extend_from_slice(octets).expect(rt, "232 octets");
     write_answer(&Answer::ReadOk(data))
 }
 
-// What is said to a device, each request as octets, or none where it is not said, and what it answers.
+// The requests to a device, as octets, or empty if they are not checked, and its answers.
 #[derive(Drop)]
 struct Said {
     requests: Vec<ArrayVec<u8, ISDU_OCTETS>>,
@@ -59,7 +59,7 @@ fn nothing_said(alloc: Global) -> Said {
     }
 }
 
-// All that is said in these parts.
+// Returns all exchanges of these parts.
 fn all_said(rt: &impl Abort, alloc: Global, parts: &[&[Exchange<'_>]]) -> Said {
     let mut said = nothing_said(alloc);
     for part in parts {
@@ -73,8 +73,9 @@ fn assert_row(rt: &impl Abort, alloc: Global, row: &Row<'_>) {
     assert_run(rt, alloc, count, all_said(rt, alloc, parts), statuses, last);
 }
 
-// Port 1 is configured, reads its device and tells it so; it is configured again, and writes the set to the device. At each
-// step the device raises an event that is not DS_UPLOAD_REQ. So many tasks are made of that.
+// Asserts what a run shows. Port 1 is configured, reads its device and reports that to the device; it is configured again,
+// and writes the set to the device. At each step the device raises an event that is not DS_UPLOAD_REQ. The run has the
+// first `count` of these tasks.
 fn assert_run(
     rt: &impl Abort,
     alloc: Global,
@@ -127,7 +128,7 @@ fn assert_run(
     assert_sent(rt, trace.links.first().expect(rt, "a link"), &requests);
 }
 
-// A run has shown these statuses, and then this one. A port that failed begins anew behind it.
+// Asserts that a run has shown these statuses, and then this one. A port that failed begins again after that.
 fn assert_shown(rt: &impl Abort, events: &[Stamped], statuses: &[PortStatus], last: PortStatus) {
     let mut place = 0_usize;
     for stamped in events {
@@ -143,7 +144,8 @@ fn assert_shown(rt: &impl Abort, events: &[Stamped], statuses: &[PortStatus], la
     assert!(rt; place > statuses.len(), "{last:?}");
 }
 
-// A device was asked what is said. At anything else it would have been lost, and not be in the last status.
+// Asserts that a device was asked these requests. At any other request it would have been lost, and would not be in the
+// last status.
 fn assert_sent(rt: &impl Abort, link: &ScriptLink, requests: &[ArrayVec<u8, ISDU_OCTETS>]) {
     let mut sent = link.requests().iter();
     for request in requests {
@@ -155,12 +157,12 @@ fn assert_sent(rt: &impl Abort, link: &ScriptLink, requests: &[ArrayVec<u8, ISDU
     }
 }
 
-// What is said up to a list with these octets.
+// Returns the exchanges up to a list with these octets.
 fn listed(octets: &[u8]) -> [Exchange<'_>; 3] {
     [STARTED, SIZE, (1, INDEX_LIST, octets)]
 }
 
-// What is said to a device that answers a list of these octets, and is asked this behind it.
+// Returns the exchanges with a device that answers a list of these octets, and those after it.
 fn said_of_list(rt: &impl Abort, alloc: Global, octets: &[u8], behind: &[Exchange<'_>]) -> Said {
     let list = read(rt, octets);
     let mut said = nothing_said(alloc);
@@ -170,7 +172,7 @@ fn said_of_list(rt: &impl Abort, alloc: Global, octets: &[u8], behind: &[Exchang
     said
 }
 
-// A device that answers a list of these octets, and is asked this behind it, leads to this status.
+// Asserts that a device that answers a list of these octets, and then has these exchanges, leads to this status.
 fn assert_list(
     rt: &impl Abort,
     alloc: Global,
@@ -188,27 +190,27 @@ fn assert_rows(rt: &impl Abort, alloc: Global, rows: &[Row<'_>]) {
     }
 }
 
-// Answers to the requests of an upload.
+// Asserts the rows of answers to the requests of an upload.
 fn assert_requests(rt: &impl Abort, alloc: Global) {
     assert_rows(rt, alloc, &REQUEST_ROWS);
 }
 
-// Answers that cannot be read, or that do not come.
+// Asserts the rows of answers that cannot be read, or that do not come.
 fn assert_faults(rt: &impl Abort, alloc: Global) {
     assert_rows(rt, alloc, &FAULT_ROWS);
 }
 
-// Lists that follow others, and a list that cannot be followed.
+// Asserts the rows of lists that follow others, and of a list that cannot be followed.
 fn assert_further_lists(rt: &impl Abort, alloc: Global) {
     assert_rows(rt, alloc, &LIST_ROWS);
 }
 
-// Answers at the end of an upload and in a download, and ones that come late.
+// Asserts the rows of answers at the end of an upload and in a download, and of ones that come late.
 fn assert_ends(rt: &impl Abort, alloc: Global) {
     assert_rows(rt, alloc, &END_ROWS);
 }
 
-// Lists that cannot be followed.
+// Asserts what lists that cannot be followed lead to.
 fn assert_broken_lists(rt: &impl Abort, alloc: Global) {
     let lists = [
         [0x00].as_slice(),
@@ -221,7 +223,7 @@ fn assert_broken_lists(rt: &impl Abort, alloc: Global) {
     }
 }
 
-// Lists of one key, also where more stands behind it or it is named twice.
+// Asserts what lists of one key lead to, also if more follows the key or if it is named twice.
 fn assert_lists_of_one(rt: &impl Abort, alloc: Global) {
     for list in [ONE_KEY.as_slice(), &ONE_KEY_AND_MORE, &NAMED_TWICE] {
         let behind = [VALUE, CHECKSUM];
@@ -229,7 +231,7 @@ fn assert_lists_of_one(rt: &impl Abort, alloc: Global) {
     }
 }
 
-// An empty list, and one that names a further list.
+// Asserts what an empty list leads to, and one that names a further list.
 fn assert_other_lists(rt: &impl Abort, alloc: Global) {
     assert_list(rt, alloc, &[], &[CHECKSUM], PortStatus::Storing);
     let behind = [(1, LIST_1200, NO_DATA), VALUE, CHECKSUM];
@@ -247,7 +249,7 @@ fn each_answer_leads_to_its_end(rt: HostRuntime) {
     assert_other_lists(&rt, rt.alloc());
 }
 
-// A list of 76 keys names a further one, of so many of these keys.
+// Asserts what a list of 76 keys leads to that names a further list, of the first `count` of these keys.
 fn assert_further(rt: &impl Abort, alloc: Global, list: &[u8], keys: &[u8], count: u8) {
     let count = usize::from(count);
     let further = read(rt, keys.get(..3 * count).expect(rt, "77 keys"));
@@ -259,7 +261,8 @@ fn assert_further(rt: &impl Abort, alloc: Global, list: &[u8], keys: &[u8], coun
     assert_list(rt, alloc, list, &behind, PortStatus::Storing);
 }
 
-// Seventeen keys of 232 octets count 4,012, and 84 are left: fewer than a last key with so many octets.
+// Asserts that a set is too large. Seventeen keys of 232 octets count 4,012, and 84 are left: fewer than a last key with
+// this number of octets.
 fn assert_too_large(rt: &impl Abort, alloc: Global, keys: &[u8], octets: usize) {
     let value = read(rt, &[0x55; 232]);
     let last = read(rt, keys.get(..octets).expect(rt, "232 octets"));
@@ -272,8 +275,8 @@ fn assert_too_large(rt: &impl Abort, alloc: Global, keys: &[u8], octets: usize) 
     assert_list(rt, alloc, list, &behind, TOO_LARGE);
 }
 
-// The longest lists: one of 76 keys that names a further one, and that one, of up to 77, which ends with its octets. And
-// values with which a set is too large, though its size was told as 11.
+// The longest lists are one of 76 keys that names a further one, and that one, of up to 77, which ends with its octets. The
+// values make a set too large, though its size was reported as 11.
 #[test]
 fn the_longest_lists_and_values_are_read(rt: HostRuntime) {
     let mut keys = [0x00; 232];

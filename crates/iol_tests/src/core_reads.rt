@@ -1,4 +1,4 @@
-//! What is read of a core with ample memory.
+//! Reads of a core with ample memory.
 
 ghost use Rattle.std.specs.Prelude.{◌≡◌};
 
@@ -11,7 +11,7 @@ use std::alloc::Global;
 use std::marker::Brand;
 use std::process::Abort;
 
-// All commands wait that may, so that the pass is made late.
+// The queue is full, so that the pass is made late.
 #[test]
 fn a_port_with_a_set_is_viewed_through_a_pass_of_the_core(rt: HostRuntime) {
     let state = state_with_set(&rt, rt.alloc());
@@ -19,7 +19,7 @@ fn a_port_with_a_set_is_viewed_through_a_pass_of_the_core(rt: HostRuntime) {
     view::<Brand, _>(&rt, rt.alloc(), front, state);
 }
 
-// The state of one port, which has a set.
+// Makes the state of one port, which has a set.
 fn state_with_set<R: Abort>(rt: &R, alloc: Global) -> MasterState {
     let mut state = MasterState::new(alloc, 1).expect(rt, "memory");
     let read = decode_port(alloc, Version::One, &PORT_WITH_SET_RECORD);

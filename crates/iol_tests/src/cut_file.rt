@@ -1,4 +1,4 @@
-//! An image file of which a read has failed. The program goes on with none.
+//! An image file of which a read has failed. The program never continues with one.
 
 use iol_disk::{DiskFault, ImageFile, SECTOR_OCTETS, SectorDisk};
 use std::fs::{self, File, OpenFile};

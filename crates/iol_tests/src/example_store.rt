@@ -8,7 +8,7 @@ use iol_types::{Command, MasterState, PortId};
 use std::alloc::Global;
 use std::process::Abort;
 
-/// A Configure of this port.
+/// Returns a Configure of this port.
 pub fn configure<R: Abort>(rt: &R, port: u8) -> Command {
     Command::Configure {
         port: PortId::new(port).expect(rt, "a port"),
@@ -16,7 +16,7 @@ pub fn configure<R: Abort>(rt: &R, port: u8) -> Command {
     }
 }
 
-/// A store of two ports, whose areas keep four of five slots, with so many Configures of port 1.
+/// Makes a store of two ports, whose areas keep four of five slots, with this number of Configures of port 1.
 pub fn store_of<R: Abort>(rt: &R, alloc: Global, configures: usize) -> Journal<MemoryDisk> {
     let geometry = Geometry::new(2, 5).unwrap();
     let Ok(mut journal) = create(alloc, blank(rt, alloc, geometry.sectors()), geometry) else {
@@ -31,7 +31,7 @@ pub fn store_of<R: Abort>(rt: &R, alloc: Global, configures: usize) -> Journal<M
     journal
 }
 
-/// The journal and the state that are found on a disk.
+/// Returns the journal and the state that are found on a disk.
 pub fn opened<R: Abort>(
     rt: &R,
     alloc: Global,
@@ -43,18 +43,18 @@ pub fn opened<R: Abort>(
     }
 }
 
-/// How many commands are found on a disk, and how many configured port 1.
+/// Returns the number of commands that are found on a disk, and the number of them that configured port 1.
 pub fn found(alloc: Global, disk: MemoryDisk) -> Option<(u64, u64)> {
     let (journal, state) = open(alloc, disk).ok()?;
     with_revision(journal.number(), &state)
 }
 
-// This number, and how many commands configured port 1.
+// Returns this number, and the number of commands that configured port 1.
 fn with_revision(number: u64, state: &MasterState) -> Option<(u64, u64)> {
     Some((number, state.port(PortId::new(1)?)?.revision()))
 }
 
-/// Why a journal does not take a batch.
+/// Returns why a journal refuses a batch.
 pub fn refusal<R: Abort>(rt: &R, journal: Journal<MemoryDisk>, batch: Batch) -> BeginCause {
     match journal.begin(batch) {
         Ok(_) => panic!(rt; "a batch is refused"),
@@ -62,7 +62,7 @@ pub fn refusal<R: Abort>(rt: &R, journal: Journal<MemoryDisk>, batch: Batch) -> 
     }
 }
 
-// The disk that a write of one Configure more leaves, whose nth write to the disk fails; that with none fails for the 0th.
+// Returns the disk that a write of one more Configure leaves if its nth write to the disk fails. None fails for the 0th.
 fn left_by_a_fault<R: Abort>(rt: &R, alloc: Global, configures: usize, nth: u64) -> MemoryDisk {
     let disk = store_of(rt, alloc, configures).disk();
     let Ok((journal, _)) = open(alloc, FaultDisk::new(disk, DiskFault::Write, nth)) else {
@@ -75,9 +75,9 @@ fn left_by_a_fault<R: Abort>(rt: &R, alloc: Global, configures: usize, nth: u64)
     }
 }
 
-// How many Configures there are, which write of one more fails, what the stop keeps, and how many commands are found. Ten
-// leave slots free, so that the body is written first and then the gate; eight leave none, and a checkpoint begins with the
-// gate of the other area.
+// The number of Configures, the write of one more that fails, what the stop keeps, and the number of commands that are
+// found. Ten leave slots free, so that the body is written first and then the gate; eight leave none, and a checkpoint
+// begins with the gate of the other area.
 const FAULTS: [(usize, u64, Pick, u64); 13] = [
     (10, 0, Pick::Old, 11),
     (10, 0, Pick::New, 11),
@@ -104,7 +104,7 @@ fn a_write_is_found_after_a_stop_and_one_that_fails_leaves_the_command_or_does_n
     }
 }
 
-// How many commands the store has that comes back where a command is refused, and why it is.
+// Returns the number of commands of the store that comes back when a command is refused, and why it is refused.
 fn refused<R: Abort>(
     rt: &R,
     alloc: Global,
@@ -117,7 +117,7 @@ fn refused<R: Abort>(
     }
 }
 
-// Whether a Configure of this port is refused as a misfit, and the store with so many commands comes back.
+// Returns whether a Configure of this port is refused as a misfit, and the store comes back with this number of commands.
 fn is_misfit<R: Abort>(
     rt: &R,
     alloc: Global,
@@ -131,7 +131,7 @@ fn is_misfit<R: Abort>(
 #[test]
 fn a_command_that_does_not_fit_is_refused(rt: HostRuntime) {
     assert!(rt; is_misfit(&rt, rt.alloc(), store_of(&rt, rt.alloc(), 4), 3, 4));
-    // The header of area A: epoch 1, as base the last number, 2^62, and version 2.
+    // The header of area A has epoch 1, the last number, 2^62, as its base, and version 2.
     let mut header = [0; SECTOR_OCTETS];
     header[7] = 1;
     header[8] = 0x40;

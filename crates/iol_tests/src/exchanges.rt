@@ -1,12 +1,13 @@
-//! What is said to a device and what it answers, octet by octet, and the statuses that are shown meanwhile.
+//! The requests to a device and its answers, octet by octet, and the statuses that are shown meanwhile.
 
 use iol_port::{PortFault, PortStatus};
 
-// How often a request is sent, its octets, and those that are answered each time. The octets of some requests are not said.
+// The number of times that a request is sent, its octets, and those of each answer. The octets of some requests are empty:
+// they are not checked.
 pub(crate) type Exchange<'a> = (usize, &'a [u8], &'a [u8]);
 
-// How many tasks are made: up to the end of an upload, up to DS_UploadEnd, or up to the end of a download. What is said to
-// the device by then, the statuses of its port, and the last of them.
+// The number of tasks that are made: up to the end of an upload, up to DS_UploadEnd, or up to the end of a download. Then
+// the exchanges with the device by then, the statuses of its port, and the last of them.
 pub(crate) type Row<'a> = (
     usize,
     &'a [&'a [Exchange<'a>]],
@@ -64,7 +65,7 @@ pub(crate) const ELEVEN: &[u8] = &[0xD6, 0x00, 0x00, 0x00, 0x0B, 0xDD];
 
 pub(crate) const VALUE_READ: &[u8] = &[0xD4, 0x0A, 0x64, 0xBA];
 
-// A list of no key, and a further one at 1200.
+// A list without a key, which names a further list at 1200.
 pub(crate) const NEXT_1200: &[u8] = &[0xD4, 0x12, 0x00, 0xC6];
 
 pub(crate) const DONE: &[u8] = &[0x52, 0x52];
@@ -77,7 +78,7 @@ pub(crate) const WRITE_REFUSED: &[u8] = &[0x44, 0x80, 0x11, 0xD5];
 
 pub(crate) const READ_REFUSED: &[u8] = &[0xC4, 0x80, 0x11, 0x55];
 
-// A device that wants an upload; and one whose parameters are others than the set's.
+// The first exchanges with a device that wants an upload, and with one whose parameters are others than the set's.
 pub(crate) const FLAGGED: [Exchange<'static>; 2] = [(1, PROPERTY, WANTS_UPLOAD), CHECKSUM];
 
 pub(crate) const BLANK: [Exchange<'static>; 2] = [

@@ -1,4 +1,4 @@
-//! Batches that a journal does not take for what they are, where memory is ample.
+//! Batches that a journal refuses for what they are, with ample memory.
 
 ghost use Rattle.std.specs.Prelude.{◌≡◌, []};
 ghost use Rattle.iol_flush.specs.Stages.{HasHistory};
@@ -12,7 +12,8 @@ use std::alloc::Global;
 use std::marker::Brand;
 use std::process::Abort;
 
-// The first number and how many Clears: behind a gap, under number 0, and none. That one command too many is a misfit is proved.
+// The first number, and the number of Clears: after a gap, under number 0, and no Clear. A proof says that one command too many
+// is a misfit.
 const MISFITS: [(u64, usize); 3] = [(2, 1), (0, 1), (1, 0)];
 
 #[test]
@@ -22,7 +23,7 @@ fn a_batch_that_does_not_follow_is_a_misfit(rt: HostRuntime) {
     }
 }
 
-// So many Clears, the first under this number.
+// Makes a batch of `count` Clears, the first under this number.
 fn batch<R: Abort>(rt: &R, alloc: Global, first: u64, count: usize) -> Batch {
     let mut commands = Vec::new(alloc);
     for _ in 0..count {

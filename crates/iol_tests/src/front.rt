@@ -1,4 +1,4 @@
-//! Batches that are published past passes, one of them in another thread.
+//! Batches that are published after passes were made, one of which is in another thread.
 
 ghost use Rattle.std.specs.Prelude.{◌≡◌, ◌+◌, length};
 
@@ -13,7 +13,7 @@ use std::sync::Wait;
 use std::thread;
 use std::thread::Threads;
 
-/// Publishes a Clear behind what the journal has.
+/// Publishes a Clear after what the journal has.
 pub fn publish_clear<F: Name, R: Abort>(
     rt: &R,
     alloc: Global,
@@ -28,7 +28,7 @@ pub fn publish_clear<F: Name, R: Abort>(
     (journal, publisher.publish(written))
 }
 
-// The batch of a Clear, under this number.
+// Makes the batch of a Clear, under this number.
 fn clear_batch<R: Abort>(rt: &R, alloc: Global, first: u64) -> Batch
     ensures { (result.first ≡ first) × (length result.commands.items ≡ 1) }
 {

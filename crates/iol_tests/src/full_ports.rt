@@ -1,4 +1,4 @@
-//! Ports with two sets that count 4,096 each, and labels of 32 octets: their records, and their checkpoint with a stop behind each disk
+//! Ports with two sets that count 4,096 each, and labels of 32 octets: their records, and their checkpoint with a stop after each disk
 //! call.
 
 use crate::blank::{blank, config};
@@ -23,7 +23,7 @@ const SLOTS: u16 = 2;
 
 const PICKS: [Pick; 4] = [Pick::Old, Pick::New, Pick::Zero, Pick::Pattern];
 
-// A set that counts 4,096: 17 parameters of 232 octets and one of 80, all of which are this octet.
+// Makes a set that counts 4,096: 17 parameters of 232 octets and one of 80, all of which are this octet.
 fn full_set<R: Abort>(rt: &R, alloc: Global, octet: u8) -> Arc<DataSet> {
     let mut set = SetBuilder::new(alloc);
     for index in 64..82 {
@@ -50,7 +50,7 @@ fn store<R: Abort>(rt: &R, port: PortId, set: &Arc<DataSet>) -> Command {
     }
 }
 
-// A journal of no commands, with the slots of a batch for each of so many ports.
+// Makes a journal of no commands, with the slots of a batch for each of `ports` ports.
 fn empty_journal<R: Abort>(rt: &R, alloc: Global, ports: u8) -> Journal<MemoryDisk> {
     // In version 2 an area gives up a slot for two ports.
     let slots = (SLOTS * u16::from(ports)).saturating_add(u16::from(ports) / 2 + 1);
@@ -61,7 +61,7 @@ fn empty_journal<R: Abort>(rt: &R, alloc: Global, ports: u8) -> Journal<MemoryDi
     }
 }
 
-// The commands of a port: a Configure, and a Store of each set.
+// Returns the commands of a port: a Configure, and a Store of each set.
 fn commands<R: Abort>(rt: &R, alloc: Global, number: u8, sets: &[Arc<DataSet>; 2]) -> Vec<Command> {
     let port = PortId::new(number).expect(rt, "a port");
     let config = labelled(rt);
@@ -71,7 +71,7 @@ fn commands<R: Abort>(rt: &R, alloc: Global, number: u8, sets: &[Arc<DataSet>; 2
     Vec::from_array(alloc, stores).expect(rt, "memory")
 }
 
-// The journal behind a batch of these commands.
+// Returns the journal after a batch of these commands.
 fn with_batch<R: Abort>(
     rt: &R,
     journal: Journal<MemoryDisk>,
@@ -83,7 +83,7 @@ fn with_batch<R: Abort>(
     journal
 }
 
-// A journal of so many ports that each have the second set, and the first one as their previous set.
+// Makes a journal of `ports` ports that each have the second set, and the first one as their previous set.
 fn journal<R: Abort>(
     rt: &R,
     alloc: Global,
@@ -105,14 +105,14 @@ fn checkpoint<R: Abort>(rt: &R, journal: Journal<MemoryDisk>) -> Checkpointing<M
     }
 }
 
-// The disk calls of that checkpoint: a gate, the gates of slots, a header, 17 sectors a port, a gate, and four syncs.
+// Returns the number of disk calls of that checkpoint: a gate, the gates of slots, a header, 17 sectors a port, a gate, and four syncs.
 fn calls(ports: u8) -> usize {
     let given_up = (8 * usize::from(ports) + 16) / 17;
     let slots = usize::from(SLOTS) * usize::from(ports) + usize::from(ports) / 2 + 1;
     (7 + 17 * usize::from(ports)).saturating_add(slots.saturating_sub(given_up))
 }
 
-// Whether a set of a port is this one, taken under the label.
+// Returns whether a set of a port is this one, taken under the label.
 fn is_set<R: Abort>(rt: &R, stored: Option<&StoredSet>, set: &Arc<DataSet>) -> bool {
     match stored {
         Some(stored) => *stored.set == **set && stored.recorded == labelled(rt),
@@ -132,7 +132,7 @@ fn has_all<R: Abort>(rt: &R, state: &MasterState, ports: u8, sets: &[Arc<DataSet
     true
 }
 
-// How many commands are found on a disk, and whether each port has both sets.
+// Returns the number of commands that are found on a disk, and whether each port has both sets.
 fn found_with_sets<R: Abort>(
     rt: &R,
     alloc: Global,
@@ -144,7 +144,7 @@ fn found_with_sets<R: Abort>(
     Some((journal.number(), has_all(rt, &state, ports, sets)))
 }
 
-// A stop behind so many disk calls of the checkpoint, whose sectors are kept as this pick says, leaves all sets.
+// Asserts that a stop after this number of disk calls of the checkpoint, which keeps sectors as this pick says, leaves all sets.
 fn assert_kept<R: Abort>(
     rt: &R,
     alloc: Global,
@@ -172,7 +172,7 @@ fn a_stop_at_any_call_of_the_checkpoint_of_one_full_port_leaves_its_sets(rt: Hos
     }
 }
 
-// What a stop keeps goes round: there are so many calls that each is kept at each kind of sector.
+// The picks take turns: there are enough calls that each pick is kept at each kind of sector.
 #[test]
 fn a_stop_at_any_call_of_the_checkpoint_of_32_full_ports_leaves_their_sets(rt: HostRuntime) {
     let sets = [full_set(&rt, rt.alloc(), 1), full_set(&rt, rt.alloc(), 2)];
@@ -194,7 +194,7 @@ fn the_checkpoint_of_32_full_ports_has_so_many_calls(rt: HostRuntime) {
     }
 }
 
-// The record of a port with both sets, as a disk has it.
+// Returns the record of a port with both sets, as a disk has it.
 fn record_of_two<R: Abort>(rt: &R, alloc: Global) -> Vec<u8> {
     let sets = [full_set(rt, alloc, 1), full_set(rt, alloc, 2)];
     let (_, state) = opened(rt, alloc, journal(rt, alloc, 1, &sets).disk());
@@ -206,7 +206,7 @@ fn record_of<R: Abort>(rt: &R, alloc: Global, port: &PortState) -> Vec<u8> {
     encode_port(alloc, Version::newest(), port).expect(rt, "memory")
 }
 
-// How many octets of a record are read, and the record of what is read.
+// Returns the number of octets of a record that are read, and the record of what is read.
 fn read_again<R: Abort>(rt: &R, alloc: Global, record: &[u8]) -> (usize, Vec<u8>) {
     let (port, octets) = decode_port(alloc, Version::newest(), record).expect(rt, "a port");
     (octets, record_of(rt, alloc, &port))

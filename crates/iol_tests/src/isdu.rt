@@ -1,5 +1,5 @@
-//! ISDUs read beside a plain reader, over whole ranges of octets. It is made of the standard's tables, and apart from the
-//! crate's own.
+//! ISDUs, compared with those of a plain reader over whole ranges of octets. That reader is made of the standard's
+//! tables, apart from the crate's own.
 
 use arrayvec::ArrayVec;
 use iol_isdu::{ISDU_OCTETS, IsduFault, read_answer, read_request, write_answer, write_request};
@@ -9,7 +9,7 @@ const REQUEST: u8 = 1;
 
 const ANSWER: u8 = 2;
 
-// By I-Service: of which of both it is, and the least and the most octets that stand between the length and CHKPDU.
+// For each I-Service: which of both it is, and the least and the most octets between the length and CHKPDU.
 const SERVICES: [(u8, usize, usize); 16] = [
     (0, 0, 0),
     (REQUEST, 1, 233),
@@ -29,7 +29,7 @@ const SERVICES: [(u8, usize, usize); 16] = [
     (0, 0, 0),
 ];
 
-// What is wrong with octets, read as a request or as an answer.
+// Returns what is wrong with octets that are read as a request or as an answer.
 fn plain_fault(octets: &[u8], expected: u8) -> Option<IsduFault> {
     let Some(first) = octets.first() else {
         return Some(IsduFault::Empty);
@@ -79,17 +79,18 @@ fn plain_fault(octets: &[u8], expected: u8) -> Option<IsduFault> {
     }
 }
 
-// What is written of the request that is read of octets.
+// Writes the request that is read of octets.
 fn request_again(octets: &[u8]) -> Result<ArrayVec<u8, ISDU_OCTETS>, IsduFault> {
     Ok(write_request(&read_request(octets)?))
 }
 
-// What is written of the answer that is read of octets.
+// Writes the answer that is read of octets.
 fn answer_again(octets: &[u8]) -> Result<ArrayVec<u8, ISDU_OCTETS>, IsduFault> {
     Ok(write_answer(&read_answer(octets)?))
 }
 
-// Whether octets have the fault that the plain reader finds, or it finds none and they are written as they stand.
+// Returns whether octets have the fault that the plain reader finds, or it finds none and they are written again
+// unchanged.
 fn is_plain(
     octets: &[u8],
     expected: u8,
@@ -102,14 +103,15 @@ fn is_plain(
     }
 }
 
-// Octets have the fault that the plain reader finds, or what is read of them is written as they stand.
+// Asserts that octets have the fault that the plain reader finds, or that what is read of them is written again
+// unchanged.
 fn assert_plain(rt: &impl Abort, octets: &[u8]) {
     let asked = is_plain(octets, REQUEST, &request_again(octets));
     let answered = is_plain(octets, ANSWER, &answer_again(octets));
     assert!(rt; asked && answered, "{octets:?}");
 }
 
-// A list of `count` octets that begins with these two, and whose XOR is `wrong`.
+// Makes a list of `count` octets that begins with these two, and whose XOR is `wrong`.
 fn octets_of(first: u8, second: u8, count: usize, wrong: u8) -> ArrayVec<u8, 240> {
     let mut octets = ArrayVec::new();
     let mut sum = wrong;
@@ -126,7 +128,8 @@ fn octets_of(first: u8, second: u8, count: usize, wrong: u8) -> ArrayVec<u8, 240
     octets
 }
 
-// Up to two octets; and at the borders of lengths each first octet, with each length beside the right one.
+// The octets are all of up to two; and at the borders of lengths those with each first octet, with each length beside the
+// right one.
 #[test]
 fn octets_are_read_as_a_plain_reader_reads_them(rt: HostRuntime) {
     assert_plain(&rt, &[]);

@@ -1,4 +1,4 @@
-//! What takes memory at its largest, and is made by no command of the program.
+//! The largest values that take memory, which no command of the program makes.
 
 use crate::example_store::{refusal, store_of};
 use iol_journal::{Batch, BeginCause};
@@ -12,7 +12,7 @@ fn add<R: Abort>(rt: &R, record: &mut Vec<u8>, octets: &[u8]) {
     record.extend_from_slice(octets).expect(rt, "memory");
 }
 
-// The record of a Store of 1,024 parameters that have no octets.
+// Makes the record of a Store of 1,024 parameters that have no octets.
 fn largest_record<R: Abort>(rt: &R, alloc: Global) -> Vec<u8> {
     let mut record = Vec::new(alloc);
     add(rt, &mut record, &STORE_RECORD[..20]);
@@ -24,7 +24,7 @@ fn largest_record<R: Abort>(rt: &R, alloc: Global) -> Vec<u8> {
     record
 }
 
-// How many octets of a record are read, and the record of the command that is read.
+// Returns the number of octets of a record that are read, and the record of the command that is read.
 fn read_again<R: Abort>(rt: &R, alloc: Global, record: &[u8]) -> (usize, Vec<u8>) {
     let version = Version::newest();
     let (command, octets) = decode_command(alloc, version, record).expect(rt, "memory");
@@ -40,7 +40,7 @@ fn a_store_of_1024_parameters_is_read_and_written(rt: HostRuntime) {
     assert!(rt; written.as_slice() == record.as_slice());
 }
 
-// So many Clears of port 1 and then one of this port, the first under this number.
+// Makes a batch of `clears` Clears of port 1 and then one of port `last`, the first under this number.
 fn batch<R: Abort>(rt: &R, alloc: Global, first: u64, clears: usize, last: Option<u8>) -> Batch {
     let mut commands = Vec::new(alloc);
     for _ in 0..clears {
@@ -54,7 +54,8 @@ fn batch<R: Abort>(rt: &R, alloc: Global, first: u64, clears: usize, last: Optio
     Batch { first, commands }
 }
 
-// Behind one command of two ports: none, under its number, behind a gap, and one for a port that is not there as the second.
+// The batches come after one command of two ports: none, one under its number, one after a gap, and one whose second command
+// is for a port that does not exist.
 const MISFITS: [(u64, usize, Option<u8>); 4] = [
     (2, 0, None),
     (1, 1, None),

@@ -1,10 +1,10 @@
-//! A link of which nothing is said.
+//! A link of which nothing is claimed.
 
 use arrayvec::ArrayVec;
 use iol_isdu::ISDU_OCTETS;
 use iol_link::{DeviceLink, Lost, PAGE_OCTETS, runs_join};
 
-// A link of which nothing is said: no device is there.
+// A link of which nothing is claimed: it has no device.
 #[derive(Drop)]
 struct Unplugged {
     connection: u64,

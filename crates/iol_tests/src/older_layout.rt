@@ -1,4 +1,4 @@
-//! A disk of an earlier release: one Configure in version 1 of the layout. A checkpoint renews it, with a stop behind each disk call.
+//! A disk of an earlier release: one Configure in version 1 of the layout. A checkpoint renews it, with a stop after each disk call.
 
 use crate::blank::{blank, config};
 use crate::example_store::{found, opened, refusal};
@@ -10,7 +10,7 @@ use iol_types::{Command, Label, PortConfig, PortId};
 use std::alloc::Global;
 use std::process::Abort;
 
-// The checkpoint of two ports and three slots an area, which four slots are in version 2, has so many disk calls.
+// The number of disk calls of the checkpoint of two ports and three slots an area, which four slots are in version 2.
 const CHECKPOINT_CALLS: usize = 12;
 
 // The gate of slot 1 of area A in version 1, and the first sector of its body.
@@ -20,7 +20,8 @@ const BODY: usize = 23;
 
 const OPEN: [u8; 8] = [0xA5, 0x5A, 0xA5, 0x5A, 0xA5, 0x5A, 0xA5, 0x5A];
 
-// Epoch 1, number 1, one command of 10 octets: Configure port 1, IOL_MANUAL, Backup and Restore, vendor 500, device 43981.
+// The body has epoch 1, number 1 and one command of 10 octets: Configure port 1, IOL_MANUAL, Backup and Restore, vendor 500, device
+// 43981.
 const FIRST_BODY: [u8; 32] = [
     0, 0, 0, 0, 0, 0, 0, 1, 0, 0, 0, 0, 0, 0, 0, 1, 0, 1, 0, 0, 0, 10, 1, 1, 1, 3, 0x01, 0xF4, 0,
     0, 0xAB, 0xCD,
@@ -51,7 +52,7 @@ fn older_journal<R: Abort>(rt: &R, alloc: Global) -> Journal<MemoryDisk> {
     journal
 }
 
-// The checkpoint that renews it.
+// Begins the checkpoint that renews the disk.
 fn renewal<R: Abort>(rt: &R, alloc: Global) -> Checkpointing<MemoryDisk> {
     let journal = older_journal(rt, alloc);
     assert!(rt; !journal.is_renewed(), "its layout is an older one");
@@ -81,7 +82,7 @@ fn a_stop_at_any_call_of_its_renewal_changes_nothing(rt: HostRuntime) {
     }
 }
 
-// What a stop leaves once a command was written behind the renewal.
+// Returns what a stop leaves once a command was written after the renewal.
 fn renewed_with<R: Abort>(rt: &R, alloc: Global, command: Command) -> MemoryDisk {
     let journal = done(rt, renewal(rt, alloc), CHECKPOINT_CALLS);
     match write(alloc, journal, command) {
@@ -90,7 +91,7 @@ fn renewed_with<R: Abort>(rt: &R, alloc: Global, command: Command) -> MemoryDisk
     }
 }
 
-// How many commands are found on a disk, and the revision and the label of a port.
+// Returns the number of commands that are found on a disk, and the revision and the label of a port.
 fn found_label<R: Abort>(
     rt: &R,
     alloc: Global,

@@ -1,4 +1,4 @@
-//! A checkpoint of two ports and four slots an area that is paused while batches are written, with a stop behind each disk call.
+//! A checkpoint of two ports and four slots an area that is paused while batches are written, with a stop after each disk call.
 
 use crate::example_store::{configure, found, opened, store_of};
 use crate::scene::begun;
@@ -8,14 +8,14 @@ use iol_journal::{Batch, CheckpointProgress, Checkpointing, Journal, Progress, W
 use std::alloc::Global;
 use std::process::Abort;
 
-// Without a batch a checkpoint makes 13 disk calls, and a batch of one sector makes four, also where it is carried.
+// Without a batch a checkpoint makes 13 disk calls, and a batch of one sector makes four, also if it is carried.
 const CHECKPOINT_CALLS: usize = 13;
 
 const BATCH_CALLS: usize = 4;
-// The last of them makes the open gate durable: before it a checkpoint cannot be paused.
+// The last call makes the open gate durable: right before it a checkpoint cannot be paused.
 const LAST_PAUSE: usize = CHECKPOINT_CALLS - 2;
 
-// A new checkpoint, or the one that was paused.
+// Begins a checkpoint, or continues the one that was paused.
 fn checkpoint<R: Abort>(rt: &R, journal: Journal<MemoryDisk>) -> Checkpointing<MemoryDisk> {
     assert!(rt; journal.is_half_used(), "two of four slots are used");
     match journal.checkpoint() {
@@ -24,7 +24,7 @@ fn checkpoint<R: Abort>(rt: &R, journal: Journal<MemoryDisk>) -> Checkpointing<M
     }
 }
 
-/// The checkpoint behind so many disk calls, none of which is its last one.
+/// Returns the checkpoint after `calls` disk calls, none of which is its last one.
 pub fn stepped<R: Abort>(
     rt: &R,
     mut checkpointing: Checkpointing<MemoryDisk>,
@@ -39,7 +39,7 @@ pub fn stepped<R: Abort>(
     checkpointing
 }
 
-/// The journal behind the last of so many disk calls.
+/// Returns the journal after `calls` disk calls, the last of which ends the checkpoint.
 pub fn done<R: Abort>(
     rt: &R,
     checkpointing: Checkpointing<MemoryDisk>,
@@ -51,19 +51,19 @@ pub fn done<R: Abort>(
     }
 }
 
-// The checkpoint set aside.
+// Pauses the checkpoint.
 fn paused<R: Abort>(rt: &R, checkpointing: Checkpointing<MemoryDisk>) -> Journal<MemoryDisk> {
     assert!(rt; checkpointing.can_pause(), "the gate is not written");
     checkpointing.pause()
 }
 
-/// One Configure, under this number.
+/// Makes a batch of one Configure, under this number.
 pub fn batch<R: Abort>(rt: &R, alloc: Global, first: u64) -> Batch {
     let commands = Vec::from_array(alloc, [configure(rt, 1)]).expect(rt, "memory");
     Batch { first, commands }
 }
 
-// A batch of one Configure, behind so many disk calls.
+// Returns a batch of one Configure, after `calls` disk calls.
 fn written<R: Abort>(
     rt: &R,
     alloc: Global,
@@ -81,7 +81,7 @@ fn written<R: Abort>(
     writing
 }
 
-// The journal behind a batch of one Configure.
+// Returns the journal after a batch of one Configure.
 fn with_batch<R: Abort>(
     rt: &R,
     alloc: Global,
@@ -96,7 +96,8 @@ fn with_batch<R: Abort>(
     }
 }
 
-// The disk behind so many disk calls, where a checkpoint of two commands is paused behind `before` of its own for a third one.
+// Returns the disk after `calls` disk calls, if a checkpoint of two commands is paused after `before` of its own for a third
+// command.
 fn disk_behind<R: Abort>(rt: &R, alloc: Global, before: usize, calls: usize) -> MemoryDisk {
     let begun = checkpoint(rt, store_of(rt, alloc, 2));
     if calls <= before {
@@ -115,7 +116,8 @@ fn disk_behind<R: Abort>(rt: &R, alloc: Global, before: usize, calls: usize) -> 
     done(rt, checkpointing, left).disk()
 }
 
-// How many commands are found behind a stop: the third, where its gate is read as open, as the pattern is too, or is durable.
+// Returns the number of commands that are found after a stop. The third is found if its gate is durable or is read as open, as
+// the pattern is too.
 fn expected(before: usize, calls: usize, pick: Pick) -> u64 {
     let gate = before.saturating_add(BATCH_CALLS - 1);
     let closed = matches!(pick, Pick::Old | Pick::Zero);
@@ -126,7 +128,7 @@ fn expected(before: usize, calls: usize, pick: Pick) -> u64 {
     }
 }
 
-// How many commands are found once five more were written, a checkpoint among them.
+// Returns the number of commands that are found once five more were written, with a checkpoint among them.
 fn found_behind_five<R: Abort>(rt: &R, alloc: Global, disk: MemoryDisk) -> Option<(u64, u64)> {
     let (mut journal, _) = opened(rt, alloc, disk);
     for _ in 0..5 {
@@ -138,7 +140,7 @@ fn found_behind_five<R: Abort>(rt: &R, alloc: Global, disk: MemoryDisk) -> Optio
     found(alloc, journal.disk())
 }
 
-// A stop behind so many disk calls leaves what is expected.
+// Asserts that a stop after `calls` disk calls leaves what is expected.
 fn assert_left<R: Abort>(rt: &R, alloc: Global, before: usize, calls: usize, pick: Pick) {
     let number = expected(before, calls, pick);
     let left = disk_behind(rt, alloc, before, calls).stop(pick);
@@ -173,8 +175,8 @@ fn behind_a_stop_beside_a_paused_checkpoint_another_one_is_made(rt: HostRuntime)
     }
 }
 
-// The disk of a checkpoint of two commands that is paused behind `first` of its disk calls for a third, and behind `second` for
-// a fourth one.
+// Returns the disk of a checkpoint of two commands that is paused after `first` of its disk calls for a third command, and after
+// `second` for a fourth one.
 fn disk_with_two<R: Abort>(rt: &R, alloc: Global, first: usize, second: usize) -> MemoryDisk {
     let begun = checkpoint(rt, store_of(rt, alloc, 2));
     let journal = with_batch(rt, alloc, paused(rt, stepped(rt, begun, first)));

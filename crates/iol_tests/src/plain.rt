@@ -1,4 +1,4 @@
-//! Images that no journal wrote: a recovery answers what a plain reading does.
+//! Images that no journal wrote: a recovery gives the answer of a plain reading.
 
 use crate::example_store::store_of;
 use crate::plain_reading::plain_meaning;
@@ -7,7 +7,7 @@ use iol_journal::{Journal, RecoverCause};
 use std::alloc::Global;
 use std::process::Abort;
 
-// The sectors of a disk.
+// Reads the sectors of a disk.
 fn image_on<R: Abort>(rt: &R, alloc: Global, disk: &mut MemoryDisk) -> Vec<[u8; SECTOR_OCTETS]> {
     let mut image = Vec::new(alloc);
     for sector in 0..disk.sectors() {
@@ -18,7 +18,7 @@ fn image_on<R: Abort>(rt: &R, alloc: Global, disk: &mut MemoryDisk) -> Vec<[u8; 
     image
 }
 
-// What a recovery answers, and the disk.
+// Returns the answer of a recovery, and the disk.
 fn answer<D: SectorDisk + Drop>(alloc: Global, disk: D) -> (Result<u64, RecoverCause>, D) {
     match Journal::recover(alloc, disk) {
         Ok((journal, _)) => (Ok(journal.number()), journal.disk()),
@@ -26,7 +26,8 @@ fn answer<D: SectorDisk + Drop>(alloc: Global, disk: D) -> (Result<u64, RecoverC
     }
 }
 
-// Puts octets into a sector of a disk and of its image. Recovery answers then what the plain program does.
+// Puts octets into a sector of a disk and of its image, and asserts that recovery then gives the answer of the plain
+// program.
 fn agree<R: Abort>(
     rt: &R,
     alloc: Global,
@@ -47,7 +48,8 @@ fn agree<R: Abort>(
     disk
 }
 
-// The same with other octets at each place of a sector: the complement of what is there, 00 and FF; and then as it was.
+// Does the same with other octets at each place of a sector: the complement of what is there, 00 and FF. Then restores
+// the sector.
 fn agree_in<R: Abort>(
     rt: &R,
     alloc: Global,

@@ -1,4 +1,4 @@
-//! What an image of a disk means, read as docs/FORMATS.md says ("Disk layout", "Recovery"), sector by sector. It shares no code
+//! The meaning of a disk's image, read as docs/FORMATS.md says ("Disk layout", "Recovery"), sector by sector. It shares no code
 //! with a recovery but the codec of the records of commands and ports.
 
 ghost use Rattle.std.specs.Prelude.{◌<◌, ◌≤◌, ◌^◌};
@@ -11,7 +11,7 @@ use std::alloc::Global;
 
 const OPEN: [u8; 8] = [0xA5, 0x5A, 0xA5, 0x5A, 0xA5, 0x5A, 0xA5, 0x5A];
 
-// An area that is open: where it begins, and its header, with the octet that names its version.
+// An open area: where it begins, and its header, with the octet that names its version.
 #[derive(Clone, Copy)]
 struct Open {
     begin: usize,
@@ -33,14 +33,14 @@ struct Used {
 }
 
 impl Used {
-    // The first sector of a port's record.
+    // Returns the first sector of a port's record.
     fn port_at(self, place: u8) -> usize {
         self.begin
             .saturating_add(2 + self.port_sectors * usize::from(place))
     }
 }
 
-// An image, with the ports and slots that its first sector says.
+// An image, with the number of ports and of slots from its first sector.
 #[derive(Clone, Copy)]
 struct Plain<'a> {
     image: &'a [[u8; SECTOR_OCTETS]],
@@ -53,7 +53,7 @@ fn damaged(sector: usize) -> RecoverCause {
     RecoverCause::Damaged { sector }
 }
 
-// The octets of a sector; one that is not there has none.
+// Returns the octets of a sector, or none if there is no such sector.
 fn sector(image: &[[u8; SECTOR_OCTETS]], place: usize) -> &[u8] {
     match image.get(place) {
         Some(octets) => octets,
@@ -65,7 +65,7 @@ fn is_open(image: &[[u8; SECTOR_OCTETS]], gate: usize) -> bool {
     sector(image, gate).starts_with(&OPEN)
 }
 
-// The number in so many octets from a place on, the most significant first.
+// Returns the number in `count` octets from a place on, the most significant first.
 fn number_at(octets: &[u8], place: usize, count: usize) -> u64 {
     let mut number = 0;
     for octet in octets.iter().skip(place).take(count) {
@@ -74,7 +74,7 @@ fn number_at(octets: &[u8], place: usize, count: usize) -> u64 {
     number
 }
 
-// The octets of sectors from a place on, the gates between them left out where they are a body's.
+// Returns the octets of sectors from a place on. In a body it leaves out the gates between them.
 fn gathered(
     alloc: Global,
     image: &[[u8; SECTOR_OCTETS]],
@@ -92,7 +92,8 @@ fn gathered(
 }
 
 impl<'a> Plain<'a> {
-    // The sectors of an area in both versions: its gate, its header, nine for each port, and seventeen for each slot.
+    // Returns the number of sectors of an area in both versions: its gate, its header, nine for each port, and seventeen for
+    // each slot.
     fn area(self) -> usize
         ensures { result < 2 ^ 21 }
     {
@@ -128,7 +129,7 @@ impl<'a> Plain<'a> {
         Ok(plain)
     }
 
-    // The slots that an area gives up in version 2, for 8 sectors more of each port.
+    // Returns the number of slots that an area gives up in version 2, for 8 more sectors of each port.
     fn given_up(self) -> u16
         ensures { result ≤ 16 }
     {
@@ -148,7 +149,7 @@ impl<'a> Plain<'a> {
         })
     }
 
-    // The open area with the greatest epoch.
+    // Returns the open area with the greatest epoch.
     fn in_use(self) -> Result<Used, RecoverCause> {
         let b = 2 + self.area();
         let used = match (self.open(2), self.open(b)) {
@@ -175,7 +176,7 @@ impl<'a> Plain<'a> {
         })
     }
 
-    // The port whose record begins at a sector.
+    // Returns the port whose record begins at a sector.
     fn port(self, alloc: Global, used: Used, first: usize) -> Result<PortState, RecoverCause> {
         let octets = gathered(alloc, self.image, first, used.port_sectors, false)?;
         match decode_port(alloc, used.version, &octets) {
@@ -209,7 +210,7 @@ impl<'a> Plain<'a> {
         Ok(state)
     }
 
-    // The number behind the batches of an area's slots, up to the first head place whose gate is closed.
+    // Returns the number after the batches of an area's slots, up to the first head place whose gate is closed.
     fn replayed(
         self,
         alloc: Global,
@@ -235,7 +236,7 @@ impl<'a> Plain<'a> {
         Ok(number)
     }
 
-    // The number of the last command of a body of so many sectors, gates left out, whose commands are applied.
+    // Applies the commands of a body of `sectors` sectors, gates left out, and returns the number of the last.
     fn batch_at(
         self,
         alloc: Global,
@@ -249,7 +250,7 @@ impl<'a> Plain<'a> {
         batch(alloc, &octets, used, number, state).ok_or(damaged(body))
     }
 
-    // The gate of a slot of an area.
+    // Returns the gate of a slot of an area.
     fn gate(self, used: Used, slot: usize) -> usize {
         let ports = 2 + used.port_sectors * usize::from(self.ports);
         used.begin
@@ -258,7 +259,7 @@ impl<'a> Plain<'a> {
     }
 }
 
-// The number of the last command of a body of so many commands, if its header says that it follows behind this number.
+// Returns the number of the last command of a body of `count` commands, if its header says that it follows this number.
 fn last_of(body: &[u8], used: Used, number: u64, count: u64) -> Option<u64> {
     let last = number.checked_add(count)?;
     let is_fit = number_at(body, 0, 8) == used.epoch
@@ -268,7 +269,7 @@ fn last_of(body: &[u8], used: Used, number: u64, count: u64) -> Option<u64> {
     if is_fit { Some(last) } else { None }
 }
 
-// How many octets the record of the first command takes, which is applied.
+// Applies the first command, and returns the number of octets of its record.
 fn applied(
     alloc: Global,
     version: Version,
@@ -281,7 +282,7 @@ fn applied(
     Some(read)
 }
 
-// The number of the last command of a body, whose commands are applied.
+// Applies the commands of a body, and returns the number of the last.
 fn batch(
     alloc: Global,
     body: &[u8],
@@ -300,7 +301,7 @@ fn batch(
     if rest.is_empty() { Some(last) } else { None }
 }
 
-/// The number of the last command that an image means, or the first cause why it means nothing.
+/// Returns the number of the last command that an image means, or the first cause why it means nothing.
 pub fn plain_meaning(alloc: Global, image: &[[u8; SECTOR_OCTETS]]) -> Result<u64, RecoverCause> {
     let plain = Plain::of(image)?;
     let used = plain.in_use()?;

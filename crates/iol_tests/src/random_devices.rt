@@ -1,5 +1,5 @@
-//! Ports whose devices answer random octets, 10,000 steps of each of 32. What is told of a port is what its link has answered,
-//! its statuses follow one another as its stages do, and what is stored is what was read.
+//! Ports whose devices answer random octets, 10,000 steps of each of 32 ports. What is reported of a port is what its link has
+//! answered, its statuses follow one another as its stages do, and what is stored is what was read.
 
 use crate::blank::{config, formatted};
 use crate::random_link::{Chance, RandomLink};
@@ -17,7 +17,7 @@ use iol_types::{Change, DataSet, Key, MasterState, PORTS, PortConfig, PortId, Va
 use std::alloc::Global;
 use std::process::Abort;
 
-// In each round each port makes so many steps, which are 10,000 in all.
+// In each round each port makes STEPS steps, which are 10,000 in all.
 const ROUNDS: u16 = 400;
 
 const STEPS: u16 = 25;
@@ -26,10 +26,10 @@ const ALL_STEPS: u32 = 10_000;
 
 const SLOTS: u16 = 24;
 
-// How many sets are stored at least.
+// More sets than this are stored.
 const SETS: usize = 1000;
 
-// Statuses that are met, beside a mismatch. A refusal counts with any codes.
+// The statuses that occur, besides a mismatch. A refusal counts with any codes.
 const MET: [PortStatus; 18] = [
     PortStatus::Lost,
     PortStatus::Starting,
@@ -66,7 +66,7 @@ fn links<R: Abort>(rt: &R, alloc: Global, seed: u64) -> Vec<RandomLink> {
     links
 }
 
-// A Configure of a port for its device, mostly with Backup and Restore, and else with Restore.
+// Makes a Configure of a port for its device, mostly with Backup and Restore, and else with Restore.
 fn configure(chance: &mut Chance, port: PortId) -> Task {
     let validation = if chance.is_one_in(3) {
         Validation::Restore
@@ -86,8 +86,8 @@ fn add<R: Abort>(rt: &R, tasks: &mut Vec<Task>, task: Task) {
     };
 }
 
-// In each round each port makes its steps, before which some are configured, and behind which the flusher makes some turns. At
-// the end of a round all is written.
+// Makes the schedule of a seed. In each round each port makes its steps; before them some ports are configured, and after them
+// the flusher makes some turns. At the end of a round all is written.
 fn schedule<R: Abort>(rt: &R, alloc: Global, seed: u64) -> Vec<Task> {
     let mut chance = Chance::new(seed, 0);
     let mut tasks = Vec::new(alloc);
@@ -108,7 +108,7 @@ fn schedule<R: Abort>(rt: &R, alloc: Global, seed: u64) -> Vec<Task> {
     tasks
 }
 
-// What was read of an object, where that was at this place of the trace.
+// Returns what was read of an object, if that was at this place of the trace.
 fn read_at(
     events: &[Stamped],
     place: Option<&usize>,
@@ -130,14 +130,14 @@ fn answered(request: &[u8], answer: &[u8], key: Key) -> Option<ArrayVec<u8, DATA
     }
 }
 
-// Adds a key that is not there yet.
+// Adds a key, unless it is there already.
 fn add_key<R: Abort>(rt: &R, keys: &mut Vec<Key>, key: Key) {
     if !keys.as_slice().contains(&key) {
         keys.push(key).expect(rt, "memory");
     }
 }
 
-// Adds the keys of a list that are not there yet; the Index of the next list, if it names one.
+// Adds the keys of a list that are not there yet. Returns the Index of the next list, if it names one.
 fn add_listed<R: Abort>(rt: &R, keys: &mut Vec<Key>, list: &[u8]) -> Option<u16> {
     for entry in list.chunks(3) {
         match entry {
@@ -156,7 +156,7 @@ fn add_listed<R: Abort>(rt: &R, keys: &mut Vec<Key>, list: &[u8]) -> Option<u16>
     None
 }
 
-// The keys that were listed behind the size, each at its first place, and in how many lists.
+// Returns the keys that were listed after the size, each at its first place, and the number of lists.
 fn listed<R: Abort>(
     rt: &R,
     alloc: Global,
@@ -175,7 +175,7 @@ fn listed<R: Abort>(
     panic!(rt; "sixteen lists at most")
 }
 
-// A part of the Data Storage object.
+// Returns the key of a part of the Data Storage object.
 fn object(subindex: u8) -> Key {
     Key {
         index: DATA_STORAGE,
@@ -183,7 +183,7 @@ fn object(subindex: u8) -> Key {
     }
 }
 
-// Whether this entry of a set is a key with its value, where that was at this place of the trace.
+// Returns whether this entry of a set is a key with its value, which was read at this place of the trace.
 fn is_entry(
     events: &[Stamped],
     place: Option<&usize>,
@@ -197,7 +197,7 @@ fn is_entry(
     }
 }
 
-// Whether a set has the checksum that was at this place of the trace.
+// Returns whether a set has the checksum that was read at this place of the trace.
 fn is_checksum(events: &[Stamped], place: Option<&usize>, set: &DataSet) -> bool {
     match read_at(events, place, object(PARAMETER_CHECKSUM)) {
         Some(octets) => octets.as_slice() == set.checksum().to_be_bytes().as_slice(),
@@ -205,7 +205,8 @@ fn is_checksum(events: &[Stamped], place: Option<&usize>, set: &DataSet) -> bool
     }
 }
 
-// A set is what was read behind its size and its lists: each key that was listed, with its value, and then the checksum.
+// Asserts that a set is what was read after its size and its lists: each key that was listed, with its value, and then the
+// checksum.
 fn assert_filed<R: Abort>(
     rt: &R,
     alloc: Global,
@@ -223,7 +224,7 @@ fn assert_filed<R: Abort>(
     assert!(rt; is_checksum(events, filed.get(last), set));
 }
 
-// Each port has the set that it filed last, if it filed one.
+// Asserts that each port has the set that it filed last, if it filed one.
 fn assert_sets<R: Abort>(
     rt: &R,
     alloc: Global,
@@ -242,7 +243,7 @@ fn assert_sets<R: Abort>(
     }
 }
 
-// Each link has answered what was told, and was asked for an event at each step.
+// Asserts that each link has answered what was reported, and was asked for an event at each step.
 fn assert_links<R: Abort>(rt: &R, all: &[Told], links: &[RandomLink]) {
     assert!(rt; all.len() == links.len());
     for (told, link) in all.iter().zip(links) {
@@ -250,7 +251,7 @@ fn assert_links<R: Abort>(rt: &R, all: &[Told], links: &[RandomLink]) {
     }
 }
 
-// A status, with no codes of a refusal.
+// Returns a status without the codes of a refusal.
 fn without_codes(status: PortStatus) -> PortStatus {
     match status {
         PortStatus::Failed(PortFault::Refused { .. }) => PortStatus::Failed(ANY_REFUSAL),
@@ -258,7 +259,7 @@ fn without_codes(status: PortStatus) -> PortStatus {
     }
 }
 
-// How often a status is shown.
+// Returns the number of times that a status is shown.
 fn times_of(events: &[Stamped], wanted: PortStatus) -> usize {
     events
         .iter()
@@ -283,7 +284,7 @@ fn is_mismatch(event: &Event) -> bool {
     )
 }
 
-// Each status is met, and many sets are stored.
+// Asserts that each status occurs, and that many sets are stored.
 fn assert_deep<R: Abort>(rt: &R, events: &[Stamped]) {
     for status in MET {
         assert!(rt; times_of(events, status) > 0, "{status:?}");
@@ -297,7 +298,7 @@ fn record<R: Abort>(rt: &R, alloc: Global, state: &MasterState, number: u8) -> V
     encode_port(alloc, Version::newest(), port).expect(rt, "memory")
 }
 
-// Whether a port is the same in both states.
+// Returns whether a port is the same in both states.
 fn is_same<R: Abort>(
     rt: &R,
     alloc: Global,
@@ -309,7 +310,7 @@ fn is_same<R: Abort>(
     found.as_slice() == record(rt, alloc, state, number).as_slice()
 }
 
-// How many commands are found on a disk, and the state.
+// Returns the number of commands that are found on a disk, and the state.
 fn recovered<R: Abort>(rt: &R, alloc: Global, disk: MemoryDisk) -> (u64, MasterState) {
     match Journal::recover(alloc, disk) {
         Ok((journal, state)) => (journal.number(), state),
@@ -317,7 +318,7 @@ fn recovered<R: Abort>(rt: &R, alloc: Global, disk: MemoryDisk) -> (u64, MasterS
     }
 }
 
-// So many commands are found on a disk, and this state.
+// Asserts that this number of commands is found on a disk, and this state.
 fn assert_found<R: Abort>(
     rt: &R,
     alloc: Global,
@@ -332,7 +333,7 @@ fn assert_found<R: Abort>(
     }
 }
 
-// What the schedule of a seed does, run over a new disk.
+// Runs the schedule of a seed over a new disk.
 fn run_of<R: Abort>(rt: &R, alloc: Global, seed: u64) -> Trace<MemoryDisk, RandomLink> {
     let geometry = Geometry::new(u16::from(PORTS), SLOTS).expect(rt, "a geometry");
     let disk = formatted(rt, alloc, geometry);
@@ -343,7 +344,8 @@ fn run_of<R: Abort>(rt: &R, alloc: Global, seed: u64) -> Trace<MemoryDisk, Rando
     }
 }
 
-// A run is whole, and tells what its links have answered and what is stored; how many commands were acknowledged in it.
+// Asserts that a run is whole, and that it reports what its links have answered and what is stored. Returns the number of
+// commands that were acknowledged in it.
 fn assert_told<R: Abort>(
     rt: &R,
     alloc: Global,
@@ -359,7 +361,7 @@ fn assert_told<R: Abort>(
     acknowledged
 }
 
-// A run of a seed, and what is found behind a stop.
+// Asserts what a run of a seed reports, and what is found after a stop.
 fn assert_run<R: Abort>(rt: &R, alloc: Global, seed: u64, pick: Pick) {
     let trace = run_of(rt, alloc, seed);
     let acknowledged = assert_told(rt, alloc, seed, &trace);

@@ -1,4 +1,4 @@
-//! A link whose devices answer random octets, as a seed says. Most answers have the form that is asked for.
+//! A link whose devices answer random octets, which a seed determines. Most answers have the form that is asked for.
 
 ghost use Rattle.std.specs.Prelude.{◌≡◌, ◌<◌};
 
@@ -18,7 +18,7 @@ pub(crate) struct Chance {
 }
 
 impl Chance {
-    /// The numbers of a seed, of which there are several streams.
+    /// Makes one of several streams of numbers of a seed.
     pub(crate) fn new(seed: u64, stream: u64) -> Chance {
         let begun = seed.wrapping_mul(0x9E37_79B9_7F4A_7C15);
         Chance {
@@ -26,7 +26,7 @@ impl Chance {
         }
     }
 
-    // The next four octets.
+    // Returns the next four octets.
     fn octets(&mut self) -> [u8; 4] {
         self.state = self
             .state
@@ -41,7 +41,7 @@ impl Chance {
         octet
     }
 
-    /// A number below this one.
+    /// Returns a number below this one.
     pub(crate) fn below(&mut self, bound: u32) -> u32
         requires { 0 < bound }
         ensures { result < bound }
@@ -49,14 +49,14 @@ impl Chance {
         u32::from_be_bytes(self.octets()) % bound
     }
 
-    /// What is so once in so many times.
+    /// Returns true one time in `count`.
     pub(crate) fn is_one_in(&mut self, count: u32) -> bool
         requires { 0 < count }
     {
         self.below(count) == 0
     }
 
-    // So many octets, as far as there is room.
+    // Returns `count` octets, as far as the capacity goes.
     fn fill<const N: usize>(&mut self, count: u32) -> ArrayVec<u8, N> {
         let mut octets = ArrayVec::new();
         for _ in 0..count {
@@ -67,7 +67,7 @@ impl Chance {
     }
 }
 
-// A device. It is busy for so many requests more, names so many lists more, and has long values or short ones.
+// A device. It is busy for `busy` more requests, names `lists` more lists, and has long values or short ones.
 #[derive(Drop)]
 struct RandomDevice {
     chance: Chance,
@@ -78,7 +78,7 @@ struct RandomDevice {
 }
 
 impl RandomDevice {
-    // Its page. Mostly only octets differ that are not read, else one of the others or all of them.
+    // Returns its page. Mostly only octets differ that are not read; else one of the others differs, or all of them.
     fn page(&mut self) -> [u8; PAGE_OCTETS] {
         let mut page = self.page;
         page[15] = self.chance.octet();
@@ -101,7 +101,7 @@ impl RandomDevice {
         page
     }
 
-    // Its answer to a request: mostly one of the kind that is asked for.
+    // Returns its answer to a request: mostly one of the kind that is asked for.
     fn answer(&mut self, request: &[u8]) -> ArrayVec<u8, ISDU_OCTETS> {
         if self.busy > 0 {
             self.busy -= 1;
@@ -127,7 +127,7 @@ impl RandomDevice {
         }
     }
 
-    // Octets of any count that a link takes, and none more often.
+    // Returns octets of any number that a link takes, and more often none.
     fn any_octets(&mut self) -> ArrayVec<u8, ISDU_OCTETS> {
         if self.chance.is_one_in(6) {
             return ArrayVec::new();
@@ -136,7 +136,7 @@ impl RandomDevice {
         self.chance.fill(count)
     }
 
-    // A refusal of a read or of a write, whichever was asked.
+    // Returns a refusal of a read or of a write, whatever was asked.
     fn refused(&mut self) -> ArrayVec<u8, ISDU_OCTETS> {
         let [error, additional, _, _] = self.chance.octets();
         if self.chance.is_one_in(2) {
@@ -146,7 +146,7 @@ impl RandomDevice {
         }
     }
 
-    // These octets, some of them changed, and often without the last one.
+    // Returns these octets, some of them changed, and often without the last one.
     fn spoiled(&mut self, octets: &[u8]) -> ArrayVec<u8, ISDU_OCTETS> {
         let mut spoiled = ArrayVec::new();
         for octet in octets {
@@ -163,7 +163,7 @@ impl RandomDevice {
         spoiled
     }
 
-    // An answer of the kind that is asked for.
+    // Returns an answer of the kind that is asked for.
     fn fitting(&mut self, request: &[u8]) -> ArrayVec<u8, ISDU_OCTETS> {
         match read_request(request) {
             Ok(Request::Read { index, subindex }) => {
@@ -175,7 +175,7 @@ impl RandomDevice {
         }
     }
 
-    // What is read of an object. Further lists are at 1200 to 12FF.
+    // Returns what is read of an object. Further lists are at 1200 to 12FF.
     fn object(&mut self, index: u16, subindex: u8) -> ArrayVec<u8, DATA_OCTETS> {
         match (index, subindex) {
             (DATA_STORAGE, STATE_PROPERTY) => self.state_property(),
@@ -186,7 +186,7 @@ impl RandomDevice {
         }
     }
 
-    // State_Property: mostly inactive, with DS_UPLOAD_FLAG set or clear; or locked, or any octet.
+    // Returns State_Property: mostly inactive, with DS_UPLOAD_FLAG set or clear; or locked, or any octet.
     fn state_property(&mut self) -> ArrayVec<u8, DATA_OCTETS> {
         let octet = match self.chance.below(16) {
             0 => self.chance.octet(),
@@ -197,7 +197,7 @@ impl RandomDevice {
         data(&[octet])
     }
 
-    // Data_Storage_Size: mostly one that is allowed.
+    // Returns Data_Storage_Size: mostly one that is allowed.
     fn size(&mut self) -> ArrayVec<u8, DATA_OCTETS> {
         let size = if self.chance.is_one_in(40) {
             self.chance.octets()
@@ -207,7 +207,7 @@ impl RandomDevice {
         data(&size)
     }
 
-    // An Index_List: keys, and then its end or the Index of the next list. Few end in another way.
+    // Returns an Index_List: keys, and then its end or the Index of the next list. Few lists end in another way.
     fn list(&mut self) -> ArrayVec<u8, DATA_OCTETS> {
         self.has_long_values = self.chance.is_one_in(8);
         let mut list = ArrayVec::new();
@@ -225,7 +225,7 @@ impl RandomDevice {
         list
     }
 
-    // What ends a list: mostly 0000, the next list where several are named, and else any octets or a reserved Index.
+    // Returns the end of a list: mostly 0000, the next list if several are named, and else any octets or a reserved Index.
     fn next_of_list(&mut self) -> ArrayVec<u8, 4> {
         if self.lists > 0 {
             self.lists -= 1;
@@ -246,7 +246,7 @@ impl RandomDevice {
         }
     }
 
-    // The value of a parameter: mostly one octet or four, or as many as it may have.
+    // Returns the value of a parameter: mostly one octet or four, or the most that it may have.
     fn value(&mut self) -> ArrayVec<u8, DATA_OCTETS> {
         if self.has_long_values {
             return self.chance.fill(232);
@@ -269,7 +269,7 @@ fn with_octet(page: [u8; PAGE_OCTETS], place: usize, octet: u8) -> [u8; PAGE_OCT
     page
 }
 
-// The Index of a further list.
+// Returns the Index of a further list.
 fn list_at(low: u8) -> ArrayVec<u8, 4> {
     octets_of(&[0x12, low])
 }
@@ -278,16 +278,16 @@ fn data(octets: &[u8]) -> ArrayVec<u8, DATA_OCTETS> {
     octets_of(octets)
 }
 
-// These octets, if there is room for them.
+// Returns these octets, if the capacity suffices.
 fn octets_of<const N: usize>(octets: &[u8]) -> ArrayVec<u8, N> {
     let mut same = ArrayVec::new();
     let _ = same.try_extend_from_slice(octets);
     same
 }
 
-/// A link to devices that answer random octets, for each port and each seed others. Now and then the device is lost, and now
-/// and then it raises an event, mostly DS_UPLOAD_REQ. It counts how often it was asked for one, which each step of a port does
-/// once.
+/// A link to devices that answer random octets, which differ for each port and each seed. Now and then the device is lost, and
+/// now and then it raises an event, mostly DS_UPLOAD_REQ. The link counts how often it was asked for an event, which each step
+/// of a port does once.
 #[derive(Drop)]
 pub(crate) struct RandomLink {
     answering: RandomDevice,
@@ -300,7 +300,7 @@ impl RandomLink {
     ghost use Rattle.std.specs.Prelude.{◌+◌, min};
     ghost use Rattle.iol_link.specs.Link.{last_connection};
 
-    /// The link of a port and of a seed, to devices that mostly have this page.
+    /// Makes the link of a port and of a seed, to devices that mostly have this page.
     pub(crate) fn new(seed: u64, port: PortId, page: [u8; PAGE_OCTETS]) -> RandomLink {
         let stream = 2 * u64::from(port.number());
         RandomLink {
@@ -317,12 +317,12 @@ impl RandomLink {
         }
     }
 
-    /// How often it was asked for an event.
+    /// Returns how often the link was asked for an event.
     pub(crate) fn asked(&self) -> u32 {
         self.asked
     }
 
-    /// Whether both have answered the same calls for a page or to a request.
+    /// Returns whether both links have answered the same calls for a page or to a request.
     pub(crate) fn has_answered_as(&self, other: &RandomLink) -> bool {
         self.connection == other.connection
             && self.answering.chance.state == other.answering.chance.state

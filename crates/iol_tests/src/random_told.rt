@@ -1,5 +1,5 @@
-//! What a run tells of ports whose devices answer random octets: each answer is the link's own, numbers come in their order, and
-//! statuses follow one another as the stages of a port do.
+//! The reports of a run on ports whose devices answer random octets: each answer is the link's own, numbers come in their order,
+//! and statuses follow one another as the stages of a port do.
 
 use crate::exchanges::PAGE;
 use crate::random_link::RandomLink;
@@ -14,7 +14,7 @@ use iol_types::{PORTS, PortId};
 use std::alloc::Global;
 use std::process::Abort;
 
-// The link of a port. At two of them is a device of another vendor.
+// Makes the link of a port. Two ports have a device of another vendor.
 pub(crate) fn link_of(seed: u64, port: PortId) -> RandomLink {
     let mut page = PAGE;
     if port.number() % 11 == 0 {
@@ -27,8 +27,8 @@ pub(crate) fn port<R: Abort>(rt: &R, number: u8) -> PortId {
     PortId::new(number).expect(rt, "a port")
 }
 
-// What was told of a port so far: its link as it answered from its beginning, its status, where in the trace is what it has
-// read since the last DS_Command, and so of the set that it filed last.
+// What was reported of a port so far: its link as it answered from its beginning, its status, the places in the trace of what it
+// has read since the last DS_Command, and those of the set that it filed last.
 #[derive(Drop)]
 pub(crate) struct Told {
     pub(crate) link: RandomLink,
@@ -37,7 +37,7 @@ pub(crate) struct Told {
     pub(crate) filed: Option<Vec<usize>>,
 }
 
-// The last command that was accepted, and the last one that was acknowledged.
+// The number of the last accepted command, and of the last acknowledged one.
 #[derive(Drop)]
 struct Numbers {
     accepted: u64,
@@ -55,7 +55,7 @@ fn port_of(event: &Event) -> Option<PortId> {
     }
 }
 
-// Commands are accepted one after another, and acknowledged behind that. No other is refused than one too many.
+// Asserts that commands are accepted one after another, and acknowledged after that. Only one command too many is refused.
 fn count<R: Abort>(rt: &R, numbers: &mut Numbers, event: &Event) {
     match event {
         Event::Accepted { number, .. } => {
@@ -72,7 +72,7 @@ fn count<R: Abort>(rt: &R, numbers: &mut Numbers, event: &Event) {
     }
 }
 
-// What is told of a port is what its link answers, called as the port has called it.
+// Asserts that what is reported of a port is what its link answers, called as the port has called it.
 fn hear<R: Abort>(rt: &R, alloc: Global, told: &mut Told, place: usize, event: &Event) {
     match event {
         Event::Page {
@@ -133,7 +133,7 @@ fn note<R: Abort>(rt: &R, told: &mut Told, place: usize, request: &[u8], answer:
     }
 }
 
-// A status follows another. Where a set is stored, it was filed before.
+// Asserts that a status may follow another. If a set is stored, notes that it was filed before.
 fn follow<R: Abort>(rt: &R, alloc: Global, told: &mut Told, status: PortStatus) {
     let before = told.status;
     assert!(rt; may_follow(before, status), "{status:?} behind {before:?}");
@@ -144,7 +144,7 @@ fn follow<R: Abort>(rt: &R, alloc: Global, told: &mut Told, status: PortStatus) 
     }
 }
 
-// Whether a status may follow another, where no port is deactivated.
+// Returns whether a status may follow another, if no port is deactivated.
 fn may_follow(before: PortStatus, status: PortStatus) -> bool {
     if let PortStatus::Failed(fault) = status {
         return may_fail(before, fault);
@@ -171,7 +171,7 @@ fn may_follow(before: PortStatus, status: PortStatus) -> bool {
     }
 }
 
-// Whether a port of this status may fail so, where there is memory and the disk does not fail.
+// Returns whether a port of this status may fail this way, if there is memory and the disk does not fail.
 fn may_fail(before: PortStatus, fault: PortFault) -> bool {
     match fault {
         PortFault::Size | PortFault::List => before == PortStatus::Uploading,
@@ -192,7 +192,7 @@ fn may_fail(before: PortStatus, fault: PortFault) -> bool {
     }
 }
 
-// What was told of each port, port 1 first, and how many commands were acknowledged, which are all.
+// Returns what was reported of each port, port 1 first, and the number of acknowledged commands, which are all.
 pub(crate) fn told_in<R: Abort>(
     rt: &R,
     alloc: Global,

@@ -192,7 +192,7 @@ pub(crate) const LIST_ROWS: [Row<'static>; 4] = [
         &UPLOADING,
         PortStatus::Storing,
     ),
-    // a reserved key behind another
+    // a reserved key after another
     (
         READ,
         &[
@@ -228,7 +228,7 @@ pub(crate) const END_ROWS: [Row<'static>; 6] = [
         &STORING,
         STAYS_BUSY,
     ),
-    // the same of a download
+    // the same in a download
     (
         WRITTEN,
         &[
@@ -265,7 +265,7 @@ pub(crate) const END_ROWS: [Row<'static>; 6] = [
         &DOWNLOADING,
         STAYS_BUSY,
     ),
-    // a device that is busy fifteen times at each request, which makes 304 of them
+    // a device that is busy fifteen times at each request, and so gets 304 of them
     (
         WRITTEN,
         &[

@@ -1,4 +1,4 @@
-//! An empty journal, and the disk calls of a batch behind it.
+//! An empty journal, and the disk calls of a batch after it.
 
 ghost use Rattle.std.specs.Prelude.{◌≡◌, ◌+◌, [], length};
 ghost use Rattle.iol_journal.specs.Standings.{with_batch};
@@ -9,14 +9,14 @@ use iol_types::{Command, MasterState, PortId};
 use std::alloc::Global;
 use std::process::Abort;
 
-/// A Clear of port 1.
+/// Returns a Clear of port 1.
 pub fn clear() -> Command {
     Command::Clear {
         port: PortId::new(1).unwrap(),
     }
 }
 
-/// An empty journal of two ports and four slots, and its state.
+/// Makes an empty journal of two ports and four slots, with its state.
 pub fn empty_journal<R: Abort>(rt: &R, alloc: Global) -> (Journal<MemoryDisk>, MasterState)
     ensures { result.0.history ≡ record { first = result.0.standing.number; start = result.1; commands = [] } }
 {
@@ -29,7 +29,7 @@ pub fn empty_journal<R: Abort>(rt: &R, alloc: Global) -> (Journal<MemoryDisk>, M
     found
 }
 
-/// A batch that fits behind a journal.
+/// Begins a batch that fits a journal.
 pub fn begun<R: Abort>(rt: &R, journal: Journal<MemoryDisk>, batch: Batch) -> Writing<MemoryDisk>
     ensures { (result.standing ≡ journal.standing) × (length result.commands ≡ length batch.commands.items) }
 {

@@ -21,7 +21,8 @@ fn a_batch_that_is_not_in_flight_is_a_stranger(rt: HostRuntime) {
     meet_stranger::<Brand, _>(&rt, rt.alloc(), front, journal, state);
 }
 
-// A Clear of port 1 is published while nothing is in flight, and while one of port 2 is, which would have the same number.
+// Publishes a Clear of port 1. It is a stranger while nothing is in flight, and while a Clear of port 2 is, which would
+// have the same number.
 fn meet_stranger<F: Name, R: Abort>(
     rt: &R,
     alloc: Global,
@@ -46,7 +47,7 @@ fn meet_stranger<F: Name, R: Abort>(
     assert!(rt; committed.first() == 1 && committed.len() == 1);
 }
 
-// The batch that comes back from a core that does not wait for it.
+// Returns the batch that comes back from a core that does not wait for it.
 fn stranger<F: Name, R: Abort>(
     rt: &R,
     core: &mut Core<F>,

@@ -1,4 +1,4 @@
-//! The texts of faults, which the program tells by names and words of its own.
+//! The texts of faults, for which the program has names and words of its own.
 
 use iol_port::PortFault;
 use iol_types::{AddFault, CommandFault};
@@ -68,7 +68,7 @@ const OF_COMMANDS: [(CommandFault, &str); 6] = [
     ),
 ];
 
-// Whether each fault has the text that stands beside it.
+// Returns whether each fault has the text beside it.
 fn have_texts<T: fmt::Display, R: Abort>(rt: &R, alloc: Global, faults: &[(T, &str)]) -> bool {
     for (fault, text) in faults {
         let told = fault.to_string(alloc).expect(rt, "memory");

@@ -1,4 +1,4 @@
-//! The command that the words of the command line name, carried out.
+//! Carries out the command that the words of the command line name.
 
 ghost use Rattle.std.specs.Prelude.{◌≤◌};
 
@@ -19,7 +19,7 @@ use std::sync::Wait;
 use std::thread::Threads;
 use std::time::Clock;
 
-// Carries out the command that the program's words name, and returns the exit status: 2 where the words are wrong, 0 for
+// Carries out the command that the program's words name, and returns the exit status: 2 if the words are wrong, 0 for
 // help and the version, and else that of the command.
 pub(crate) fn run_program<
     R: Files<File = File> + AllocGlobal + Threads + Wait + Clock + Copy + Send + 'static,
@@ -40,7 +40,7 @@ fn words(rt: &HostRuntime) -> Result<Vec<String>, Fault<'static>> {
     }
 }
 
-// Carries out the command that these words name, the first of which is the name of the program.
+// Carries out the command that these words name. The first word is the name of the program.
 fn run_words<R: Files<File = File> + AllocGlobal + Threads + Wait + Clock + Copy + Send + 'static>(
     rt: &R,
     host: HostRuntime,
@@ -57,7 +57,7 @@ fn run_words<R: Files<File = File> + AllocGlobal + Threads + Wait + Clock + Copy
     }
 }
 
-// The commands that run threads take the handle for them.
+// Carries out a command. The commands that run threads take the handle for them.
 fn carry_out<R: Files<File = File> + AllocGlobal + Threads + Wait + Clock + Copy + Send + 'static>(
     rt: &R,
     host: HostRuntime,
@@ -94,7 +94,7 @@ fn carry_out<R: Files<File = File> + AllocGlobal + Threads + Wait + Clock + Copy
     }
 }
 
-// Shows what stands in place of a command: the help or the version, or why the words are wrong.
+// Shows what takes the place of a command: the help or the version, or why the words are wrong.
 fn answer(rt: &HostRuntime, unasked: &Unasked) -> u8
     ensures { result ≤ 2 }
 {

@@ -1,13 +1,12 @@
-//! `iolmaster`, the program: the command that the words of the command line name, carried out.
+//! `iolmaster`, the program: it carries out the command that the words of the command line name.
 //!
-//! In come the words of the program; out comes the exit status, with what the command writes to standard output and standard
-//! error. The commands themselves are those of `iol_commands`, `iol_check`, `iol_explain`, `iol_draw`, `iol_view`, `iol_live` and
-//! `iol_serve`.
+//! It takes the words of the program, and returns the exit status; the command writes to standard output and standard error. The
+//! commands themselves are those of `iol_commands`, `iol_check`, `iol_explain`, `iol_draw`, `iol_view`, `iol_live` and `iol_serve`.
 //!
 //! Modules in reading order:
-//! - `words` reads the words of all commands, `serve_words` those of `serve`, and `port_files` the files of drivers among them. What
-//!   words ask for is tested (`tests/words.cases`): the words of `clap` are not repeated in a contract.
-//! - `arguments` carries out what words ask for, `serving` has what `serve` asks for, `script_file` reads a script from its file, and
+//! - `words` reads the words of all commands, `serve_words` those of `serve`, and `port_files` the files of drivers among them. Tests
+//!   cover what words ask for (`tests/words.cases`): no contract repeats the words of `clap`.
+//! - `arguments` carries out what words ask for, `serving` carries out `serve`, `script_file` reads a script from its file, and
 //!   `version` has what `--version` prints.
 #![tactic(auto)]
 

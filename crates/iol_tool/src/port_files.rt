@@ -7,13 +7,13 @@ use std::alloc::Global;
 #[derive(Clone, Copy, Debug)]
 pub(crate) struct PortFiles<'a> {
     pub(crate) port: PortId,
-    /// Where its answers are read.
+    /// The file from which its answers are read.
     pub(crate) from: &'a str,
-    /// Where requests are written to it; the same file where one is read and written.
+    /// The file to which requests are written, which is the same if one file is both read and written.
     pub(crate) to: &'a str,
 }
 
-/// Why words name no files of drivers.
+/// The reason why words name no files of drivers.
 #[derive(Clone, Copy, Debug, PartialEq, Eq)]
 pub(crate) enum PortFilesFault<'a> {
     /// This word is neither N=PATH nor N=FROM,TO, with N from 1 to 32.
@@ -25,7 +25,7 @@ pub(crate) enum PortFilesFault<'a> {
 }
 
 impl<'a> PortFiles<'a> {
-    // The files that a word names: N=PATH, or N=FROM,TO.
+    // Reads the files that a word names: N=PATH, or N=FROM,TO.
     fn read(word: &'a str) -> Option<PortFiles<'a>> {
         let (number, paths) = word.split_once('=')?;
         let port = PortId::new(number.parse::<u8>().ok()?)?;
@@ -40,7 +40,7 @@ impl<'a> PortFiles<'a> {
     }
 }
 
-// The files of all drivers, in the order of their words.
+// Reads the files of all drivers, in the order of their words.
 pub(crate) fn all_port_files<'a>(
     alloc: Global,
     words: &[&'a str],
@@ -60,7 +60,7 @@ pub(crate) fn all_port_files<'a>(
     Ok(files)
 }
 
-// Whether a port is among these.
+// Returns whether a port is among these.
 fn is_named(files: &[PortFiles<'_>], port: PortId) -> bool {
     files.iter().any(|files| files.port == port)
 }

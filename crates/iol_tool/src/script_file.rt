@@ -5,10 +5,10 @@ use iol_script::SCRIPT_OCTETS;
 use std::fs::File;
 use std::io::{self, Read};
 
-// The octets of a file: all, or as many as a script may have and one more.
+// Reads the octets of a file: all of them, or at most one more than a script may have.
 //
 // # Errors
-// `File` where it cannot be opened or read; `Memory` where there is none for its octets.
+// `File` if it cannot be opened or read; `Memory` if memory runs out for its octets.
 pub(crate) fn read_script<'a>(rt: &HostRuntime, path: &'a str) -> Result<Vec<u8>, Fault<'a>> {
     let mut octets = Vec::new(rt.alloc());
     match read_file(rt, path, &mut octets) {
@@ -23,7 +23,7 @@ fn read_file(rt: &HostRuntime, path: &str, octets: &mut Vec<u8>) -> io::Result<u
     file.take(SCRIPT_OCTETS as u64 + 1).read_to_end(octets)
 }
 
-// Whether memory ran out.
+// Returns whether memory ran out.
 pub(crate) fn is_memory(error: &io::Error) -> bool {
     error.kind() == io::ErrorKind::OutOfMemory
 }

@@ -5,25 +5,25 @@ use crate::words::{Asked, Unasked, command, flag, image, text};
 use clap::{Arg, ArgAction, ArgMatches, Command, value_parser};
 use std::alloc::{AllocError, Global};
 
-/// What the words of `serve` say.
+/// The words of `serve`, as they were read.
 #[derive(Drop)]
 pub(crate) struct ServeWords<'a> {
     /// The path of an image file.
     pub(crate) image: &'a str,
     /// The drivers at ports, each port once.
     pub(crate) files: Vec<PortFiles<'a>>,
-    /// The path of a script whose simulated devices are at other ports, if one is named.
+    /// The path of a script with simulated devices, which are at other ports, if one is named.
     pub(crate) devices: Option<&'a str>,
-    /// Events are printed as JSON.
+    /// Whether events are printed as JSON.
     pub(crate) json: bool,
-    /// How many seconds a driver may be silent, 1 to 3,600.
+    /// The number of seconds that a driver may be silent, 1 to 3,600.
     pub(crate) silence: u16,
 }
 
-// How many seconds a driver may be silent where the words do not say it.
+// The number of seconds that a driver may be silent if the words do not say it.
 const USUAL_SILENCE: u16 = 10;
 
-// What is told after the options of `serve`.
+// The notes after the options of `serve`.
 const SERVE_NOTES: &str = "\
 Requests are lines on standard input: configure, clear, rollback, read, status, help and quit, in words or as JSON objects.
 At `quit` or the end of input all that was asked is answered, and what waits is written.
@@ -57,10 +57,10 @@ pub(crate) fn serve<'a>(alloc: Global) -> Result<Command<'a>, AllocError> {
     command(alloc, "serve", about, SERVE_NOTES).args(words)
 }
 
-// What the words of `serve` ask for.
+// Returns what the words of `serve` ask for.
 //
 // # Errors
-// Why they are wrong, or `Memory`.
+// Why the words are wrong, or `Memory` if memory runs out.
 pub(crate) fn asked_serve<'a>(
     alloc: Global,
     matches: &ArgMatches<'a>,
@@ -84,7 +84,7 @@ pub(crate) fn asked_serve<'a>(
     }
 }
 
-// Why the files of drivers are wrong.
+// Returns why the files of drivers are wrong.
 fn wrong_files(alloc: Global, fault: PortFilesFault<'_>) -> Unasked {
     match fault {
         PortFilesFault::Form(word) => wrong(format!(in alloc;

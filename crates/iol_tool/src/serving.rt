@@ -41,7 +41,7 @@ pub(crate) fn serve_file<R: AllocGlobal + Threads + Wait + Clock + Copy + Send +
     serve_image(rt, host, words.image, &serving, conversation, &mut err)
 }
 
-// How events are spelled.
+// Returns the spelling of events.
 fn spelling_of(words: &ServeWords<'_>) -> Spelling {
     if words.json {
         Spelling::Json
@@ -50,7 +50,7 @@ fn spelling_of(words: &ServeWords<'_>) -> Spelling {
     }
 }
 
-// A prompt is for who enters requests at a terminal.
+// Shows a prompt only to somebody who enters requests at a terminal.
 fn prompt_of(rt: &HostRuntime) -> Prompt {
     if rt.stdin().is_terminal() {
         Prompt::Shown
@@ -59,7 +59,7 @@ fn prompt_of(rt: &HostRuntime) -> Prompt {
     }
 }
 
-// The octets of the script of devices, if there is one.
+// Reads the octets of the script of devices, if there is one.
 fn devices_of<'a>(rt: &HostRuntime, path: Option<&'a str>) -> Result<Option<Vec<u8>>, Fault<'a>> {
     match path {
         Some(path) => Ok(Some(read_script(rt, path)?)),
@@ -67,7 +67,7 @@ fn devices_of<'a>(rt: &HostRuntime, path: Option<&'a str>) -> Result<Option<Vec<
     }
 }
 
-// What is served beside the image.
+// Returns what is served besides the image.
 fn serving_of<'a>(
     drivers: &'a [Driver<'a>],
     devices: Option<&'a [u8]>,
@@ -80,7 +80,7 @@ fn serving_of<'a>(
     }
 }
 
-// The octets of a script, if there is one.
+// Returns the octets of a script, if there is one.
 fn octets_of(script: &Option<Vec<u8>>) -> Option<&[u8]> {
     match script {
         Some(script) => Some(script.as_slice()),
@@ -88,7 +88,7 @@ fn octets_of(script: &Option<Vec<u8>>) -> Option<&[u8]> {
     }
 }
 
-// The drivers that words name.
+// Returns the drivers that words name.
 fn drivers_of<'a>(alloc: Global, files: &[PortFiles<'a>]) -> Result<Vec<Driver<'a>>, AllocError> {
     let mut drivers = Vec::new(alloc);
     for file in files {
@@ -100,7 +100,7 @@ fn drivers_of<'a>(alloc: Global, files: &[PortFiles<'a>]) -> Result<Vec<Driver<'
     Ok(drivers)
 }
 
-// The driver that has these files.
+// Returns the driver that has these files.
 fn driver_of<'a>(files: &PortFiles<'a>) -> Driver<'a> {
     Driver {
         port: files.port,

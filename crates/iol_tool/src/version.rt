@@ -5,10 +5,10 @@ use std::alloc::{AllocError, Global};
 
 const VERSION: &str = "0.1.0";
 
-// The toolchain's logic, which `rt version` names behind its release: releases of one logic prove the same.
+// The toolchain's logic, which `rt version` prints after its release: releases with one logic prove the same.
 const TOOLCHAIN: &str = "rattle logic dac8208d650f15bf";
 
-// What is printed behind the program's name: its version, and the toolchain on a line of its own.
+// Returns what is printed after the program's name: its version, and the toolchain on a line of its own.
 pub(crate) fn version_text(alloc: Global) -> Result<String, AllocError>
     ensures { IfOk result (λ text. string_bytes text ≡ VERSION.now ++ (codes "\n" ++ TOOLCHAIN.now)) }
 {

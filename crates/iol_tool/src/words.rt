@@ -5,18 +5,18 @@ use clap::error::ErrorKind;
 use clap::{Arg, ArgAction, ArgMatches, Command, Error, value_parser};
 use std::alloc::{AllocError, Global};
 
-/// What is done with a script.
+/// An action on a script.
 #[derive(Clone, Copy)]
 pub(crate) enum OnScript {
     /// It is run on a disk in memory.
     Run,
-    /// It is run so, and each line is followed by what it says in words.
+    /// It is run that way, and each line is followed by its meaning in words.
     Explain,
-    /// What is wrong in it is told, and where.
+    /// It is checked, and each mistake in it is reported with its place.
     Check,
 }
 
-/// A command, with what its words say.
+/// A command, with what its words ask for.
 #[derive(Drop)]
 pub(crate) enum Asked<'a> {
     /// Something is done with the script at a path.
@@ -29,14 +29,14 @@ pub(crate) enum Asked<'a> {
         script: &'a str,
         picture: &'a str,
     },
-    /// The image file at a path is formatted, also where a journal is there if that is forced.
+    /// The image file at a path is formatted, and with `force` even if it holds a journal.
     Format {
         image: &'a str,
         ports: u16,
         slots: u16,
         force: bool,
     },
-    /// A master runs on the image file at a path, with the script's devices and clients; each receipt may be told.
+    /// A master runs on the image file at a path, with the script's devices and clients. Each receipt may be reported.
     Live {
         image: &'a str,
         script: &'a str,
@@ -56,22 +56,22 @@ pub(crate) enum Asked<'a> {
     },
 }
 
-/// What stands in place of a command.
+/// What takes the place of a command.
 #[derive(Drop)]
 pub(crate) enum Unasked {
     /// The help or the version, which the words ask for.
     Shown(String),
     /// Why the words are wrong.
     Wrong(String),
-    /// Memory ran out.
+    /// Out of memory.
     Memory,
 }
 
-/// The command that these words name, the first of which is the name of the program. `version` is shown behind that name
-/// where the words ask for the version.
+/// Reads the command that these words name. The first word is the name of the program. `version` is shown after that
+/// name if the words ask for the version.
 ///
 /// # Errors
-/// What is wrong with the words, or the help or version that they ask for; `Memory` where there is none.
+/// What is wrong with the words, or the help or version that they ask for; `Memory` if memory runs out.
 pub(crate) fn read_words<'a>(
     alloc: Global,
     words: &'a [String],
@@ -83,7 +83,7 @@ pub(crate) fn read_words<'a>(
     }
 }
 
-// What clap answers in place of a command.
+// Returns what clap answers in place of a command.
 fn unasked_by(alloc: Global, error: &Error) -> Unasked {
     if error.kind() == ErrorKind::OutOfMemory {
         return Unasked::Memory;
@@ -103,19 +103,19 @@ fn matched_words<'a>(
     program(alloc, version)?.try_get_matches_from(words)
 }
 
-// The program, with this behind its name where the words ask for its version.
+// Describes the program to clap, with `version` after its name if the words ask for the version.
 fn program<'a>(alloc: Global, version: &'a str) -> Result<Command<'a>, AllocError> {
     titled(alloc, version).subcommands(commands(alloc)?)
 }
 
-// Where a reader of the help goes on.
+// The places where a reader of the help continues.
 const DOORS: &str = "\
 Three doors:
   At a machine     iolmaster serve IMAGE    examples/serve.md, docs/SERVING.md, docs/DRIVERS.md
   In your program  include/iolmaster.h      docs/C.md, docs/USING.md
   The proof        ./check                  docs/THEOREM.md, docs/PROOFS.md";
 
-// The program without its commands, one of which has to be named.
+// Describes the program without its commands, one of which has to be named.
 fn titled<'a>(alloc: Global, version: &'a str) -> Command<'a> {
     Command::new(alloc, "iolmaster")
         .about("The data storage of an IO-Link master")
@@ -124,7 +124,7 @@ fn titled<'a>(alloc: Global, version: &'a str) -> Command<'a> {
         .subcommand_required(true)
 }
 
-// The commands that words can name.
+// Describes the commands that words can name.
 fn commands<'a>(alloc: Global) -> Result<Vec<Command<'a>>, AllocError> {
     let mut commands = Vec::new(alloc);
     for command in [
@@ -142,7 +142,7 @@ fn commands<'a>(alloc: Global) -> Result<Vec<Command<'a>>, AllocError> {
     Ok(commands)
 }
 
-// The command that matched words ask for.
+// Returns the command that matched words ask for.
 fn asked_by<'a>(alloc: Global, matches: &ArgMatches<'a>) -> Result<Asked<'a>, Unasked> {
     match matches.subcommand() {
         Some(("serve", matches)) => asked_serve(alloc, matches),
@@ -155,7 +155,7 @@ fn asked_by<'a>(alloc: Global, matches: &ArgMatches<'a>) -> Result<Asked<'a>, Un
     }
 }
 
-// The command of this name, with what its words say.
+// Returns the command of this name, with what its words ask for.
 fn asked_of<'a>(name: &str, matches: &ArgMatches<'a>) -> Asked<'a> {
     match name {
         "format" => asked_format(matches),
@@ -255,7 +255,7 @@ fn draw<'a>(alloc: Global) -> Result<Command<'a>, AllocError> {
         .args(words)
 }
 
-// What is told behind the options of `format`.
+// The notes after the options of `format`.
 const FORMAT_NOTES: &str =
     "A file that is there and holds no journal is overwritten, whatever it holds.";
 
@@ -275,7 +275,7 @@ fn format<'a>(alloc: Global) -> Result<Command<'a>, AllocError> {
     command(alloc, "format", about, FORMAT_NOTES).args(words)
 }
 
-// What is told behind the options of `live`.
+// The notes after the options of `live`.
 const LIVE_NOTES: &str = "\
 The script's devices are at the ports, and each port that has steps has a client in a thread of its own.
 Its steps are those of clients alone: configure, clear and rollback.
@@ -315,7 +315,7 @@ fn map<'a>(alloc: Global) -> Result<Command<'a>, AllocError> {
         .args(words)
 }
 
-// A command, with what is told of it before its options and behind them.
+// Describes a command, with a text before its options and notes after them.
 pub(crate) fn command<'a>(
     alloc: Global,
     name: &'a str,
@@ -325,22 +325,22 @@ pub(crate) fn command<'a>(
     Command::new(alloc, name).about(about).after_help(notes)
 }
 
-// The path of an image file.
+// Describes the path of an image file.
 pub(crate) fn image<'a>(alloc: Global) -> Arg<'a> {
     word(alloc, "IMAGE", "The path of an image file")
 }
 
-// The path of a script.
+// Describes the path of a script.
 fn script<'a>(alloc: Global) -> Arg<'a> {
     word(alloc, "SCRIPT", "The path of a script in TOML")
 }
 
-// A word without which the words are refused.
+// Describes a word without which the words are refused.
 fn word<'a>(alloc: Global, name: &'a str, help: &'a str) -> Arg<'a> {
     Arg::new(alloc, name).required(true).help(help)
 }
 
-// An option that is there or not.
+// Describes an option that is given or not.
 pub(crate) fn flag<'a>(alloc: Global, name: &'a str, help: &'a str) -> Arg<'a> {
     Arg::new(alloc, name)
         .long(name)
@@ -348,7 +348,7 @@ pub(crate) fn flag<'a>(alloc: Global, name: &'a str, help: &'a str) -> Arg<'a> {
         .help(help)
 }
 
-// An option with a whole number, 0 to 65,535.
+// Describes an option with a whole number, 0 to 65,535.
 fn count<'a>(alloc: Global, name: &'a str, help: &'a str) -> Arg<'a> {
     Arg::new(alloc, name)
         .long(name)
@@ -358,12 +358,12 @@ fn count<'a>(alloc: Global, name: &'a str, help: &'a str) -> Arg<'a> {
         .help(help)
 }
 
-// The value of an argument without which clap refuses the words.
+// Returns the value of an argument without which clap refuses the words.
 pub(crate) fn text<'a>(matches: &ArgMatches<'a>, name: &str) -> &'a str {
     matches.get_str(name).unwrap_or("")
 }
 
-// The number of an option without which clap refuses the words.
+// Returns the number of an option without which clap refuses the words.
 fn number(matches: &ArgMatches<'_>, name: &str) -> u16 {
     matches.get_one::<u16>(name).unwrap_or(0)
 }

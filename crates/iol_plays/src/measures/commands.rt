@@ -6,7 +6,7 @@ use iol_types::{
 };
 use std::alloc::Global;
 
-/// IOL_MANUAL with Backup and Restore, vendor 500, device 43981.
+/// Returns IOL_MANUAL with Backup and Restore, for vendor 500 and device 43981.
 pub(crate) fn config() -> anyhow::Result<PortConfig> {
     Ok(PortConfig {
         mode: PortMode::IolManual,
@@ -17,7 +17,7 @@ pub(crate) fn config() -> anyhow::Result<PortConfig> {
     })
 }
 
-/// A Configure of the port with this number.
+/// Returns a Configure of the port with this number.
 pub(crate) fn configure(port: u8) -> anyhow::Result<Command> {
     Ok(Command::Configure {
         port: PortId::new(port).context("no port number")?,
@@ -25,7 +25,7 @@ pub(crate) fn configure(port: u8) -> anyhow::Result<Command> {
     })
 }
 
-/// A set that counts 4,096 octets: 1,024 parameters without octets.
+/// Makes a set that counts 4,096 octets: 1,024 parameters without octets.
 pub(crate) fn set_of_short_parameters(alloc: Global) -> anyhow::Result<DataSet> {
     let mut set = SetBuilder::new(alloc);
     for index in 0x100..0x500 {
@@ -34,7 +34,7 @@ pub(crate) fn set_of_short_parameters(alloc: Global) -> anyhow::Result<DataSet> 
     Ok(set.finish(500, config()?.device, 0))
 }
 
-/// A set that counts 4,096 octets: 17 entries of 232 octets, and one of 80.
+/// Makes a set that counts 4,096 octets: 17 entries of 232 octets, and one of 80.
 pub(crate) fn largest_set(alloc: Global) -> anyhow::Result<DataSet> {
     let octets = [0xA7; 232];
     let mut set = SetBuilder::new(alloc);

@@ -1,4 +1,5 @@
-//! Commits of one Configure each and the checkpoints between them, beside the same writes and syncs of a plain file.
+//! Commits of one Configure each and the checkpoints between them, compared with the same writes and syncs of a
+//! plain file.
 
 use crate::measures::commands::configure;
 use crate::measures::plain::{Files, Pair, nanoseconds_since, opened_file, timed_calls, writes_of};
@@ -12,16 +13,16 @@ use std::time::Instant;
 
 const PORTS: u16 = 8;
 
-// Of which an area of 8 ports keeps 16.
+// An area of 8 ports keeps 16 of these slots.
 const SLOTS: u16 = 20;
-// A round: 16 commits and a checkpoint, ten times.
+// A round has 16 commits and a checkpoint, ten times.
 const COMMITS: usize = 160;
 
 const CHECKPOINTS: usize = 10;
 // A commit writes a sector of its body, syncs, writes its gate, and syncs.
 const COMMIT_CALLS: usize = 4;
 
-/// Times rounds of commits and checkpoints, and prints for each round what one of either takes.
+/// Times rounds of commits and checkpoints, and prints for each round what one commit and one checkpoint take.
 pub(crate) fn measure_commits(
     rt: &HostRuntime,
     files: Files<'_>,
@@ -43,7 +44,7 @@ fn geometry() -> anyhow::Result<Geometry> {
     Geometry::new(PORTS, SLOTS).context("no geometry")
 }
 
-// The journal after one Configure more or, where no slot is free, after a checkpoint.
+// Returns the journal after one more Configure or, if no slot is free, after a checkpoint.
 fn advanced<D: SectorDisk + Drop>(
     alloc: Global,
     journal: Journal<D>,
@@ -57,7 +58,7 @@ fn advanced<D: SectorDisk + Drop>(
     }
 }
 
-// The journal after a checkpoint, if it has no free slot.
+// Returns the journal after a checkpoint, if it has no free slot.
 fn checkpointed<D: SectorDisk + Drop>(journal: Journal<D>) -> anyhow::Result<Journal<D>> {
     if journal.has_free_slot() {
         return Ok(journal);
@@ -75,7 +76,7 @@ fn checkpointed<D: SectorDisk + Drop>(journal: Journal<D>) -> anyhow::Result<Jou
     }
 }
 
-// The writes and syncs of a round, recorded on a disk in memory: they are the same on every disk.
+// Returns the writes and syncs of a round, recorded on a disk in memory: they are the same on every disk.
 fn calls_of_round(alloc: Global) -> anyhow::Result<Vec<DiskCall>> {
     let disk = MemoryDisk::new(alloc, geometry()?.sectors())?;
     let Ok(journal) = create(alloc, disk, geometry()?) else {
@@ -90,7 +91,7 @@ fn calls_of_round(alloc: Global) -> anyhow::Result<Vec<DiskCall>> {
     Ok(writes_of(alloc, journal.disk().calls().as_slice())?)
 }
 
-// Times a round on new files: each commit or checkpoint, and the same calls of a plain file behind it.
+// Times a round on new files: each commit or checkpoint, followed by the same calls of a plain file.
 fn costs_of_round(
     rt: &HostRuntime,
     files: Files<'_>,

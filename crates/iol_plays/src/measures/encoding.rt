@@ -1,4 +1,4 @@
-//! The records of the largest sets, beside plain copies of as many octets.
+//! The records of the largest sets, compared with plain copies of the same number of octets.
 
 use crate::measures::commands::{largest_set, set_of_short_parameters};
 use crate::measures::plain::{Pair, nanoseconds_since};
@@ -9,11 +9,11 @@ use std::alloc::Global;
 use std::sync::Arc;
 use std::time::Instant;
 
-// How many records are made, and copied, in a round.
+// The number of records that are made, and copied, in a round.
 const TIMES: u16 = 1000;
 
-/// Times the encoding of sets that count 4,096 octets, of few long parameters and of many short ones, and prints what a record takes,
-/// beside a copy of its octets.
+/// Times the encoding of sets that count 4,096 octets, of few long parameters and of many short ones. Prints what a record takes, and
+/// what a copy of its octets takes.
 pub(crate) fn measure_encoding(rt: &HostRuntime, rounds: usize) -> anyhow::Result<()> {
     let alloc = rt.alloc();
     let few = store(alloc, largest_set(alloc)?)?;

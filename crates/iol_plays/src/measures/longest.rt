@@ -1,4 +1,4 @@
-//! Commits of one Configure each through an engine and its flusher, one after the other, on a journal of 32 ports and 256 slots.
+//! Commits of one Configure each through an engine and its flusher, one after another, on a journal of 32 ports and 256 slots.
 
 ghost use Rattle.std.specs.Prelude.{◌≡◌, []};
 
@@ -20,10 +20,10 @@ use std::time::Instant;
 const SLOTS: u16 = 256;
 
 const COMMITS: usize = 10_000;
-// A commit has fewer turns of the flusher, also behind a checkpoint of all ports.
+// A commit has fewer turns of the flusher than this, also after a checkpoint of all ports.
 const MOST_TURNS: usize = 100_000;
 
-/// Makes commits with so many turns of the flusher between two of them, and prints for each the nanoseconds until it was acknowledged.
+/// Makes commits with `turns` turns of the flusher between two of them, and prints for each the nanoseconds until it was acknowledged.
 pub(crate) fn time_commits(rt: &HostRuntime, folder: &str, turns: u32) -> anyhow::Result<()> {
     let image = format!(in rt.alloc(); "{folder}/measured_image")?;
     let geometry = Geometry::new(u16::from(PORTS), SLOTS).context("no geometry")?;
@@ -81,7 +81,7 @@ fn print_commits<D: SectorDisk, F: Name>(
     Ok(())
 }
 
-// The nanoseconds from a Configure to its acknowledgement.
+// Makes a commit, and returns the nanoseconds from its Configure to its acknowledgement.
 fn commit<D: SectorDisk, F: Name>(
     rt: &HostRuntime,
     master: &mut EngineOnDisk<D, F>,

@@ -1,4 +1,5 @@
-//! Calls of a plain file: the same sectors as those of a journal, in the same order; and what both took.
+//! The calls of a plain file, of the same sectors as those of a journal and in the same order, and the times
+//! of both.
 
 use anyhow::bail;
 use iol_disk::{DiskCall, ImageFile, SECTOR_OCTETS};
@@ -10,7 +11,7 @@ use std::io;
 use std::os::unix::fs::FileExt;
 use std::time::Instant;
 
-/// What a journal took and what a plain file took, in nanoseconds.
+/// The times that a journal and a plain file took, in nanoseconds.
 #[derive(Clone, Copy)]
 pub(crate) struct Pair {
     pub(crate) journal: u64,
@@ -18,7 +19,7 @@ pub(crate) struct Pair {
 }
 
 impl Pair {
-    /// Both, with these added.
+    /// Returns both times, with these added.
     pub(crate) fn plus(self, journal: u64, plain: u64) -> Pair {
         Pair {
             journal: self.journal.saturating_add(journal),
@@ -26,14 +27,14 @@ impl Pair {
         }
     }
 
-    /// Prints what one of so many took.
+    /// Prints what one of `count` took.
     pub(crate) fn print(self, rt: &HostRuntime, name: &str, count: u64) -> io::Result<()> {
         let count = count.max(1);
         println!(rt; "{name}: {} {}", self.journal / count, self.plain / count)
     }
 }
 
-/// Where the files of a measurement stand: a journal's image, and a plain file of the same size.
+/// The paths of the files of a measurement: a journal's image, and a plain file of the same size.
 #[derive(Clone, Copy)]
 pub(crate) struct Files<'a> {
     pub(crate) image: &'a str,
@@ -63,12 +64,13 @@ impl Files<'_> {
     }
 }
 
-/// Opens a file to read and to write.
+/// Opens a file for reading and writing.
 pub(crate) fn opened_file(rt: &HostRuntime, path: &str) -> io::Result<File> {
     File::options().read(true).write(true).open(rt, path)
 }
 
-/// Makes these calls of a file, and tells how many nanoseconds they took. What is written does not matter.
+/// Makes these calls of a file, and returns the number of nanoseconds that they took. What is written does
+/// not matter.
 pub(crate) fn timed_calls(rt: &HostRuntime, file: &File, calls: &[DiskCall]) -> io::Result<u64> {
     let mut octets = [0x5A; SECTOR_OCTETS];
     let start = Instant::now(rt)?;
@@ -82,7 +84,7 @@ pub(crate) fn timed_calls(rt: &HostRuntime, file: &File, calls: &[DiskCall]) -> 
     nanoseconds_since(rt, start)
 }
 
-/// The writes and syncs of a disk that was opened first, which made a sync and reads.
+/// Returns the writes and syncs of a disk, without the sync and the reads that opened it.
 pub(crate) fn writes_of(alloc: Global, calls: &[DiskCall]) -> Result<Vec<DiskCall>, AllocError> {
     let writes = calls
         .iter()
@@ -91,13 +93,13 @@ pub(crate) fn writes_of(alloc: Global, calls: &[DiskCall]) -> Result<Vec<DiskCal
     writes.skip(1).collect(alloc)
 }
 
-/// Nanoseconds since an instant.
+/// Returns the nanoseconds since an instant.
 pub(crate) fn nanoseconds_since(rt: &HostRuntime, start: Instant) -> io::Result<u64> {
     let elapsed = start.elapsed(rt)?;
     Ok(u64::try_from(elapsed.as_nanos()).unwrap_or(u64::MAX))
 }
 
-// Where a sector begins.
+// Returns the place of the first octet of a sector.
 fn first_octet(n: usize) -> u64 {
     (n as u64).saturating_mul(SECTOR_OCTETS as u64)
 }

@@ -1,5 +1,5 @@
-//! The recovery of the largest journal, beside plain reads of its file: 32 ports, each with a parameter set that counts 4,096
-//! octets, and 256 slots, of which an area keeps 240, all used.
+//! The recovery of the largest journal, compared with plain reads of its file: 32 ports, each with a parameter set that
+//! counts 4,096 octets, and 256 slots, of which an area keeps 240, all used.
 
 use crate::measures::commands::{configure, largest_set};
 use crate::measures::plain::{Pair, nanoseconds_since, opened_file, timed_calls};
@@ -14,11 +14,11 @@ use std::sync::Arc;
 use std::time::Instant;
 
 const SLOTS: u16 = 256;
-// An area gives up 16 of them for the records of 32 ports.
+// An area gives up 16 of these slots for the records of 32 ports.
 const KEPT_SLOTS: u16 = 240;
 
-/// Times recoveries, and prints what each takes: beside a plain read of the sectors that a recovery reads, and beside one of
-/// all sectors, each a sector at a time and in order.
+/// Times recoveries, and prints what each takes, compared with a plain read of the sectors that a recovery reads, and with
+/// one of all sectors. Each plain read is a sector at a time and in order.
 pub(crate) fn measure_recovery(rt: &HostRuntime, path: &str, rounds: usize) -> anyhow::Result<()> {
     let geometry = Geometry::new(u16::from(PORTS), SLOTS).context("no geometry")?;
     let sectors = geometry.sectors();
@@ -51,7 +51,7 @@ fn time_own_reads(
     time(rt, "recovery beside its reads", path, &calls, rounds)
 }
 
-// The command that is written in this turn: first every port is configured, then each gets the set, one after the other.
+// Returns the command of this turn: first every port is configured, then each gets the set, one after another.
 fn command(turn: u16, set: &Arc<DataSet>) -> anyhow::Result<Command> {
     let port = (turn % u16::from(PORTS)) as u8 + 1;
     if turn < u16::from(PORTS) {
@@ -64,7 +64,7 @@ fn command(turn: u16, set: &Arc<DataSet>) -> anyhow::Result<Command> {
     })
 }
 
-// Writes the largest journal on a disk: a command in each slot of the one area, and then in each slot of the other.
+// Writes the largest journal on a disk: a command in each slot of one area, and then in each slot of the other.
 fn write_largest<D: SectorDisk + Drop>(
     alloc: Global,
     disk: D,
@@ -83,7 +83,7 @@ fn write_largest<D: SectorDisk + Drop>(
     Ok(())
 }
 
-// The disk calls that a recovery makes.
+// Returns the disk calls that a recovery makes.
 fn calls_of_recovery(rt: &HostRuntime, path: &str) -> anyhow::Result<Vec<DiskCall>> {
     match open(
         rt.alloc(),
@@ -94,7 +94,7 @@ fn calls_of_recovery(rt: &HostRuntime, path: &str) -> anyhow::Result<Vec<DiskCal
     }
 }
 
-// A sync, and a read of each sector.
+// Returns a sync, and a read of each sector.
 fn all_sectors(alloc: Global, sectors: usize) -> Result<Vec<DiskCall>, AllocError> {
     let mut calls = Vec::from_array(alloc, [DiskCall::Sync])?;
     for n in 0..sectors {
@@ -103,7 +103,7 @@ fn all_sectors(alloc: Global, sectors: usize) -> Result<Vec<DiskCall>, AllocErro
     Ok(calls)
 }
 
-// Times so many recoveries, a plain file's calls behind each, and prints what they took.
+// Times this number of recoveries, each followed by the calls of a plain file, and prints what they took.
 fn time(
     rt: &HostRuntime,
     name: &str,

@@ -1,5 +1,5 @@
-//! The largest sets of 32 ports made durable: all in one batch over several slots, and one by one, each beside the same calls of a
-//! plain file.
+//! The largest sets of 32 ports made durable: all in one batch over several slots, and one by one, each compared with the same
+//! calls of a plain file.
 
 use crate::measures::commands::{configure, largest_set};
 use crate::measures::plain::{Files, Pair, nanoseconds_since, opened_file, timed_calls, writes_of};
@@ -12,10 +12,10 @@ use std::alloc::Global;
 use std::sync::Arc;
 use std::time::Instant;
 
-// All sets fit the one area, also where each has a slot of its own.
+// All sets fit one area, even if each has a slot of its own.
 const SLOTS: u16 = 64;
 
-/// Times rounds of 32 sets made durable, so many of them in each batch, and prints for each round what all of them took.
+/// Times rounds in which 32 sets are made durable, `each` of them in each batch. Prints for each round what all of them took.
 pub(crate) fn measure_stores(
     rt: &HostRuntime,
     files: Files<'_>,
@@ -36,7 +36,7 @@ fn geometry() -> anyhow::Result<Geometry> {
     Geometry::new(u16::from(PORTS), SLOTS).context("no geometry")
 }
 
-// The journal after a batch.
+// Returns the journal after a batch.
 fn written<D: SectorDisk + Drop>(
     journal: Journal<D>,
     commands: Vec<Command>,
@@ -58,7 +58,7 @@ fn written<D: SectorDisk + Drop>(
     }
 }
 
-// The journal once each port is configured.
+// Returns the journal once each port is configured.
 fn configured<D: SectorDisk + Drop>(
     alloc: Global,
     journal: Journal<D>,
@@ -70,7 +70,7 @@ fn configured<D: SectorDisk + Drop>(
     written(journal, commands)
 }
 
-// The journal once each port has the set, so many ports in each batch.
+// Returns the journal once each port has the set, with `each` ports in each batch.
 fn stored<D: SectorDisk + Drop>(
     alloc: Global,
     mut journal: Journal<D>,
@@ -92,7 +92,7 @@ fn stored<D: SectorDisk + Drop>(
     Ok(journal)
 }
 
-// The disk calls that store the sets, recorded on a disk in memory: they are the same on every disk.
+// Returns the disk calls that store the sets, recorded on a disk in memory: they are the same on every disk.
 fn calls_of_stores(alloc: Global, each: u8) -> anyhow::Result<Vec<DiskCall>> {
     let set = Arc::new(alloc, largest_set(alloc)?)?;
     let disk = MemoryDisk::new(alloc, geometry()?.sectors())?;
@@ -107,7 +107,7 @@ fn calls_of_stores(alloc: Global, each: u8) -> anyhow::Result<Vec<DiskCall>> {
     Ok(writes_of(alloc, calls.as_slice())?)
 }
 
-// What the sets take on a new file, and then the same calls of a plain file.
+// Times the sets on a new file, and then the same calls of a plain file.
 fn cost_of_stores(
     rt: &HostRuntime,
     files: Files<'_>,
@@ -121,7 +121,7 @@ fn cost_of_stores(
     Ok(Pair { journal, plain })
 }
 
-// The nanoseconds that the sets take.
+// Returns the nanoseconds that the sets take.
 fn time_of_stores<D: SectorDisk + Drop>(
     rt: &HostRuntime,
     journal: Journal<D>,
