@@ -63,7 +63,7 @@ impl Known {
         }
     }
 
-    // Adds octets that were read, if what was asked for is known of a port.
+    // Adds the octets that were read of State_Property or Parameter_Checksum, if one of them was asked for.
     fn read(self, asked: Asked, octets: &[u8]) -> Known
         ensures { result ≡ read_known self asked octets.now }
     {
