@@ -23,7 +23,7 @@ pub(crate) const STOPPED: u32 = 4;
 pub(crate) const INVALID: u32 = 5;
 /// The master does not have this port.
 pub(crate) const ABSENT: u32 = 6;
-/// Nothing like it is waited for, and nothing changed.
+/// The call does not fit what is waited for, and nothing changed.
 pub(crate) const MISFIT: u32 = 7;
 /// There is nothing to do, or no such entry.
 pub(crate) const NOTHING: u32 = 8;
@@ -41,7 +41,7 @@ pub(crate) const WRITE: u32 = 13;
 pub(crate) const PAGE: u32 = 14;
 /// A request is to be sent to the device.
 pub(crate) const REQUEST: u32 = 15;
-/// The master has no port of this number.
+/// The master has no port with this number.
 pub(crate) const UNKNOWN_PORT: u32 = 32;
 /// The port has had its last revision.
 pub(crate) const REVISION_SPENT: u32 = 33;

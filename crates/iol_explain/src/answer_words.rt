@@ -46,35 +46,35 @@ impl fmt::Display for AnswerWords<'_> {
     }
 }
 
-// The answer that octets are read as, or their fault.
+// Reads octets as an answer, or returns their fault.
 pub(crate) fn answer_in(octets: &[u8]) -> Result<Answer, IsduFault>
     ensures { result ≡ answer_of octets.now }
 {
     read_answer(octets)
 }
 
-// The words for an answer to something else.
+// Returns the words for an answer to something else.
 fn unasked() -> &'static str
     ensures { result.now ≡ unasked }
 {
     "an answer to something else than was asked"
 }
 
-// Whether a read was asked.
+// Returns whether a read was asked.
 fn asks_read(asked: Asked) -> bool
     ensures { result ≡ asks_read asked }
 {
     matches!(asked, Asked::Read(_))
 }
 
-// Whether a write was asked.
+// Returns whether a write was asked.
 fn asks_write(asked: Asked) -> bool
     ensures { result ≡ asks_write asked }
 {
     matches!(asked, Asked::Write(_))
 }
 
-// The words for the positive answer to a write.
+// Returns the words for the positive answer to a write.
 fn written_well(asked: Asked) -> &'static str
     ensures { result.now ≡ written_well asked }
 {
@@ -84,7 +84,7 @@ fn written_well(asked: Asked) -> &'static str
     }
 }
 
-// The words for the positive answer to a read.
+// Writes the words for the positive answer to a read.
 fn write_read<W: fmt::Write>(
     f: &mut fmt::Formatter<W>,
     alloc: Global,
@@ -99,7 +99,7 @@ fn write_read<W: fmt::Write>(
     }
 }
 
-// The words for the octets of an object that was read.
+// Writes the words for the octets of an object that was read.
 fn write_value<W: fmt::Write>(
     f: &mut fmt::Formatter<W>,
     alloc: Global,
@@ -119,7 +119,7 @@ fn write_value<W: fmt::Write>(
     )
 }
 
-// The words for a negative answer, where it answers what was asked.
+// Writes the words for a negative answer, or that it answers something else than was asked.
 fn write_refused<W: fmt::Write>(
     f: &mut fmt::Formatter<W>,
     is_asked: bool,

@@ -22,7 +22,7 @@ use iol_types::PortId;
 use std::alloc::Global;
 use std::fmt;
 
-// The lines of an event, by what is known of its port.
+// Writes the lines of an event, by what is known of its port.
 pub(crate) fn write_event<W: fmt::Write>(
     f: &mut fmt::Formatter<W>,
     alloc: Global,
@@ -61,7 +61,7 @@ pub(crate) fn write_event<W: fmt::Write>(
     }
 }
 
-// The line of a refusal.
+// Writes the line of a refusal.
 fn write_refused<W: fmt::Write>(f: &mut fmt::Formatter<W>, fault: SubmitFault) -> fmt::Result
     ensures { WritesOnOk W.write_str_gives f.old result (codes "refused "
         ++ (refusal_name (refusal_of fault) ++ with_words (refusal_words (refusal_of fault)))) f.new }
@@ -70,7 +70,7 @@ fn write_refused<W: fmt::Write>(f: &mut fmt::Formatter<W>, fault: SubmitFault) -
     writeln!(f, "refused {name}  # {words}")
 }
 
-// The lines of a request that was lost, and of the loss.
+// Writes the lines of a request that was lost, and of the loss.
 fn write_lost_request<W: fmt::Write>(
     f: &mut fmt::Formatter<W>,
     port: PortId,
@@ -82,14 +82,14 @@ fn write_lost_request<W: fmt::Write>(
     write_loss(f, port)
 }
 
-// The line of an acknowledgement.
+// Writes the line of an acknowledgement.
 fn write_acknowledged<W: fmt::Write>(f: &mut fmt::Formatter<W>, number: u64) -> fmt::Result
     ensures { WritesOnOk W.write_str_gives f.old result (acknowledged_line number) f.new }
 {
     writeln!(f, "acknowledged {number}  # {}", Durable(number))
 }
 
-// That all commands up to a number are durable.
+// Says that all commands up to a number are durable.
 #[derive(Clone, Copy)]
 struct Durable(u64);
 
@@ -105,7 +105,7 @@ impl fmt::Display for Durable {
     }
 }
 
-// The line of a status.
+// Writes the line of a status.
 fn write_status<W: fmt::Write>(
     f: &mut fmt::Formatter<W>,
     port: PortId,
@@ -124,7 +124,7 @@ fn write_status<W: fmt::Write>(
     )
 }
 
-// The line of a page.
+// Writes the line of a page.
 fn write_page<W: fmt::Write>(
     f: &mut fmt::Formatter<W>,
     port: PortId,
@@ -141,7 +141,7 @@ fn write_page<W: fmt::Write>(
     )
 }
 
-// The line of a loss.
+// Writes the line of a loss.
 fn write_loss<W: fmt::Write>(f: &mut fmt::Formatter<W>, port: PortId) -> fmt::Result
     ensures { WritesOnOk W.write_str_gives f.old result (loss_line port) f.new }
 {
@@ -152,7 +152,7 @@ fn write_loss<W: fmt::Write>(f: &mut fmt::Formatter<W>, port: PortId) -> fmt::Re
     )
 }
 
-// The lines of an exchange.
+// Writes the lines of an exchange.
 fn write_exchange<W: fmt::Write>(
     f: &mut fmt::Formatter<W>,
     alloc: Global,
@@ -171,7 +171,7 @@ fn write_exchange<W: fmt::Write>(
     writeln!(f, "port {} <{}  # {words}", port.number(), Spaced(answer))
 }
 
-// The line of a request.
+// Writes the line of a request.
 fn write_request<W: fmt::Write>(
     f: &mut fmt::Formatter<W>,
     port: PortId,

@@ -1,5 +1,5 @@
-//! Words and lines of explained runs, worked out by the check: a text that is wrong in a definition and in the code alike is
-//! refused here.
+//! Worked examples of the words and lines of explained runs, which the check computes. A text that is wrong both in a definition
+//! and in the code is refused here.
 ghost use Rattle.std.specs.Prelude.{◌≡◌, [], ◌∷◌, ◌++◌, map, replicate, codes, true, false, Some, None};
 ghost use Rattle.iol_types.specs.Command.{Clear};
 ghost use Rattle.iol_ident.specs.Page.{page_of};
@@ -21,7 +21,7 @@ ghost use Rattle.iol_explain.specs.Values.{value_words};
 use crate::object::Object;
 use crate::told_disk::ToldCall;
 
-/// Requests to read what stands at the Data Storage object, and parameters.
+/// Requests to read the parts of the Data Storage object, and to read parameters.
 pub fn reads()
     ensures state_property { request_words (request_of (0xA4 ∷ 0x03 ∷ 0x02 ∷ 0xA5 ∷ []))
         ≡ codes "reads Index 3, Subindex 2: State_Property" }
@@ -34,7 +34,7 @@ pub fn reads()
     ensures long_index { request_words (request_of (0xB5 ∷ 0x12 ∷ 0x34 ∷ 0x05 ∷ 0x96 ∷ [])) ≡ codes "reads parameter 1234.05" }
 {}
 
-/// Commands to the Data Storage of a device, and octets that are none.
+/// Commands to the Data Storage of a device, and octets that are no command.
 pub fn commands()
     ensures upload_start { request_words (request_of (0x25 ∷ 0x03 ∷ 0x01 ∷ 0x01 ∷ 0x26 ∷ []))
         ≡ codes "writes Index 3, Subindex 1: DS_Command DS_UploadStart" }
@@ -62,7 +62,7 @@ pub fn writes()
         ≡ codes "writes Index 3, Subindex 2: State_Property: 80" }
 {}
 
-/// Octets that are no request: the check that they fail.
+/// Octets that are no request, and the check that they fail.
 pub fn malformed_requests()
     ensures empty { request_words (request_of []) ≡ codes "malformed, Empty: there is no octet" }
     ensures reserved { request_words (request_of (0x90 ∷ 0x40 ∷ 0xD0 ∷ []))
@@ -121,7 +121,7 @@ pub fn other_answers()
         ≡ codes "malformed, Check: the last octet, CHKPDU, does not make the XOR of all octets 00" }
 {}
 
-/// What is read at the Data Storage object, of each state, and with another count of octets.
+/// Values that are read at the Data Storage object, of each state, and with another number of octets.
 pub fn values()
     ensures upload { value_words Object.StateProperty (0x02 ∷ []) ≡ codes "State_Property: DS_UPLOAD_FLAG clear, state upload" }
     ensures download { value_words Object.StateProperty (0x04 ∷ []) ≡ codes "State_Property: DS_UPLOAD_FLAG clear, state download" }
@@ -135,7 +135,7 @@ pub fn values()
     ensures unnamed { value_words (Object.Unnamed 9) (0x01 ∷ []) ≡ codes "Subindex 9: 01" }
 {}
 
-/// Lists with no key, with a further list, and octets that are none.
+/// Lists with no key, with a further list, and octets that are no list.
 pub fn lists()
     ensures no_key { value_words Object.IndexList (0x00 ∷ 0x00 ∷ []) ≡ codes "Index_List: end" }
     ensures further_list { value_words Object.IndexList (0x00 ∷ 0x40 ∷ 0x00 ∷ 0x12 ∷ 0x00 ∷ [])
@@ -155,7 +155,8 @@ pub fn pages()
         ≡ codes "VendorID FFFF, DeviceID FFFFFF, RevisionID 10, ISDUs not supported" }
 {}
 
-/// What stands in the sectors of a disk with 2 ports and 4 slots, of which an area keeps three, and in some of one in version 1.
+/// The contents of the sectors of a disk with 2 ports and 4 slots, of which an area keeps three, and of some sectors of one in
+/// version 1.
 pub fn places()
     ensures area_a { map (λ sector. place_text (place_at (layout_of two_by_four) sector)) (0 ∷ 1 ∷ 2 ∷ 3 ∷ 4 ∷ 20
         ∷ 21 ∷ 37 ∷ 38 ∷ 39 ∷ 54 ∷ 55 ∷ 88 ∷ 89 ∷ [])
@@ -198,7 +199,7 @@ pub fn disk_calls()
     ensures sync { call_line two_by_four ToldCall.Sync ≡ codes "disk sync\n" }
 {}
 
-/// The calls of a run: those behind the first sync, which is that of the recovery.
+/// The calls of a run: those after the first sync, which is that of the recovery.
 pub fn calls()
     ensures of_run { of_run (ToldCall.Sync ∷ ToldCall.Write 23 false ∷ ToldCall.Sync ∷ []) ≡ ToldCall.Write 23 false ∷ ToldCall.Sync ∷ [] }
     ensures between { between (ToldCall.Sync ∷ ToldCall.Write 23 false ∷ ToldCall.Sync ∷ []) 1 2 ≡ ToldCall.Write 23 false ∷ [] }
@@ -206,7 +207,7 @@ pub fn calls()
     ensures since { map (calls_before (0 ∷ 0 ∷ 2 ∷ 5 ∷ []) 3) (0 ∷ 4 ∷ 5 ∷ 6 ∷ []) ≡ 3 ∷ 3 ∷ 4 ∷ 4 ∷ [] }
 {}
 
-/// What is known of ports: what one port reads is known of that port alone, up to its next look at a device, its loss, or a
+/// The knowledge of ports. What one port reads is known of that port alone, up to its next look at a device, its loss, or a
 /// transfer.
 pub fn knowledge()
     ensures read { known_after blank (event.Exchange 17 0 (0xA4 ∷ 0x03 ∷ 0x02 ∷ 0xA5 ∷ []) (0xD3 ∷ 0x80 ∷ 0x53 ∷ []))

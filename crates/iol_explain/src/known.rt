@@ -1,4 +1,4 @@
-//! What was told of a port, by which its decision is explained.
+//! What was reported of a port, by which its decision is explained.
 ghost use Rattle.std.specs.Prelude.{◌≡◌};
 ghost use Rattle.iol_isdu.specs.Reading.{answer_of, request_of};
 ghost use Rattle.iol_core.specs.Telling.{work_told};
@@ -17,18 +17,19 @@ use iol_port::PortStatus;
 use iol_texts::{Row, row_of};
 use iol_types::Validation;
 
-// What was told of a port so far: its work, and what it has read of its device since it began to look at it.
+// What was reported of a port so far: its work, and what it has read of its device since it began to look at
+// it.
 #[derive(Clone, Copy)]
 pub(crate) struct Known {
     validation: Validation,
-    // the checksum of the set that is stored
+    // the checksum of the stored set
     stored: Option<u32>,
     property: Option<u8>,
     checksum: Option<u32>,
 }
 
 impl Known {
-    // Nothing was told.
+    // Returns what is known when nothing was reported.
     pub(crate) fn blank() -> Known
         ensures { result ≡ blank }
     {
@@ -40,7 +41,7 @@ impl Known {
         }
     }
 
-    // The port was told its work.
+    // Adds the work that the port was given.
     pub(crate) fn attended(self, work: &ToldWork) -> Known
         ensures { result ≡ attended self (work_told work.now) }
     {
@@ -52,7 +53,7 @@ impl Known {
         }
     }
 
-    // The port has sent these octets, and its device has answered those.
+    // Adds what the port has read: it has sent these octets, and its device has answered those.
     pub(crate) fn heard(self, request: &[u8], answer: &[u8]) -> Known
         ensures { result ≡ heard self (asked_by (request_of request.now)) (answer_of answer.now) }
     {
@@ -62,7 +63,7 @@ impl Known {
         }
     }
 
-    // These octets were read where that was asked.
+    // Adds the octets that were read of State_Property or Parameter_Checksum, if one of them was asked for.
     fn read(self, asked: Asked, octets: &[u8]) -> Known
         ensures { result ≡ read_known self asked octets.now }
     {
@@ -83,7 +84,7 @@ impl Known {
         }
     }
 
-    // The status of the port has changed: what was read of a device counts up to the transfer that it leads to.
+    // Takes another status of the port. What was read of a device counts up to the transfer that it leads to.
     pub(crate) fn started(self, status: PortStatus) -> Known
         ensures { result ≡ started self (status_told status) }
     {
@@ -96,7 +97,7 @@ impl Known {
         }
     }
 
-    // Nothing was read of a device.
+    // Forgets what was read of a device.
     fn unread(self) -> Known
         ensures { result ≡ record self { property = blank.property; checksum = blank.checksum } }
     {
@@ -108,7 +109,7 @@ impl Known {
         }
     }
 
-    // The line by which the port decides, where what it goes by is known.
+    // Returns the line by which the port decides, if what it depends on is known.
     pub(crate) fn row(self) -> Option<Row>
         ensures { result ≡ row_known self }
     {

@@ -6,7 +6,7 @@ ghost use Rattle.iol_isdu.specs.declared.messages.Request.{Request};
 ghost use Rattle.iol_isdu.specs.declared.faults.IsduFault.{IsduFault};
 ghost use Rattle.iol_explain.specs.Requests.{AreOctets, isdu_fault_words, request_words};
 
-/// Where one octet of a request is another, its words say which check it fails.
+/// If one octet of a request is changed, its words say which check it fails.
 pub fn a_changed_octet_is_malformed()
     ensures { (before behind : List ℕ) (octet other : ℕ) (request : Request) → AreOctets (before ++ octet ∷ behind)
         → AreOctets (before ++ other ∷ behind) → request_of (before ++ octet ∷ behind) ≡ Ok request → other ≢ octet → (fault : IsduFault)

@@ -1,19 +1,20 @@
-//! A run explained in words: the lines of its trace, each with what it says, and the disk calls between them.
+//! Explains a run in words: the lines of its trace, each with what it says, and the disk calls between them.
 //!
-//! In comes a script; out come the lines of its run. A line's words are a function of its event, and of what was told of its
-//! port before.
+//! It takes a script, and prints the lines of its run. A line's words are a function of its event, and of what was reported of
+//! its port before.
 //!
 //! Modules in reading order:
-//! - `explain` is the command that explains a run, `explained` has its lines, and `telling` what they have told.
+//! - `explain` is the command that explains a run, `explained` has its lines, and `telling` what they have reported.
 //! - `event_lines` has the lines of an event. Its words are those of `page_words`, `request_words`, `answer_words` with
 //!   `value_words` and `list_words`, and those of refusals and statuses of `iol_texts`.
-//! - `known` says what was told of a port, and so by which line of the table of decisions it decides.
-//! - `told_disk` is a disk whose calls are told, `place` what stands in a sector, and `disk_lines` has the lines of disk calls.
+//! - `known` says what was reported of a port, and so by which line of the table of decisions it decides.
+//! - `told_disk` is a disk that reports its calls, `place` says what a sector holds, and `disk_lines` has the lines of disk
+//!   calls.
 //! - `object`, `octets` and `hexadecimal` are words that the others use.
-//! - `examples` has lines and words worked out, and `laws` a law of words.
+//! - `examples` has worked examples of lines and words, and `laws` a law of words.
 //!
-//! What is printed is defined in `specs/Explained.antt`, the lines of an event in `specs/EventLines.antt`, those of a disk
-//! call in `specs/DiskLines.antt`, and which run it is in `specs/Played.antt`.
+//! `specs/Explained.antt` defines what is printed, `specs/EventLines.antt` the lines of an event, `specs/DiskLines.antt` those
+//! of a disk call, and `specs/Played.antt` which run it is.
 #![tactic(auto)]
 
 mod answer_words;

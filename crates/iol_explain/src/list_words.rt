@@ -8,7 +8,7 @@ use iol_types::Key;
 use std::alloc::Global;
 use std::fmt;
 
-// What the octets of an Index_List say, in words. Reading them takes memory for the keys.
+// The octets of an Index_List, in words. Reading them needs memory for the keys.
 #[derive(Drop)]
 pub(crate) struct ListWords<'a> {
     pub(crate) alloc: Global,
@@ -32,7 +32,7 @@ impl fmt::Display for ListWords<'_> {
     }
 }
 
-// The keys of a list, and what is next.
+// Writes the keys of a list, and what is next.
 fn write_listing<W: fmt::Write>(f: &mut fmt::Formatter<W>, keys: &[Key], next: Next) -> fmt::Result
     ensures { WritesOnOk W.write_str_gives f.old result (listing_words keys.now next) f.new }
 {
@@ -41,7 +41,7 @@ fn write_listing<W: fmt::Write>(f: &mut fmt::Formatter<W>, keys: &[Key], next: N
     write_next(f, next)
 }
 
-// What is next behind a list.
+// Writes what is next after a list.
 fn write_next<W: fmt::Write>(f: &mut fmt::Formatter<W>, next: Next) -> fmt::Result
     ensures { WritesOnOk W.write_str_gives f.old result (next_text next) f.new }
 {
@@ -51,7 +51,7 @@ fn write_next<W: fmt::Write>(f: &mut fmt::Formatter<W>, next: Next) -> fmt::Resu
     }
 }
 
-// Keys, each with a comma behind it.
+// Writes keys, each with a comma after it.
 fn write_keys<W: fmt::Write>(f: &mut fmt::Formatter<W>, keys: &[Key]) -> fmt::Result
     ensures { WritesOnOk W.write_str_gives f.old result (keys_text keys.now) f.new }
 {

@@ -1,4 +1,4 @@
-//! What a request names in a device (IO-Link V1.1, Data Storage object).
+//! The objects that requests name in a device (IO-Link V1.1, Data Storage object).
 ghost use Rattle.std.specs.Prelude.{◌≡◌};
 ghost use Rattle.iol_explain.specs.Objects.{object_of};
 
@@ -9,7 +9,7 @@ use iol_dsindex::{
 use iol_types::Key;
 use std::fmt;
 
-// What an Index and a Subindex name.
+// The object that an Index and a Subindex name.
 #[derive(Clone, Copy)]
 pub(crate) enum Object {
     Parameter(Key),
@@ -22,7 +22,7 @@ pub(crate) enum Object {
     Unnamed(u8),
 }
 
-// What this Index and Subindex name.
+// Returns the object that this Index and Subindex name.
 pub(crate) fn object_of(index: u16, subindex: u8) -> Object
     ensures { result ≡ object_of index subindex }
 {
@@ -39,7 +39,7 @@ pub(crate) fn object_of(index: u16, subindex: u8) -> Object
     }
 }
 
-// The name of an object.
+// Writes the name of an object.
 impl fmt::Display for Object {
     ghost use Rattle.std.specs.Prelude.{Some};
     ghost use Rattle.iol_explain.specs.Objects.{object_name};
@@ -59,7 +59,7 @@ impl fmt::Display for Object {
     }
 }
 
-// An object where it stands.
+// An object, with its Index and Subindex.
 #[derive(Clone, Copy)]
 pub(crate) struct ObjectPlace(pub(crate) Object);
 

@@ -6,7 +6,7 @@ use iol_dsindex::DsCommand;
 use iol_texts::Spaced;
 use std::fmt;
 
-// The octet, where there is one and no other.
+// Returns the octet, if there is exactly one.
 pub(crate) fn one_octet(octets: &[u8]) -> Option<u8>
     ensures { result ≡ one_octet octets.now }
 {
@@ -16,7 +16,7 @@ pub(crate) fn one_octet(octets: &[u8]) -> Option<u8>
     }
 }
 
-// The number that four octets are, most significant octet first, where there are four.
+// Returns the number that four octets are, most significant octet first, if there are four.
 pub(crate) fn four_octets(octets: &[u8]) -> Option<u32>
     ensures { result ≡ four_octets octets.now }
 {
@@ -28,7 +28,7 @@ pub(crate) fn four_octets(octets: &[u8]) -> Option<u32>
     }
 }
 
-// The command to the Data Storage of a device that octets are, if they are one.
+// Returns the command to the Data Storage of a device that octets are, if they are one.
 pub(crate) fn command_in(octets: &[u8]) -> Option<DsCommand>
     ensures { result ≡ command_in octets.now }
 {
@@ -38,7 +38,7 @@ pub(crate) fn command_in(octets: &[u8]) -> Option<DsCommand>
     }
 }
 
-// Octets behind spaces, or that there are none.
+// Octets, each after a space, or that there are none.
 #[derive(Drop)]
 pub(crate) struct OctetWords<'a>(pub(crate) &'a [u8]);
 

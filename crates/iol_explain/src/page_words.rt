@@ -7,7 +7,7 @@ use crate::hexadecimal::{FourDigits, SixDigits, TwoDigits};
 use iol_ident::{PAGE_OCTETS, Page};
 use std::fmt;
 
-// What the octets of a page say of a device, in words.
+// The words for what the octets of a page say of a device.
 #[derive(Drop)]
 pub(crate) struct PageWords<'a>(pub(crate) &'a [u8; PAGE_OCTETS]);
 
@@ -23,7 +23,7 @@ impl fmt::Display for PageWords<'_> {
     }
 }
 
-// What a page says of a device.
+// Writes what a page says of a device.
 fn write_page<W: fmt::Write>(f: &mut fmt::Formatter<W>, page: Page) -> fmt::Result
     ensures { WritesOnOk W.write_str_gives f.old result (page_words page) f.new }
 {
@@ -35,7 +35,7 @@ fn write_page<W: fmt::Write>(f: &mut fmt::Formatter<W>, page: Page) -> fmt::Resu
     write!(f, "RevisionID {revision}, {isdu}")
 }
 
-// Whether the device knows ISDUs, in words.
+// Returns whether the device knows ISDUs, in words.
 fn isdu_text(has_isdu: bool) -> &'static str
     ensures { result.now ≡ isdu_text has_isdu }
 {

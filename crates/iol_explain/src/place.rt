@@ -1,4 +1,4 @@
-//! What stands in a sector of a journal's disk (docs/FORMATS.md, "Disk layout").
+//! The contents of the sectors of a journal's disk (docs/FORMATS.md, "Disk layout").
 ghost use Rattle.std.specs.Prelude.{◌≡◌, ◌<◌};
 ghost use Rattle.iol_explain.specs.Places.{area_name, is_gate, place_at, place_in_area, place_in_slot};
 
@@ -6,10 +6,10 @@ use iol_journal::Area;
 use iol_journal::survey::Layout;
 use std::fmt;
 
-// The sectors of a slot: its gate, and its body.
+// The number of sectors of a slot: its gate, and its body.
 const SLOT_SECTORS: usize = 17;
 
-/// What stands in a sector. Ports and slots are counted from 1.
+/// What a sector holds. Ports and slots are counted from 1.
 #[derive(Clone, Copy)]
 pub enum Place {
     Geometry,
@@ -19,13 +19,13 @@ pub enum Place {
     Record(Area, usize),
     SlotGate(Area, usize),
     Body(Area, usize),
-    /// Behind the slots of an area.
+    /// It is after the slots of an area.
     Unused(Area),
-    /// Behind the journal.
+    /// It is after the journal.
     Behind,
 }
 
-/// What stands in this sector of a disk that is laid out so.
+/// Returns what this sector of a disk with this layout holds.
 pub fn place_of(layout: Layout, sector: usize) -> Place
     ensures { result ≡ place_at layout sector }
 {
@@ -43,7 +43,7 @@ pub fn place_of(layout: Layout, sector: usize) -> Place
     }
 }
 
-// What stands so far into an area.
+// Returns what the sector at this offset in an area holds.
 fn place_in_area(layout: Layout, area: Area, offset: usize) -> Place
     ensures { result ≡ place_in_area layout area offset }
 {
@@ -63,7 +63,7 @@ fn place_in_area(layout: Layout, area: Area, offset: usize) -> Place
     }
 }
 
-// What stands so far behind the records of an area.
+// Returns what the sector at this offset after the records of an area holds.
 fn place_in_slot(area: Area, offset: usize) -> Place
     ensures { result ≡ place_in_slot area offset }
 {
@@ -75,7 +75,7 @@ fn place_in_slot(area: Area, offset: usize) -> Place
     }
 }
 
-// Whether a gate stands there.
+// Returns whether a place holds a gate.
 pub(crate) fn is_gate(place: Place) -> bool
     ensures { result ≡ is_gate place }
 {
@@ -110,7 +110,7 @@ impl fmt::Display for Place {
     }
 }
 
-// The letter of an area.
+// Returns the letter of an area.
 fn area_name(area: Area) -> &'static str
     ensures { result.now ≡ area_name area }
 {

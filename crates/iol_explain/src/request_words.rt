@@ -17,14 +17,14 @@ pub(crate) enum Asked {
     Malformed,
 }
 
-// The request that octets are read as, or their fault.
+// Reads octets as a request, or returns their fault.
 fn request_in(octets: &[u8]) -> Result<Request, IsduFault>
     ensures { result ≡ request_of octets.now }
 {
     read_request(octets)
 }
 
-// What the request asks for that octets are.
+// Returns what these octets ask for, read as a request.
 pub(crate) fn asked_by(octets: &[u8]) -> Asked
     ensures { result ≡ asked_by (request_of octets.now) }
 {
@@ -102,7 +102,7 @@ impl fmt::Display for Written<'_> {
     }
 }
 
-// The name of a command to the Data Storage of a device.
+// Returns the name of a command to the Data Storage of a device.
 fn command_name(command: DsCommand) -> &'static str
     ensures { result.now ≡ command_name command }
 {
@@ -115,7 +115,7 @@ fn command_name(command: DsCommand) -> &'static str
     }
 }
 
-// Which check of the codec octets fail.
+// Returns the words for the check of the codec that octets fail.
 pub(crate) fn isdu_fault_words(fault: IsduFault) -> &'static str
     ensures { result.now ≡ isdu_fault_words fault }
 {

@@ -1,4 +1,4 @@
-//! A disk whose writes and syncs are told.
+//! A disk that reports its writes and syncs.
 
 ghost use Rattle.std.specs.Prelude.{◌≡◌, [], true, IfOk};
 ghost use Rattle.iol_slots.specs.Gate.{is_open};
@@ -11,21 +11,21 @@ use std::alloc::{AllocError, Global};
 /// A call that changes a disk.
 #[derive(Clone, Copy)]
 pub enum ToldCall {
-    /// This sector is written, with octets that are an open gate's or others.
+    /// This sector is written, with the octets of an open gate or with others.
     Write { sector: usize, is_gate_open: bool },
     Sync,
 }
 
-/// Another disk, whose writes and syncs are told in their order. It is honest where that disk is.
+/// A disk over another one, whose writes and syncs it reports in their order. It is honest if that disk is.
 #[derive(Drop)]
 pub(crate) struct ToldDisk<D: SectorDisk> {
     disk: D,
     calls: Vec<ToldCall>,
-    // each call is among them
+    // whether each call is among them
     is_whole: bool,
 }
 
-/// What a disk was at its end: the disk whose calls were told, and the calls.
+/// A disk at its end: the disk whose calls were reported, and the calls.
 #[derive(Drop)]
 pub(crate) struct ToldEnd<D: SectorDisk> {
     pub(crate) disk: D,
@@ -33,7 +33,7 @@ pub(crate) struct ToldEnd<D: SectorDisk> {
 }
 
 impl<D: SectorDisk> ToldDisk<D> {
-    // The disk, of which no call is told yet.
+    // Takes a disk, of which no call is reported yet.
     pub(crate) fn new(alloc: Global, disk: D) -> ToldDisk<D>
         ensures disk { told_on result ≡ disk }
         ensures calls { (calls_of result ≡ []) × (is_whole result ≡ true) }
@@ -45,7 +45,7 @@ impl<D: SectorDisk> ToldDisk<D> {
         }
     }
 
-    // Tells a call, or that one is missing.
+    // Reports a call, or notes that one is missing.
     fn tell(&mut self, call: ToldCall)
         ensures disk { told_on self.new ≡ told_on self.old }
         ensures told { IsTold call self.old self.new }
@@ -57,7 +57,7 @@ impl<D: SectorDisk> ToldDisk<D> {
 }
 
 impl<D: SectorDisk + Drop> ToldDisk<D> {
-    // The disk and the calls, in the order in which they were made.
+    // Returns the disk and the calls, in the order in which they were made.
     //
     // # Errors
     // Out of memory: a call is missing.
@@ -89,7 +89,7 @@ impl<D: SectorDisk> SectorDisk for ToldDisk<D> {
         self.disk.sectors()
     }
 
-    /// Makes the read, which is not told.
+    /// Makes the read, which is not reported.
     fn read(&mut self, n: usize, octets: &mut [u8; SECTOR_OCTETS]) -> Result<(), DiskFault>
         requires { n < (D.disk (told_on self.old)).sectors }
         ensures read { OnOk result (IsTrue (D.disk (told_on self.old)).honest → octets.new
@@ -102,7 +102,7 @@ impl<D: SectorDisk> SectorDisk for ToldDisk<D> {
         self.disk.read(n, octets)
     }
 
-    /// Tells the write and makes it.
+    /// Reports the write, and makes it.
     #[tactic(auto, unfolding(iol_slots::specs::Gate::is_open))]
     fn write(&mut self, n: usize, octets: &[u8; SECTOR_OCTETS]) -> Result<(), DiskFault>
         requires { n < (D.disk (told_on self.old)).sectors }
@@ -119,7 +119,7 @@ impl<D: SectorDisk> SectorDisk for ToldDisk<D> {
         self.disk.write(n, octets)
     }
 
-    /// Tells the sync and makes it.
+    /// Reports the sync, and makes it.
     fn sync(&mut self) -> Result<(), DiskFault>
         ensures synced { OnOk result (After synced (D.disk (told_on self.old)) (D.disk (told_on self.new))) }
         ensures same { OnErr result (Same (D.disk (told_on self.old)) (D.disk (told_on self.new))) }

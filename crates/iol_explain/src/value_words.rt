@@ -40,7 +40,7 @@ impl fmt::Display for ValueWords<'_> {
     }
 }
 
-// The words for State_Property.
+// Writes the words for State_Property.
 fn write_property<W: fmt::Write>(f: &mut fmt::Formatter<W>, octets: &[u8]) -> fmt::Result
     ensures { WritesOnOk W.write_str_gives f.old result (property_value octets.now) f.new }
 {
@@ -55,14 +55,14 @@ fn write_property<W: fmt::Write>(f: &mut fmt::Formatter<W>, octets: &[u8]) -> fm
     }
 }
 
-// DS_UPLOAD_FLAG in a word.
+// Returns DS_UPLOAD_FLAG in a word.
 fn flag_text(flag: bool) -> &'static str
     ensures { result.now ≡ flag_text flag }
 {
     if flag { "set" } else { "clear" }
 }
 
-// The state of a device's Data Storage in words.
+// Returns the state of a device's Data Storage in words.
 fn state_text(state: State) -> &'static str
     ensures { result.now ≡ state_text state }
 {
@@ -74,7 +74,7 @@ fn state_text(state: State) -> &'static str
     }
 }
 
-// The words for Data_Storage_Size.
+// Writes the words for Data_Storage_Size.
 fn write_size<W: fmt::Write>(f: &mut fmt::Formatter<W>, octets: &[u8]) -> fmt::Result
     ensures { WritesOnOk W.write_str_gives f.old result (size_value octets.now) f.new }
 {
@@ -88,7 +88,7 @@ fn write_size<W: fmt::Write>(f: &mut fmt::Formatter<W>, octets: &[u8]) -> fmt::R
     }
 }
 
-// The words for Parameter_Checksum.
+// Writes the words for Parameter_Checksum.
 fn write_checksum<W: fmt::Write>(f: &mut fmt::Formatter<W>, octets: &[u8]) -> fmt::Result
     ensures { WritesOnOk W.write_str_gives f.old result (checksum_value octets.now) f.new }
 {

@@ -12,7 +12,7 @@ use Rattle.iol_handed.specs.declared.handed_disk.Last.TheVariants as last
 use Rattle.iol_handed.specs.declared.held.HeldSector.{HeldSector}
 
 -- a disk that hands out its calls, as contracts see it: its size, the sectors handed in until the first write, the sector that the last
--- failed read did not find, the call that was handed out last, the number of calls modulo 2^64, its failures, and its log (own)
+-- failed read did not find. Then the call that was handed out last, the number of calls modulo 2^64, its failures, and its log (own)
 pub record HandedDiskView : Type 0 where
   pub sectors : ℕ
   pub held : Option (List HeldSector)

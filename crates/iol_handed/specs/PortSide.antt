@@ -128,7 +128,7 @@ Loses port old new answer =
     WithNotes (slice_get old.notes (port - 1)) old new answer
     (λ notes. LosesAt (want_at (engine_in old.made []) port) port notes old new answer)
 
--- a settled port that nothing calls is called to look again (own)
+-- a port that nothing calls is called to look again (own)
 abbrev pub woken_of : Attention → Attention
 woken_of attention.None = attention.Woken
 woken_of other = other

@@ -95,7 +95,7 @@ pub enum Answer {
     Memory,
     /// A call of the disk has failed: no more calls are wanted.
     Stopped,
-    /// Nothing like it is waited for.
+    /// The request does not fit what is waited for.
     Misfit,
     /// The master does not have this port.
     Absent,

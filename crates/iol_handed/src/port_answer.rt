@@ -8,7 +8,7 @@ use iol_isdu::ISDU_OCTETS;
 pub enum PortAnswer {
     /// The master does not have this port.
     Absent,
-    /// Nothing like it is waited for.
+    /// The report does not fit what is waited for.
     Misfit,
     /// Out of memory: nothing changed, and the call may be made again.
     Memory,

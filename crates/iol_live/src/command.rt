@@ -18,8 +18,8 @@ use std::sync::Wait;
 use std::thread::Threads;
 use std::time::Clock;
 
-/// Runs a master on the image file at `path`, with the devices and the clients of a script, and returns the exit status: 0 once
-/// the number of receipts and the recovered state are written to `out`, 2 if the script is not valid, and else 1.
+/// Runs a master on the image file at `path`, with the devices and the clients of a script, and returns the exit status. It is
+/// 0 once the number of receipts and the recovered state are written to `out`, 2 if the script is not valid, and else 1.
 ///
 /// If the command fails, a line on `err` says why, and nothing is written to `out`. If writing to `out` fails, nothing is
 /// written to `err` after the reports of receipts. The command handles no signal: a program that is killed is a power stop, and

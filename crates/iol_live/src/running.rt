@@ -39,9 +39,9 @@ use std::time::Clock;
 /// again.
 ///
 /// # Errors
-/// Why the disk is not recovered; `Fit` if a device is at a port that does not exist; `Thread` if a thread cannot be made;
-/// `Disk` if a disk call fails; `Call` if a client has no receipt; and `Memory` if memory runs out. A change that has a
-/// receipt is on the disk in each case.
+/// Why the disk is not recovered; `Fit` if a device is at a port that does not exist; `Thread` if a thread cannot be made.
+/// `Disk` if a disk call fails; `Call` if a client has no receipt; `Memory` if memory runs out. A change that has a receipt
+/// is on the disk in each case.
 pub fn live_on_disk<
     D: SectorDisk + Drop + Send + 'static,
     E: Write,

@@ -5,10 +5,10 @@
 //! - `iol_plays live SCRIPT` runs a master in threads on a disk in memory, and prints what `iolmaster live` prints of an image.
 //! - `iol_plays clients IMAGE LINKS LEAST CLIENT..` runs a master on an image, and prints the answer to each call of each client. It has
 //!   LINKS links, which give no page before LEAST pages were requested, and answer no request before LEAST requests were made. A client
-//!   is a word of calls, two letters each: what is asked (`c` for Clear, `f` and `s` for Configure, `r` for a read, `t` for the status,
-//!   `n` for the next one while the port is off, `w` to watch until it has settled with its device, `m` to meet another's receipt) and of
-//!   which port; `s` is for device 43981. In the place of a client, `-` waits for a line of standard input. After the last one, `end`
-//!   ends the master while they make their calls.
+//!   is a word of calls, two letters each: what is asked, and of which port. The letters are `c` for Clear, `f` and `s` for Configure,
+//!   `r` for a read, `t` for the status, `n` for the next one while the port is off, `w` to watch until it has settled with its device,
+//!   `m` to meet another's receipt; `s` is for device 43981. In the place of a client, `-` waits for a line of standard input. After the
+//!   last one, `end` ends the master while they make their calls.
 //! - `iol_plays clients SCRIPT.toml 2 LEAST CLIENT..` runs it on a new disk in memory with the devices of a script, and prints what a
 //!   recovery then finds after a power stop.
 //! - `iol_plays again KIND N CLIENT..` runs a master on a new disk in memory of which the N-th `read`, `write` or `sync` fails, counted

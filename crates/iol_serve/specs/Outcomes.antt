@@ -34,8 +34,8 @@ read_refusal read.UnknownPort = refusal.UnknownPort
 read_refusal read.Memory = refusal.Memory
 read_refusal (read.Behind seen) = refusal.Behind
 
--- the outcome of a change: it is durable, with a number above all that its client had seen, which it has in the list that the client has
--- seen since; or it is refused for this cause, and nothing more is seen (own)
+-- the outcome of a change: it is durable, or it is refused for this cause, and nothing more is seen. A durable change has a number above
+-- all that its client had seen, and has it in the list that the client has seen since (own)
 abbrev pub HasAsked : Start → List CommandValue → List CommandValue → CommandValue → Outcome → Type 0
 HasAsked start before after command (Durable number) = (start.number + length before < number) × StandsAt start after number command
 HasAsked start before after command (Found port view) = ⊥

@@ -43,9 +43,9 @@ pub struct Serving<'a> {
     pub silence: Duration,
 }
 
-/// Serves a master on the image file at `path` until no more is requested, and returns the exit status: 0 once the master has ended
-/// and all is printed, 2 if the script of devices is not valid, and else 1. If the command fails, a line on `err` says why. All files
-/// are those of `files`; two threads for each driver open its files, read and write them.
+/// Serves a master on the image file at `path` until no more is requested, and returns the exit status. It is 0 once the master has
+/// ended and all is printed, 2 if the script of devices is not valid, and else 1. If the command fails, a line on `err` says why. All
+/// files are those of `files`; two threads for each driver open its files, read and write them.
 pub fn serve_image<
     R: AllocGlobal + Threads + Wait + Clock + Copy + Send + 'static,
     I: Read + Drop + Send + 'static,

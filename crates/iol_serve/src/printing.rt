@@ -45,7 +45,7 @@ pub(crate) enum Text {
     Last(String),
     // It has no line: only the prompt is printed, if one is shown.
     Blank,
-    // Memory stayed out for an answer.
+    // There was no memory for an answer.
     OutOfMemory,
 }
 

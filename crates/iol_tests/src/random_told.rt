@@ -27,8 +27,8 @@ pub(crate) fn port<R: Abort>(rt: &R, number: u8) -> PortId {
     PortId::new(number).expect(rt, "a port")
 }
 
-// What was reported of a port so far: its link as it answered from its beginning, its status, the places in the trace of what it
-// has read since the last DS_Command, and those of the set that it filed last.
+// What was reported of a port so far: its link as it answered from its beginning, and its status. `reads` has the places in the
+// trace of what it has read since the last DS_Command, and `filed` those of the set that it filed last.
 #[derive(Drop)]
 pub(crate) struct Told {
     pub(crate) link: RandomLink,
