@@ -27,7 +27,7 @@ pub struct ImageFile<F> {
 }
 
 impl<F: FileExt + OpenFile + LockFile + Drop> ImageFile<F> {
-    ghost use Rattle.std.specs.Prelude.{◌≡◌, ◌<◌, ◌≤◌, ◌*◌, ◌^◌, Err, IfOk, IfErr, OnOk};
+    ghost use Rattle.std.specs.Prelude.{◌≡◌, ◌<◌, ◌≤◌, ◌*◌, ◌^◌, ℕ, nat_le, Ok, Err, IfOk, IfErr, OnOk};
     ghost use Rattle.iol_disk.specs.Disk.{Same, FailsOnlyAs};
     ghost use Rattle.iol_disk.specs.declared.disk.TheConstants.{SECTOR_OCTETS};
     ghost use Rattle.iol_disk.specs.declared.image_fault.ImageFault.TheVariants.{Open};
@@ -103,23 +103,39 @@ impl<F: FileExt + OpenFile + LockFile + Drop> ImageFile<F> {
         n as u64 * SECTOR_OCTETS as u64
     }
 
+    // Returns whether the file still has all octets that it had when it was made or opened.
+    fn is_uncut(&self) -> io::Result<bool>
+        ensures told { IfOk result (λ uncut. (octets : ℕ) × F.tells self.now.file octets × (uncut ≡ nat_le self.now.octets octets)) }
+    {
+        Ok(self.octets <= self.file.length()?)
+    }
+
     // Checks that the file still has all octets that it had when it was made or opened.
     fn check_length(&self) -> io::Result<()>
         ensures uncut { OnOk result (IsUncut F.tells self.now) }
     {
-        if self.file.length()? < self.octets {
-            return Err(ErrorKind::UnexpectedEof.into());
+        if self.is_uncut()? {
+            Ok(())
+        } else {
+            Err(ErrorKind::UnexpectedEof.into())
         }
-        Ok(())
     }
 
     // Writes a sector of a file that was not cut: a write beyond a cut would fill the gap with zeros.
+    fn write_uncut(&self, n: usize, octets: &[u8; SECTOR_OCTETS]) -> io::Result<()>
+        requires place { n < (file_disk self.now).sectors }
+        requires uncut { IsUncut F.tells self.now }
+    {
+        self.file.write_all_at(octets, self.first_octet(n))
+    }
+
+    // Checks that the file was not cut, and then writes a sector of it.
     fn write_whole(&self, n: usize, octets: &[u8; SECTOR_OCTETS]) -> io::Result<()>
         requires { n < (file_disk self.now).sectors }
         ensures uncut { OnOk result (IsUncut F.tells self.now) }
     {
         self.check_length()?;
-        self.file.write_all_at(octets, self.first_octet(n))
+        self.write_uncut(n, octets)
     }
 
     // Has the system keep what was written, and then checks that the file was not cut.
@@ -130,9 +146,10 @@ impl<F: FileExt + OpenFile + LockFile + Drop> ImageFile<F> {
         self.check_length()
     }
 
-    // What a disk call answers whose call of the file ended so; a failure is counted.
+    // Returns what a disk call returns, from the end of its call of the file. A failure is counted.
     fn counted(&mut self, ended: io::Result<()>, fault: DiskFault) -> Result<(), DiskFault>
         ensures same { Same (file_disk self.old) (file_disk self.new) }
+        ensures ended { OnOk result (ended ≡ Ok (tt {0})) }
         ensures fault { FailsOnlyAs fault (file_disk self.old) (file_disk self.new) result }
     {
         match ended {
@@ -146,7 +163,10 @@ impl<F: FileExt + OpenFile + LockFile + Drop> ImageFile<F> {
 }
 
 impl<F: FileExt + OpenFile + LockFile + Drop> SectorDisk for ImageFile<F> {
-    ghost use Rattle.iol_disk.specs.ImageFile.{file_disk};
+    ghost use Rattle.std.specs.Prelude.{◌<◌, OnOk, OnErr};
+    ghost use Rattle.iol_disk.specs.Content.{synced, wrote};
+    ghost use Rattle.iol_disk.specs.Disk.{After, FailsOnlyAs, Same, WroteSome};
+    ghost use Rattle.iol_disk.specs.ImageFile.{IsUncut, file_disk};
 
     ghost disk = { file_disk };
 
@@ -163,12 +183,23 @@ impl<F: FileExt + OpenFile + LockFile + Drop> SectorDisk for ImageFile<F> {
         Ok(())
     }
 
-    fn write(&mut self, n: usize, octets: &[u8; SECTOR_OCTETS]) -> Result<(), DiskFault> {
+    fn write(&mut self, n: usize, octets: &[u8; SECTOR_OCTETS]) -> Result<(), DiskFault>
+        requires { n < (file_disk self.old).sectors }
+        ensures wrote { OnOk result (After (wrote n octets.now) (file_disk self.old) (file_disk self.new)) }
+        ensures wrote_some { OnErr result (WroteSome n (file_disk self.old) (file_disk self.new)) }
+        ensures fault { FailsOnlyAs DiskFault.Write (file_disk self.old) (file_disk self.new) result }
+        ensures uncut { OnOk result (IsUncut F.tells self.old) }
+    {
         let ended = self.write_whole(n, octets);
         self.counted(ended, DiskFault::Write)
     }
 
-    fn sync(&mut self) -> Result<(), DiskFault> {
+    fn sync(&mut self) -> Result<(), DiskFault>
+        ensures synced { OnOk result (After synced (file_disk self.old) (file_disk self.new)) }
+        ensures same { OnErr result (Same (file_disk self.old) (file_disk self.new)) }
+        ensures fault { FailsOnlyAs DiskFault.Sync (file_disk self.old) (file_disk self.new) result }
+        ensures uncut { OnOk result (IsUncut F.tells self.old) }
+    {
         let ended = self.sync_whole();
         self.counted(ended, DiskFault::Sync)
     }

@@ -25,6 +25,11 @@ is_over guarded = is_closed guarded.phase && nat_eq (length guarded.callers) 0
 abbrev pub end_found : GuardedView → Found
 end_found guarded = if is_over guarded then found.Closed else found.Nothing
 
+-- only a closed run is found to be over (own)
+abbrev pub IsEndIn : Phase → Found → Type 0
+IsEndIn phase found.Closed = phase ≡ Closed
+IsEndIn phase other = Unit {0}
+
 -- the flusher finds the batch that may be taken, or no memory for it. If there is no batch, it finds that none comes any more only once the
 -- run is closed, and that one may come only before (own)
 abbrev pub Finds : GuardedView → ℕ → GuardedView → Found → Type 0

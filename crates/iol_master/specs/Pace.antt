@@ -1,5 +1,7 @@
 -- The flusher's pace for a checkpoint that it makes between batches.
 use Rattle.std.specs.Prelude.{◌≡◌, ℕ, Bool, true, false}
+use Rattle.iol_flush.specs.declared.stage.FlushStage.{FlushStage}
+use Rattle.iol_flush.specs.declared.stage.FlushStage.TheVariants.{Resting, Opening, Given}
 use Rattle.iol_master.specs.declared.finding.Found.{Found}
 use Rattle.iol_master.specs.declared.finding.Found.TheVariants.{Batch, Nothing, Closed, NoMemory}
 use Rattle.iol_master.specs.declared.pace.Checkpoint.{Checkpoint}
@@ -33,6 +35,22 @@ abbrev pub MayFind : Checkpoint → Found → Type 0
 MayFind Owing (Batch batch) = ⊥
 MayFind Owing NoMemory = ⊥
 MayFind checkpoint found = Unit {0}
+
+-- a disk call gives no batch to a flusher at rest (own)
+abbrev pub GivesNone : {D : Type 0} → FlushStage D → FlushStage D → Type 0
+GivesNone (Resting journal) (Given other batch) = ⊥
+GivesNone old new = Unit {0}
+
+-- a flusher at rest gets no batch while one is owed to the checkpoint (own)
+abbrev pub MayGive : {D : Type 0} → Checkpoint → FlushStage D → FlushStage D → Type 0
+MayGive Owing (Resting journal) (Given other batch) = ⊥
+MayGive checkpoint old new = Unit {0}
+
+-- a checkpoint that counts as due after a turn got no call in that turn (own)
+abbrev pub IsBegun : {D : Type 0} → Checkpoint → FlushStage D → FlushStage D → Type 0
+IsBegun Due (Resting journal) (Opening checkpointing) = ⊥
+IsBegun Due (Resting journal) (Resting left) = left.begun ≡ journal.begun
+IsBegun checkpoint old new = Unit {0}
 
 -- if no batch was found, the next wait is 0 microseconds long (own)
 abbrev pub IsSpent : Found → ℕ → Type 0

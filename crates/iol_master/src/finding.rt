@@ -2,7 +2,7 @@
 
 ghost use Rattle.std.specs.Prelude.{◌≡◌, ◌≤◌};
 ghost use Rattle.iol_record.specs.declared.encode.TheConstants.{LARGEST_COMMAND_RECORD};
-ghost use Rattle.iol_master.specs.Finding.{Finds, end_found};
+ghost use Rattle.iol_master.specs.Finding.{Finds, IsEndIn, end_found};
 
 use crate::guarded::{Guarded, Phase};
 use iol_front::Name;
@@ -33,9 +33,11 @@ impl<F: Name> Guarded<F> {
             Err(_) => Found::NoMemory,
         }
     }
+
     // Takes no batch. Returns `Closed` if nothing waits and no more commands come.
     pub(crate) fn find_end(&self) -> Found
-        ensures { result ≡ end_found self.now }
+        ensures end { result ≡ end_found self.now }
+        ensures closed { IsEndIn self.now.phase result }
     {
         if self.is_over() {
             Found::Closed

@@ -7,7 +7,8 @@ ghost use Rattle.iol_flush.specs.declared.need.Need.TheVariants as need;
 ghost use Rattle.iol_flush.specs.declared.stage.FlushStage.TheVariants as stage;
 ghost use Rattle.iol_master.specs.Endings.{EndsFrom, HasWaited, IsEnding, LeavesAs, LeavesWaiting, MayEnd, MayTurn, MayWait, NeverMidway};
 ghost use Rattle.iol_journal.specs.Journals.{JournalView};
-ghost use Rattle.iol_master.specs.Pace.{Follows, MayFind};
+ghost use Rattle.iol_master.specs.Pace.{Follows, GivesNone, IsBegun, MayFind, MayGive};
+ghost use Rattle.iol_master.specs.declared.pace.Checkpoint.TheVariants as checkpoint;
 ghost use Rattle.iol_master.specs.Since.{IsSince};
 
 use crate::client::Shared;
@@ -213,6 +214,7 @@ fn call_disk<D: SectorDisk, F: Name, R: Wait>(
     flusher: &mut Flusher<D, F>,
 ) -> Turned
     requires { names_disk (need_of flusher.old.stage) ≡ true }
+    ensures gives { GivesNone flusher.old.stage flusher.new.stage }
     ensures since { IsSince D.disk flusher.old.stage flusher.new.stage }
     ensures turned { MayTurn flusher.new.stage result }
 {
@@ -237,6 +239,7 @@ fn publish<D: SectorDisk, F: Name, R: Wait + Clock>(
     pace: &mut Pace,
 ) -> Turned
     requires { need_of flusher.old.stage ≡ need.Publish }
+    ensures kept { pace.new.checkpoint ≡ pace.old.checkpoint }
     ensures since { IsSince D.disk flusher.old.stage flusher.new.stage }
     ensures turned { MayTurn flusher.new.stage result }
 {
@@ -303,6 +306,7 @@ fn take<D: SectorDisk, F: Name, R: Wait + Clock>(
     pace: &mut Pace,
 ) -> Turned
     requires { need_of flusher.old.stage ≡ need.Batch }
+    ensures rests { pace.new.checkpoint ≡ checkpoint.Due }
     ensures since { IsSince D.disk flusher.old.stage flusher.new.stage }
     ensures turned { MayTurn flusher.new.stage result }
 {
@@ -331,6 +335,8 @@ fn take_or_call<D: SectorDisk, F: Name, R: Wait + Clock>(
     pace: &mut Pace,
 ) -> Turned
     requires { need_of flusher.old.stage ≡ need.BatchOrDisk }
+    ensures owed { MayGive pace.old.checkpoint flusher.old.stage flusher.new.stage }
+    ensures begun { IsBegun pace.new.checkpoint flusher.old.stage flusher.new.stage }
     ensures since { IsSince D.disk flusher.old.stage flusher.new.stage }
     ensures turned { MayTurn flusher.new.stage result }
 {

@@ -1,7 +1,10 @@
 //! The flusher's pace for a checkpoint that it makes between batches.
 
-ghost use Rattle.std.specs.Prelude.{◌≡◌, min, IfNone, IfSome};
-ghost use Rattle.iol_master.specs.Pace.{Follows, is_owing, longest_delay};
+ghost use Rattle.std.specs.Prelude.{◌≡◌, ◌*◌, ◌/◌, min, IfNone, IfSome};
+ghost use Rattle.std.specs.Duration.{as_nanos};
+ghost use Rattle.iol_journal.specs.Batch.{Batch};
+ghost use Rattle.iol_master.specs.Pace.{Follows, after, is_owing, longest_delay};
+ghost use Rattle.iol_master.specs.declared.finding.Found.TheVariants as found;
 ghost use Rattle.iol_master.specs.declared.pace.Checkpoint.TheVariants as checkpoint;
 
 use crate::finding::Found;
@@ -67,6 +70,7 @@ impl Pace {
     // Returns how long to wait for a batch, or `None` if not at all.
     pub(crate) fn limit(&self) -> Option<Duration>
         ensures none { IfNone result (self.now.microseconds ≡ 0) }
+        ensures some { IfSome result (λ limit. as_nanos limit ≡ self.now.microseconds * 1_000) }
     {
         match self.microseconds {
             0 => None,
@@ -86,7 +90,7 @@ impl Pace {
         ensures { self.new.checkpoint ≡ self.old.checkpoint }
     {
         let took = self.given.and_then(|given| given.elapsed(clock).ok());
-        self.microseconds = took.map_or(0, |took| delay_after(took.as_micros()));
+        self.microseconds = took.map_or(0, delay_after);
     }
 
     // Notes that no checkpoint is due.
@@ -112,9 +116,22 @@ impl Pace {
     }
 }
 
-// Returns the number of microseconds to wait after a batch that took this many.
-fn delay_after(took: u128) -> u64
-    ensures { result ≡ min took longest_delay }
+// Returns the number of microseconds to wait after a batch that took this long.
+fn delay_after(took: Duration) -> u64
+    ensures { result ≡ min (as_nanos took / 1_000) longest_delay }
 {
-    u64::try_from(took).map_or(LONGEST_MICROSECONDS, |took| took.min(LONGEST_MICROSECONDS))
+    u64::try_from(took.as_micros()).map_or(
+        LONGEST_MICROSECONDS,
+        |took| took.min(LONGEST_MICROSECONDS),
+    )
 }
+
+// A checkpoint between batches, worked out: its first call begins it, the next batch is owed to it, and nothing else changes that.
+pub(crate) fn a_checkpoint_between_batches()
+    ensures begun { after checkpoint.Due found.Nothing ≡ checkpoint.Begun }
+    ensures calls { after checkpoint.Begun found.Nothing ≡ checkpoint.Begun }
+    ensures due { (batch : Batch) → after checkpoint.Due (found.Batch batch) ≡ checkpoint.Due }
+    ensures owing { (batch : Batch) → after checkpoint.Begun (found.Batch batch) ≡ checkpoint.Owing }
+    ensures owed { after checkpoint.Owing found.Nothing ≡ checkpoint.Owing }
+    ensures closed { after checkpoint.Owing found.Closed ≡ checkpoint.Owing }
+{}
