@@ -1,6 +1,7 @@
-//! A port without a link.
+//! A port without a link, and a link that is made.
 
 use crate::blank::formatted;
+use arrayvec::ArrayVec;
 use iol_journal::Geometry;
 use iol_run::{RunFault, Task, run_schedule};
 use iol_sim::ScriptLink;
@@ -15,4 +16,11 @@ fn a_port_without_a_link_runs_nothing(rt: HostRuntime) {
         Err(RunFault::Ports(_disk)) => {}
         _ => panic!(rt; "a port has no link"),
     }
+}
+
+#[test]
+fn a_link_with_given_answers_is_made(rt: HostRuntime) {
+    let mut answers = Vec::new(rt.alloc());
+    answers.push(ArrayVec::new()).expect(&rt, "memory");
+    assert!(rt; ScriptLink::new(rt.alloc(), answers).is_ok());
 }
