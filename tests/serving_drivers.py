@@ -52,6 +52,8 @@ PTY_DEEDS = ("1- answer", "6 die 0.5", "6 garbage", "6 half", "6 flood", "6 sile
 SILENCE, CALM_SECONDS, LEAST_ASKED = 3, 1, 5
 # How soon it is told that a driver has ended, or talks and does not answer, in seconds: less than a driver may be silent at first.
 LOST_SECONDS = 6
+# A driver talks for longer than this, and keeps a processor busy with it.
+TALKER_LOST_SECONDS = 20
 # How soon a master ends beside a silent driver, in seconds. It is tried so often at most, as other programs may keep the processors.
 END_SECONDS, END_ROUNDS = 0.6, 3
 # A driver whose files a shell opens. It has one device, and answers with its page alone.
@@ -226,7 +228,7 @@ def lose_talker(folder):
     with drivers_of(folder, {1: ["--at", "1-", "chatter", "30"]}) as words:
         with Served(image, "--json", "--silence", "2", *words) as master:
             master.change("configure", 1, **MANUAL)
-            master.wait_status(1, "lost", seconds=LOST_SECONDS)
+            master.wait_status(1, "lost", seconds=TALKER_LOST_SECONDS)
             begun = time.monotonic()
             master.end_well()
             if time.monotonic() - begun > LOST_SECONDS:
