@@ -50,9 +50,9 @@ PTY_DEEDS = ("1- answer", "6 die 0.5", "6 garbage", "6 half", "6 flood", "6 sile
 # How long a driver may be silent in these cases, in seconds. For how long a port that is ready has to stay so beside them, and how
 # often its driver is asked meanwhile at least.
 SILENCE, CALM_SECONDS, LEAST_ASKED = 3, 1, 5
-# How soon it is told that a driver has ended, or talks and does not answer, in seconds: less than a driver may be silent at first.
+# How soon it is told that a driver has ended, in seconds: less than a driver may be silent at first.
 LOST_SECONDS = 6
-# A driver talks for longer than this, and keeps a processor busy with it.
+# How soon a driver that talks and does not answer is lost, in seconds: it talks for longer, and keeps a processor busy with that.
 TALKER_LOST_SECONDS = 20
 # How soon a master ends beside a silent driver, in seconds. It is tried so often at most, as other programs may keep the processors.
 END_SECONDS, END_ROUNDS = 0.6, 3
