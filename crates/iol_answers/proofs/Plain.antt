@@ -5,8 +5,8 @@ use Rattle.serde_json.specs.View.{items_of}
 use Rattle.serde_json.specs.Written.{has_float, items_have_float}
 use Rattle.iol_json.proofs.Plain.{port_plain}
 use Rattle.iol_answers.specs.Objects.{answer_data, id_data, report_data}
-use Rattle.iol_answers.specs.declared.answer.Answer.{Answer}
-use Rattle.iol_answers.specs.declared.answer.Answer.TheVariants as answer
+use Rattle.iol_answers.specs.declared.answer.RequestAnswer.{RequestAnswer}
+use Rattle.iol_answers.specs.declared.answer.RequestAnswer.TheVariants as answer
 use Rattle.iol_answers.specs.declared.report.PortReport.{PortReport}
 use Rattle.iol_answers.specs.declared.request_id.RequestId.{RequestId}
 use Rattle.iol_answers.specs.declared.request_id.RequestId.TheVariants as id
@@ -20,7 +20,7 @@ id_plain (id.Number number) = refl
 id_plain (id.Text text) = refl
 
 -- an answer has no float
-pub answer_plain : (id_ : Option RequestId) (answer_ : Answer) → has_float (answer_data id_ answer_) ≡ false
+pub answer_plain : (id_ : Option RequestId) (answer_ : RequestAnswer) → has_float (answer_data id_ answer_) ≡ false
 answer_plain None (answer.Receipt number) = refl
 answer_plain None (answer.Refused refusal) = refl
 answer_plain None (answer.Port port state) = rw (port_plain port state.now) refl

@@ -5,8 +5,8 @@ use Rattle.serde_json.specs.Data.{depth, items_depth}
 use Rattle.serde_json.specs.View.{items_of}
 use Rattle.iol_json.proofs.Depth.{port_shallow}
 use Rattle.iol_answers.specs.Objects.{answer_data, id_data, report_data}
-use Rattle.iol_answers.specs.declared.answer.Answer.{Answer}
-use Rattle.iol_answers.specs.declared.answer.Answer.TheVariants as answer
+use Rattle.iol_answers.specs.declared.answer.RequestAnswer.{RequestAnswer}
+use Rattle.iol_answers.specs.declared.answer.RequestAnswer.TheVariants as answer
 use Rattle.iol_answers.specs.declared.report.PortReport.{PortReport}
 use Rattle.iol_answers.specs.declared.request_id.RequestId.{RequestId}
 use Rattle.iol_answers.specs.declared.request_id.RequestId.TheVariants as id
@@ -20,7 +20,7 @@ id_flat (id.Number number) = refl
 id_flat (id.Text text) = refl
 
 -- an answer nests no deeper than a reader of JSON goes
-pub answer_shallow : (id_ : Option RequestId) (answer_ : Answer) → depth (answer_data id_ answer_) ≤ 127
+pub answer_shallow : (id_ : Option RequestId) (answer_ : RequestAnswer) → depth (answer_data id_ answer_) ≤ 127
 answer_shallow None (answer.Receipt number) = omega arith
 answer_shallow None (answer.Refused refusal) = omega arith
 answer_shallow None (answer.Port port state) = let within = port_shallow port state.now in omega arith

@@ -7,8 +7,8 @@ use Rattle.iol_texts.specs.Recovered.{port_text}
 use Rattle.iol_answers.specs.Help.{help_texts}
 use Rattle.iol_answers.specs.Refusals.{name_of, words_of}
 use Rattle.iol_answers.specs.Statuses.{status_line}
-use Rattle.iol_answers.specs.declared.answer.Answer.{Answer}
-use Rattle.iol_answers.specs.declared.answer.Answer.TheVariants as answer
+use Rattle.iol_answers.specs.declared.answer.RequestAnswer.{RequestAnswer}
+use Rattle.iol_answers.specs.declared.answer.RequestAnswer.TheVariants as answer
 use Rattle.iol_answers.specs.declared.refusal.Refusal.{Refusal}
 use Rattle.iol_answers.specs.declared.report.PortReport.{PortReport}
 
@@ -37,7 +37,7 @@ abbrev pub help_lines : List ℕ
 help_lines = flat_map with_line_feed help_texts
 
 -- the lines of an answer (format, Lines of a serving master)
-abbrev pub answer_lines : Answer → List ℕ
+abbrev pub answer_lines : RequestAnswer → List ℕ
 answer_lines (answer.Receipt number) = receipt_line number
 answer_lines (answer.Refused refusal) = refused_line refusal
 answer_lines (answer.Port port state) = port_text port state.now

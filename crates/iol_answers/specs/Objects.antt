@@ -4,13 +4,13 @@ use Rattle.serde_json.specs.Data.{Data, string, array, object, Members, no_membe
 use Rattle.serde_json.specs.View.{items_of}
 use Rattle.iol_json.specs.Json.{whole, port_data}
 use Rattle.iol_port.specs.Telling.{status_told}
-use Rattle.iol_trace.specs.Statuses.{Status}
+use Rattle.iol_core.specs.Statuses.{Status}
 use Rattle.iol_texts.specs.Texts.{status_text}
 use Rattle.iol_answers.specs.Help.{help_texts}
 use Rattle.iol_answers.specs.Refusals.{name_of, words_of}
 use Rattle.iol_answers.specs.Statuses.{meaning_of}
-use Rattle.iol_answers.specs.declared.answer.Answer.{Answer}
-use Rattle.iol_answers.specs.declared.answer.Answer.TheVariants as answer
+use Rattle.iol_answers.specs.declared.answer.RequestAnswer.{RequestAnswer}
+use Rattle.iol_answers.specs.declared.answer.RequestAnswer.TheVariants as answer
 use Rattle.iol_answers.specs.declared.event.Event.{Event}
 use Rattle.iol_answers.specs.declared.event.Event.TheVariants as event
 use Rattle.iol_answers.specs.declared.refusal.Refusal.{Refusal}
@@ -39,7 +39,7 @@ abbrev pub report_data : PortReport → Data
 report_data report = object (status_members report.port (status_told report.status))
 
 -- an answer but for its id (format, Lines of a serving master)
-abbrev pub answer_members : Answer → Members
+abbrev pub answer_members : RequestAnswer → Members
 answer_members (answer.Receipt number) = member (codes "receipt") (whole number) no_members
 answer_members (answer.Refused refusal) = refused_members refusal
 answer_members (answer.Port port state) = member (codes "port") (port_data port state.now) no_members
@@ -53,7 +53,7 @@ with_id None members = members
 with_id (Some id_) members = put (codes "id") (id_data id_) members
 
 -- an answer to the request with this id (format, Lines of a serving master)
-abbrev pub answer_data : Option RequestId → Answer → Data
+abbrev pub answer_data : Option RequestId → RequestAnswer → Data
 answer_data id_ answer_ = object (with_id id_ (answer_members answer_))
 
 -- an event (format, Lines of a serving master)

@@ -2,7 +2,7 @@
 use Rattle.std.specs.Prelude.{ℕ, List, codes}
 use Rattle.iol_types.specs.declared.command.CommandFault.TheVariants as fault
 use Rattle.iol_core.specs.Telling.{refusal_of}
-use Rattle.iol_trace.specs.Statuses as trace
+use Rattle.iol_core.specs.Statuses as trace
 use Rattle.iol_texts.specs.Texts.{refusal_name}
 use Rattle.iol_texts.specs.Refusals.{refusal_words}
 use Rattle.iol_answers.specs.declared.refusal.Refusal.{Refusal}

@@ -1,7 +1,7 @@
 -- The line of a port's status.
 use Rattle.std.specs.Prelude.{ℕ, List, ◌++◌, codes, None}
 use Rattle.std.specs.Fmt.{decimal}
-use Rattle.iol_trace.specs.Statuses.{Status}
+use Rattle.iol_core.specs.Statuses.{Status}
 use Rattle.iol_texts.specs.Texts.{status_text}
 use Rattle.iol_texts.specs.Statuses.{status_words}
 

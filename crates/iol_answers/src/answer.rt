@@ -6,7 +6,7 @@ use iol_types::{PortId, PortState};
 
 /// An answer to a request.
 #[derive(Clone, Copy)]
-pub enum Answer<'a> {
+pub enum RequestAnswer<'a> {
     /// A change is durable, and this is the number of its command, 1 to 2^62.
     Receipt(u64),
     /// A request is refused, or has failed.

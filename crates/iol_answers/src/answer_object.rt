@@ -6,7 +6,7 @@ ghost use Rattle.iol_answers.specs.Help.{help_texts};
 ghost use Rattle.iol_answers.specs.JsonLines.{IsJsonLine};
 ghost use Rattle.iol_answers.specs.Objects.{answer_data, answer_members, id_data, refused_members, report_data, with_id};
 
-use crate::answer::Answer;
+use crate::answer::RequestAnswer;
 use crate::help::help_texts;
 use crate::json_line::json_line;
 use crate::refusal::Refusal;
@@ -25,7 +25,7 @@ use std::alloc::{AllocError, Global};
 pub fn answer_json(
     alloc: Global,
     id: Option<RequestId<'_>>,
-    answer: &Answer,
+    answer: &RequestAnswer,
 ) -> Result<String, AllocError>
     ensures { IfOk result (λ text. IsJsonLine (answer_data id.entry answer.now) (string_bytes text)) }
 {
@@ -33,7 +33,11 @@ pub fn answer_json(
 }
 
 // The object of an answer to the request with this id, if it had one.
-fn object_of(alloc: Global, id: Option<RequestId<'_>>, answer: &Answer) -> Result<Value, AllocError>
+fn object_of(
+    alloc: Global,
+    id: Option<RequestId<'_>>,
+    answer: &RequestAnswer,
+) -> Result<Value, AllocError>
     ensures { IfOk result (λ value. view value ≡ answer_data id.entry answer.now) }
 {
     let members = members_of(alloc, answer)?;
@@ -65,21 +69,26 @@ fn id_of(alloc: Global, id: RequestId<'_>) -> Result<Value, AllocError>
 }
 
 // The members of an answer but for the id.
-fn members_of(alloc: Global, answer: &Answer) -> Result<Map<String, Value>, AllocError>
+fn members_of(alloc: Global, answer: &RequestAnswer) -> Result<Map<String, Value>, AllocError>
     ensures { IfOk result (λ members. members_view members.entries ≡ answer_members answer.now) }
 {
     let none = Map::new(alloc);
     match answer {
-        Answer::Receipt(number) => with(alloc, none, "receipt", Value::from(*number)),
-        Answer::Refused(refusal) => refused_members(alloc, *refusal),
-        Answer::Port { port, state } => {
+        RequestAnswer::Receipt(number) => with(alloc, none, "receipt", Value::from(*number)),
+        RequestAnswer::Refused(refusal) => refused_members(alloc, *refusal),
+        RequestAnswer::Port { port, state } => {
             with(alloc, none, "port", json_of_port(alloc, *port, state)?)
         }
-        Answer::Statuses(reports) => with(alloc, none, "statuses", reports_of(alloc, reports)?),
-        Answer::Wrong(mistake) => {
+        RequestAnswer::Statuses(reports) => with(
+            alloc,
+            none,
+            "statuses",
+            reports_of(alloc, reports)?,
+        ),
+        RequestAnswer::Wrong(mistake) => {
             with(alloc, none, "wrong", Value::try_from_str(alloc, mistake)?)
         }
-        Answer::Help => with(alloc, none, "help", help_of(alloc)?),
+        RequestAnswer::Help => with(alloc, none, "help", help_of(alloc)?),
     }
 }
 

@@ -5,7 +5,7 @@ ghost use Rattle.std.specs.List.{flat_map};
 ghost use Rattle.iol_texts.specs.Recovered.{port_text};
 ghost use Rattle.iol_answers.specs.AnswerLines.{answer_lines, help_lines, refused_line, report_line};
 
-use crate::answer::Answer;
+use crate::answer::RequestAnswer;
 use crate::help::help_texts;
 use crate::refusal::Refusal;
 use crate::report::PortReport;
@@ -18,13 +18,13 @@ use std::fmt;
 ///
 /// # Errors
 /// `AllocError` where it is out of memory.
-pub fn answer_words(alloc: Global, answer: &Answer) -> Result<String, AllocError>
+pub fn answer_words(alloc: Global, answer: &RequestAnswer) -> Result<String, AllocError>
     ensures { IfOk result (λ text. string_bytes text ≡ answer_lines answer.now) }
 {
     answer.to_string(alloc)
 }
 
-impl fmt::Display for Answer<'_> {
+impl fmt::Display for RequestAnswer<'_> {
     ghost use Rattle.std.specs.Prelude.{Some};
     ghost use Rattle.iol_answers.specs.AnswerLines.{answer_lines};
 
@@ -32,12 +32,12 @@ impl fmt::Display for Answer<'_> {
 
     fn fmt<W: fmt::Write>(&self, f: &mut fmt::Formatter<W>) -> fmt::Result {
         match self {
-            Answer::Receipt(number) => writeln!(f, "receipt {number}"),
-            Answer::Refused(refusal) => write_refused(f, *refusal),
-            Answer::Port { port, state } => write_port(f, *port, state),
-            Answer::Statuses(reports) => write_reports(f, reports),
-            Answer::Wrong(mistake) => writeln!(f, "wrong: {mistake}"),
-            Answer::Help => write_help(f),
+            RequestAnswer::Receipt(number) => writeln!(f, "receipt {number}"),
+            RequestAnswer::Refused(refusal) => write_refused(f, *refusal),
+            RequestAnswer::Port { port, state } => write_port(f, *port, state),
+            RequestAnswer::Statuses(reports) => write_reports(f, reports),
+            RequestAnswer::Wrong(mistake) => writeln!(f, "wrong: {mistake}"),
+            RequestAnswer::Help => write_help(f),
         }
     }
 }

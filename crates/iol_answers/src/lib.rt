@@ -29,7 +29,7 @@ mod report_object;
 mod report_text;
 mod request_id;
 
-pub use answer::Answer;
+pub use answer::RequestAnswer;
 pub use answer_object::answer_json;
 pub use answer_text::answer_words;
 pub use event::Event;

@@ -8,17 +8,17 @@ use Rattle.iol_handed.specs.Opening.{OpeningView}
 use Rattle.iol_handed.specs.Running.{is_end}
 use Rattle.iol_handed.specs.Serving.{Serves, ServesAt}
 use Rattle.iol_handed.specs.Sessions.{SessionView, ended}
-use Rattle.iol_handed.specs.declared.ask.Answer.{Answer}
+use Rattle.iol_handed.specs.declared.ask.SessionAnswer.{SessionAnswer}
 use Rattle.iol_handed.specs.declared.ask.Ask.{Ask}
 use Rattle.iol_handed.specs.declared.ask.Ask.TheVariants as ask
 
-ends_at : (flash : Option OpeningView) (master : Option HandedMasterView) (new : SessionView) (said : Answer)
+ends_at : (flash : Option OpeningView) (master : Option HandedMasterView) (new : SessionView) (said : SessionAnswer)
     → ServesAt flash master ask.End new said → new ≡ ended
 ends_at (Some flash) master new said serves = serves.1
 ends_at None (Some master) new said serves = serves.1
 ends_at None None new said serves = serves.1
 
-pub end_ends : (asked : Ask) (old new : SessionView) (said : Answer) → is_end asked ≡ true → Serves asked old new said → new ≡ ended
+pub end_ends : (asked : Ask) (old new : SessionView) (said : SessionAnswer) → is_end asked ≡ true → Serves asked old new said → new ≡ ended
 end_ends ask.End old new said is serves = ends_at old.opening old.running new said serves
 end_ends (ask.Submit change) old new said is serves = absurd (true≢false (sym is))
 end_ends ask.DiskNext old new said is serves = absurd (true≢false (sym is))
@@ -31,7 +31,7 @@ end_ends (ask.View port) old new said is serves = absurd (true≢false (sym is))
 end_ends (ask.Entry port which place) old new said is serves = absurd (true≢false (sym is))
 end_ends (ask.Open flash) old new said is serves = absurd (true≢false (sym is))
 
-pub hosts_ended : (asked : Ask) (was_open : Bool) (old : SessionView) (is_open : Bool) (new after : SessionView) (said : Answer)
+pub hosts_ended : (asked : Ask) (was_open : Bool) (old : SessionView) (is_open : Bool) (new after : SessionView) (said : SessionAnswer)
     → was_open ≡ true → is_open ≡ false → new ≡ ended → is_end asked ≡ true → Serves asked old after said
     → Hosts asked was_open old is_open new said
 hosts_ended asked was_open old is_open new after said there closed none is serves =
@@ -41,9 +41,9 @@ hosts_ended asked was_open old is_open new after said there closed none is serve
           sym none) serves,
     )
 
-pub is_opened : (was_open : Bool) (flash : OpeningView) (old : SessionView) (is_open : Bool) (new : SessionView) (said : Answer)
+pub is_opened : (was_open : Bool) (flash : OpeningView) (old : SessionView) (is_open : Bool) (new : SessionView) (said : SessionAnswer)
     → Hosts (ask.Open flash) was_open old is_open new said → IsOpened (code_of said == 0) flash is_open new
 is_opened true flash old is_open new said hosts =
-    subst (λ (answered : Answer). IsOpened (code_of answered == 0) flash is_open new) (sym hosts.1.0) (hosts.0, hosts.1.1)
+    subst (λ (answered : SessionAnswer). IsOpened (code_of answered == 0) flash is_open new) (sym hosts.1.0) (hosts.0, hosts.1.1)
 is_opened false flash old is_open new said hosts =
-    subst (λ (answered : Answer). IsOpened (code_of answered == 0) flash is_open new) (sym hosts.2) (hosts.0, hosts.1)
+    subst (λ (answered : SessionAnswer). IsOpened (code_of answered == 0) flash is_open new) (sym hosts.2) (hosts.0, hosts.1)

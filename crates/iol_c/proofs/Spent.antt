@@ -9,7 +9,7 @@ use Rattle.iol_handed.specs.Found.{FoundView}
 use Rattle.iol_handed.specs.contracts.ask.Ask as asks
 use Rattle.iol_handed.specs.contracts.flash.UnknownFlash as flash
 use Rattle.iol_handed.specs.contracts.flash.UnknownFlashFlash.TheImpl.{ghosts}
-use Rattle.iol_handed.specs.contracts.found.Found as found
+use Rattle.iol_handed.specs.contracts.found.FoundJournal as found
 use denote.RattleType.{RattleType}
 use Rattle.iol_handed.specs.declared.ask.Ask.{Ask}
 use Rattle.iol_handed.specs.declared.ask.Ask.TheVariants.{Submit, DiskNext, DiskDone, DiskRead, Port, Status, Numbers, View, Entry, Open}

@@ -1,14 +1,14 @@
 -- The effect of a call on a handle.
 use Rattle.std.specs.Prelude.{◌≡◌, ◌&&◌, Bool, true, false, ℕ, nat_le, Option, None, Some}
-use Rattle.iol_handed.specs.declared.ask.Answer.{Answer}
+use Rattle.iol_handed.specs.declared.ask.SessionAnswer.{SessionAnswer}
 use Rattle.iol_handed.specs.declared.ask.Ask.{Ask}
 use Rattle.iol_c.specs.Hosting.{Hosts}
 use Rattle.iol_c.specs.declared.handle.Handle.{Handle}
 
 -- a handle serves this request, and its answer is shown this way (own)
-abbrev pub Asks : Ask → Handle → Handle → (Answer → Type 0) → Type 0
+abbrev pub Asks : Ask → Handle → Handle → (SessionAnswer → Type 0) → Type 0
 Asks asked old new Shows =
-    (said : Answer) × Hosts asked old.is_open old.session new.is_open new.session said × Shows said
+    (said : SessionAnswer) × Hosts asked old.is_open old.session new.is_open new.session said × Shows said
 
 -- an argument is out of its range, and nothing changes (own)
 abbrev pub IsInvalid : Handle → Handle → ℕ → Type 0

@@ -8,8 +8,8 @@ use Rattle.iol_recovery.specs.declared.cause.RecoverCause.{RecoverCause}
 use Rattle.iol_recovery.specs.declared.cause.RecoverCause.TheVariants as cause
 use Rattle.iol_core.specs.declared.ticket.SubmitFault.{SubmitFault}
 use Rattle.iol_core.specs.declared.ticket.SubmitFault.TheVariants as submit
-use Rattle.iol_handed.specs.declared.ask.Answer.{Answer}
-use Rattle.iol_handed.specs.declared.ask.Answer.TheVariants as answer
+use Rattle.iol_handed.specs.declared.ask.SessionAnswer.{SessionAnswer}
+use Rattle.iol_handed.specs.declared.ask.SessionAnswer.TheVariants as answer
 
 -- the code of a change that the state refuses (own)
 abbrev pub command_code : CommandFault → ℕ
@@ -42,7 +42,7 @@ cause_code (cause.Damaged sector) = 53
 cause_code cause.Memory = 3
 
 -- the code of an answer (own)
-abbrev pub code_of : Answer → ℕ
+abbrev pub code_of : SessionAnswer → ℕ
 code_of answer.Done = 0
 code_of (answer.Accepted number) = 0
 code_of (answer.Status status) = 0

@@ -1,8 +1,8 @@
 -- The calls of a format.
 use Rattle.std.specs.Prelude.{◌≡◌, ◌++◌, ℕ, true, List, Option, None, Some}
 use Rattle.iol_disk.specs.Calls.{Call, write, sync}
-use Rattle.iol_format.specs.Erasing.{erase_calls}
-use Rattle.iol_format.specs.Orders.{format_calls}
+use Rattle.iol_journal.specs.Erasing.{erase_calls}
+use Rattle.iol_journal.specs.Orders.{format_calls}
 use Rattle.iol_layout.specs.Geometry.{Geometry, IsGeometry}
 use Rattle.iol_record.specs.Record.{newest}
 use Rattle.iol_c.specs.Asks.{IfValid}

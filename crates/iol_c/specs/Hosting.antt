@@ -6,13 +6,13 @@ use Rattle.iol_handed.specs.Opening.{OpeningView}
 use Rattle.iol_handed.specs.Running.{is_end}
 use Rattle.iol_handed.specs.Serving.{Serves}
 use Rattle.iol_handed.specs.Sessions.{SessionView, ended, opening, running}
-use Rattle.iol_handed.specs.declared.ask.Answer.{Answer}
-use Rattle.iol_handed.specs.declared.ask.Answer.TheVariants as answer
+use Rattle.iol_handed.specs.declared.ask.SessionAnswer.{SessionAnswer}
+use Rattle.iol_handed.specs.declared.ask.SessionAnswer.TheVariants as answer
 use Rattle.iol_handed.specs.declared.ask.Ask.{Ask}
 use Rattle.iol_handed.specs.declared.opening.OpeningWant.TheVariants as want
 
 -- an open session serves a request, and is closed if the request is to end it; a closed one answers that it is closed (own)
-abbrev pub Hosts : Ask → Bool → SessionView → Bool → SessionView → Answer → Type 0
+abbrev pub Hosts : Ask → Bool → SessionView → Bool → SessionView → SessionAnswer → Type 0
 Hosts asked true old is_open new said = (is_open ≡ not (is_end asked)) × Serves asked old new said
 Hosts asked false old is_open new said = (is_open ≡ false) × (new ≡ ended) × (said ≡ answer.Closed)
 

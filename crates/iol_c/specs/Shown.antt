@@ -1,13 +1,13 @@
 -- The answers, as they are written to structs of C.
 use Rattle.std.specs.Prelude.{ℕ, true, false, length, Option, None, Some}
-use Rattle.iol_ident.specs.declared.validation.IdentFault.{IdentFault}
-use Rattle.iol_ident.specs.declared.validation.IdentFault.TheVariants as ident
+use Rattle.iol_link.specs.declared.validation.IdentFault.{IdentFault}
+use Rattle.iol_link.specs.declared.validation.IdentFault.TheVariants as ident
 use Rattle.iol_port.specs.declared.fault.PortFault.{PortFault}
 use Rattle.iol_port.specs.declared.fault.PortFault.TheVariants as fault
 use Rattle.iol_port.specs.declared.status.PortStatus.{PortStatus}
 use Rattle.iol_port.specs.declared.status.PortStatus.TheVariants as status
-use Rattle.iol_handed.specs.declared.ask.Answer.{Answer}
-use Rattle.iol_handed.specs.declared.ask.Answer.TheVariants as answer
+use Rattle.iol_handed.specs.declared.ask.SessionAnswer.{SessionAnswer}
+use Rattle.iol_handed.specs.declared.ask.SessionAnswer.TheVariants as answer
 use Rattle.iol_handed.specs.declared.ask.SetView.{SetView}
 use Rattle.iol_handed.specs.declared.ask.View.{View}
 use Rattle.iol_c.specs.Configs.{config_struct}
@@ -20,27 +20,27 @@ use Rattle.iol_c.specs.declared.structs.SetSize.{SetSize}
 use Rattle.iol_c.specs.declared.structs.Status.{Status}
 
 -- the disk call that is wanted, as `struct iolm_disk_call` (own)
-abbrev pub call_after : Answer → DiskCall → DiskCall
+abbrev pub call_after : SessionAnswer → DiskCall → DiskCall
 call_after (answer.Write sector octets) call = record { sector = sector; octets = octets }
 call_after (answer.Read sector) call = record call { sector = sector }
 call_after said call = call
 
 -- the request that is to be sent, as `struct iolm_request` (own)
-abbrev pub request_after : Answer → Request → Request
+abbrev pub request_after : SessionAnswer → Request → Request
 request_after (answer.Request octets) request = record { count = length octets.items; octets = filled 238 octets.items }
 request_after said request = request
 
 -- the number of the last durable command, and of the last accepted one (own)
-abbrev pub durable_after : Answer → ℕ → ℕ
+abbrev pub durable_after : SessionAnswer → ℕ → ℕ
 durable_after (answer.Numbers durable accepted) number = durable
 durable_after said number = number
 
-abbrev pub accepted_after : Answer → ℕ → ℕ
+abbrev pub accepted_after : SessionAnswer → ℕ → ℕ
 accepted_after (answer.Numbers durable accepted) number = accepted
 accepted_after said number = number
 
 -- the number of a change that was accepted (own)
-abbrev pub number_after : Answer → ℕ → ℕ
+abbrev pub number_after : SessionAnswer → ℕ → ℕ
 number_after (answer.Accepted accepted) number = accepted
 number_after said number = number
 
@@ -95,7 +95,7 @@ status_struct status.Downloading = plain_status 8
 status_struct (status.Mismatch mismatch) = record { status = 9; detail = mismatch_octet mismatch; error = 0; additional = 0 }
 status_struct (status.Failed failed) = failed_status failed
 
-abbrev pub status_after : Answer → Status → Status
+abbrev pub status_after : SessionAnswer → Status → Status
 status_after (answer.Status told) status = status_struct told
 status_after said status = status
 
@@ -113,12 +113,12 @@ view_struct view = record {
   previous = set_struct view.previous;
 }
 
-abbrev pub view_after : Answer → PortView → PortView
+abbrev pub view_after : SessionAnswer → PortView → PortView
 view_after (answer.View told) view = view_struct told
 view_after said view = view
 
 -- an entry of a set, as `struct iolm_entry` (own)
-abbrev pub entry_after : Answer → EntryStruct → EntryStruct
+abbrev pub entry_after : SessionAnswer → EntryStruct → EntryStruct
 entry_after (answer.Entry key octets) entry =
     record { index = key.index; subindex = key.subindex; count = length octets.items; octets = filled 232 octets.items }
 entry_after said entry = entry

@@ -5,7 +5,7 @@ ghost use Rattle.iol_c.specs.Codes.{cause_code, code_of, command_code, disk_code
 
 use iol_core::SubmitFault;
 use iol_disk::DiskFault;
-use iol_handed::Answer;
+use iol_handed::SessionAnswer;
 use iol_journal::RecoverCause;
 use iol_types::CommandFault;
 
@@ -121,31 +121,31 @@ fn cause_code(cause: RecoverCause) -> u32
 }
 
 /// Returns the code of an answer.
-pub(crate) fn code_of(answer: Answer) -> u32
+pub(crate) fn code_of(answer: SessionAnswer) -> u32
     ensures { result ≡ code_of answer }
 {
     match answer {
-        Answer::Done
-        | Answer::Accepted(_)
-        | Answer::Status(_)
-        | Answer::Numbers(..)
-        | Answer::View(_)
-        | Answer::Entry(..) => OK,
-        Answer::Closed => CLOSED,
-        Answer::Opening => OPENING,
-        Answer::Memory => MEMORY,
-        Answer::Stopped => STOPPED,
-        Answer::Absent => ABSENT,
-        Answer::Misfit => MISFIT,
-        Answer::Nothing => NOTHING,
-        Answer::Again => AGAIN,
-        Answer::Found(_) => OPENED,
-        Answer::Sync => SYNC,
-        Answer::Read(_) => READ,
-        Answer::Write(..) => WRITE,
-        Answer::Page => PAGE,
-        Answer::Request(_) => REQUEST,
-        Answer::Refused(fault) => submit_code(fault),
-        Answer::NotOpened(cause) => cause_code(cause),
+        SessionAnswer::Done
+        | SessionAnswer::Accepted(_)
+        | SessionAnswer::Status(_)
+        | SessionAnswer::Numbers(..)
+        | SessionAnswer::View(_)
+        | SessionAnswer::Entry(..) => OK,
+        SessionAnswer::Closed => CLOSED,
+        SessionAnswer::Opening => OPENING,
+        SessionAnswer::Memory => MEMORY,
+        SessionAnswer::Stopped => STOPPED,
+        SessionAnswer::Absent => ABSENT,
+        SessionAnswer::Misfit => MISFIT,
+        SessionAnswer::Nothing => NOTHING,
+        SessionAnswer::Again => AGAIN,
+        SessionAnswer::Found(_) => OPENED,
+        SessionAnswer::Sync => SYNC,
+        SessionAnswer::Read(_) => READ,
+        SessionAnswer::Write(..) => WRITE,
+        SessionAnswer::Page => PAGE,
+        SessionAnswer::Request(_) => REQUEST,
+        SessionAnswer::Refused(fault) => submit_code(fault),
+        SessionAnswer::NotOpened(cause) => cause_code(cause),
     }
 }

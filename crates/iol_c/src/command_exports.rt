@@ -11,7 +11,7 @@ use crate::codes::{INVALID, code_of};
 use crate::configs::config_of;
 use crate::handle::Handle;
 use crate::structs::Config;
-use iol_handed::{Answer, Ask};
+use iol_handed::{Ask, SessionAnswer};
 use iol_types::Change;
 use std::alloc::Global;
 
@@ -72,7 +72,7 @@ fn submit(alloc: Global, handle: &mut Handle, change: Change, number: &mut u64) 
         (λ said. (result ≡ code_of said) × (number.new ≡ number_after said number.old)) }
 {
     let answer = handle.ask(alloc, Ask::Submit(change));
-    if let Answer::Accepted(accepted) = &answer {
+    if let SessionAnswer::Accepted(accepted) = &answer {
         *number = *accepted;
     }
     code_of(answer)

@@ -10,7 +10,7 @@ use crate::codes::{MEMORY, OK, READ, WRITE, code_of};
 use crate::handle::Handle;
 use crate::structs::DiskCall;
 use iol_disk::SECTOR_OCTETS;
-use iol_handed::{Answer, Ask, Opening};
+use iol_handed::{Ask, Opening, SessionAnswer};
 use std::alloc::Global;
 
 /// Begins to open a flash of this number of sectors. If the handle has a master, ends it.
@@ -40,13 +40,13 @@ pub extern "C" fn iolm_disk_next(alloc: Global, handle: &mut Handle, call: &mut 
     ensures { WantsOfDisk handle.old handle.new call.old call.new result }
 {
     match handle.ask(alloc, Ask::DiskNext) {
-        Answer::Found(found) => handle.begin(alloc, found),
-        Answer::Write(sector, octets) => {
+        SessionAnswer::Found(found) => handle.begin(alloc, found),
+        SessionAnswer::Write(sector, octets) => {
             call.sector = sector as u64;
             call.octets = octets;
             WRITE
         }
-        Answer::Read(sector) => {
+        SessionAnswer::Read(sector) => {
             call.sector = sector as u64;
             READ
         }

@@ -4,7 +4,7 @@ ghost use Rattle.std.specs.Prelude.{◌≡◌, ◌⊎◌, true};
 ghost use Rattle.std.specs.Option.{option_map};
 ghost use Rattle.std.specs.List.{slice_get};
 ghost use Rattle.iol_c.specs.FormatExports.{HandsOut, IsGeometryOf, OfGeometry, OutOfMemory, erase_then_format};
-ghost use Rattle.iol_format.specs.Erasing.{erase_calls};
+ghost use Rattle.iol_journal.specs.Erasing.{erase_calls};
 ghost use Rattle.iol_handed.specs.HandedDisk.{call_of};
 ghost use Rattle.iol_layout.specs.Layout.{layout_of, total};
 
@@ -60,7 +60,7 @@ fn geometry_of(ports: u16, slots: u16) -> Option<Geometry>
 }
 
 // Returns the call with this number of an erasure.
-#[tactic(auto, unfolding(iol_slots::specs::Gate::closed_gate))]
+#[tactic(auto, unfolding(iol_disk::specs::Gate::closed_gate))]
 fn erase_call(number: usize) -> Option<HandedCall>
     ensures { option_map call_of result ≡ slice_get (erase_calls true) number }
 {

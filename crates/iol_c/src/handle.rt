@@ -7,7 +7,7 @@ ghost use Rattle.iol_handed.specs.Sessions.{SessionView, ended};
 use crate::codes::{MEMORY, OK, OPENED, code_of};
 use crate::hosting::{make, serve};
 use crate::kept::Kept;
-use iol_handed::{Answer, Ask, Found, Opening, Session, UnknownFlash};
+use iol_handed::{Ask, FoundJournal, Opening, Session, SessionAnswer, UnknownFlash};
 use std::alloc::Global;
 use std::marker::{Brand, Model};
 
@@ -42,7 +42,7 @@ impl Handle {
     /// that found it.
     pub(crate) fn make(
         alloc: Global,
-        found: Option<Found<UnknownFlash>>,
+        found: Option<FoundJournal<UnknownFlash>>,
     ) -> (Handle, Option<Opening<UnknownFlash>>)
         ensures { IsMade found result.0.is_open result.0.session result.1 }
     {
@@ -56,7 +56,7 @@ impl Handle {
     }
 
     // Has the session serve a request.
-    fn serve(self, alloc: Global, ask: Ask) -> (Handle, Answer)
+    fn serve(self, alloc: Global, ask: Ask) -> (Handle, SessionAnswer)
         ensures { Hosts ask self.is_open self.session result.0.is_open result.0.session result.1 }
     {
         let Handle { at, is_open } = self;
@@ -74,7 +74,7 @@ impl Handle {
     }
 
     /// Has the session serve a request.
-    pub(crate) fn ask(&mut self, alloc: Global, ask: Ask) -> Answer
+    pub(crate) fn ask(&mut self, alloc: Global, ask: Ask) -> SessionAnswer
         ensures { Hosts ask self.old.is_open self.old.session self.new.is_open self.new.session result }
     {
         let (after, answer) = std::mem::replace(self, Handle::none()).serve(alloc, ask);
@@ -108,7 +108,7 @@ impl Handle {
 
     /// Begins a master with what the session has found, and returns the code of the answer. If memory runs out, the session continues
     /// to open the flash.
-    pub(crate) fn begin(&mut self, alloc: Global, found: Found<UnknownFlash>) -> u32
+    pub(crate) fn begin(&mut self, alloc: Global, found: FoundJournal<UnknownFlash>) -> u32
         requires open { self.old.is_open ≡ true }
         ensures begins { Begins found self.new.is_open self.new.session result }
     {

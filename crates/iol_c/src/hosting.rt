@@ -6,15 +6,17 @@ ghost use Rattle.iol_c.specs.Hosting.{Hosts, IsBegunIn, IsMade};
 use crate::apart::Apart;
 use crate::kept::Kept;
 use iol_front::Name;
-use iol_handed::{Answer, Ask, Found, HandedMaster, Opening, Session, UnknownFlash, is_end};
+use iol_handed::{
+    Ask, FoundJournal, HandedMaster, Opening, Session, SessionAnswer, UnknownFlash, is_end,
+};
 use std::alloc::Global;
 
 /// Has a session serve a request. If the request is to end the session, its box is freed.
-pub(crate) fn serve<F: Name>(kept: Kept<F>, alloc: Global, ask: Ask) -> (Kept<F>, Answer)
+pub(crate) fn serve<F: Name>(kept: Kept<F>, alloc: Global, ask: Ask) -> (Kept<F>, SessionAnswer)
     ensures { Hosts ask kept.is_open kept.session result.0.is_open result.0.session result.1 }
 {
     let Some(session) = kept.into_apart(alloc) else {
-        return (Kept::none(), Answer::Closed);
+        return (Kept::none(), SessionAnswer::Closed);
     };
     let ends = is_end(&ask);
     let mut session = session.into_box();
@@ -30,7 +32,7 @@ pub(crate) fn serve<F: Name>(kept: Kept<F>, alloc: Global, ask: Ask) -> (Kept<F>
 /// no box, and what was found is returned as the opening that found it.
 pub(crate) fn make<F: Name>(
     alloc: Global,
-    found: Option<Found<UnknownFlash>>,
+    found: Option<FoundJournal<UnknownFlash>>,
 ) -> (Kept<F>, Option<Opening<UnknownFlash>>)
     requires name { IfSome found (λ found. found.front ≡ F.front) }
     ensures made { IsMade found result.0.is_open result.0.session result.1 }
@@ -47,7 +49,7 @@ pub(crate) fn make<F: Name>(
 fn begin<F: Name>(
     alloc: Global,
     session: Box<Session<F>>,
-    found: Found<UnknownFlash>,
+    found: FoundJournal<UnknownFlash>,
 ) -> (Kept<F>, Option<Opening<UnknownFlash>>)
     requires name { found.front ≡ F.front }
     ensures begun { IsBegunIn found result.0.is_open result.0.session result.1 }

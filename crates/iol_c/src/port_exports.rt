@@ -11,7 +11,7 @@ use crate::codes::{INVALID, code_of};
 use crate::handle::Handle;
 use crate::structs::Request;
 use arrayvec::ArrayVec;
-use iol_handed::{Answer, Ask, PortAsk};
+use iol_handed::{Ask, PortAsk, SessionAnswer};
 use iol_link::PAGE_OCTETS;
 use std::alloc::Global;
 
@@ -31,7 +31,7 @@ pub extern "C" fn iolm_port_next(
         return INVALID;
     };
     let answer = handle.ask(alloc, Ask::Port(port, PortAsk::Next));
-    if let Answer::Request(octets) = &answer {
+    if let SessionAnswer::Request(octets) = &answer {
         request.count = octets.len() as u32;
         request.octets = filled(octets.as_slice());
     }

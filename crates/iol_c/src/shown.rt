@@ -6,7 +6,7 @@ ghost use Rattle.iol_c.specs.Shown.{failed_status, failure_octet, mismatch_octet
 use crate::configs::config_struct;
 use crate::structs::{PortView, SetSize, Status};
 use iol_handed::{SetView, View};
-use iol_ident::IdentFault;
+use iol_link::IdentFault;
 use iol_port::{PortFault, PortStatus};
 
 /// Returns a status as C has it.

@@ -11,7 +11,7 @@ use crate::codes::{INVALID, code_of};
 use crate::handle::Handle;
 use crate::shown::{status_struct, view_struct};
 use crate::structs::{Entry, PortView, Status};
-use iol_handed::{Answer, Ask, WhichSet};
+use iol_handed::{Ask, SessionAnswer, WhichSet};
 use std::alloc::Global;
 
 /// Writes down the number of the last durable command.
@@ -20,7 +20,7 @@ pub extern "C" fn iolm_durable(alloc: Global, handle: &mut Handle, number: &mut 
     ensures { Asks Ask.Numbers handle.old handle.new (λ said. (result ≡ code_of said) × (number.new ≡ durable_after said number.old)) }
 {
     let answer = handle.ask(alloc, Ask::Numbers);
-    if let Answer::Numbers(durable, _) = &answer {
+    if let SessionAnswer::Numbers(durable, _) = &answer {
         *number = *durable;
     }
     code_of(answer)
@@ -32,7 +32,7 @@ pub extern "C" fn iolm_accepted(alloc: Global, handle: &mut Handle, number: &mut
     ensures { Asks Ask.Numbers handle.old handle.new (λ said. (result ≡ code_of said) × (number.new ≡ accepted_after said number.old)) }
 {
     let answer = handle.ask(alloc, Ask::Numbers);
-    if let Answer::Numbers(_, accepted) = &answer {
+    if let SessionAnswer::Numbers(_, accepted) = &answer {
         *number = *accepted;
     }
     code_of(answer)
@@ -53,7 +53,7 @@ pub extern "C" fn iolm_port_status(
         return INVALID;
     };
     let answer = handle.ask(alloc, Ask::Status(port));
-    if let Answer::Status(told) = &answer {
+    if let SessionAnswer::Status(told) = &answer {
         *status = status_struct(*told);
     }
     code_of(answer)
@@ -74,7 +74,7 @@ pub extern "C" fn iolm_port_view(
         return INVALID;
     };
     let answer = handle.ask(alloc, Ask::View(port));
-    if let Answer::View(told) = &answer {
+    if let SessionAnswer::View(told) = &answer {
         *view = view_struct(told);
     }
     code_of(answer)
@@ -100,7 +100,7 @@ pub extern "C" fn iolm_entry(
         return INVALID;
     };
     let answer = handle.ask(alloc, Ask::Entry(port, which, place));
-    if let Answer::Entry(key, octets) = &answer {
+    if let SessionAnswer::Entry(key, octets) = &answer {
         *entry = Entry {
             index: key.index,
             subindex: key.subindex,

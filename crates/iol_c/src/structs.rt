@@ -1,7 +1,7 @@
 //! The structs of include/iolmaster.h.
 
 use iol_disk::SECTOR_OCTETS;
-use iol_isdu::ISDU_OCTETS;
+use iol_link::ISDU_OCTETS;
 use iol_types::{MOST_ENTRY_OCTETS, MOST_LABEL_OCTETS};
 
 /// A call of the disk (`struct iolm_disk_call`): a sector, and its octets if it is to be written.

@@ -13,7 +13,7 @@ use std::alloc::{AllocError, Global};
 
 // What is printed of a text.
 #[derive(Drop)]
-pub enum Answer {
+pub enum CheckAnswer {
     // It can be run: its line, and notes.
     Fine(String),
     // It cannot: a line for each mistake.
@@ -21,12 +21,14 @@ pub enum Answer {
 }
 
 // The answer to a text. Whether it can be run is asked of the call that a run makes.
-pub(crate) fn answer_to(alloc: Global, text: &[u8]) -> Result<Answer, AllocError>
+pub(crate) fn answer_to(alloc: Global, text: &[u8]) -> Result<CheckAnswer, AllocError>
     ensures { IfOk result (IsAnswer text.now) }
 {
     match read_playable(alloc, text) {
-        Ok(playable) => Ok(Answer::Fine(fine_text(alloc, text, &playable.script)?)),
-        Err(Fault::Script | Fault::Geometry) => Ok(Answer::Mistakes(mistakes_of(alloc, text)?)),
+        Ok(playable) => Ok(CheckAnswer::Fine(fine_text(alloc, text, &playable.script)?)),
+        Err(Fault::Script | Fault::Geometry) => Ok(CheckAnswer::Mistakes(mistakes_of(
+            alloc, text,
+        )?)),
         // No other fault is one of the text.
         Err(_) => Err(AllocError),
     }

@@ -4,7 +4,7 @@ ghost use Rattle.std.specs.Io.KnownBytes.{Appends};
 ghost use Rattle.iol_commands.specs.Runs.{CanRun};
 ghost use Rattle.iol_check.specs.Fine.{TellsFine};
 
-use crate::answer::{Answer, answer_to};
+use crate::answer::{CheckAnswer, answer_to};
 use iol_commands::{Fault, print, report};
 use std::alloc::Global;
 use std::io::Write;
@@ -26,8 +26,8 @@ pub fn check_text<W: Write, E: Write>(alloc: Global, script: &[u8], out: &mut W,
     ensures listed { result ≡ 2 → (text : List ℕ) × (0 < length text) × Appends (W.contents out.old) (W.contents out.new) text }
 {
     match answer_to(alloc, script) {
-        Ok(Answer::Fine(text)) => print(out, text.as_bytes()),
-        Ok(Answer::Mistakes(lines)) => print_mistakes(out, lines.as_bytes()),
+        Ok(CheckAnswer::Fine(text)) => print(out, text.as_bytes()),
+        Ok(CheckAnswer::Mistakes(lines)) => print_mistakes(out, lines.as_bytes()),
         Err(_) => report(err, &Fault::Memory),
     }
 }

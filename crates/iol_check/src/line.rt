@@ -2,7 +2,7 @@
 
 use crate::entry::Entry;
 use crate::part::Part;
-use crate::place::Place;
+use crate::place::TextPosition;
 use std::alloc::AllocError;
 
 // How many characters of a text are shown.
@@ -15,7 +15,7 @@ pub(crate) fn write_at(
     at: usize,
     name: &str,
 ) -> Result<(), AllocError> {
-    let place = Place::at(text.as_bytes(), at);
+    let place = TextPosition::at(text.as_bytes(), at);
     write!(lines, "{place}: ")?;
     write_cut(lines, name)
 }

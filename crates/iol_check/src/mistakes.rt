@@ -2,7 +2,7 @@
 
 use crate::judge::Judge;
 use crate::line::write_at;
-use crate::place::Place;
+use crate::place::TextPosition;
 use iol_script::SCRIPT_OCTETS;
 use std::alloc::{AllocError, Global};
 use std::str;
@@ -27,7 +27,7 @@ pub(crate) fn write_mistakes(
     match str::from_utf8(text) {
         Ok(text) => write_of_text(alloc, text, lines),
         Err(error) => {
-            let place = Place::at(text, error.valid_up_to());
+            let place = TextPosition::at(text, error.valid_up_to());
             writeln!(lines, "{place}: script: not UTF-8")
         }
     }

@@ -4,15 +4,15 @@ use std::fmt;
 
 // Where something stands in a text: its line and its column, both from 1. A column counts characters.
 #[derive(Clone, Copy)]
-pub(crate) struct Place {
+pub(crate) struct TextPosition {
     line: usize,
     column: usize,
 }
 
-impl Place {
+impl TextPosition {
     // The place of the octet of this number, from 0. A byte order mark in front of the text is no character.
-    pub(crate) fn at(text: &[u8], number: usize) -> Place {
-        let mut place = Place { line: 1, column: 1 };
+    pub(crate) fn at(text: &[u8], number: usize) -> TextPosition {
+        let mut place = TextPosition { line: 1, column: 1 };
         for octet in without_mark(text.get(..number).unwrap_or(text)) {
             place = place.behind(*octet);
         }
@@ -20,16 +20,16 @@ impl Place {
     }
 
     // The place behind an octet that stands here.
-    fn behind(self, octet: u8) -> Place {
+    fn behind(self, octet: u8) -> TextPosition {
         if octet == b'\n' {
-            Place {
+            TextPosition {
                 line: self.line.saturating_add(1),
                 column: 1,
             }
         } else if octet & 0xC0 == 0x80 {
             self
         } else {
-            Place {
+            TextPosition {
                 line: self.line,
                 column: self.column.saturating_add(1),
             }
@@ -44,7 +44,7 @@ fn without_mark(text: &[u8]) -> &[u8] {
     }
 }
 
-impl fmt::Display for Place {
+impl fmt::Display for TextPosition {
     fn fmt<W: fmt::Write>(&self, f: &mut fmt::Formatter<W>) -> fmt::Result {
         let (line, column) = (self.line, self.column);
         write!(f, "line {line}, column {column}")

@@ -10,7 +10,7 @@ use toml_parser::text::{skip_blank, skip_ws};
 
 // What is found so far.
 #[derive(Drop)]
-pub(crate) struct Found {
+pub(crate) struct EntriesRead {
     entries: Vec<Entry>,
     // What the last table that began is.
     role: Role,
@@ -20,10 +20,10 @@ pub(crate) struct Found {
     is_open: bool,
 }
 
-impl Found {
+impl EntriesRead {
     // The table of the whole script begins.
-    fn new(alloc: Global) -> Result<Found, AllocError> {
-        let mut found = Found {
+    fn new(alloc: Global) -> Result<EntriesRead, AllocError> {
+        let mut found = EntriesRead {
             entries: Vec::new(alloc),
             role: Role::Script,
             table: 0,
@@ -147,7 +147,7 @@ impl Found {
     }
 
     fn into_entries(self) -> Vec<Entry> {
-        let Found {
+        let EntriesRead {
             entries,
             role: _,
             table: _,
@@ -173,7 +173,7 @@ fn first_key(path: Path) -> Option<Key> {
 
 // What is found in a text, in its order. Where the text cannot be read further the list ends.
 pub(crate) fn entries_of(alloc: Global, text: &str) -> Result<Vec<Entry>, AllocError> {
-    let mut found = Found::new(alloc)?;
+    let mut found = EntriesRead::new(alloc)?;
     let mut rest = text.strip_prefix('\u{FEFF}').unwrap_or(text);
     // Each turn reads an octet at least.
     for _turn in 0..text.len() {
@@ -190,7 +190,7 @@ fn read_line<'t>(
     alloc: Global,
     text: &'t str,
     line: &'t str,
-    found: &mut Found,
+    found: &mut EntriesRead,
 ) -> Result<Option<&'t str>, AllocError> {
     if let Some(inside) = line.strip_prefix("[[") {
         let Some((path, name, behind)) = header_at(alloc, text, line, inside, "]]")? else {
@@ -231,7 +231,7 @@ fn read_pair<'t>(
     alloc: Global,
     text: &'t str,
     line: &'t str,
-    found: &mut Found,
+    found: &mut EntriesRead,
 ) -> Result<Option<&'t str>, AllocError> {
     let Some((pair, behind)) = pair_at(alloc, text, line)? else {
         return Ok(None);

@@ -3,7 +3,7 @@
 use crate::entry::Role;
 use crate::pair::pair_at;
 use crate::part::Part;
-use crate::reading::Found;
+use crate::reading::EntriesRead;
 use crate::value::value_octets;
 use std::alloc::{AllocError, Global};
 use toml_parser::text::skip_blank;
@@ -14,7 +14,7 @@ pub(crate) fn read_tables(
     text: &str,
     role: Role,
     array: Part,
-    found: &mut Found,
+    found: &mut EntriesRead,
 ) -> Result<(), AllocError> {
     for value in values_of(alloc, text, array)? {
         match value.inside(text, '{') {
@@ -34,7 +34,7 @@ fn read_pairs(
     alloc: Global,
     text: &str,
     inside: &str,
-    found: &mut Found,
+    found: &mut EntriesRead,
 ) -> Result<(), AllocError> {
     let mut rest = inside;
     for _turn in 0..text.len() {

@@ -17,9 +17,9 @@ use Rattle.iol_run.specs.declared.schedule.RunFault.TheVariants as fault
 use Rattle.iol_run.specs.declared.schedule.Trace.{Trace}
 use Rattle.iol_script.specs.Script.{Said}
 use Rattle.iol_sim.specs.SimLink.{Sim}
-use Rattle.iol_trace.specs.CrashPrefix.{CrashPrefix}
-use Rattle.iol_trace.specs.Events.{Stamp}
-use Rattle.iol_trace.specs.Words.{accepted, acked}
+use Rattle.iol_core.specs.CrashPrefix.{CrashPrefix}
+use Rattle.iol_core.specs.Events.{Stamp}
+use Rattle.iol_core.specs.Words.{accepted, acked}
 use Rattle.iol_journal.specs.Geometry.{Geometry}
 use Rattle.iol_commands.specs.Played.{IsRunOf, HoldsAcknowledged}
 

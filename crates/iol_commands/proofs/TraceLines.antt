@@ -5,7 +5,7 @@ use Rattle.std.specs.Prelude.{Option, None}
 use Rattle.std.proofs.lemmas.List.{take_more, map-append}
 use Rattle.iol_engine.specs.Events.{event_of}
 use Rattle.iol_run.specs.declared.run.Stamped.{Stamped}
-use Rattle.iol_trace.specs.Events.{Event}
+use Rattle.iol_core.specs.Events.{Event}
 use Rattle.iol_commands.specs.Lines.{lost_in, lines_behind, lines_from, lines_of, events_of}
 
 -- the port whose device the last of events tells as lost

@@ -1,7 +1,7 @@
 -- The devices of a script, at the ports of a run.
 use Rattle.std.specs.Prelude.{ℕ, zero, suc, ◌==◌, false, if◌then◌else◌, List, [], ◌∷◌, ◌++◌, map}
 use Rattle.std.specs.List.{filter}
-use Rattle.iol_dsindex.specs.declared.property.State.TheVariants.{Inactive, Locked}
+use Rattle.iol_transfer.specs.declared.property.State.TheVariants.{Inactive, Locked}
 use Rattle.iol_script.specs.Device.{SaidDevice}
 use Rattle.iol_script.specs.Parameters.{entries_of}
 use Rattle.iol_script.specs.declared.device.Device as script

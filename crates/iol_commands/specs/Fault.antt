@@ -4,8 +4,8 @@ use Rattle.std.specs.Fmt.{decimal}
 use Rattle.iol_commands.specs.declared.fault.Fault.{Fault}
 use Rattle.iol_commands.specs.declared.fault.Fault.TheVariants.{NotFormatted, AlreadyFormatted, TooSmall, Damaged, Disk, Memory}
 use Rattle.iol_commands.specs.declared.fault.Fault.TheVariants.{Words, File, InUse, Thread, Call, Fit, Drivers, Script, Geometry}
-use Rattle.iol_journal.specs.FormatFault.{FormatFault}
-use Rattle.iol_journal.specs.FormatFault.TheVariants as format
+use Rattle.iol_journal.specs.declared.formatting.FormatFault.{FormatFault}
+use Rattle.iol_journal.specs.declared.formatting.FormatFault.TheVariants as format
 use Rattle.iol_journal.specs.RecoverCause.{RecoverCause}
 use Rattle.iol_journal.specs.RecoverCause.TheVariants as cause
 use Rattle.iol_script.specs.declared.script.ScriptFault.{ScriptFault}

@@ -5,8 +5,8 @@ use Rattle.std.specs.Fmt.{decimal}
 use Rattle.iol_types.specs.State.{State}
 use Rattle.iol_engine.specs.Events.{event_of}
 use Rattle.iol_run.specs.declared.run.Stamped.{Stamped}
-use Rattle.iol_trace.specs.Events.{Event, Accepted, Refused, Page, Exchange, Lost, Attended, Changed, Acknowledged, DiskFailed}
-use Rattle.iol_trace.specs.Statuses as trace
+use Rattle.iol_core.specs.Events.{Event, Accepted, Refused, Page, Exchange, Lost, Attended, Changed, Acknowledged, DiskFailed}
+use Rattle.iol_core.specs.Statuses as trace
 use Rattle.iol_texts.specs.Texts.{refusal_name, spaced, status_text}
 use Rattle.iol_texts.specs.Recovered.{recovered_text}
 

@@ -19,8 +19,8 @@ use Rattle.iol_run.specs.declared.schedule.Trace.{Trace}
 use Rattle.iol_script.specs.Script.{Said, said_in}
 use Rattle.iol_script.specs.declared.fail.FailingCall.{FailingCall}
 use Rattle.iol_sim.specs.SimLink.{Sim, SimStep}
-use Rattle.iol_trace.specs.Events.{Stamp}
-use Rattle.iol_trace.specs.Words.{accepted, acked}
+use Rattle.iol_core.specs.Events.{Stamp}
+use Rattle.iol_core.specs.Words.{accepted, acked}
 use Rattle.iol_commands.specs.Devices.{links_of}
 use Rattle.iol_commands.specs.Lines.{events_of, report_text}
 use Rattle.iol_commands.specs.Steps.{tasks_of}

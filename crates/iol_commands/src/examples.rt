@@ -1,8 +1,8 @@
 //! Lines of a trace and of faults, worked out by the check: a text that is wrong in a definition and in the code alike is refused here.
 ghost use Rattle.std.specs.Prelude.{◌≡◌, [], ◌∷◌, map, codes, Some, None};
 ghost use Rattle.iol_types.specs.Command.{Clear};
-ghost use Rattle.iol_trace.specs.Events as event;
-ghost use Rattle.iol_trace.specs.Statuses as trace;
+ghost use Rattle.iol_core.specs.Events as event;
+ghost use Rattle.iol_core.specs.Statuses as trace;
 ghost use Rattle.iol_commands.specs.Fault.{fault_line};
 ghost use Rattle.iol_commands.specs.Lines.{event_text, lines_of, report_text};
 ghost use Rattle.iol_commands.specs.declared.fault.Fault.TheVariants.{NotFormatted, AlreadyFormatted, TooSmall, Damaged, Disk};

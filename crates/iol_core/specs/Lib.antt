@@ -8,3 +8,9 @@ pub mod Downloads
 pub mod Ports
 pub mod Examples
 pub mod Telling
+pub mod Statuses
+pub mod Events
+pub mod Words
+pub mod Own
+pub mod Links
+pub mod CrashPrefix

@@ -2,7 +2,7 @@
 use Rattle.iol_core.specs.declared.port.Work as core
 use Rattle.iol_core.specs.declared.ticket.SubmitFault.{SubmitFault}
 use Rattle.iol_core.specs.declared.ticket.SubmitFault.TheVariants as fault
-use Rattle.iol_trace.specs.Statuses.{Refusal, Stopped, Command, QueueFull, Exhausted, Work}
+use Rattle.iol_core.specs.Statuses.{Refusal, Stopped, Command, QueueFull, Exhausted, Work}
 
 -- why a command is refused (own)
 abbrev pub refusal_of : SubmitFault → Refusal

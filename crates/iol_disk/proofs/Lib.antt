@@ -9,3 +9,5 @@ pub mod FaultDisks
 pub mod Making
 pub mod Synced
 pub mod Unchanged
+pub mod Gates
+pub mod SlotLaws

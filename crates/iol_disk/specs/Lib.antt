@@ -10,3 +10,4 @@ pub mod Fresh
 pub mod FaultDisk
 pub mod ImageFile
 pub mod RecordedDisk
+pub mod Gate

@@ -1,15 +1,19 @@
-//! Disks of sectors, and what a power stop may leave of them.
+//! Disks of sectors, what a power stop may leave of them, and slots: sectors behind a gate.
 //!
-//! In comes a caller that reads, writes and syncs whole sectors through [`SectorDisk`]; out goes, in each
-//! contract, what a read gives and what a stop at any moment may leave. [`MemoryDisk`] is such a disk, and can
-//! be stopped: a [`Pick`] says what the stop leaves of the sectors that no sync has settled. [`FaultDisk`] is another
-//! disk of which one call fails, and [`RecordedDisk`] one whose calls are recorded. [`ImageFile`] is a file of sectors, of
-//! which nothing is promised but its size and its faults; [`FileLength`] tells how long it is, and [`LockFile`] locks it for
-//! as long as it is open.
+//! A caller reads, writes and syncs whole sectors through [`SectorDisk`]. Each contract says what a read returns, and what a
+//! stop at any moment may leave. [`MemoryDisk`] is such a disk, and can be stopped: a [`Pick`] says what the stop leaves of the
+//! sectors that were written since the last sync. [`FaultDisk`] is another disk of which one call fails, and [`RecordedDisk`]
+//! one that records its calls. [`ImageFile`] is a file of sectors, of which nothing is promised but its size and its faults.
+//! [`FileLength`] reports how long it is, and [`LockFile`] locks it as long as it is open.
 //!
-//! Read `disk` first, then `memory`, `fault_disk`, `recorded_disk` and `image_file`; `specs/Content.antt` has the words.
+//! A [`Slot`] has a gate and a body. What the body holds counts only if the gate is open. The gate is a sector of its own, so
+//! that one write opens or closes it. A writer fills the body while the gate is closed, syncs, and opens the gate; whatever a
+//! stop then leaves of the gate, the body behind it is whole. Each of the five calls of a slot makes one call of the disk, and
+//! none takes memory.
 //!
-//! Proofs of other crates cite the laws of `proofs/DiskLaws.antt`.
+//! Read `disk` first, then `memory`, `fault_disk`, `recorded_disk`, `image_file` and `slot`; `specs/Content.antt` and
+//! `specs/Gate.antt` have the definitions. Proofs of other crates cite the laws of `proofs/DiskLaws.antt` and
+//! `proofs/SlotLaws.antt`.
 #![tactic(auto)]
 
 mod cell;
@@ -26,6 +30,8 @@ mod memory;
 mod new_file;
 mod pick;
 mod recorded_disk;
+mod slot;
+pub mod slot_examples;
 mod undo;
 
 pub use disk::{SECTOR_OCTETS, SectorDisk};
@@ -38,3 +44,4 @@ pub use lock_file::LockFile;
 pub use memory::MemoryDisk;
 pub use pick::Pick;
 pub use recorded_disk::{DiskCall, RecordedDisk};
+pub use slot::{BODY_SECTORS, GATE_MARK, Slot};

@@ -5,7 +5,7 @@ use crate::lane::Lane;
 use crate::mark::What;
 use crate::port_marks::PortMarks;
 use crate::scale::Scale;
-use iol_explain::Place;
+use iol_explain::SectorUse;
 use iol_types::PortId;
 use std::alloc::{AllocError, Global};
 
@@ -90,10 +90,10 @@ impl<'a> Layout<'a> {
 }
 
 // Returns the row of a write. A batch writes the body of a slot and opens its gate.
-fn row_of(place: Place, is_gate_open: bool) -> usize {
+fn row_of(place: SectorUse, is_gate_open: bool) -> usize {
     match place {
-        Place::Body(_, _) => BATCHES,
-        Place::SlotGate(_, _) if is_gate_open => BATCHES,
+        SectorUse::Body(_, _) => BATCHES,
+        SectorUse::SlotGate(_, _) if is_gate_open => BATCHES,
         _ => CHECKPOINTS,
     }
 }

@@ -15,17 +15,17 @@ pub(crate) struct Lines {
 
 // The lines of an explained run, and the number of them that are taken.
 #[derive(Drop)]
-pub(crate) struct Told<'a> {
+pub(crate) struct ExplainedLines<'a> {
     lines: &'a [&'a str],
     taken: usize,
     // the port whose device the last event has lost
     lost: Option<PortId>,
 }
 
-impl<'a> Told<'a> {
+impl<'a> ExplainedLines<'a> {
     // Begins at the first line.
-    pub(crate) fn new(lines: &'a [&'a str]) -> Told<'a> {
-        Told {
+    pub(crate) fn new(lines: &'a [&'a str]) -> ExplainedLines<'a> {
+        ExplainedLines {
             lines,
             taken: 0,
             lost: None,

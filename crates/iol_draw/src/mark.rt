@@ -2,7 +2,7 @@
 
 use crate::lines::Lines;
 use crate::sign::Sign;
-use iol_explain::Place;
+use iol_explain::SectorUse;
 use iol_port::PortStatus;
 use iol_types::PortId;
 
@@ -17,19 +17,30 @@ pub(crate) struct Mark {
 #[derive(Clone, Copy)]
 pub(crate) enum What {
     // A command was accepted under this number.
-    Accepted { number: u64 },
+    Accepted {
+        number: u64,
+    },
     // A command was refused.
     Refused,
     // All commands up to a number were acknowledged.
     Acknowledged,
     // A port has read the page of its device.
-    Page { port: PortId },
+    Page {
+        port: PortId,
+    },
     // A port has had an answer of its device.
-    Exchange { port: PortId },
+    Exchange {
+        port: PortId,
+    },
     // A port has lost its device.
-    Loss { port: PortId },
+    Loss {
+        port: PortId,
+    },
     // A sector was written in this place, with the octets of an open gate or with others.
-    Wrote { place: Place, is_gate_open: bool },
+    Wrote {
+        place: SectorUse,
+        is_gate_open: bool,
+    },
     // The disk was synced.
     Synced,
     // The disk call before failed.
@@ -57,11 +68,11 @@ impl What {
 }
 
 // Returns the sign of a write, which may open or close a gate.
-fn sign_of_write(place: Place, is_gate_open: bool) -> Sign {
+fn sign_of_write(place: SectorUse, is_gate_open: bool) -> Sign {
     match place {
-        Place::DiskGate | Place::AreaGate(_) | Place::SlotGate(_, _) if is_gate_open =>
+        SectorUse::DiskGate | SectorUse::AreaGate(_) | SectorUse::SlotGate(_, _) if is_gate_open =>
             Sign::Opened,
-        Place::DiskGate | Place::AreaGate(_) | Place::SlotGate(_, _) => Sign::Closed,
+        SectorUse::DiskGate | SectorUse::AreaGate(_) | SectorUse::SlotGate(_, _) => Sign::Closed,
         _ => Sign::Write,
     }
 }

@@ -1,6 +1,6 @@
 //! The marks of what happens in a run, made one after another.
 
-use crate::lines::{Lines, Told};
+use crate::lines::{ExplainedLines, Lines};
 use crate::mark::{Mark, Wait, What};
 use crate::port_marks::PortMarks;
 use crate::waiting::Waiting;
@@ -15,7 +15,7 @@ use std::alloc::{AllocError, Global};
 #[derive(Drop)]
 pub(crate) struct Marking<'a> {
     geometry: Geometry,
-    told: Told<'a>,
+    told: ExplainedLines<'a>,
     waiting: Waiting,
     pub column: usize,
     pub signs: Vec<Mark>,
@@ -33,7 +33,7 @@ impl<'a> Marking<'a> {
     ) -> Result<Marking<'a>, AllocError> {
         Ok(Marking {
             geometry,
-            told: Told::new(lines),
+            told: ExplainedLines::new(lines),
             waiting: Waiting::new(alloc),
             column: 0,
             signs: Vec::new(alloc),

@@ -14,12 +14,12 @@ pub(crate) struct PortMarks<'a> {
     // the status that it has, which ends later
     has: Option<Bar>,
     // the device that it has found last
-    found: Option<Found<'a>>,
+    found: Option<DrawnDevice<'a>>,
 }
 
 // A device that was found: the connection of its link, and its numbers.
 #[derive(Clone, Copy)]
-struct Found<'a> {
+struct DrawnDevice<'a> {
     connection: u64,
     numbers: &'a str,
 }
@@ -81,7 +81,7 @@ impl<'a> PortMarks<'a> {
             Some(_) => Arrival::Anew,
             None => Arrival::First,
         };
-        self.found = Some(Found {
+        self.found = Some(DrawnDevice {
             connection,
             numbers,
         });

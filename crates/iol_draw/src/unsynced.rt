@@ -1,14 +1,14 @@
 //! Which sectors were written and not synced when the power stops.
 
 use iol_engine::Event;
-use iol_explain::{Explained, Place, ToldCall, calls_between, calls_of_run, place_of};
+use iol_explain::{Explained, SectorUse, ToldCall, calls_between, calls_of_run, place_of};
 use iol_run::Stamped;
 use std::alloc::{AllocError, Global};
 
 // Sectors that follow one another are a span, with what is in each.
 #[derive(Clone, Copy)]
 pub(crate) struct Span {
-    pub place: Place,
+    pub place: SectorUse,
     pub first: usize,
     pub last: usize,
 }
@@ -20,10 +20,10 @@ impl Span {
     }
 
     // Whether a sector of this place is the next one of the same record or body.
-    fn reaches(&self, place: Place, sector: usize) -> bool {
+    fn reaches(&self, place: SectorUse, sector: usize) -> bool {
         let is_same = match (self.place, place) {
-            (Place::Record(_, port), Place::Record(_, next)) => port == next,
-            (Place::Body(_, slot), Place::Body(_, next)) => slot == next,
+            (SectorUse::Record(_, port), SectorUse::Record(_, next)) => port == next,
+            (SectorUse::Body(_, slot), SectorUse::Body(_, next)) => slot == next,
             _ => false,
         };
         is_same && self.last.checked_add(1) == Some(sector)
@@ -69,7 +69,7 @@ fn has_failed(events: &[Stamped]) -> bool {
 }
 
 // Adds a sector to the spans that end at it, or as a span of its own.
-fn add_sector(spans: &mut Vec<Span>, place: Place, sector: usize) -> Result<(), AllocError> {
+fn add_sector(spans: &mut Vec<Span>, place: SectorUse, sector: usize) -> Result<(), AllocError> {
     for span in spans.iter_mut() {
         if span.has(sector) {
             return Ok(());

@@ -5,9 +5,9 @@ use Rattle.iol_types.specs.Command.{CommandValue}
 use Rattle.iol_core.specs.Core.{CoreView}
 use Rattle.iol_core.specs.Submit.{IsSubmit}
 use Rattle.iol_core.specs.declared.ticket.SubmitFault.{SubmitFault}
-use Rattle.iol_trace.proofs.Words.{acked-append}
-use Rattle.iol_trace.specs.Events.{Event, Accepted, Stamp, stamped}
-use Rattle.iol_trace.specs.Words.{acked, acked_by}
+use Rattle.iol_core.proofs.Words.{acked-append}
+use Rattle.iol_core.specs.Events.{Event, Accepted, Stamp, stamped}
+use Rattle.iol_core.specs.Words.{acked, acked_by}
 use Rattle.iol_engine.proofs.Changes.{Becomes, Change, Permits, Waits, Tells, changed}
 use Rattle.iol_engine.proofs.Quiet.{AreQuiet, AcksNone, quiet_acks, stamped_both}
 use Rattle.iol_engine.specs.Acknowledged.{AcksRise}

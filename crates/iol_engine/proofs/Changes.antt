@@ -30,7 +30,7 @@ use Rattle.iol_port.specs.declared.stage.Held.{Held}
 use Rattle.iol_port.specs.declared.stage.Held.TheVariants as held
 use Rattle.iol_port.specs.declared.call.Reply.{Reply}
 use Rattle.iol_port.specs.declared.call.Reply.TheVariants as reply
-use Rattle.iol_trace.specs.Events.{Event, Accepted}
+use Rattle.iol_core.specs.Events.{Event, Accepted}
 use Rattle.iol_engine.proofs.Quiet.{AreQuiet}
 use Rattle.iol_engine.specs.PortSteps.{reply_told, store_in, attended_told, filed_told}
 

@@ -10,9 +10,9 @@ use Rattle.iol_core.specs.Batches.{acknowledged}
 use Rattle.iol_core.specs.Core.{CoreView, live_number}
 use Rattle.iol_core.specs.Submit.{IsSubmit}
 use Rattle.iol_core.specs.declared.ticket.SubmitFault.{SubmitFault}
-use Rattle.iol_trace.proofs.Words.{accepted-append, acked-append}
-use Rattle.iol_trace.specs.Events.{Event, Accepted, Acknowledged, Stamp, stamped}
-use Rattle.iol_trace.specs.Words.{accepted, acked}
+use Rattle.iol_core.proofs.Words.{accepted-append, acked-append}
+use Rattle.iol_core.specs.Events.{Event, Accepted, Acknowledged, Stamp, stamped}
+use Rattle.iol_core.specs.Words.{accepted, acked}
 use Rattle.iol_engine.proofs.Changes.{Becomes, Change, Permits, Waits, Tells, changed}
 use Rattle.iol_engine.proofs.Quiet.{AreQuiet, quiet_accepted, quiet_acked, stamped_both}
 use Rattle.iol_engine.specs.Engine as engine

@@ -8,7 +8,7 @@ use Rattle.iol_port.specs.Stage.{PortValue}
 use Rattle.iol_port.specs.Status.{status_of}
 use Rattle.iol_port.specs.Telling.{status_told}
 use Rattle.iol_port.specs.declared.status.PortStatus.{PortStatus}
-use Rattle.iol_trace.specs.Own.{status_shown}
+use Rattle.iol_core.specs.Own.{status_shown}
 use Rattle.iol_engine.proofs.PortRuns.{run_status}
 use Rattle.iol_engine.specs.Engine.{EngineView, IsEngine, any_steps, itself, trace_of}
 use Rattle.iol_engine.specs.HandedSteps.{status_in}

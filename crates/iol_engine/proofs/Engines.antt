@@ -14,10 +14,10 @@ use Rattle.iol_core.specs.declared.ticket.SubmitFault.{SubmitFault}
 use Rattle.iol_front.proofs.Prefixes.{prefix_append, prefix_self, prefix_trans}
 use Rattle.iol_front.specs.Fronts.{CommittedView, Start}
 use Rattle.iol_port.specs.Stage.{PortValue}
-use Rattle.iol_trace.proofs.Words.{accepted-append}
-use Rattle.iol_trace.specs.Events.{Event, Acknowledged, DiskFailed, Stamp, stamped}
-use Rattle.iol_trace.specs.Own.{own}
-use Rattle.iol_trace.specs.Words.{accepted, acked}
+use Rattle.iol_core.proofs.Words.{accepted-append}
+use Rattle.iol_core.specs.Events.{Event, Acknowledged, DiskFailed, Stamp, stamped}
+use Rattle.iol_core.specs.Own.{own}
+use Rattle.iol_core.specs.Words.{accepted, acked}
 use Rattle.iol_engine.proofs.Acknowledging.{Rises, rise-append, one_rises, silent_rises, stepped_rises, submit_rises}
 use Rattle.iol_engine.proofs.CoreAfter.{acknowledges, core_after, quiet, stepped_stands, submit_stands}
 use Rattle.iol_engine.proofs.Machines.{new_are_ports, one_stepped, port_stays}

@@ -12,7 +12,7 @@ use Rattle.iol_port.specs.Stage.{Stage, Settled, PortValue}
 use Rattle.iol_port.specs.Wanted.{Wanted, AnswerTo, ReplyTo, wanted}
 use Rattle.iol_port.specs.declared.action.Input.TheVariants as input
 use Rattle.iol_port.specs.declared.call.Reply.TheVariants as reply
-use Rattle.iol_trace.specs.Events.{Event}
+use Rattle.iol_core.specs.Events.{Event}
 use Rattle.iol_transfer.specs.Exchanges.{Exchange}
 use Rattle.iol_types.specs.DataSet.{SetValue}
 use Rattle.iol_engine.specs.PortRuns.{raised_first, woken_first, happened}
@@ -58,12 +58,12 @@ noted_led port value None history led = led
 noted_led port value (Some code) history led = (value, led, refl)
 
 -- and a settled machine woken
-awake_led : (port own : ℕ) (under : Option ℕ) (kept : Bool) (stage : Stage) (history : List Happening)
-    → HasLed port history (record { port = own; under = under; kept = kept; stage = stage })
-    → HasLed port (woken_first stage ++ history) (awake (record { port = own; under = under; kept = kept; stage = stage }))
-awake_led port own under kept (Settled rest) history led =
-    (record { port = own; under = under; kept = kept; stage = Settled rest }, led, (refl, tt, refl, tt))
-awake_led port own under kept stage history led = led
+awake_led : (port own : ℕ) (started : Option ℕ) (requested : Bool) (stage : Stage) (history : List Happening)
+    → HasLed port history (record { port = own; started_revision = started; upload_requested = requested; stage = stage })
+    → HasLed port (woken_first stage ++ history) (awake (record { port = own; started_revision = started; upload_requested = requested; stage = stage }))
+awake_led port own started requested (Settled rest) history led =
+    (record { port = own; started_revision = started; upload_requested = requested; stage = Settled rest }, led, (refl, tt, refl, tt))
+awake_led port own started requested stage history led = led
 
 module _ {L : Type 0} (number : L → ℕ) (steps : L → LinkCall → LinkAnswer → L → Type 0) where
   -- what has led the machine that acts in a step
@@ -77,7 +77,7 @@ module _ {L : Type 0} (number : L → ℕ) (steps : L → LinkCall → LinkAnswe
       let value = noted_by event before in
       subst (λ (v : PortValue). HasLed port (woken_first value.stage ++ (raised_first event ++ history)) (awake v))
       (sym is.hears_event.new_is)
-      (awake_led port value.port value.under value.kept value.stage (raised_first event ++ history)
+      (awake_led port value.port value.started_revision value.upload_requested value.stage (raised_first event ++ history)
       (noted_led port before event history led))
 
   pub acting_led : (port : ℕ) (before after : PortValue) (link last : L) (old new : CoreView) (called status : List Event) → Led port before

@@ -13,7 +13,7 @@ use Rattle.iol_port.specs.History.{is_at_hand}
 use Rattle.iol_port.specs.Stage.{PortValue, IsStage, new_machine}
 use Rattle.iol_port.specs.declared.action.Input.{Input}
 use Rattle.iol_port.specs.declared.action.Input.TheVariants as input
-use Rattle.iol_trace.specs.Events.{Event}
+use Rattle.iol_core.specs.Events.{Event}
 use Rattle.iol_engine.specs.PortSteps.{IsReady, HasEvent, PortStep, awake, noted_by}
 use Rattle.iol_engine.specs.Ports.{ArePorts, IsAtPlace, PortsView, machines_from, new_machines}
 

@@ -6,7 +6,7 @@ use Rattle.iol_port.specs.Stage.{PortValue}
 use Rattle.iol_port.specs.Wanted.{Wanted, Nothing, ThePage, AnswerTo, ReplyTo}
 use Rattle.iol_port.specs.declared.action.Input.{Input}
 use Rattle.iol_port.specs.declared.action.Input.TheVariants as input
-use Rattle.iol_trace.specs.Events.{Event}
+use Rattle.iol_core.specs.Events.{Event}
 use Rattle.iol_engine.specs.Engine.{MakesStep, any_steps, itself}
 use Rattle.iol_engine.specs.PortSteps.{HasEvent, Hears, HearsAnswer, HearsPage, PortStep, awake}
 

@@ -19,9 +19,9 @@ use Rattle.iol_port.specs.declared.action.Input.{Input}
 use Rattle.iol_port.specs.declared.action.Input.TheVariants as input
 use Rattle.iol_port.specs.declared.call.Reply.{Reply}
 use Rattle.iol_port.specs.declared.call.Reply.TheVariants as reply
-use Rattle.iol_trace.proofs.Own.{own-append}
-use Rattle.iol_trace.specs.Events.{Event, stamped}
-use Rattle.iol_trace.specs.Own.{at_port, own, own_in}
+use Rattle.iol_core.proofs.Own.{own-append}
+use Rattle.iol_core.specs.Events.{Event, stamped}
+use Rattle.iol_core.specs.Own.{at_port, own, own_in}
 use Rattle.iol_engine.proofs.Histories.{Led, acting_led, filed_port}
 use Rattle.iol_engine.proofs.Machines.{awake_port, port_stays}
 use Rattle.iol_engine.proofs.Quiet.{stamped_both}

@@ -7,7 +7,7 @@ use Rattle.iol_port.specs.Stage.{PortValue}
 use Rattle.iol_port.specs.Wanted.{Wanted, Nothing, ThePage, AnswerTo, ReplyTo}
 use Rattle.iol_port.specs.declared.action.Input.{Input}
 use Rattle.iol_port.specs.declared.action.Input.TheVariants as input
-use Rattle.iol_trace.specs.Events.{Event}
+use Rattle.iol_core.specs.Events.{Event}
 use Rattle.iol_engine.proofs.Changes.{Becomes, stays, replied}
 use Rattle.iol_engine.proofs.Quiet.{AreQuiet}
 use Rattle.iol_engine.specs.PortSteps.{Hears, HearsCore, IsStatusTold, PortStep}

@@ -15,10 +15,10 @@ use Rattle.iol_port.specs.History.{HasLed}
 use Rattle.iol_port.specs.Stage.{PortValue, new_machine}
 use Rattle.iol_port.specs.Status.{status_of}
 use Rattle.iol_port.specs.Telling.{status_told}
-use Rattle.iol_trace.proofs.Own.{own-append}
-use Rattle.iol_trace.specs.Events.{Event, Stamp, stamped}
-use Rattle.iol_trace.specs.Own.{own, status_after, status_shown}
-use Rattle.iol_trace.specs.Statuses.{Off}
+use Rattle.iol_core.proofs.Own.{own-append}
+use Rattle.iol_core.specs.Events.{Event, Stamp, stamped}
+use Rattle.iol_core.specs.Own.{own, status_after, status_shown}
+use Rattle.iol_core.specs.Statuses.{Off}
 use Rattle.iol_engine.proofs.Histories.{Led, step_led}
 use Rattle.iol_engine.proofs.Machines.{elsewhere, machines_length, machines_new, one_some}
 use Rattle.iol_engine.proofs.OwnEvents.{step_own}

@@ -1,7 +1,7 @@
 -- What a port hears is what its machine wanted.
 use Rattle.std.proofs.Common.{◌≡◌, refl, ℕ, List, [], ◌∷◌, subst}
 use Rattle.iol_core.specs.Core.{CoreView}
-use Rattle.iol_isdu.specs.declared.messages.Request.{Request}
+use Rattle.iol_link.specs.declared.messages.Request.{Request}
 use Rattle.iol_link.specs.Link.{LinkCall, LinkAnswer}
 use Rattle.iol_port.proofs.Fitting.{fits}
 use Rattle.iol_port.proofs.Keeping.{happens_hand}
@@ -12,7 +12,7 @@ use Rattle.iol_port.specs.Stage.{PortValue}
 use Rattle.iol_port.specs.Wanted.{Wanted, ThePage, AnswerTo, ReplyTo, wanted, after_action}
 use Rattle.iol_port.specs.declared.action.Input.TheVariants as input
 use Rattle.iol_port.specs.declared.call.Reply.{Reply}
-use Rattle.iol_trace.specs.Events.{Event}
+use Rattle.iol_core.specs.Events.{Event}
 use Rattle.iol_engine.specs.PortSteps.{Acts, IsReady, HasPage, HasAnswer, HasReply}
 
 -- the machine once its action is asked

@@ -1,8 +1,8 @@
 -- Events that accept and acknowledge nothing, and tell of no failure.
 use Rattle.std.proofs.Common.{◌≡◌, refl, inl, inr, ℕ, List, [], ◌∷◌, ◌++◌, ap, sym, ◌∙◌, append_assoc}
-use Rattle.iol_trace.specs.Events.{Event, Accepted, Refused, Page, Exchange, Lost, Attended, Changed, Acknowledged, DiskFailed, Stamp}
-use Rattle.iol_trace.specs.Events.{stamped}
-use Rattle.iol_trace.specs.Words.{IsFailure, HasFailure, accepted, numbers, acked, acked_by, command_in, number_in}
+use Rattle.iol_core.specs.Events.{Event, Accepted, Refused, Page, Exchange, Lost, Attended, Changed, Acknowledged, DiskFailed, Stamp}
+use Rattle.iol_core.specs.Events.{stamped}
+use Rattle.iol_core.specs.Words.{IsFailure, HasFailure, accepted, numbers, acked, acked_by, command_in, number_in}
 
 abbrev pub IsQuiet : Event → Type 0
 IsQuiet (Accepted number command) = ⊥

@@ -17,10 +17,10 @@ use Rattle.iol_port.specs.declared.action.Input.{Input}
 use Rattle.iol_port.specs.declared.action.Input.TheVariants as input
 use Rattle.iol_port.specs.declared.call.Reply.{Reply}
 use Rattle.iol_port.specs.declared.call.Reply.TheVariants as reply
-use Rattle.iol_trace.proofs.Own.{own-append}
-use Rattle.iol_trace.specs.Events.{Event, Accepted, Changed, Stamp, stamped}
-use Rattle.iol_trace.specs.Own.{own, own_in, status_by, status_after}
-use Rattle.iol_trace.specs.Statuses.{Status}
+use Rattle.iol_core.proofs.Own.{own-append}
+use Rattle.iol_core.specs.Events.{Event, Accepted, Changed, Stamp, stamped}
+use Rattle.iol_core.specs.Own.{own, own_in, status_by, status_after}
+use Rattle.iol_core.specs.Statuses.{Status}
 use Rattle.iol_engine.proofs.Quiet.{stamped_both}
 use Rattle.iol_engine.specs.PortSteps.{Hears, HearsCore, IsStatusTold, PortStep, reply_told, attended_told, filed_told, store_in}
 

@@ -1,7 +1,7 @@
 -- What is acknowledged does not fall.
 use Rattle.std.specs.Prelude.{◌≤◌, ℕ, List, [], ◌∷◌}
-use Rattle.iol_trace.specs.Events.{Stamp}
-use Rattle.iol_trace.specs.Words.{acked_by}
+use Rattle.iol_core.specs.Events.{Stamp}
+use Rattle.iol_core.specs.Words.{acked_by}
 
 -- from a number on, none that is acknowledged is below the one before it (own)
 abbrev pub AcksRise : ℕ → List Stamp → Type 0

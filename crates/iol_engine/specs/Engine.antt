@@ -6,9 +6,9 @@ use Rattle.iol_core.specs.Core.{CoreView}
 use Rattle.iol_front.specs.Fronts.{Start}
 use Rattle.iol_link.specs.Link.{LinkCall, LinkAnswer}
 use Rattle.iol_port.specs.Stage.{PortValue}
-use Rattle.iol_trace.specs.Events.{Event, Stamp, stamped}
-use Rattle.iol_trace.specs.Own.{own}
-use Rattle.iol_trace.specs.Words.{accepted, acked}
+use Rattle.iol_core.specs.Events.{Event, Stamp, stamped}
+use Rattle.iol_core.specs.Own.{own}
+use Rattle.iol_core.specs.Words.{accepted, acked}
 use Rattle.iol_engine.specs.Acknowledged.{AcksRise}
 use Rattle.iol_engine.specs.PortRuns.{IsPortRun}
 use Rattle.iol_engine.specs.PortSteps.{PortStep}

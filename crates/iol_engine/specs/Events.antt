@@ -3,7 +3,7 @@ use Rattle.std.specs.Prelude.{List, [], ◌∷◌, Option, Some, None}
 use Rattle.iol_core.specs.Telling.{refusal_of, work_told}
 use Rattle.iol_port.specs.Telling.{status_told}
 use Rattle.std.specs.Option.{option_map}
-use Rattle.iol_trace.specs.Events as trace
+use Rattle.iol_core.specs.Events as trace
 use Rattle.iol_engine.specs.declared.event.Event.{Event}
 use Rattle.iol_engine.specs.declared.event.Event.TheVariants.{Accepted, Refused, Page, Exchange, Lost, Attended, Status, Acknowledged}
 use Rattle.iol_engine.specs.declared.event.Event.TheVariants.{DiskFailed}

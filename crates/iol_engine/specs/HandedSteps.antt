@@ -7,7 +7,7 @@ use Rattle.iol_port.specs.declared.action.Want.{Want}
 use Rattle.iol_port.specs.declared.action.Want.TheVariants as want
 use Rattle.iol_port.specs.Status.{status_of}
 use Rattle.iol_port.specs.declared.status.PortStatus.{PortStatus}
-use Rattle.iol_trace.specs.Events.{Event}
+use Rattle.iol_core.specs.Events.{Event}
 use Rattle.iol_engine.specs.Answered.{FitsWant}
 use Rattle.iol_engine.specs.Engine.{EngineView, MakesStep}
 use Rattle.iol_engine.specs.Handed.{Hands, handed_number}

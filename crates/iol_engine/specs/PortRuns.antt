@@ -11,9 +11,9 @@ use Rattle.iol_port.specs.Telling.{status_told}
 use Rattle.iol_port.specs.Wanted.{Wanted, Nothing}
 use Rattle.iol_port.specs.declared.action.Input.{Input}
 use Rattle.iol_port.specs.declared.action.Input.TheVariants as input
-use Rattle.iol_trace.specs.Events.{Event, Stamp, stamped}
-use Rattle.iol_trace.specs.Own.{own, status_shown}
-use Rattle.iol_trace.specs.Words.{accepted, acked, durable}
+use Rattle.iol_core.specs.Events.{Event, Stamp, stamped}
+use Rattle.iol_core.specs.Own.{own, status_shown}
+use Rattle.iol_core.specs.Words.{accepted, acked, durable}
 use Rattle.iol_engine.specs.PortSteps.{PortStep, noted_by}
 
 -- a core as it stands after these events of a run that began with a number and a state: its live state is that after the

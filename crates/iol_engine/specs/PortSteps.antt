@@ -1,7 +1,7 @@
 -- What a step of a port does.
 use Rattle.std.specs.Prelude.{◌≡◌, ◌⊎◌, ℕ, true, List, [], ◌∷◌, Option, Some, None, Result, Ok, Err}
 use Rattle.iol_types.specs.Command.{CommandValue}
-use Rattle.iol_isdu.specs.Isdu.{IsShortestRequest}
+use Rattle.iol_link.specs.Isdu.{IsShortestRequest}
 use Rattle.iol_link.specs.Link.{LinkCall, TakeEvent, ReadPage, Exchange, LinkAnswer, Octets, Gone, event_answer, connection_after}
 use Rattle.iol_core.specs.Core.{CoreView}
 use Rattle.iol_core.specs.Telling.{work_told}
@@ -9,7 +9,7 @@ use Rattle.iol_core.specs.Uploads.{store_of}
 use Rattle.iol_core.specs.declared.port.Work.{Work}
 use Rattle.iol_core.specs.declared.upload.FinishFault.{FinishFault}
 use Rattle.iol_port.specs.Calls.{Call, FinishUpload, Replies, IsReplyTo}
-use Rattle.iol_isdu.specs.declared.messages.Request.{Request}
+use Rattle.iol_link.specs.declared.messages.Request.{Request}
 use Rattle.iol_port.specs.Heard.{noted, woken, at_stage, IsFed}
 use Rattle.iol_port.specs.History.{Did, Happens, ComesOf, is_at_hand}
 use Rattle.iol_port.specs.Stage.{Stage, PortValue, IsStage}
@@ -21,8 +21,8 @@ use Rattle.iol_port.specs.declared.action.Input.TheVariants as input
 use Rattle.iol_port.specs.declared.call.Reply.{Reply}
 use Rattle.iol_port.specs.declared.call.Reply.TheVariants as reply
 use Rattle.iol_engine.specs.declared.said.Said.{Said}
-use Rattle.iol_trace.specs.Events as trace
-use Rattle.iol_trace.specs.Events.{Event}
+use Rattle.iol_core.specs.Events as trace
+use Rattle.iol_core.specs.Events.{Event}
 
 -- a machine is ready between its steps: no call is out, and what holds of its stage holds (own)
 pub record IsReady (stage : Stage) : Type 0 where

@@ -3,7 +3,7 @@ use Rattle.std.specs.Prelude.{ℕ, List, [], ◌∷◌, Result, Ok, Err}
 use Rattle.iol_types.specs.Command.{CommandValue}
 use Rattle.iol_core.specs.Telling.{refusal_of}
 use Rattle.iol_core.specs.declared.ticket.SubmitFault.{SubmitFault}
-use Rattle.iol_trace.specs.Events.{Event, Accepted, Refused}
+use Rattle.iol_core.specs.Events.{Event, Accepted, Refused}
 
 -- what is told of a command: its number, or why it is refused (own)
 abbrev pub submit_told : CommandValue → Result ℕ SubmitFault → List Event

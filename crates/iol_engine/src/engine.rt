@@ -16,7 +16,7 @@ ghost use Rattle.iol_core.specs.Ports.{view_at};
 ghost use Rattle.iol_core.specs.Standing.{Stands};
 ghost use Rattle.iol_core.specs.Submit.{IsSubmit, stopped_by};
 ghost use Rattle.iol_core.specs.declared.stop.StopCause.TheVariants as cause;
-ghost use Rattle.iol_trace.specs.Events as trace;
+ghost use Rattle.iol_core.specs.Events as trace;
 ghost use Rattle.iol_engine.specs.Answered.{FitsWant};
 ghost use Rattle.iol_engine.specs.Engine.{IsEngine, MakesStep};
 ghost use Rattle.iol_engine.specs.HandedSteps.{NeverFits, StepsHanded, settled_in, status_in, want_at};

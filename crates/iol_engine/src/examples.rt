@@ -2,7 +2,7 @@
 
 ghost use Rattle.std.specs.Prelude.{◌≡◌, [], ◌∷◌, true, false, Some, None};
 ghost use Rattle.iol_core.specs.Examples.{blank_core, configure_one};
-ghost use Rattle.iol_ident.specs.Page.{PageValue};
+ghost use Rattle.iol_link.specs.Page.{PageValue};
 ghost use Rattle.iol_port.specs.Stage.{Storing, new_machine};
 ghost use Rattle.iol_port.specs.declared.action.Want.TheVariants as want;
 ghost use Rattle.iol_engine.specs.Answered.{FitsWant};

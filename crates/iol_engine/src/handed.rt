@@ -5,8 +5,7 @@ ghost use Rattle.iol_link.specs.Link.{last_connection};
 ghost use Rattle.iol_engine.specs.Answered.{FitsWant, is_silent, without_octets};
 
 use arrayvec::ArrayVec;
-use iol_isdu::ISDU_OCTETS;
-use iol_link::{DeviceLink, Lost, PAGE_OCTETS};
+use iol_link::{DeviceLink, ISDU_OCTETS, Lost, PAGE_OCTETS};
 use iol_port::Want;
 
 /// The answer of a link to what the engine wanted of it.

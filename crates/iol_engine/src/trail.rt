@@ -2,7 +2,7 @@
 
 ghost use Rattle.std.specs.Prelude.{◌≡◌, ◌++◌, List, []};
 ghost use Rattle.std.specs.Borrow.{ftrue};
-ghost use Rattle.iol_trace.specs.Events as trace;
+ghost use Rattle.iol_core.specs.Events as trace;
 
 use crate::event::Event;
 use std::marker::Model;

@@ -13,8 +13,8 @@ use Rattle.iol_journal.specs.Kept.{KeptMeans, KeptEither}
 use Rattle.iol_journal.specs.Meaning.{Standing}
 use Rattle.iol_journal.specs.Runs.{Mark, Run, HasPrefix, IsMarked, IsRun, with_batch_begun}
 use Rattle.iol_journal.specs.Phases.{IsAtRest}
-use Rattle.iol_journal.specs.BeginCause.{BeginCause}
-use Rattle.iol_journal.specs.BeginCause.TheVariants.{Memory}
+use Rattle.iol_journal.specs.declared.refusal.BeginCause.{BeginCause}
+use Rattle.iol_journal.specs.declared.refusal.BeginCause.TheVariants.{Memory}
 use Rattle.iol_journal.specs.Idle.{Idle}
 use Rattle.iol_journal.proofs.JournalLaws.{rest_means_its_state}
 use Rattle.iol_example.specs.Store.{Rests, RestsAt, IfRefused, LeavesRun}

@@ -18,9 +18,9 @@ use Rattle.iol_journal.specs.Running.{IsRunAtRest}
 use Rattle.iol_journal.specs.Standings.{free_slots}
 use Rattle.iol_journal.specs.Phases.{IsAtRest}
 use Rattle.iol_journal.specs.RecoverCause.TheVariants.{NotFormatted, Damaged, TooSmall as NoSlot}
-use Rattle.iol_journal.specs.FormatFault.TheVariants.{TooSmall, AlreadyFormatted}
-use Rattle.iol_journal.specs.BeginCause.{BeginCause}
-use Rattle.iol_journal.specs.BeginCause.TheVariants.{Memory}
+use Rattle.iol_journal.specs.declared.formatting.FormatFault.TheVariants.{TooSmall, AlreadyFormatted}
+use Rattle.iol_journal.specs.declared.refusal.BeginCause.{BeginCause}
+use Rattle.iol_journal.specs.declared.refusal.BeginCause.TheVariants.{Memory}
 use Rattle.iol_example.specs.declared.store.CreateFault.{CreateFault}
 use Rattle.iol_example.specs.declared.store.CreateFault.TheVariants.{Format, Recover}
 use Rattle.iol_example.specs.declared.store.WriteFault.{WriteFault}

@@ -3,12 +3,12 @@ use Rattle.std.proofs.Common.{◌≡◌, ◌≢◌, ℕ, List, [], ◌∷◌, �
 use Rattle.std.specs.Prelude.{bit_xor, fold, Result, Ok, Err}
 use Rattle.std.proofs.lemmas.Grind.{common_steps, fold-append}
 use Rattle.std.proofs.lemmas.Nat.{xor_comm}
-use Rattle.iol_isdu.specs.Isdu.{IsRequest, xor_of}
-use Rattle.iol_isdu.specs.Reading.{request_of}
-use Rattle.iol_isdu.specs.declared.faults.IsduFault.{IsduFault}
-use Rattle.iol_isdu.specs.declared.messages.Request.{Request}
-use Rattle.iol_isdu.specs.declared.messages.Request.TheVariants as request
-use Rattle.iol_isdu.proofs.RequestTexts.{request_found}
+use Rattle.iol_link.specs.Isdu.{IsRequest, xor_of}
+use Rattle.iol_link.specs.Reading.{request_of}
+use Rattle.iol_link.specs.declared.faults.IsduFault.{IsduFault}
+use Rattle.iol_link.specs.declared.messages.Request.{Request}
+use Rattle.iol_link.specs.declared.messages.Request.TheVariants as request
+use Rattle.iol_link.proofs.RequestTexts.{request_found}
 use Rattle.iol_explain.specs.Requests.{AreOctets}
 
 -- CHKPDU of a request is right

@@ -2,13 +2,13 @@
 use Rattle.std.proofs.Common.{◌≡◌, ℕ, List, sym, ◌∙◌}
 use Rattle.std.specs.Prelude.{Some, Result, Ok, Err, IfOk}
 use Rattle.std.specs.Result.{result_err}
-use Rattle.iol_isdu.specs.Faults.{request_fault}
-use Rattle.iol_isdu.specs.Isdu.{IsRequest}
-use Rattle.iol_isdu.specs.Reading.{request_of}
-use Rattle.iol_isdu.specs.declared.messages.Request.{Request}
-use Rattle.iol_isdu.specs.declared.faults.IsduFault.{IsduFault}
-use Rattle.iol_isdu.proofs.RequestTexts.{request_reads}
-use Rattle.iol_isdu.proofs.FirstFaults.{request_refused}
+use Rattle.iol_link.specs.Faults.{request_fault}
+use Rattle.iol_link.specs.Isdu.{IsRequest}
+use Rattle.iol_link.specs.Reading.{request_of}
+use Rattle.iol_link.specs.declared.messages.Request.{Request}
+use Rattle.iol_link.specs.declared.faults.IsduFault.{IsduFault}
+use Rattle.iol_link.proofs.RequestTexts.{request_reads}
+use Rattle.iol_link.proofs.FirstFaults.{request_refused}
 
 only_fault : (read : Result Request IsduFault) (why : IsduFault) → result_err read ≡ Some why → Err why ≡ read
 only_fault (Ok request) why is = absurd cc

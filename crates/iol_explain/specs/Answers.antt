@@ -1,8 +1,8 @@
 -- The words for an answer.
 use Rattle.std.specs.Prelude.{ℕ, Bool, true, false, if◌then◌else◌, List, ◌++◌, codes, Result, Ok, Err}
-use Rattle.iol_isdu.specs.declared.faults.IsduFault.{IsduFault}
-use Rattle.iol_isdu.specs.declared.messages.Answer.{Answer}
-use Rattle.iol_isdu.specs.declared.messages.Answer.TheVariants.{ReadOk, ReadFault, WriteOk, WriteFault, Busy}
+use Rattle.iol_link.specs.declared.faults.IsduFault.{IsduFault}
+use Rattle.iol_link.specs.declared.messages.Answer.{Answer}
+use Rattle.iol_link.specs.declared.messages.Answer.TheVariants.{ReadOk, ReadFault, WriteOk, WriteFault, Busy}
 use Rattle.iol_texts.specs.ErrorTypes.{error_text}
 use Rattle.iol_explain.specs.Requests.{isdu_fault_words}
 use Rattle.iol_explain.specs.Values.{value_words}

@@ -5,7 +5,7 @@ use Rattle.std.specs.List.{flat_map, prefix_len}
 use Rattle.iol_journal.specs.Geometry.{Geometry}
 use Rattle.iol_journal.specs.Layout.{layout_of}
 use Rattle.iol_explain.specs.Places.{is_gate, place_at, place_text}
-use Rattle.iol_explain.specs.declared.place.Place.{Place}
+use Rattle.iol_explain.specs.declared.place.SectorUse.{SectorUse}
 use Rattle.iol_explain.specs.declared.told_disk.ToldCall.{ToldCall}
 use Rattle.iol_explain.specs.declared.told_disk.ToldCall.TheVariants.{Write, Sync}
 
@@ -23,7 +23,7 @@ abbrev pub calls_before : List ℕ → ℕ → ℕ → ℕ
 calls_before events_before told place = told + prefix_len (λ events. nat_le events place) (drop told events_before)
 
 -- how a gate is written; nothing of what is no gate (format, Explained runs)
-abbrev pub standing : Place → Bool → List ℕ
+abbrev pub standing : SectorUse → Bool → List ℕ
 standing place is_gate_open = if not (is_gate place) then [] else if is_gate_open then codes ", open" else codes ", closed"
 
 -- the line of a disk call (format, Explained runs)

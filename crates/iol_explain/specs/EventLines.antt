@@ -2,10 +2,10 @@
 use Rattle.std.specs.Prelude.{ℕ, List, [], ◌++◌, codes}
 use Rattle.std.specs.Fmt.{decimal}
 use Rattle.std.specs.Option.{option_map_or}
-use Rattle.iol_ident.specs.Page.{page_of}
-use Rattle.iol_isdu.specs.Reading.{answer_of, request_of}
-use Rattle.iol_trace.specs.Events.{Event, Accepted, Refused, Page, Exchange, Lost, Attended, Changed, Acknowledged, DiskFailed}
-use Rattle.iol_trace.specs.Statuses.{Status}
+use Rattle.iol_link.specs.Page.{page_of}
+use Rattle.iol_link.specs.Reading.{answer_of, request_of}
+use Rattle.iol_core.specs.Events.{Event, Accepted, Refused, Page, Exchange, Lost, Attended, Changed, Acknowledged, DiskFailed}
+use Rattle.iol_core.specs.Statuses.{Status}
 use Rattle.iol_texts.specs.Texts.{spaced}
 use Rattle.iol_texts.specs.Texts.{refusal_name, status_text}
 use Rattle.iol_explain.specs.Answers.{answer_words}

@@ -4,7 +4,7 @@ use Rattle.iol_types.specs.State.{State}
 use Rattle.iol_journal.specs.Geometry.{Geometry}
 use Rattle.iol_engine.specs.Events.{event_of}
 use Rattle.iol_run.specs.declared.run.Stamped.{Stamped}
-use Rattle.iol_trace.specs.Events.{Event}
+use Rattle.iol_core.specs.Events.{Event}
 use Rattle.iol_commands.specs.Lines.{is_said}
 use Rattle.iol_texts.specs.Recovered.{recovered_text}
 use Rattle.iol_explain.specs.DiskLines.{between, call_lines, calls_before, of_run}

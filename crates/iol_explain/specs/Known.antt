@@ -2,11 +2,11 @@
 use Rattle.std.specs.Prelude.{ℕ, not, if◌then◌else◌, List, Option, Some, None, Result, Ok}
 use Rattle.iol_types.specs.Config.{restores}
 use Rattle.iol_types.specs.declared.config.Validation.TheVariants.{NoCheck}
-use Rattle.iol_dsindex.specs.Property.{property_of}
-use Rattle.iol_isdu.specs.declared.faults.IsduFault.{IsduFault}
-use Rattle.iol_isdu.specs.declared.messages.Answer.{Answer}
-use Rattle.iol_isdu.specs.declared.messages.Answer.TheVariants.{ReadOk}
-use Rattle.iol_trace.specs.Statuses as trace
+use Rattle.iol_transfer.specs.Property.{property_of}
+use Rattle.iol_link.specs.declared.faults.IsduFault.{IsduFault}
+use Rattle.iol_link.specs.declared.messages.Answer.{Answer}
+use Rattle.iol_link.specs.declared.messages.Answer.TheVariants.{ReadOk}
+use Rattle.iol_core.specs.Statuses as trace
 use Rattle.iol_explain.specs.Objects.{one_octet, four_octets}
 use Rattle.iol_texts.specs.Rows.{row_of}
 use Rattle.iol_explain.specs.declared.known.Known.{Known}

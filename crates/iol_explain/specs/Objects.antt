@@ -4,9 +4,9 @@ use Rattle.std.specs.Fmt.{decimal}
 use Rattle.std.specs.Int.{w32, from_be_bytes}
 use Rattle.iol_types.specs.declared.key.Key.{Key}
 use Rattle.iol_types.specs.declared.key.TheConstants.{DATA_STORAGE}
-use Rattle.iol_dsindex.specs.Command.{ds_command_of}
-use Rattle.iol_dsindex.specs.declared.command.DsCommand.{DsCommand}
-use Rattle.iol_dsindex.specs.declared.object.TheConstants.{DS_COMMAND, STATE_PROPERTY, DATA_STORAGE_SIZE, PARAMETER_CHECKSUM, INDEX_LIST}
+use Rattle.iol_transfer.specs.Command.{ds_command_of}
+use Rattle.iol_transfer.specs.declared.command.DsCommand.{DsCommand}
+use Rattle.iol_transfer.specs.declared.object.TheConstants.{DS_COMMAND, STATE_PROPERTY, DATA_STORAGE_SIZE, PARAMETER_CHECKSUM, INDEX_LIST}
 use Rattle.iol_texts.specs.Texts.{spaced}
 use Rattle.iol_texts.specs.Texts.{hex_of, hex_digits}
 use Rattle.iol_explain.specs.declared.object.Object.{Object}

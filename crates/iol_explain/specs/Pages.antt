@@ -1,6 +1,6 @@
 -- The words for Direct Parameter page 1.
 use Rattle.std.specs.Prelude.{ℕ, Bool, true, false, List, ◌++◌, codes}
-use Rattle.iol_ident.specs.Page.{PageValue}
+use Rattle.iol_link.specs.Page.{PageValue}
 use Rattle.iol_texts.specs.Texts.{hex_of, hex_digits}
 
 -- whether a device knows ISDUs, in words (format, Explained runs)

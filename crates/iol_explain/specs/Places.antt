@@ -4,16 +4,16 @@ use Rattle.std.specs.Fmt.{decimal}
 use Rattle.iol_journal.specs.Layout.{Layout, gate_at, record_sectors, total}
 use Rattle.iol_journal.specs.Area.{Area}
 use Rattle.iol_journal.specs.Area.TheVariants.{A, B}
-use Rattle.iol_explain.specs.declared.place.Place.{Place}
-use Rattle.iol_explain.specs.declared.place.Place.TheVariants.{Geometry, DiskGate, AreaGate, Header, Record, SlotGate, Body, Unused, Behind}
+use Rattle.iol_explain.specs.declared.place.SectorUse.{SectorUse}
+use Rattle.iol_explain.specs.declared.place.SectorUse.TheVariants.{Geometry, DiskGate, AreaGate, Header, Record, SlotGate, Body, Unused, Behind}
 
 -- what stands so far behind the records of an area: slots of a gate and 16 sectors of a body (format, Disk layout)
-abbrev pub place_in_slot : Area → ℕ → Place
+abbrev pub place_in_slot : Area → ℕ → SectorUse
 place_in_slot area offset =
     if offset % 17 == 0 then SlotGate area (offset / 17 + 1) else Body area (offset / 17 + 1)
 
 -- what stands so far into an area: its gate, its header, the ports' records, slots, and what is unused (format, Disk layout)
-abbrev pub place_in_area : Layout → Area → ℕ → Place
+abbrev pub place_in_area : Layout → Area → ℕ → SectorUse
 place_in_area layout area offset =
     if offset == 0 then AreaGate area
     else if offset == 1 then Header area
@@ -22,7 +22,7 @@ place_in_area layout area offset =
     else Unused area
 
 -- what stands in a sector: the geometry, the gate of the disk, area A, area B (format, Disk layout)
-abbrev pub place_at : Layout → ℕ → Place
+abbrev pub place_at : Layout → ℕ → SectorUse
 place_at layout sector =
     if sector == 0 then Geometry
     else if sector == 1 then DiskGate
@@ -31,7 +31,7 @@ place_at layout sector =
     else Behind
 
 -- a gate stands there (format, Disk layout)
-abbrev pub is_gate : Place → Bool
+abbrev pub is_gate : SectorUse → Bool
 is_gate DiskGate = true
 is_gate (AreaGate area) = true
 is_gate (SlotGate area slot) = true
@@ -43,7 +43,7 @@ area_name A = codes "A"
 area_name B = codes "B"
 
 -- a place in words (format, Explained runs)
-abbrev pub place_text : Place → List ℕ
+abbrev pub place_text : SectorUse → List ℕ
 place_text Geometry = codes "geometry"
 place_text DiskGate = codes "gate of the disk"
 place_text (AreaGate area) = codes "gate of area " ++ area_name area

@@ -1,12 +1,12 @@
 -- The words for a request.
 use Rattle.std.specs.Prelude.{ℕ, ◌<◌, List, ◌++◌, slice_index, codes, Result, Ok, Err}
 use Rattle.std.specs.Option.{option_map_or}
-use Rattle.iol_dsindex.specs.declared.command.DsCommand.{DsCommand}
-use Rattle.iol_dsindex.specs.declared.command.DsCommand.TheVariants.{UploadStart, UploadEnd, DownloadStart, DownloadEnd, Break}
-use Rattle.iol_isdu.specs.declared.faults.IsduFault.{IsduFault}
-use Rattle.iol_isdu.specs.declared.faults.IsduFault.TheVariants as isdu
-use Rattle.iol_isdu.specs.declared.messages.Request.{Request}
-use Rattle.iol_isdu.specs.declared.messages.Request.TheVariants as request
+use Rattle.iol_transfer.specs.declared.command.DsCommand.{DsCommand}
+use Rattle.iol_transfer.specs.declared.command.DsCommand.TheVariants.{UploadStart, UploadEnd, DownloadStart, DownloadEnd, Break}
+use Rattle.iol_link.specs.declared.faults.IsduFault.{IsduFault}
+use Rattle.iol_link.specs.declared.faults.IsduFault.TheVariants as isdu
+use Rattle.iol_link.specs.declared.messages.Request.{Request}
+use Rattle.iol_link.specs.declared.messages.Request.TheVariants as request
 use Rattle.iol_explain.specs.Objects.{object_of, object_place, command_in, octet_words}
 use Rattle.iol_explain.specs.declared.object.Object.{Object}
 use Rattle.iol_explain.specs.declared.object.Object.TheVariants.{Command}

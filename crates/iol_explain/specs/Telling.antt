@@ -1,10 +1,10 @@
 -- What the lines before an event have told.
 use Rattle.std.specs.Prelude.{ℕ, List, Option, Some, None, replicate, slice_get, slice_set, unwrap_or}
 use Rattle.std.specs.Option.{option_map_or}
-use Rattle.iol_isdu.specs.Reading.{answer_of, request_of}
+use Rattle.iol_link.specs.Reading.{answer_of, request_of}
 use Rattle.iol_engine.specs.Events.{event_of}
 use Rattle.iol_run.specs.declared.run.Stamped.{Stamped}
-use Rattle.iol_trace.specs.Events.{Event, Exchange, Attended, Changed}
+use Rattle.iol_core.specs.Events.{Event, Exchange, Attended, Changed}
 use Rattle.iol_commands.specs.Lines.{lost_in}
 use Rattle.iol_explain.specs.Known.{attended, blank, heard, started}
 use Rattle.iol_explain.specs.Requests.{asked_by}

@@ -4,15 +4,15 @@ use Rattle.std.specs.Fmt.{decimal}
 use Rattle.std.specs.List.{flat_map}
 use Rattle.std.specs.Option.{option_map_or}
 use Rattle.iol_types.specs.declared.key.Key.{Key}
-use Rattle.iol_dsindex.specs.List.{Listing}
-use Rattle.iol_dsindex.specs.Property.{PropertyValue, property_of}
-use Rattle.iol_dsindex.specs.declared.list.ListFault.{ListFault}
-use Rattle.iol_dsindex.specs.declared.list.ListFault.TheVariants as fault
-use Rattle.iol_dsindex.specs.declared.list.Next.{Next}
-use Rattle.iol_dsindex.specs.declared.list.Next.TheVariants as next
-use Rattle.iol_dsindex.specs.declared.property.State.{State}
-use Rattle.iol_dsindex.specs.declared.property.State.TheVariants.{Inactive, Upload, Download, Locked}
-use Rattle.iol_dsindex.specs.List.{reading_of}
+use Rattle.iol_transfer.specs.List.{Listing}
+use Rattle.iol_transfer.specs.Property.{PropertyValue, property_of}
+use Rattle.iol_transfer.specs.declared.list.ListFault.{ListFault}
+use Rattle.iol_transfer.specs.declared.list.ListFault.TheVariants as fault
+use Rattle.iol_transfer.specs.declared.list.Next.{Next}
+use Rattle.iol_transfer.specs.declared.list.Next.TheVariants as next
+use Rattle.iol_transfer.specs.declared.property.State.{State}
+use Rattle.iol_transfer.specs.declared.property.State.TheVariants.{Inactive, Upload, Download, Locked}
+use Rattle.iol_transfer.specs.List.{reading_of}
 use Rattle.iol_texts.specs.Texts.{hex_digits}
 use Rattle.iol_explain.specs.Objects.{key_text, object_name, octet_words, one_octet, four_octets}
 use Rattle.iol_explain.specs.declared.object.Object.{Object}

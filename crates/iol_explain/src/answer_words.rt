@@ -1,14 +1,14 @@
 //! The words for an answer (docs/FORMATS.md, "Explained runs").
 ghost use Rattle.std.specs.Prelude.{◌≡◌};
 ghost use Rattle.std.specs.Fmt.{WritesOnOk};
-ghost use Rattle.iol_isdu.specs.Reading.{answer_of};
+ghost use Rattle.iol_link.specs.Reading.{answer_of};
 ghost use Rattle.iol_explain.specs.Answers.{read_words, refused_words, unasked, written_well};
 ghost use Rattle.iol_explain.specs.Answers.{asks_read, asks_write};
 
 use crate::object::Object;
 use crate::request_words::{Asked, asked_by, isdu_fault_words};
 use crate::value_words::ValueWords;
-use iol_isdu::{Answer, IsduFault, read_answer};
+use iol_link::{Answer, IsduFault, read_answer};
 use iol_texts::ErrorType;
 use std::alloc::Global;
 use std::fmt;
@@ -23,7 +23,7 @@ pub(crate) struct AnswerWords<'a> {
 
 impl fmt::Display for AnswerWords<'_> {
     ghost use Rattle.std.specs.Prelude.{Some};
-    ghost use Rattle.iol_isdu.specs.Reading.{answer_of, request_of};
+    ghost use Rattle.iol_link.specs.Reading.{answer_of, request_of};
     ghost use Rattle.iol_explain.specs.Answers.{answer_words};
     ghost use Rattle.iol_explain.specs.Requests.{asked_by};
 

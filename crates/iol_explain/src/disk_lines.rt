@@ -3,7 +3,7 @@ ghost use Rattle.std.specs.Prelude.{◌≡◌};
 ghost use Rattle.std.specs.Fmt.{WritesOnOk};
 ghost use Rattle.iol_explain.specs.DiskLines.{between, call_lines, calls_before, of_run, standing};
 
-use crate::place::{Place, is_gate, place_of};
+use crate::place::{SectorUse, is_gate, place_of};
 use crate::told_disk::ToldCall;
 use iol_journal::Geometry;
 use std::fmt;
@@ -91,7 +91,7 @@ impl fmt::Display for CallLine {
 }
 
 // How a gate is written; nothing of what is no gate.
-fn standing(place: Place, is_gate_open: bool) -> &'static str
+fn standing(place: SectorUse, is_gate_open: bool) -> &'static str
     ensures { result.now ≡ standing place is_gate_open }
 {
     if !is_gate(place) {

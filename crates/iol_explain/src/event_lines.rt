@@ -15,7 +15,7 @@ use crate::page_words::PageWords;
 use crate::request_words::RequestWords;
 use iol_core::SubmitFault;
 use iol_engine::Event;
-use iol_ident::PAGE_OCTETS;
+use iol_link::PAGE_OCTETS;
 use iol_port::PortStatus;
 use iol_texts::{Spaced, StatusText, StatusWords, refusal_name, refusal_words};
 use iol_types::PortId;

@@ -2,12 +2,12 @@
 //! and in the code is refused here.
 ghost use Rattle.std.specs.Prelude.{◌≡◌, [], ◌∷◌, ◌++◌, map, replicate, codes, true, false, Some, None};
 ghost use Rattle.iol_types.specs.Command.{Clear};
-ghost use Rattle.iol_ident.specs.Page.{page_of};
-ghost use Rattle.iol_isdu.specs.Reading.{answer_of, request_of};
+ghost use Rattle.iol_link.specs.Page.{page_of};
+ghost use Rattle.iol_link.specs.Reading.{answer_of, request_of};
 ghost use Rattle.iol_journal.specs.Examples.{two_by_four, older_standing_of};
 ghost use Rattle.iol_journal.specs.Layout.{layout_of};
-ghost use Rattle.iol_trace.specs.Events as event;
-ghost use Rattle.iol_trace.specs.Statuses as trace;
+ghost use Rattle.iol_core.specs.Events as event;
+ghost use Rattle.iol_core.specs.Statuses as trace;
 ghost use Rattle.iol_explain.specs.Answers.{answer_words};
 ghost use Rattle.iol_explain.specs.DiskLines.{between, call_line, calls_before, of_run};
 ghost use Rattle.iol_explain.specs.EventLines.{event_lines};

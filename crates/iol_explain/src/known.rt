@@ -1,6 +1,6 @@
 //! What was reported of a port, by which its decision is explained.
 ghost use Rattle.std.specs.Prelude.{◌≡◌};
-ghost use Rattle.iol_isdu.specs.Reading.{answer_of, request_of};
+ghost use Rattle.iol_link.specs.Reading.{answer_of, request_of};
 ghost use Rattle.iol_core.specs.Telling.{work_told};
 ghost use Rattle.iol_port.specs.Telling.{status_told};
 ghost use Rattle.iol_explain.specs.Known.{blank, attended, heard, read_known, row_known, started};
@@ -10,11 +10,11 @@ use crate::answer_words::answer_in;
 use crate::object::Object;
 use crate::octets::{four_octets, one_octet};
 use crate::request_words::{Asked, asked_by};
-use iol_dsindex::StateProperty;
 use iol_engine::ToldWork;
-use iol_isdu::Answer;
+use iol_link::Answer;
 use iol_port::PortStatus;
 use iol_texts::{Row, row_of};
+use iol_transfer::StateProperty;
 use iol_types::Validation;
 
 // What was reported of a port so far: its work, and what it has read of its device since it began to look at

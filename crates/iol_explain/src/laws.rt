@@ -1,9 +1,9 @@
 //! Laws of words, which no code calls.
 
 ghost use Rattle.std.specs.Prelude.{◌≡◌, ◌≢◌, ◌∷◌, ◌++◌, ℕ, List, Ok, codes};
-ghost use Rattle.iol_isdu.specs.Reading.{request_of};
-ghost use Rattle.iol_isdu.specs.declared.messages.Request.{Request};
-ghost use Rattle.iol_isdu.specs.declared.faults.IsduFault.{IsduFault};
+ghost use Rattle.iol_link.specs.Reading.{request_of};
+ghost use Rattle.iol_link.specs.declared.messages.Request.{Request};
+ghost use Rattle.iol_link.specs.declared.faults.IsduFault.{IsduFault};
 ghost use Rattle.iol_explain.specs.Requests.{AreOctets, isdu_fault_words, request_words};
 
 /// If one octet of a request is changed, its words say which check it fails.

@@ -39,5 +39,5 @@ mod value_words;
 pub use disk_lines::{calls_before, calls_between, calls_of_run};
 pub use explain::{explain_text, explained_run};
 pub use explained::Explained;
-pub use place::{Place, place_of};
+pub use place::{SectorUse, place_of};
 pub use told_disk::ToldCall;

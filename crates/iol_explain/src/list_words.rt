@@ -3,7 +3,7 @@ ghost use Rattle.std.specs.Fmt.{WritesOnOk};
 ghost use Rattle.iol_explain.specs.Values.{keys_text, listing_words, next_text};
 
 use crate::hexadecimal::{FourDigits, KeyText};
-use iol_dsindex::{ListFault, Next, read_index_list};
+use iol_transfer::{ListFault, Next, read_index_list};
 use iol_types::Key;
 use std::alloc::Global;
 use std::fmt;
@@ -17,7 +17,7 @@ pub(crate) struct ListWords<'a> {
 
 impl fmt::Display for ListWords<'_> {
     ghost use Rattle.std.specs.Prelude.{Some};
-    ghost use Rattle.iol_dsindex.specs.List.{reading_of};
+    ghost use Rattle.iol_transfer.specs.List.{reading_of};
     ghost use Rattle.iol_explain.specs.Values.{list_words};
 
     ghost output = { λ words. Some (list_words (reading_of words.octets.now)) };

@@ -3,7 +3,7 @@ ghost use Rattle.std.specs.Prelude.{◌≡◌};
 ghost use Rattle.iol_explain.specs.Objects.{object_of};
 
 use crate::hexadecimal::KeyText;
-use iol_dsindex::{
+use iol_transfer::{
     DATA_STORAGE, DATA_STORAGE_SIZE, DS_COMMAND, INDEX_LIST, PARAMETER_CHECKSUM, STATE_PROPERTY,
 };
 use iol_types::Key;

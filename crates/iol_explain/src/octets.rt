@@ -2,8 +2,8 @@
 ghost use Rattle.std.specs.Prelude.{◌≡◌};
 ghost use Rattle.iol_explain.specs.Objects.{command_in, four_octets, one_octet};
 
-use iol_dsindex::DsCommand;
 use iol_texts::Spaced;
+use iol_transfer::DsCommand;
 use std::fmt;
 
 // Returns the octet, if there is exactly one.

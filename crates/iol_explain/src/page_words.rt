@@ -4,7 +4,7 @@ ghost use Rattle.std.specs.Fmt.{WritesOnOk};
 ghost use Rattle.iol_explain.specs.Pages.{isdu_text, page_words};
 
 use crate::hexadecimal::{FourDigits, SixDigits, TwoDigits};
-use iol_ident::{PAGE_OCTETS, Page};
+use iol_link::{PAGE_OCTETS, Page};
 use std::fmt;
 
 // The words for what the octets of a page say of a device.
@@ -13,7 +13,7 @@ pub(crate) struct PageWords<'a>(pub(crate) &'a [u8; PAGE_OCTETS]);
 
 impl fmt::Display for PageWords<'_> {
     ghost use Rattle.std.specs.Prelude.{Some};
-    ghost use Rattle.iol_ident.specs.Page.{page_of};
+    ghost use Rattle.iol_link.specs.Page.{page_of};
     ghost use Rattle.iol_explain.specs.Pages.{page_words};
 
     ghost output = { λ words. Some (page_words (page_of words.0.now)) };

@@ -11,7 +11,7 @@ const SLOT_SECTORS: usize = 17;
 
 /// What a sector holds. Ports and slots are counted from 1.
 #[derive(Clone, Copy)]
-pub enum Place {
+pub enum SectorUse {
     Geometry,
     DiskGate,
     AreaGate(Area),
@@ -26,66 +26,66 @@ pub enum Place {
 }
 
 /// Returns what this sector of a disk with this layout holds.
-pub fn place_of(layout: Layout, sector: usize) -> Place
+pub fn place_of(layout: Layout, sector: usize) -> SectorUse
     ensures { result ≡ place_at layout sector }
 {
     let (a, b) = (layout.gate(Area::A), layout.gate(Area::B));
     if sector == 0 {
-        Place::Geometry
+        SectorUse::Geometry
     } else if sector == 1 {
-        Place::DiskGate
+        SectorUse::DiskGate
     } else if sector < b {
         place_in_area(layout, Area::A, sector - a)
     } else if sector < layout.sectors() {
         place_in_area(layout, Area::B, sector - b)
     } else {
-        Place::Behind
+        SectorUse::Behind
     }
 }
 
 // Returns what the sector at this offset in an area holds.
-fn place_in_area(layout: Layout, area: Area, offset: usize) -> Place
+fn place_in_area(layout: Layout, area: Area, offset: usize) -> SectorUse
     ensures { result ≡ place_in_area layout area offset }
 {
     let port_sectors = layout.port_sectors();
     let records = port_sectors * usize::from(layout.ports());
     let slots = SLOT_SECTORS * layout.slots();
     if offset == 0 {
-        Place::AreaGate(area)
+        SectorUse::AreaGate(area)
     } else if offset == 1 {
-        Place::Header(area)
+        SectorUse::Header(area)
     } else if offset < 2 + records {
-        Place::Record(area, (offset - 2) / port_sectors + 1)
+        SectorUse::Record(area, (offset - 2) / port_sectors + 1)
     } else if offset < 2 + records + slots {
         place_in_slot(area, offset - 2 - records)
     } else {
-        Place::Unused(area)
+        SectorUse::Unused(area)
     }
 }
 
 // Returns what the sector at this offset after the records of an area holds.
-fn place_in_slot(area: Area, offset: usize) -> Place
+fn place_in_slot(area: Area, offset: usize) -> SectorUse
     ensures { result ≡ place_in_slot area offset }
 {
     let slot = offset / SLOT_SECTORS + 1;
     if offset % SLOT_SECTORS == 0 {
-        Place::SlotGate(area, slot)
+        SectorUse::SlotGate(area, slot)
     } else {
-        Place::Body(area, slot)
+        SectorUse::Body(area, slot)
     }
 }
 
 // Returns whether a place holds a gate.
-pub(crate) fn is_gate(place: Place) -> bool
+pub(crate) fn is_gate(place: SectorUse) -> bool
     ensures { result ≡ is_gate place }
 {
     matches!(
         place,
-        Place::DiskGate | Place::AreaGate(_) | Place::SlotGate(_, _)
+        SectorUse::DiskGate | SectorUse::AreaGate(_) | SectorUse::SlotGate(_, _)
     )
 }
 
-impl fmt::Display for Place {
+impl fmt::Display for SectorUse {
     ghost use Rattle.std.specs.Prelude.{Some};
     ghost use Rattle.iol_explain.specs.Places.{place_text};
 
@@ -93,19 +93,23 @@ impl fmt::Display for Place {
 
     fn fmt<W: fmt::Write>(&self, f: &mut fmt::Formatter<W>) -> fmt::Result {
         match *self {
-            Place::Geometry => f.write_str("geometry"),
-            Place::DiskGate => f.write_str("gate of the disk"),
-            Place::AreaGate(area) => write!(f, "gate of area {}", area_name(area)),
-            Place::Header(area) => write!(f, "header of area {}", area_name(area)),
-            Place::Record(area, port) => {
+            SectorUse::Geometry => f.write_str("geometry"),
+            SectorUse::DiskGate => f.write_str("gate of the disk"),
+            SectorUse::AreaGate(area) => write!(f, "gate of area {}", area_name(area)),
+            SectorUse::Header(area) => write!(f, "header of area {}", area_name(area)),
+            SectorUse::Record(area, port) => {
                 write!(f, "record of port {port} in area {}", area_name(area))
             }
-            Place::SlotGate(area, slot) => {
+            SectorUse::SlotGate(area, slot) => {
                 write!(f, "gate of slot {slot} in area {}", area_name(area))
             }
-            Place::Body(area, slot) => write!(f, "body of slot {slot} in area {}", area_name(area)),
-            Place::Unused(area) => write!(f, "behind the slots of area {}", area_name(area)),
-            Place::Behind => f.write_str("behind the journal"),
+            SectorUse::Body(area, slot) => write!(
+                f,
+                "body of slot {slot} in area {}",
+                area_name(area)
+            ),
+            SectorUse::Unused(area) => write!(f, "behind the slots of area {}", area_name(area)),
+            SectorUse::Behind => f.write_str("behind the journal"),
         }
     }
 }

@@ -1,12 +1,12 @@
 //! The words for a request (docs/FORMATS.md, "Explained runs").
 ghost use Rattle.std.specs.Prelude.{◌≡◌};
-ghost use Rattle.iol_isdu.specs.Reading.{request_of};
+ghost use Rattle.iol_link.specs.Reading.{request_of};
 ghost use Rattle.iol_explain.specs.Requests.{asked_by, command_name, isdu_fault_words};
 
 use crate::object::{Object, ObjectPlace, object_of};
 use crate::octets::{OctetWords, command_in};
-use iol_dsindex::DsCommand;
-use iol_isdu::{IsduFault, Request, read_request};
+use iol_link::{IsduFault, Request, read_request};
+use iol_transfer::DsCommand;
 use std::fmt;
 
 // What a request asks for.
@@ -47,7 +47,7 @@ pub(crate) struct RequestWords<'a>(pub(crate) &'a [u8]);
 
 impl fmt::Display for RequestWords<'_> {
     ghost use Rattle.std.specs.Prelude.{Some};
-    ghost use Rattle.iol_isdu.specs.Reading.{request_of};
+    ghost use Rattle.iol_link.specs.Reading.{request_of};
     ghost use Rattle.iol_explain.specs.Requests.{request_words};
 
     ghost output = { λ words. Some (request_words (request_of words.0.now)) };

@@ -1,11 +1,10 @@
 //! A disk that reports its writes and syncs.
 
 ghost use Rattle.std.specs.Prelude.{◌≡◌, [], true, IfOk};
-ghost use Rattle.iol_slots.specs.Gate.{is_open};
+ghost use Rattle.iol_disk.specs.Gate.{is_open};
 ghost use Rattle.iol_explain.specs.ToldDisk.{IsTold, calls_of, is_whole, told_on};
 
-use iol_disk::{DiskFault, SECTOR_OCTETS, SectorDisk};
-use iol_slots::GATE_MARK;
+use iol_disk::{DiskFault, GATE_MARK, SECTOR_OCTETS, SectorDisk};
 use std::alloc::{AllocError, Global};
 
 /// A call that changes a disk.
@@ -103,7 +102,7 @@ impl<D: SectorDisk> SectorDisk for ToldDisk<D> {
     }
 
     /// Reports the write, and makes it.
-    #[tactic(auto, unfolding(iol_slots::specs::Gate::is_open))]
+    #[tactic(auto, unfolding(iol_disk::specs::Gate::is_open))]
     fn write(&mut self, n: usize, octets: &[u8; SECTOR_OCTETS]) -> Result<(), DiskFault>
         requires { n < (D.disk (told_on self.old)).sectors }
         ensures wrote { OnOk result (After (wrote n octets.now) (D.disk (told_on self.old)) (D.disk (told_on self.new))) }

@@ -7,7 +7,7 @@ use crate::hexadecimal::EightDigits;
 use crate::list_words::ListWords;
 use crate::object::Object;
 use crate::octets::{OctetWords, four_octets, one_octet};
-use iol_dsindex::{State, StateProperty};
+use iol_transfer::{State, StateProperty};
 use std::alloc::Global;
 use std::fmt;
 

@@ -13,7 +13,7 @@ use Rattle.iol_journal.specs.Runs.{Run, IsRun, with_batch_begun, with_batch_writ
 use Rattle.iol_journal.specs.Running.{IsRunAtRest, IsRunWriting}
 use Rattle.iol_journal.specs.Phases.{IsAtRest}
 use Rattle.iol_journal.specs.Written.{WrittenView}
-use Rattle.iol_journal.specs.Batch.{Batch}
+use Rattle.iol_journal.specs.declared.batch.Batch.{Batch}
 use Rattle.iol_flush.specs.Flushing.{run_of, KeepsRun, Rests}
 use Rattle.iol_flush.specs.declared.stage.FlushStage.{FlushStage}
 use Rattle.iol_flush.specs.declared.stage.FlushStage.TheVariants.{Resting, Opening, Given, Checkpointing, Writing, Publishing, Failed}

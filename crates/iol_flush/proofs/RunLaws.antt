@@ -12,7 +12,7 @@ use Rattle.iol_journal.specs.Journals.{JournalView}
 use Rattle.iol_journal.specs.Body.{values}
 use Rattle.iol_journal.specs.Runs.{Run, Mark, IsMarked, IsRun, with_mark}
 use Rattle.iol_journal.specs.Running.{IsRunAtRest}
-use Rattle.iol_journal.specs.Batch.{Batch}
+use Rattle.iol_journal.specs.declared.batch.Batch.{Batch}
 use Rattle.iol_flush.specs.Flushing.{run_of, AreFirst, IsFlushing, HoldsBy}
 use Rattle.iol_flush.specs.Stages.{FlusherView, disk_of}
 use Rattle.iol_flush.specs.Steps.{HasTaken, HasPublished}

@@ -20,10 +20,10 @@ use Rattle.iol_journal.specs.Planned.{LeadsTo, written_behind}
 use Rattle.iol_journal.specs.Body.{values}
 use Rattle.iol_journal.specs.Standings.{with_batch}
 use Rattle.iol_journal.specs.Meaning.{Standing}
-use Rattle.iol_journal.specs.History.{History}
-use Rattle.iol_journal.specs.Batch.{Batch}
-use Rattle.iol_journal.specs.BeginCause.{BeginCause}
-use Rattle.iol_journal.specs.BeginCause.TheVariants.{TooLarge, NeedsCheckpoint, Misfit}
+use Rattle.iol_journal.specs.declared.history.History.{History}
+use Rattle.iol_journal.specs.declared.batch.Batch.{Batch}
+use Rattle.iol_journal.specs.declared.refusal.BeginCause.{BeginCause}
+use Rattle.iol_journal.specs.declared.refusal.BeginCause.TheVariants.{TooLarge, NeedsCheckpoint, Misfit}
 use Rattle.iol_flush.specs.Stages.{is_due, disk_of, next_calls, calls_owed, failure_of, paused_calls}
 use Rattle.iol_flush.specs.Stages.{HasHistory, StandsBehind, IsInStep}
 use Rattle.iol_flush.specs.Steps.{HasMadeOfBatch, HasBegun, HasMadeOfCheckpoint, HasMade, HasAdvanced, IsLeftPaused, IsDiskStep}

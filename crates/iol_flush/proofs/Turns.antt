@@ -16,13 +16,13 @@ use Rattle.iol_journal.specs.Standings.{free_slots}
 use Rattle.iol_journal.proofs.Layouts.{renewed-same, renewed-renewed, renewed-twice}
 use Rattle.iol_journal.specs.Journals.{JournalView, WritingView, calls_left, writing_of}
 use Rattle.iol_journal.specs.Meaning.{Standing}
-use Rattle.iol_journal.specs.Batch.{Batch}
+use Rattle.iol_journal.specs.declared.batch.Batch.{Batch}
 use Rattle.iol_types.specs.Command.{CommandValue}
 use Rattle.iol_types.specs.State.{State}
 use Rattle.iol_journal.specs.Idle.{Idle}
 use Rattle.iol_journal.specs.Idle.TheVariants.{Older, Closed}
-use Rattle.iol_journal.specs.BeginCause.{BeginCause}
-use Rattle.iol_journal.specs.BeginCause.TheVariants.{TooLarge, NeedsCheckpoint, Misfit}
+use Rattle.iol_journal.specs.declared.refusal.BeginCause.{BeginCause}
+use Rattle.iol_journal.specs.declared.refusal.BeginCause.TheVariants.{TooLarge, NeedsCheckpoint, Misfit}
 use Rattle.iol_disk.specs.declared.fault.DiskFault.{DiskFault}
 use Rattle.iol_flush.specs.Flushing.{FitsBatch, GoesOn}
 use Rattle.iol_flush.specs.Stages.{failure_of, disk_of, calls_owed, HasFewCalls, most_batch_calls, most_checkpoint_calls}

@@ -15,7 +15,7 @@ use Rattle.iol_journal.specs.Phases.{IsAtRest}
 use Rattle.iol_journal.specs.Underway.{IsUnderway}
 use Rattle.iol_journal.specs.CheckpointViews.{IsCheckpointUnderway}
 use Rattle.iol_journal.specs.Pauses.{IsPaused, IsBeside}
-use Rattle.iol_journal.specs.Batch.{Batch}
+use Rattle.iol_journal.specs.declared.batch.Batch.{Batch}
 use Rattle.iol_flush.specs.declared.stage.FlushStage.{FlushStage}
 use Rattle.iol_flush.specs.declared.stage.FlushStage.TheVariants.{Resting, Opening, Given, Checkpointing, Writing, Publishing, Failed}
 

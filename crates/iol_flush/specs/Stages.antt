@@ -17,7 +17,7 @@ use Rattle.iol_journal.specs.Meaning.{Standing}
 use Rattle.iol_journal.specs.Journals.{JournalView, calls_left}
 use Rattle.iol_journal.specs.Limits.{MOST_RECORD_OCTETS}
 use Rattle.iol_journal.specs.Sectors.{BODY_SECTORS}
-use Rattle.iol_journal.specs.History.{History}
+use Rattle.iol_journal.specs.declared.history.History.{History}
 use Rattle.iol_flush.specs.declared.need.Need.{Need}
 use Rattle.iol_flush.specs.declared.need.Need.TheVariants as need
 use Rattle.iol_flush.specs.declared.stage.FlushStage.{FlushStage}

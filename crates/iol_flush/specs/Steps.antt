@@ -12,8 +12,8 @@ use Rattle.iol_journal.specs.Journals.{JournalView, WritingView, writing_of}
 use Rattle.iol_journal.specs.Progress.{IsBatchMoved, IsBatchDone}
 use Rattle.iol_journal.specs.Body.{values}
 use Rattle.iol_disk.specs.Calls.{Call, MakesFirst}
-use Rattle.iol_journal.specs.Batch.{Batch}
-use Rattle.iol_journal.specs.BeginCause.TheVariants.{TooLarge, Misfit}
+use Rattle.iol_journal.specs.declared.batch.Batch.{Batch}
+use Rattle.iol_journal.specs.declared.refusal.BeginCause.TheVariants.{TooLarge, Misfit}
 use Rattle.iol_journal.specs.Written.{WrittenView}
 use Rattle.iol_flush.specs.Stages.{FlusherView, disk_of, next_calls, calls_owed, is_due, names_batch, need_of, failure_of}
 use Rattle.iol_flush.specs.declared.need.Need.TheVariants as need

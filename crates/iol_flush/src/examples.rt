@@ -3,7 +3,7 @@
 ghost use Rattle.std.specs.Prelude.{◌≡◌, true, false, Some, None};
 ghost use Rattle.iol_journal.specs.BegunViews.{BegunView};
 ghost use Rattle.iol_journal.specs.Examples.{standing_of, older_standing_of};
-ghost use Rattle.iol_journal.specs.History.{History};
+ghost use Rattle.iol_journal.specs.declared.history.History.{History};
 ghost use Rattle.iol_journal.specs.Idle.TheVariants.{Older};
 ghost use Rattle.iol_journal.specs.Written.{WrittenView};
 ghost use Rattle.iol_flush.specs.Stages.{is_due, room_of};

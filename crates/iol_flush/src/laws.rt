@@ -10,7 +10,7 @@ ghost use Rattle.iol_journal.specs.Journals.{JournalView};
 ghost use Rattle.iol_journal.specs.Body.{values};
 ghost use Rattle.iol_journal.specs.Layout.{is_renewed};
 ghost use Rattle.iol_journal.specs.Runs.{Mark};
-ghost use Rattle.iol_journal.specs.Batch.{Batch};
+ghost use Rattle.iol_journal.specs.declared.batch.Batch.{Batch};
 ghost use Rattle.iol_flush.specs.Flushing.{AreFirst, IsFlushing, GoesOn, HoldsBy};
 ghost use Rattle.iol_flush.specs.Stages.{FlusherView, HasFewCalls, disk_of, need_of};
 ghost use Rattle.iol_flush.specs.Steps.{HasTaken, HasPublished, IsDiskStep, IsUnfit};

@@ -6,7 +6,7 @@ use lib.ListN.{get_elem?}
 use Rattle.atomic_table.specs.Table as table
 use Rattle.iol_types.specs.Command.{CommandValue}
 use Rattle.iol_journal.specs.Body.{values}
-use Rattle.iol_journal.specs.Batch.{Batch}
+use Rattle.iol_journal.specs.declared.batch.Batch.{Batch}
 use Rattle.iol_journal.specs.Numbers.{LAST_NUMBER}
 use Rattle.iol_front.specs.Fronts.{Start}
 use Rattle.iol_front.specs.Seats.{SeatView, silent}

@@ -9,7 +9,7 @@ ghost use Rattle.iol_front.specs.Seats.{reader, before_last};
 
 use crate::name::Name;
 use crate::pass::Pass;
-use crate::seat::Place;
+use crate::seat::FrontSeat;
 use iol_journal::Batch;
 use iol_types::Command;
 use std::marker::{Model, PhantomData};
@@ -18,7 +18,7 @@ use std::marker::{Model, PhantomData};
 #[derive(Drop)]
 pub struct Committed<F: Name> {
     batch: Batch,
-    seat: Place,
+    seat: FrontSeat,
     of: PhantomData<F>,
 }
 
@@ -48,7 +48,7 @@ impl<F: Name> Model for Committed<F> {
 
 impl<F: Name> Committed<F> {
     // The batch that a seat has seen last.
-    pub(crate) fn at(batch: Batch, seat: Place) -> Committed<F>
+    pub(crate) fn at(batch: Batch, seat: FrontSeat) -> Committed<F>
         requires table { seat.table_id ≡ F.front.table }
         requires seat { seat.me
             ≡ (reader F.front.start (before_last seat.me.0.seen (values batch.commands.items) ++ values batch.commands.items), []) }

@@ -5,7 +5,7 @@ ghost use Rattle.iol_journal.specs.Numbers.{LAST_NUMBER};
 
 use crate::name::Name;
 use crate::publisher::Publisher;
-use crate::seat::{Board, Opening, Place};
+use crate::seat::{Board, FrontSeat, Opening};
 use iol_types::MasterState;
 use std::alloc::{AllocError, Global};
 use std::marker::Model;
@@ -16,7 +16,7 @@ use std::sync::Arc;
 #[derive(Drop)]
 pub struct Front {
     board: Arc<Board, Global>,
-    seat: Place,
+    seat: FrontSeat,
     number: u64,
 }
 

@@ -7,7 +7,7 @@ ghost use Rattle.iol_journal.specs.Numbers.{LAST_NUMBER};
 ghost use Rattle.iol_front.specs.Seats.{reader};
 
 use crate::name::Name;
-use crate::seat::{Board, Place, look_at, retire_seat, split_off, take_in};
+use crate::seat::{Board, FrontSeat, look_at, retire_seat, split_off, take_in};
 use std::alloc::{AllocError, Global};
 use std::marker::{Model, PhantomData};
 use std::sync::Arc;
@@ -16,7 +16,7 @@ use std::sync::Arc;
 #[derive(Drop)]
 pub struct Pass<F: Name> {
     board: Arc<Board, Global>,
-    seat: Place,
+    seat: FrontSeat,
     number: u64,
     of: PhantomData<F>,
 }
@@ -40,7 +40,7 @@ impl<F: Name> Model for Pass<F> {
 
 impl<F: Name> Pass<F> {
     // At the table of its front, with a seat that has seen as much as this number says.
-    pub(crate) fn at(board: Arc<Board, Global>, seat: Place, number: u64) -> Pass<F>
+    pub(crate) fn at(board: Arc<Board, Global>, seat: FrontSeat, number: u64) -> Pass<F>
         requires table { ((arc_value board).shared.table_id ≡ F.front.table) × (F.front.table.words ≡ 1) × (seat.table_id ≡ F.front.table) }
         requires seat { seat.me ≡ (reader F.front.start seat.me.0.seen, []) }
         requires number { number ≡ F.front.start.number + length seat.me.0.seen }
@@ -100,7 +100,7 @@ impl<F: Name> Pass<F> {
     }
 
     // A seat that tells what this pass has seen.
-    pub(crate) fn told(&mut self) -> Place
+    pub(crate) fn told(&mut self) -> FrontSeat
         ensures same { self.new ≡ self.old }
         ensures told { (result.table_id ≡ F.front.table) × (result.me ≡ (reader F.front.start self.old, [])) }
     {
@@ -108,7 +108,7 @@ impl<F: Name> Pass<F> {
     }
 
     // Is told what a seat of the same front has seen, and looks.
-    pub(crate) fn learn(&mut self, seat: &mut Place)
+    pub(crate) fn learn(&mut self, seat: &mut FrontSeat)
         requires table { seat.old.table_id ≡ F.front.table }
         requires says { (seat.old.me.0.says ≡ true) × (seat.old.me.1 ≡ []) }
         ensures same { (seat.new.table_id ≡ seat.old.table_id) × (seat.new.me ≡ seat.old.me) }

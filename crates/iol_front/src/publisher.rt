@@ -9,7 +9,7 @@ ghost use Rattle.iol_front.specs.Seats.{publisher};
 use crate::committed::Committed;
 use crate::name::Name;
 use crate::pass::Pass;
-use crate::seat::{Board, Place, add_batch, look_at, split_off, take_in};
+use crate::seat::{Board, FrontSeat, add_batch, look_at, split_off, take_in};
 use iol_journal::Written;
 use std::alloc::{AllocError, Global};
 use std::marker::{Model, PhantomData};
@@ -19,7 +19,7 @@ use std::sync::Arc;
 #[derive(Drop)]
 pub struct Publisher<F: Name> {
     board: Arc<Board, Global>,
-    seat: Place,
+    seat: FrontSeat,
     number: u64,
     of: PhantomData<F>,
 }
@@ -43,7 +43,7 @@ impl<F: Name> Model for Publisher<F> {
 
 impl<F: Name> Publisher<F> {
     // At the table of its front, with nothing published.
-    pub(crate) fn first(board: Arc<Board, Global>, seat: Place, number: u64) -> Publisher<F>
+    pub(crate) fn first(board: Arc<Board, Global>, seat: FrontSeat, number: u64) -> Publisher<F>
         requires table { ((arc_value board).shared.table_id ≡ F.front.table) × (F.front.table.words ≡ 1) × (seat.table_id ≡ F.front.table) }
         requires seat { seat.me ≡ (publisher F.front.start [], []) }
         requires number { (number ≡ F.front.start.number) × (number ≤ LAST_NUMBER) }

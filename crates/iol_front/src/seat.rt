@@ -94,10 +94,10 @@ impl Play<Batch, View> for Retire {
 pub type Board = Table<Batch, View, Opening, Law, Global>;
 
 // A seat at it.
-pub type Place = Seat<Batch, View>;
+pub type FrontSeat = Seat<Batch, View>;
 
 // Makes a seat that has seen as much.
-pub(crate) fn split_off(board: &Board, seat: &mut Place) -> Place
+pub(crate) fn split_off(board: &Board, seat: &mut FrontSeat) -> FrontSeat
     requires place { (seat.old.table_id ≡ board.now.shared.table_id) × (board.now.shared.table_id.words ≡ 1) }
     ensures same { (seat.new.table_id ≡ seat.old.table_id) × (seat.new.me ≡ seat.old.me) }
     ensures made { (result.table_id ≡ seat.old.table_id) × (result.me ≡ (another_of seat.old.me.0, [])) }
@@ -106,7 +106,7 @@ pub(crate) fn split_off(board: &Board, seat: &mut Place) -> Place
 }
 
 // Takes in a seat, and is told what that one has seen.
-pub(crate) fn take_in(board: &Board, seat: &mut Place, other: Place)
+pub(crate) fn take_in(board: &Board, seat: &mut FrontSeat, other: FrontSeat)
     requires place { (seat.old.table_id ≡ board.now.shared.table_id) × (other.table_id ≡ board.now.shared.table_id)
         × (board.now.shared.table_id.words ≡ 1) }
     requires says { (other.me.0.says ≡ true) × (other.me.1 ≡ []) }
@@ -117,7 +117,7 @@ pub(crate) fn take_in(board: &Board, seat: &mut Place, other: Place)
 }
 
 // Sees how many commands are published.
-pub(crate) fn look_at(board: &Board, seat: &mut Place) -> u64
+pub(crate) fn look_at(board: &Board, seat: &mut FrontSeat) -> u64
     requires place { (seat.old.table_id ≡ board.now.shared.table_id) × (board.now.shared.table_id.words ≡ 1) }
     requires says { (seat.old.me.0.says ≡ true) × (seat.old.me.1 ≡ []) }
     ensures same { (seat.new.table_id ≡ seat.old.table_id) × (seat.new.me.1 ≡ []) }
@@ -127,7 +127,7 @@ pub(crate) fn look_at(board: &Board, seat: &mut Place) -> u64
 }
 
 // Puts a batch behind the whole list.
-pub(crate) fn add_batch(board: &Board, seat: &mut Place, count: u64, batch: &Batch) -> u64
+pub(crate) fn add_batch(board: &Board, seat: &mut FrontSeat, count: u64, batch: &Batch) -> u64
     requires place { (seat.old.table_id ≡ board.now.shared.table_id) × (board.now.shared.table_id.words ≡ 1) }
     requires owns { (seat.old.me.0.says ≡ true) × (seat.old.me.0.publishes ≡ true) × (seat.old.me.1 ≡ []) }
     requires count { count ≡ seat.old.me.0.start.number + length seat.old.me.0.seen }
@@ -144,7 +144,7 @@ pub(crate) fn add_batch(board: &Board, seat: &mut Place, count: u64, batch: &Bat
 }
 
 // Retires a seat: from then on it says nothing.
-pub(crate) fn retire_seat(board: &Board, seat: &mut Place)
+pub(crate) fn retire_seat(board: &Board, seat: &mut FrontSeat)
     requires place { (seat.old.table_id ≡ board.now.shared.table_id) × (board.now.shared.table_id.words ≡ 1) }
     requires bare { seat.old.me.1 ≡ [] }
     ensures { seat.new.me.0 ≡ silent }

@@ -3,7 +3,7 @@ use Rattle.std.proofs.Common.{◌≡◌, ℕ, List, subst}
 use Rattle.iol_disk.specs.Disk.{Disk}
 use Rattle.iol_run.specs.Turns.{IsTurn}
 use Rattle.iol_run.specs.declared.turn.Turned.{Turned}
-use Rattle.iol_trace.specs.Events.{Event}
+use Rattle.iol_core.specs.Events.{Event}
 use Rattle.iol_handed.specs.DiskSide.{AnswersTurn, IsAnswerTold, tells_failure}
 use Rattle.iol_handed.specs.HandedDisk.{HandedDiskView}
 use Rattle.iol_handed.specs.Master.{HandedMasterView}

@@ -5,7 +5,7 @@ use Rattle.iol_disk.specs.Disk.{Disk}
 use Rattle.iol_run.specs.Turns.{IsTurn, failed_core}
 use Rattle.iol_run.specs.declared.turn.Turned.{Turned}
 use Rattle.iol_run.specs.declared.turn.Turned.TheVariants.{Made, Idle, Waited}
-use Rattle.iol_trace.specs.Events.{Event, DiskFailed}
+use Rattle.iol_core.specs.Events.{Event, DiskFailed}
 use Rattle.iol_handed.specs.HandedDisk.{HandedDiskView, call_of}
 use Rattle.iol_handed.specs.Master.{HandedMasterView, call_after, disk_in}
 use Rattle.iol_handed.specs.declared.reports.DiskAnswer.{DiskAnswer}

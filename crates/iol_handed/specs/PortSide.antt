@@ -1,11 +1,11 @@
 -- What a port wants of its device, and the reports of it.
 use Rattle.std.specs.Prelude.{◌≡◌, ◌-◌, ℕ, Bool, true, false, ◌||◌, ◌&&◌, is_none, List, [], Option, Some, None}
 use Rattle.std.specs.Prelude.{slice_get, slice_set}
-use Rattle.iol_isdu.specs.Isdu.{IsShortestRequest}
+use Rattle.iol_link.specs.Isdu.{IsShortestRequest}
 use Rattle.iol_link.specs.Link.{last_connection}
 use Rattle.iol_port.specs.declared.action.Want.{Want}
 use Rattle.iol_port.specs.declared.action.Want.TheVariants as want
-use Rattle.iol_trace.specs.Events.{Event}
+use Rattle.iol_core.specs.Events.{Event}
 use Rattle.iol_engine.specs.Answered.{without_octets}
 use Rattle.iol_engine.specs.HandedSteps.{NeverFits, StepsHanded, settled_in, want_at}
 use Rattle.iol_engine.specs.Waits.{waits_at}

@@ -16,8 +16,8 @@ use Rattle.iol_handed.specs.declared.reports.DiskAnswer.{DiskAnswer}
 use Rattle.iol_handed.specs.Answering.{IsEntryOf, disk_answer, port_answer, status_answer, submit_answer, view_answer}
 use Rattle.iol_handed.specs.Flashes.{unknown_disk}
 use Rattle.iol_handed.specs.Sessions.{SessionView, ended, running}
-use Rattle.iol_handed.specs.declared.ask.Answer.{Answer}
-use Rattle.iol_handed.specs.declared.ask.Answer.TheVariants as answer
+use Rattle.iol_handed.specs.declared.ask.SessionAnswer.{SessionAnswer}
+use Rattle.iol_handed.specs.declared.ask.SessionAnswer.TheVariants as answer
 use Rattle.iol_handed.specs.declared.ask.Ask.{Ask}
 use Rattle.iol_handed.specs.declared.ask.Ask.TheVariants as ask
 use Rattle.iol_handed.specs.declared.ask.PortAsk.{PortAsk}
@@ -34,12 +34,12 @@ PortServes (port.Event code) number old new told =
     IsNoted number (λ notes. record notes { event = event_kept notes.event code }) old new told
 
 -- the answer by whether a call was in hand (own)
-abbrev pub done_answer : Bool → Answer
+abbrev pub done_answer : Bool → SessionAnswer
 done_answer true = answer.Done
 done_answer false = answer.Misfit
 
 -- a master answers as its own calls do; a request that only reads changes nothing (own)
-abbrev pub Answers : Ask → HandedMasterView → HandedMasterView → Answer → Type 0
+abbrev pub Answers : Ask → HandedMasterView → HandedMasterView → SessionAnswer → Type 0
 Answers (ask.Submit change) old new said =
     (told : Result ℕ SubmitFault) × Submits (command_of change) old new told × (said ≡ submit_answer told)
 Answers ask.DiskNext old new said = (told : DiskAnswer) × AsksDisk unknown_disk old new told × (said ≡ disk_answer told)
@@ -64,9 +64,9 @@ is_end ask.End = true
 is_end asked = false
 
 -- the master has ended, or it answers and continues (own)
-abbrev pub EndsOrAnswers : Bool → Ask → HandedMasterView → SessionView → Answer → Type 0
+abbrev pub EndsOrAnswers : Bool → Ask → HandedMasterView → SessionView → SessionAnswer → Type 0
 EndsOrAnswers true asked master new said = (said ≡ answer.Closed) × (new ≡ ended)
 EndsOrAnswers false asked master new said = (after : HandedMasterView) × (new ≡ running after) × Answers asked master after said
 
-abbrev pub RunningServes : Ask → HandedMasterView → SessionView → Answer → Type 0
+abbrev pub RunningServes : Ask → HandedMasterView → SessionView → SessionAnswer → Type 0
 RunningServes asked master new said = EndsOrAnswers (is_end asked) asked master new said

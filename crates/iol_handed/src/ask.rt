@@ -1,14 +1,13 @@
 //! The requests to a session, and its answers.
 
 use crate::flash::UnknownFlash;
-use crate::found::Found;
+use crate::found::FoundJournal;
 use crate::opening::Opening;
 use arrayvec::ArrayVec;
 use iol_core::SubmitFault;
 use iol_disk::SECTOR_OCTETS;
-use iol_isdu::ISDU_OCTETS;
 use iol_journal::RecoverCause;
-use iol_link::PAGE_OCTETS;
+use iol_link::{ISDU_OCTETS, PAGE_OCTETS};
 use iol_port::PortStatus;
 use iol_types::{Change, Key, MOST_ENTRY_OCTETS, PortConfig, PortId};
 
@@ -82,7 +81,7 @@ pub struct View {
 
 /// An answer of a session.
 #[derive(Drop)]
-pub enum Answer {
+pub enum SessionAnswer {
     /// The session has no master.
     Closed,
     /// The session's flash is still being opened.
@@ -90,7 +89,7 @@ pub enum Answer {
     /// The flash has no usable journal; the session is closed.
     NotOpened(RecoverCause),
     /// The journal was found; the session is closed until a master is begun with it.
-    Found(Found<UnknownFlash>),
+    Found(FoundJournal<UnknownFlash>),
     /// Out of memory: nothing changed, and the request may be made again.
     Memory,
     /// A call of the disk has failed: no more calls are wanted.

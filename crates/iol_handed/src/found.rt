@@ -10,13 +10,13 @@ use std::marker::Model;
 /// The values with which a master begins: the journal that was found on a disk, its state, and a front of its number and state. A
 /// contract sees the record `FoundView` of `specs/Found.antt`.
 #[derive(Drop)]
-pub struct Found<W: Flash> {
+pub struct FoundJournal<W: Flash> {
     pub(crate) front: Front,
     pub(crate) journal: Journal<HandedDisk<W>>,
     pub(crate) state: MasterState,
 }
 
-impl<W: Flash> Model for Found<W> {
+impl<W: Flash> Model for FoundJournal<W> {
     ghost use Rattle.iol_handed.specs.Found.{FoundView, IsFound};
 
     ghost Value = { FoundView };

@@ -4,9 +4,9 @@ ghost use Rattle.std.specs.Prelude.{◌≡◌, ◌++◌, IfOk, map, slice_get};
 ghost use Rattle.std.specs.Option.{option_map};
 ghost use Rattle.iol_layout.specs.AreaWrites.{port_writes, slot_writes};
 ghost use Rattle.iol_disk.specs.Calls.{write};
-ghost use Rattle.iol_slots.specs.Gate.{closed_gate, open_gate};
+ghost use Rattle.iol_disk.specs.Gate.{closed_gate, open_gate};
 ghost use Rattle.iol_layout.specs.AreaPlans.{write_of};
-ghost use Rattle.iol_format.specs.Orders.{format_calls, gate_writes, header_writes, journal_writes, opening_calls};
+ghost use Rattle.iol_journal.specs.Orders.{format_calls, gate_writes, header_writes, journal_writes, opening_calls};
 ghost use Rattle.iol_handed.specs.HandedDisk.{call_of};
 ghost use Rattle.iol_layout.specs.Layout.{laid_out};
 ghost use Rattle.iol_layout.specs.declared.area.Area.TheVariants.{A};
@@ -14,10 +14,9 @@ ghost use Rattle.iol_record.specs.Record.{newest};
 ghost use Rattle.iol_types.specs.State.{empty_state};
 
 use crate::handed_call::HandedCall;
-use iol_disk::SECTOR_OCTETS;
+use iol_disk::{GATE_MARK, SECTOR_OCTETS};
 use iol_layout::{Area, AreaPlan, DISK_GATE, GEOMETRY, Geometry, Header, Layout};
 use iol_record::Version;
-use iol_slots::GATE_MARK;
 use iol_types::MasterState;
 use std::alloc::{AllocError, Global};
 
@@ -190,7 +189,7 @@ fn opening_call(number: usize) -> Option<HandedCall>
 }
 
 // Returns a write that opens a gate.
-#[tactic(auto, unfolding(iol_slots::specs::Gate::open_gate))]
+#[tactic(auto, unfolding(iol_disk::specs::Gate::open_gate))]
 fn open_gate(sector: usize) -> HandedCall
     ensures { call_of result ≡ write sector open_gate }
 {
@@ -200,7 +199,7 @@ fn open_gate(sector: usize) -> HandedCall
 }
 
 // Returns a write that closes a gate.
-#[tactic(auto, unfolding(iol_slots::specs::Gate::closed_gate))]
+#[tactic(auto, unfolding(iol_disk::specs::Gate::closed_gate))]
 fn closed_gate(sector: usize) -> HandedCall
     ensures { call_of result ≡ write sector closed_gate }
 {

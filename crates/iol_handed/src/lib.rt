@@ -33,9 +33,9 @@ mod reports;
 mod serving;
 mod session;
 
-pub use ask::{Answer, Ask, PortAsk, SetView, View, WhichSet};
+pub use ask::{Ask, PortAsk, SessionAnswer, SetView, View, WhichSet};
 pub use flash::{Flash, UnknownFlash};
-pub use found::Found;
+pub use found::FoundJournal;
 pub use handed_call::HandedCall;
 pub use handed_disk::HandedDisk;
 pub use handed_format::HandedFormat;

@@ -10,7 +10,7 @@ ghost use Rattle.iol_handed.specs.Notes.{no_notes};
 ghost use Rattle.iol_handed.specs.Submits.{Submits};
 
 use crate::flash::Flash;
-use crate::found::Found;
+use crate::found::FoundJournal;
 use crate::handed_disk::HandedDisk;
 use crate::notes::{NO_NOTES, PortNotes};
 use crate::opening::{Opening, OpeningWant};
@@ -75,12 +75,12 @@ impl<W: Flash, F: Name> HandedMaster<W, F> {
     ///
     /// # Errors
     /// Out of memory; returns the opening, which is to be asked again.
-    pub fn begin(alloc: Global, found: Found<W>) -> Result<HandedMaster<W, F>, Opening<W>>
+    pub fn begin(alloc: Global, found: FoundJournal<W>) -> Result<HandedMaster<W, F>, Opening<W>>
         requires name { found.front ≡ F.front }
         ensures begun { IfOk result (IsBegun found) }
         ensures refused { IfErr result (λ opening. (opening.sectors ≡ found.journal.disk.sectors) × (opening.want ≡ OpeningWant.Nothing)) }
     {
-        let Found {
+        let FoundJournal {
             front,
             journal,
             state,

@@ -7,7 +7,7 @@ ghost use Rattle.iol_layout.specs.Meaning.{standing_in};
 ghost use Rattle.iol_recovery.specs.Reading.{SaysWhy};
 
 use crate::flash::Flash;
-use crate::found::Found;
+use crate::found::FoundJournal;
 use crate::handed_disk::HandedDisk;
 use crate::opening::{Opening, OpeningWant};
 use iol_disk::SectorDisk;
@@ -23,7 +23,7 @@ pub enum Opened<W: Flash> {
     /// The opening continues. If it wants nothing, it was out of memory.
     GoesOn(Opening<W>),
     /// The journal was found.
-    Found(Found<W>),
+    Found(FoundJournal<W>),
     /// There is no usable journal.
     Refused(RecoverCause),
 }
@@ -111,7 +111,7 @@ fn found<W: Flash>(
     ensures sectors { IfGoesOn result (λ more. more.sectors ≡ sectors) }
 {
     match Front::new(alloc, journal.number(), &state) {
-        Ok(front) => Opened::Found(Found {
+        Ok(front) => Opened::Found(FoundJournal {
             front,
             journal,
             state,
@@ -139,12 +139,12 @@ impl<W: Flash> Opening<W> {
     }
 }
 
-impl<W: Flash> Found<W> {
+impl<W: Flash> FoundJournal<W> {
     /// Returns the opening that has found it, which is to be asked again.
     pub fn into_opening(self, alloc: Global) -> Opening<W>
         ensures { (result.sectors ≡ self.journal.disk.sectors) × (result.want ≡ OpeningWant.Nothing) }
     {
-        let Found { journal, .. } = self;
+        let FoundJournal { journal, .. } = self;
         let sectors = journal.disk_ref().sectors();
         Opening::of_disk(alloc, sectors, journal.disk())
     }

@@ -1,7 +1,7 @@
 //! The answers of a port to its caller.
 
 use arrayvec::ArrayVec;
-use iol_isdu::ISDU_OCTETS;
+use iol_link::ISDU_OCTETS;
 
 /// The answer of a port to its caller.
 #[derive(Drop)]

@@ -16,8 +16,7 @@ use crate::port_answer::PortAnswer;
 use arrayvec::ArrayVec;
 use iol_engine::{Answered, Exchanged, Handed};
 use iol_front::Name;
-use iol_isdu::{ISDU_OCTETS, write_request};
-use iol_link::PAGE_OCTETS;
+use iol_link::{ISDU_OCTETS, PAGE_OCTETS, write_request};
 use iol_port::Want;
 use iol_types::PortId;
 

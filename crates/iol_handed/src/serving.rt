@@ -9,7 +9,7 @@ ghost use Rattle.iol_handed.specs.Running.{Answers, PortServes, RunningServes, i
 ghost use Rattle.iol_handed.specs.Serving.{OpensOrIs, Serves, ServesAt};
 ghost use Rattle.iol_handed.specs.Sessions.{ended, opening, running};
 
-use crate::ask::{Answer, Ask, PortAsk, SetView, View, WhichSet};
+use crate::ask::{Ask, PortAsk, SessionAnswer, SetView, View, WhichSet};
 use crate::flash::UnknownFlash;
 use crate::handed_call::HandedCall;
 use crate::master::HandedMaster;
@@ -17,7 +17,7 @@ use crate::opened::Opened;
 use crate::opening::{HandFault, Opening, OpeningWant};
 use crate::port_answer::PortAnswer;
 use crate::reports::DiskAnswer;
-use crate::session::{Session, Stage};
+use crate::session::{Session, SessionStage};
 use arrayvec::ArrayVec;
 use iol_disk::DiskFault;
 use iol_front::Name;
@@ -31,7 +31,7 @@ impl<F: Name> Session<F> {
         ensures { result ≡ ended }
     {
         Session {
-            stage: Stage::Ended,
+            stage: SessionStage::Ended,
         }
     }
 
@@ -40,7 +40,7 @@ impl<F: Name> Session<F> {
         ensures { result ≡ opening flash }
     {
         Session {
-            stage: Stage::Opening(flash),
+            stage: SessionStage::Opening(flash),
         }
     }
 
@@ -49,7 +49,7 @@ impl<F: Name> Session<F> {
         ensures { result ≡ running master }
     {
         Session {
-            stage: Stage::Running(unsafe { ManuallyDrop::new_unchecked(master) }),
+            stage: SessionStage::Running(unsafe { ManuallyDrop::new_unchecked(master) }),
         }
     }
 
@@ -57,34 +57,34 @@ impl<F: Name> Session<F> {
     pub fn end(self) {
         let Session { stage } = self;
         match stage {
-            Stage::Running(master) => end_master(ManuallyDrop::into_inner(master)),
-            Stage::Opening(_flash) => {}
-            Stage::Ended => {}
+            SessionStage::Running(master) => end_master(ManuallyDrop::into_inner(master)),
+            SessionStage::Opening(_flash) => {}
+            SessionStage::Ended => {}
         }
     }
 
     /// Serves a request. `Ask::Open` ends what the session has, and opens a flash; `Ask::End` ends the
     /// session.
-    pub fn serve(self, ask: Ask) -> (Session<F>, Answer)
+    pub fn serve(self, ask: Ask) -> (Session<F>, SessionAnswer)
         ensures { Serves ask self result.0 result.1 }
     {
         match opened_by(ask) {
             Ok(flash) => {
                 self.end();
-                (Session::opening(flash), Answer::Done)
+                (Session::opening(flash), SessionAnswer::Done)
             }
             Err(ask) => self.serve_asked(ask),
         }
     }
 
     // Serves a request that opens no flash.
-    fn serve_asked(self, ask: Ask) -> (Session<F>, Answer)
+    fn serve_asked(self, ask: Ask) -> (Session<F>, SessionAnswer)
         ensures { ServesAt self.opening self.running ask result.0 result.1 }
     {
         match self.stage {
-            Stage::Opening(flash) => serve_opening(flash, ask),
-            Stage::Running(master) => serve_running(ManuallyDrop::into_inner(master), ask),
-            Stage::Ended => (Session::ended(), Answer::Closed),
+            SessionStage::Opening(flash) => serve_opening(flash, ask),
+            SessionStage::Running(master) => serve_running(ManuallyDrop::into_inner(master), ask),
+            SessionStage::Ended => (Session::ended(), SessionAnswer::Closed),
         }
     }
 }
@@ -105,19 +105,19 @@ fn opened_by(ask: Ask) -> Result<Opening<UnknownFlash>, Ask>
 }
 
 // Serves a request to a flash that is being opened.
-fn serve_opening<F: Name>(flash: Opening<UnknownFlash>, ask: Ask) -> (Session<F>, Answer)
+fn serve_opening<F: Name>(flash: Opening<UnknownFlash>, ask: Ask) -> (Session<F>, SessionAnswer)
     ensures { OpeningServes ask flash result.0 result.1 }
 {
     match ask {
-        Ask::End => (Session::ended(), Answer::Closed),
+        Ask::End => (Session::ended(), SessionAnswer::Closed),
         Ask::DiskNext => opening_next(flash),
         Ask::DiskDone(made) => opening_done(flash, made),
         Ask::DiskRead(octets) => {
             let mut flash = flash;
             let answer = match flash.hand(&octets) {
-                Ok(()) => Answer::Done,
-                Err(HandFault::Misfit) => Answer::Misfit,
-                Err(HandFault::Memory) => Answer::Memory,
+                Ok(()) => SessionAnswer::Done,
+                Err(HandFault::Misfit) => SessionAnswer::Misfit,
+                Err(HandFault::Memory) => SessionAnswer::Memory,
             };
             (Session::opening(flash), answer)
         }
@@ -127,13 +127,13 @@ fn serve_opening<F: Name>(flash: Opening<UnknownFlash>, ask: Ask) -> (Session<F>
         | Ask::Numbers
         | Ask::View(_)
         | Ask::Entry(..)
-        | Ask::Open(_) => (Session::opening(flash), Answer::Opening),
+        | Ask::Open(_) => (Session::opening(flash), SessionAnswer::Opening),
     }
 }
 
 // Returns what an opening wants of the disk. If it wants nothing, it looks for the journal among what was
 // handed in.
-fn opening_next<F: Name>(flash: Opening<UnknownFlash>) -> (Session<F>, Answer)
+fn opening_next<F: Name>(flash: Opening<UnknownFlash>) -> (Session<F>, SessionAnswer)
     ensures { AsksOpening flash.want flash result.0 result.1 }
 {
     match flash.go_on() {
@@ -141,57 +141,60 @@ fn opening_next<F: Name>(flash: Opening<UnknownFlash>) -> (Session<F>, Answer)
             let answer = want_answer(flash.want());
             (Session::opening(flash), answer)
         }
-        Opened::Found(found) => (Session::ended(), Answer::Found(found)),
-        Opened::Refused(cause) => (Session::ended(), Answer::NotOpened(cause)),
+        Opened::Found(found) => (Session::ended(), SessionAnswer::Found(found)),
+        Opened::Refused(cause) => (Session::ended(), SessionAnswer::NotOpened(cause)),
     }
 }
 
 // Returns the answer that says what an opening wants.
-fn want_answer(want: OpeningWant) -> Answer
+fn want_answer(want: OpeningWant) -> SessionAnswer
     ensures { result ≡ want_answer want }
 {
     match want {
-        OpeningWant::Sync => Answer::Sync,
-        OpeningWant::Read(sector) => Answer::Read(sector),
-        OpeningWant::Nothing => Answer::Memory,
+        OpeningWant::Sync => SessionAnswer::Sync,
+        OpeningWant::Read(sector) => SessionAnswer::Read(sector),
+        OpeningWant::Nothing => SessionAnswer::Memory,
     }
 }
 
 // Takes the report that the wanted sync was made, or that the wanted call has failed.
-fn opening_done<F: Name>(flash: Opening<UnknownFlash>, made: bool) -> (Session<F>, Answer)
+fn opening_done<F: Name>(flash: Opening<UnknownFlash>, made: bool) -> (Session<F>, SessionAnswer)
     ensures { Reports flash.want made flash result.0 result.1 }
 {
     let mut flash = flash;
     match (flash.want(), made) {
         (OpeningWant::Sync, true) => {
             flash.synced();
-            (Session::opening(flash), Answer::Done)
+            (Session::opening(flash), SessionAnswer::Done)
         }
         (OpeningWant::Sync, false) => failed(DiskFault::Sync),
         (OpeningWant::Read(_), false) => failed(DiskFault::Read),
         (OpeningWant::Read(_), true) | (OpeningWant::Nothing, _) => {
-            (Session::opening(flash), Answer::Misfit)
+            (Session::opening(flash), SessionAnswer::Misfit)
         }
     }
 }
 
 // Ends an opening a call of which has failed.
-fn failed<F: Name>(fault: DiskFault) -> (Session<F>, Answer)
-    ensures { (result.0 ≡ ended) × (result.1 ≡ Answer.NotOpened (RecoverCause.Disk fault)) }
+fn failed<F: Name>(fault: DiskFault) -> (Session<F>, SessionAnswer)
+    ensures { (result.0 ≡ ended) × (result.1 ≡ SessionAnswer.NotOpened (RecoverCause.Disk fault)) }
 {
     (
         Session::ended(),
-        Answer::NotOpened(RecoverCause::Disk(fault)),
+        SessionAnswer::NotOpened(RecoverCause::Disk(fault)),
     )
 }
 
 // Serves a request to a master.
-fn serve_running<F: Name>(master: HandedMaster<UnknownFlash, F>, ask: Ask) -> (Session<F>, Answer)
+fn serve_running<F: Name>(
+    master: HandedMaster<UnknownFlash, F>,
+    ask: Ask,
+) -> (Session<F>, SessionAnswer)
     ensures { RunningServes ask master result.0 result.1 }
 {
     if is_end(&ask) {
         master.end();
-        return (Session::ended(), Answer::Closed);
+        return (Session::ended(), SessionAnswer::Closed);
     }
     let mut master = master;
     let answer = answer_running(&mut master, ask);
@@ -206,37 +209,37 @@ pub fn is_end(ask: &Ask) -> bool
 }
 
 // Serves a request to a master that does not end it.
-fn answer_running<F: Name>(master: &mut HandedMaster<UnknownFlash, F>, ask: Ask) -> Answer
+fn answer_running<F: Name>(master: &mut HandedMaster<UnknownFlash, F>, ask: Ask) -> SessionAnswer
     ensures { Answers ask master.old master.new result }
 {
     match ask {
         Ask::Submit(change) => match master.submit(change) {
-            Ok(number) => Answer::Accepted(number),
-            Err(fault) => Answer::Refused(fault),
+            Ok(number) => SessionAnswer::Accepted(number),
+            Err(fault) => SessionAnswer::Refused(fault),
         },
         Ask::DiskNext => disk_answer(master.disk_next()),
         Ask::DiskDone(made) => {
             if master.disk_done(made) {
-                Answer::Done
+                SessionAnswer::Done
             } else {
-                Answer::Misfit
+                SessionAnswer::Misfit
             }
         }
-        Ask::Open(_flash) => Answer::Misfit,
-        Ask::DiskRead(_) | Ask::End => Answer::Misfit,
+        Ask::Open(_flash) => SessionAnswer::Misfit,
+        Ask::DiskRead(_) | Ask::End => SessionAnswer::Misfit,
         Ask::Port(port, ask) => port_answer(serve_port(master, port, ask)),
         Ask::Status(port) => match master.status(port) {
-            Some(status) => Answer::Status(status),
-            None => Answer::Absent,
+            Some(status) => SessionAnswer::Status(status),
+            None => SessionAnswer::Absent,
         },
-        Ask::Numbers => Answer::Numbers(master.durable_number(), master.accepted_number()),
+        Ask::Numbers => SessionAnswer::Numbers(master.durable_number(), master.accepted_number()),
         Ask::View(port) => match master.durable().port(port) {
-            Some(port) => Answer::View(view_of(port)),
-            None => Answer::Absent,
+            Some(port) => SessionAnswer::View(view_of(port)),
+            None => SessionAnswer::Absent,
         },
         Ask::Entry(port, which, place) => match master.durable().port(port) {
             Some(port) => entry_of(port, which, place),
-            None => Answer::Absent,
+            None => SessionAnswer::Absent,
         },
     }
 }
@@ -260,32 +263,34 @@ fn serve_port<F: Name>(
 }
 
 // Returns the session's answer for what is wanted of the disk.
-fn disk_answer(answer: DiskAnswer) -> Answer
+fn disk_answer(answer: DiskAnswer) -> SessionAnswer
     ensures { result ≡ disk_answer answer }
 {
     match answer {
-        DiskAnswer::Stopped => Answer::Stopped,
-        DiskAnswer::Call(HandedCall::Write { sector, octets }) => Answer::Write(sector, octets),
-        DiskAnswer::Call(HandedCall::Sync) => Answer::Sync,
-        DiskAnswer::Again => Answer::Again,
-        DiskAnswer::Nothing => Answer::Nothing,
-        DiskAnswer::Memory => Answer::Memory,
+        DiskAnswer::Stopped => SessionAnswer::Stopped,
+        DiskAnswer::Call(HandedCall::Write { sector, octets }) => SessionAnswer::Write(
+            sector, octets,
+        ),
+        DiskAnswer::Call(HandedCall::Sync) => SessionAnswer::Sync,
+        DiskAnswer::Again => SessionAnswer::Again,
+        DiskAnswer::Nothing => SessionAnswer::Nothing,
+        DiskAnswer::Memory => SessionAnswer::Memory,
     }
 }
 
 // Returns the session's answer for the answer of a port.
-fn port_answer(answer: PortAnswer) -> Answer
+fn port_answer(answer: PortAnswer) -> SessionAnswer
     ensures { result ≡ port_answer answer }
 {
     match answer {
-        PortAnswer::Absent => Answer::Absent,
-        PortAnswer::Misfit => Answer::Misfit,
-        PortAnswer::Memory => Answer::Memory,
-        PortAnswer::Noted => Answer::Done,
-        PortAnswer::Nothing => Answer::Nothing,
-        PortAnswer::Again => Answer::Again,
-        PortAnswer::Page => Answer::Page,
-        PortAnswer::Request(octets) => Answer::Request(octets),
+        PortAnswer::Absent => SessionAnswer::Absent,
+        PortAnswer::Misfit => SessionAnswer::Misfit,
+        PortAnswer::Memory => SessionAnswer::Memory,
+        PortAnswer::Noted => SessionAnswer::Done,
+        PortAnswer::Nothing => SessionAnswer::Nothing,
+        PortAnswer::Again => SessionAnswer::Again,
+        PortAnswer::Page => SessionAnswer::Page,
+        PortAnswer::Request(octets) => SessionAnswer::Request(octets),
     }
 }
 
@@ -316,7 +321,7 @@ fn set_view(stored: Option<&StoredSet>) -> Option<SetView>
 }
 
 // Returns an entry of one of the sets of a port.
-fn entry_of(port: &PortState, which: WhichSet, place: usize) -> Answer
+fn entry_of(port: &PortState, which: WhichSet, place: usize) -> SessionAnswer
     ensures { IsEntryAt (set_in which port.now) place result }
 {
     let stored = match which {
@@ -324,12 +329,12 @@ fn entry_of(port: &PortState, which: WhichSet, place: usize) -> Answer
         WhichSet::Previous => port.previous(),
     };
     let Some(stored) = stored else {
-        return Answer::Nothing;
+        return SessionAnswer::Nothing;
     };
     let Some((key, octets)) = stored.set.entry(place) else {
-        return Answer::Nothing;
+        return SessionAnswer::Nothing;
     };
     let mut copy = ArrayVec::new();
     copy.try_extend_from_slice(octets).unwrap();
-    Answer::Entry(key, copy)
+    SessionAnswer::Entry(key, copy)
 }

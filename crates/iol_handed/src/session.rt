@@ -9,7 +9,7 @@ use std::mem::ManuallyDrop;
 
 // The stage of a session.
 #[derive(Drop)]
-pub(crate) enum Stage<F: Name> {
+pub(crate) enum SessionStage<F: Name> {
     // A flash is being opened.
     Opening(Opening<UnknownFlash>),
     // A master runs; `Ask::End` ends it.
@@ -22,7 +22,7 @@ pub(crate) enum Stage<F: Name> {
 /// `specs/Sessions.antt`.
 #[derive(Drop)]
 pub struct Session<F: Name> {
-    pub(crate) stage: Stage<F>,
+    pub(crate) stage: SessionStage<F>,
 }
 
 impl<F: Name> Model for Session<F> {

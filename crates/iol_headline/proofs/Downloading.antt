@@ -8,11 +8,11 @@ use Rattle.iol_core.specs.Core.{CoreView}
 use Rattle.iol_core.specs.Downloads.{IsBeginDownload, durable_set, stored_at}
 use Rattle.iol_core.specs.declared.download.DownloadBegun.{DownloadBegun}
 use Rattle.iol_core.specs.declared.download.DownloadFault.{DownloadFault}
-use Rattle.iol_ident.specs.Page.{PageValue}
-use Rattle.iol_isdu.specs.Isdu.{IsShortestRequest}
-use Rattle.iol_isdu.specs.Reading.{answer_of}
-use Rattle.iol_isdu.specs.declared.faults.IsduFault.{IsduFault}
-use Rattle.iol_isdu.specs.declared.messages.Answer.{Answer}
+use Rattle.iol_link.specs.Page.{PageValue}
+use Rattle.iol_link.specs.Isdu.{IsShortestRequest}
+use Rattle.iol_link.specs.Reading.{answer_of}
+use Rattle.iol_link.specs.declared.faults.IsduFault.{IsduFault}
+use Rattle.iol_link.specs.declared.messages.Answer.{Answer}
 use Rattle.iol_transfer.proofs.Sending.{fed-on}
 use Rattle.iol_transfer.specs.Download.{Sender, sent_by, answered_to}
 use Rattle.iol_transfer.specs.declared.download.DownloadStep.TheVariants as download_step
@@ -29,14 +29,14 @@ use Rattle.iol_headline.specs.Decisions.{IsExamined}
 use Rattle.iol_port.specs.Heard.{download_begun}
 use Rattle.iol_port.specs.Stage.{Stage, Settled, Downloading, Breaking, Returning}
 use Rattle.iol_port.specs.declared.decision.Decision.TheVariants as decision
-use Rattle.iol_port.specs.declared.stage.Found.{Found}
+use Rattle.iol_port.specs.declared.stage.FoundDevice.{FoundDevice}
 use Rattle.iol_port.specs.declared.status.PortStatus.{PortStatus}
 use Rattle.iol_port.specs.declared.status.PortStatus.TheVariants as status
 use Rattle.iol_engine.specs.PortRuns.{IsCoreAfter}
-use Rattle.iol_trace.specs.Events as trace
-use Rattle.iol_trace.specs.Events.{Event, Page, Attended, Accepted, Changed, Stamp, stamped}
-use Rattle.iol_trace.specs.Own.{own}
-use Rattle.iol_trace.specs.Statuses as shows
+use Rattle.iol_core.specs.Events as trace
+use Rattle.iol_core.specs.Events.{Event, Page, Attended, Accepted, Changed, Stamp, stamped}
+use Rattle.iol_core.specs.Own.{own}
+use Rattle.iol_core.specs.Statuses as shows
 use Rattle.iol_headline.proofs.Going.{Goes, settles, still}
 use Rattle.iol_headline.proofs.Reading.{exchanged_own}
 use Rattle.iol_headline.proofs.Uploading.{page_shown}
@@ -74,7 +74,7 @@ module _ (first : ℕ) (start : State) (port connection : ℕ) (events : List St
   rests called was own = settles first start port connection events clock called was own
 
   -- the core gives a permit to download, or refuses it
-  pub download_goes : (found : Found) (checksum : ℕ) (begins : Result DownloadBegun DownloadFault) (old new : CoreView)
+  pub download_goes : (found : FoundDevice) (checksum : ℕ) (begins : Result DownloadBegun DownloadFault) (old new : CoreView)
       → IsCoreAfter first start events old
       → Begins first start port connection decision.Download found events
       → IsBeginDownload old port found.page.vendor found.page.device checksum new begins

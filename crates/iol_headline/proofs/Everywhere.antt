@@ -5,9 +5,9 @@ use Rattle.std.proofs.lemmas.Bool.Decides.{nat_tests}
 use Rattle.iol_types.specs.Command.{Configure, Clear, Store, Rollback}
 use Rattle.iol_types.specs.State.{State, Port, port_numbered}
 use Rattle.iol_link.specs.Link.{LinkCall, LinkAnswer}
-use Rattle.iol_trace.specs.Events as trace
-use Rattle.iol_trace.specs.Events.{Event, Accepted, Refused, Page, Lost, Attended, Changed, Acknowledged, DiskFailed, Stamp}
-use Rattle.iol_trace.specs.Words.{accepted}
+use Rattle.iol_core.specs.Events as trace
+use Rattle.iol_core.specs.Events.{Event, Accepted, Refused, Page, Lost, Attended, Changed, Acknowledged, DiskFailed, Stamp}
+use Rattle.iol_core.specs.Words.{accepted}
 use Rattle.iol_engine.specs.Acknowledged.{AcksRise}
 use Rattle.iol_engine.specs.PortRuns.{AreRunsOfPorts, HasPortRun}
 use Rattle.iol_headline.proofs.Lawful.{IsLawfulAt, durable_ends, unsent_lawful}

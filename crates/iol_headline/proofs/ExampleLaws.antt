@@ -5,17 +5,17 @@ use Rattle.iol_types.proofs.Entries.{no-entries, one-more, may_be_added}
 use Rattle.iol_types.specs.Command.{Store}
 use Rattle.iol_types.specs.DataSet.{Entry, AreEntries}
 use Rattle.iol_types.specs.State.{empty_state}
-use Rattle.iol_ident.specs.Page.{page_of}
-use Rattle.iol_dsindex.specs.Command.{commanded}
-use Rattle.iol_dsindex.specs.declared.command.DsCommand.TheVariants.{DownloadStart, DownloadEnd}
-use Rattle.iol_dsindex.specs.declared.list.Next.TheVariants as next_is
-use Rattle.iol_isdu.specs.declared.messages.Request.TheVariants as request
+use Rattle.iol_link.specs.Page.{page_of}
+use Rattle.iol_transfer.specs.Command.{commanded}
+use Rattle.iol_transfer.specs.declared.command.DsCommand.TheVariants.{DownloadStart, DownloadEnd}
+use Rattle.iol_transfer.specs.declared.list.Next.TheVariants as next_is
+use Rattle.iol_link.specs.declared.messages.Request.TheVariants as request
 use Rattle.iol_transfer.specs.Exchanges.{carried, done, read_of}
 use Rattle.iol_transfer.specs.Upload.{IsFinished}
-use Rattle.iol_trace.specs.Events as trace
-use Rattle.iol_trace.specs.Events.{Event, Accepted, Page, Lost, Attended, Changed, Acknowledged, stamped}
-use Rattle.iol_trace.specs.Own.{own}
-use Rattle.iol_trace.specs.Statuses.{Starting, Uploading, Storing, Downloading}
+use Rattle.iol_core.specs.Events as trace
+use Rattle.iol_core.specs.Events.{Event, Accepted, Page, Lost, Attended, Changed, Acknowledged, stamped}
+use Rattle.iol_core.specs.Own.{own}
+use Rattle.iol_core.specs.Statuses.{Starting, Uploading, Storing, Downloading}
 use Rattle.iol_port.specs.declared.decision.Decision.TheVariants as decision
 use Rattle.iol_headline.specs.Conversations.{HasPage}
 use Rattle.iol_headline.specs.Decisions.{IsExamined}

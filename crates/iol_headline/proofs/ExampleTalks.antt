@@ -1,22 +1,22 @@
 -- The conversations of the worked examples.
 use Rattle.std.proofs.Common.{◌≡◌, refl, ◌+◌, ◌≤◌, ℕ, List, [], ◌∷◌, ◌++◌, length, arith, lit≤}
 use Rattle.std.specs.Prelude.{Ok, Some, None}
-use Rattle.iol_dsindex.specs.Command.{commanded}
-use Rattle.iol_dsindex.specs.declared.command.DsCommand.TheVariants.{UploadStart, UploadEnd, DownloadStart}
-use Rattle.iol_isdu.proofs.AnswerTexts.{answer_reads}
-use Rattle.iol_isdu.proofs.Lengths.{shortest_read, shortest_write}
-use Rattle.iol_isdu.proofs.Spelled.{short_isdu}
-use Rattle.iol_isdu.specs.Isdu.{IsShortestRequest, xor_of}
-use Rattle.iol_isdu.specs.Reading.{answer_of}
-use Rattle.iol_isdu.specs.declared.messages.Answer.{Answer}
-use Rattle.iol_isdu.specs.declared.messages.Answer.TheVariants.{ReadOk, WriteOk}
-use Rattle.iol_isdu.specs.declared.messages.Request.TheVariants as request
+use Rattle.iol_transfer.specs.Command.{commanded}
+use Rattle.iol_transfer.specs.declared.command.DsCommand.TheVariants.{UploadStart, UploadEnd, DownloadStart}
+use Rattle.iol_link.proofs.AnswerTexts.{answer_reads}
+use Rattle.iol_link.proofs.Lengths.{shortest_read, shortest_write}
+use Rattle.iol_link.proofs.Spelled.{short_isdu}
+use Rattle.iol_link.specs.Isdu.{IsShortestRequest, xor_of}
+use Rattle.iol_link.specs.Reading.{answer_of}
+use Rattle.iol_link.specs.declared.messages.Answer.{Answer}
+use Rattle.iol_link.specs.declared.messages.Answer.TheVariants.{ReadOk, WriteOk}
+use Rattle.iol_link.specs.declared.messages.Request.TheVariants as request
 use Rattle.iol_transfer.specs.Exchanges.{Exchange, carried, done, read_of}
-use Rattle.iol_trace.specs.Events as trace
-use Rattle.iol_trace.specs.Events.{Event, Accepted, Page, Lost, Attended, Changed, Acknowledged, stamped}
-use Rattle.iol_trace.specs.Own.{own}
-use Rattle.iol_trace.specs.Statuses as status
-use Rattle.iol_trace.specs.Statuses.{Starting, Uploading, Storing, Ready, Downloading}
+use Rattle.iol_core.specs.Events as trace
+use Rattle.iol_core.specs.Events.{Event, Accepted, Page, Lost, Attended, Changed, Acknowledged, stamped}
+use Rattle.iol_core.specs.Own.{own}
+use Rattle.iol_core.specs.Statuses as status
+use Rattle.iol_core.specs.Statuses.{Starting, Uploading, Storing, Ready, Downloading}
 use Rattle.iol_headline.specs.Conversations.{IsToldAs, Converses}
 use Rattle.iol_headline.specs.Examples.{example_work, upload, ended}
 

@@ -4,9 +4,9 @@ use Rattle.std.proofs.Common.{◌∙◌, append_assoc}
 use Rattle.std.specs.Prelude.{Option, None}
 use Rattle.iol_types.specs.Config.{is_manual}
 use Rattle.iol_core.specs.Telling.{work_told}
-use Rattle.iol_ident.specs.Page.{PageValue}
-use Rattle.iol_ident.specs.Validation.{ident_fault}
-use Rattle.iol_ident.specs.declared.validation.IdentFault.{IdentFault}
+use Rattle.iol_link.specs.Page.{PageValue}
+use Rattle.iol_link.specs.Validation.{ident_fault}
+use Rattle.iol_link.specs.declared.validation.IdentFault.{IdentFault}
 use Rattle.iol_port.specs.Stage.{Stage, Settled, Paging, Attending, BeginningUpload, BeginningDownload}
 use Rattle.iol_port.specs.Stage.{Exchanging, Uploading, Filing, Filed, Storing, Downloading, Breaking, Returning, Returned}
 use Rattle.iol_port.specs.Status.{status_at_rest}
@@ -15,11 +15,11 @@ use Rattle.iol_port.specs.declared.stage.AttendFor.{AttendFor}
 use Rattle.iol_port.specs.declared.stage.AttendFor.TheVariants as attend
 use Rattle.iol_port.specs.declared.stage.ExchangeFor.{ExchangeFor}
 use Rattle.iol_port.specs.declared.stage.ExchangeFor.TheVariants as exchange
-use Rattle.iol_port.specs.declared.stage.Found.{Found}
+use Rattle.iol_port.specs.declared.stage.FoundDevice.{FoundDevice}
 use Rattle.iol_port.specs.declared.stage.PageFor.{PageFor}
 use Rattle.iol_port.specs.declared.stage.PageFor.TheVariants as page_for
-use Rattle.iol_trace.specs.Events.{Event, Page, Lost, Attended}
-use Rattle.iol_trace.specs.Statuses as shows
+use Rattle.iol_core.specs.Events.{Event, Page, Lost, Attended}
+use Rattle.iol_core.specs.Statuses as shows
 use Rattle.iol_headline.specs.Conversations.{AreConnected, HasPage}
 use Rattle.iol_headline.specs.Settled.{AreUnsettled, WasToldLast, IsJudged, SettlesBy}
 
@@ -76,7 +76,7 @@ judged_more port why events more is quiet = record {
 -- ---- stages
 
 -- the device that was found is the one that the port wants, by what it was last told
-pub record Fits (port : ℕ) (found : Found) (events : List Event) : Type 0 where
+pub record Fits (port : ℕ) (found : FoundDevice) (events : List Event) : Type 0 where
   pub connection : ℕ
   pub last : WasToldLast port (work_told found.work) events
   pub manual : is_manual found.work.config.mode ≡ true
@@ -84,7 +84,7 @@ pub record Fits (port : ℕ) (found : Found) (events : List Event) : Type 0 wher
   pub wanted : ident_fault found.work.config found.page ≡ None
 
 -- a device that was found is still the one
-pub fits_more : (port : ℕ) (found : Found) (events more : List Event) → Fits port found events → AreQuiet more
+pub fits_more : (port : ℕ) (found : FoundDevice) (events more : List Event) → Fits port found events → AreQuiet more
     → Fits port found (events ++ more)
 fits_more port found events more is quiet = record {
   connection = is.connection;

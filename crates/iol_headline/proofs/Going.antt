@@ -13,14 +13,14 @@ use Rattle.iol_port.specs.Status.{status_of, status_at_rest}
 use Rattle.iol_port.specs.declared.status.PortStatus.TheVariants as status
 use Rattle.iol_port.specs.declared.decision.Decision.TheVariants as decision
 use Rattle.iol_port.specs.declared.stage.Rest.{Rest}
-use Rattle.iol_trace.specs.Own.{own}
-use Rattle.iol_trace.specs.Statuses as shows
+use Rattle.iol_core.specs.Own.{own}
+use Rattle.iol_core.specs.Statuses as shows
 use Rattle.iol_headline.specs.Decisions.{IsExamined}
 use Rattle.iol_port.specs.Telling.{status_told}
 use Rattle.iol_port.specs.declared.status.PortStatus.{PortStatus}
-use Rattle.iol_trace.proofs.Words.{accepted-append}
-use Rattle.iol_trace.specs.Events.{Event, Changed, Stamp, stamped}
-use Rattle.iol_trace.specs.Words.{accepted}
+use Rattle.iol_core.proofs.Words.{accepted-append}
+use Rattle.iol_core.specs.Events.{Event, Changed, Stamp, stamped}
+use Rattle.iol_core.specs.Words.{accepted}
 use Rattle.iol_engine.specs.PortRuns.{IsCoreAfter}
 use Rattle.iol_types.specs.Config.{is_manual}
 use Rattle.std.proofs.Common.{Bool, true, false, if◌then◌else◌}

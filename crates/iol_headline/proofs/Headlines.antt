@@ -6,7 +6,7 @@ use Rattle.iol_journal.specs.Kept.{IsKept}
 use Rattle.iol_journal.specs.Meaning.{Standing, Cause, meaning}
 use Rattle.iol_link.specs.Link.{LinkCall, LinkAnswer}
 use Rattle.iol_record.specs.Reading.{◌>>=◌}
-use Rattle.iol_trace.specs.CrashPrefix.{CrashPrefix}
+use Rattle.iol_core.specs.CrashPrefix.{CrashPrefix}
 use Rattle.iol_run.specs.PortRuns.{steps_of}
 use Rattle.iol_run.specs.Schedules.{IsTraceOf, told_in}
 use Rattle.iol_run.specs.declared.schedule.RunFault.{RunFault}

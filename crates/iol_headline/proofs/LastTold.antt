@@ -2,11 +2,11 @@
 use Rattle.std.proofs.Common.{◌≡◌, refl, ℕ, List, [], ◌∷◌, sym, ap, ◌∙◌, subst}
 use Rattle.std.specs.Prelude.{true, false, Option}
 use Rattle.iol_types.specs.Config.{is_manual}
-use Rattle.iol_ident.specs.Page.{PageValue, page_of}
-use Rattle.iol_ident.specs.Validation.{ident_fault}
-use Rattle.iol_ident.specs.declared.validation.IdentFault.{IdentFault}
-use Rattle.iol_trace.specs.Events.{Event, Page, Lost, Attended}
-use Rattle.iol_trace.specs.Statuses.{Work}
+use Rattle.iol_link.specs.Page.{PageValue, page_of}
+use Rattle.iol_link.specs.Validation.{ident_fault}
+use Rattle.iol_link.specs.declared.validation.IdentFault.{IdentFault}
+use Rattle.iol_core.specs.Events.{Event, Page, Lost, Attended}
+use Rattle.iol_core.specs.Statuses.{Work}
 use Rattle.iol_headline.proofs.OnePlace.{Each, TellsPage, one_place}
 use Rattle.iol_headline.specs.Conversations.{AreConnected, HasPage}
 use Rattle.iol_headline.specs.Settled.{IsUnsettled, AreUnsettled, WasToldLast, IsOff, IsJudged}

@@ -1,12 +1,12 @@
 -- One event of a trace is lawful.
 use Rattle.std.proofs.Common.{◌≡◌, ◌≤◌, ℕ, List, [], ◌∷◌, ◌++◌, ap, ◌∙◌, subst, arith}
 use Rattle.iol_types.specs.State.{State}
-use Rattle.iol_dsindex.specs.declared.command.DsCommand.TheVariants.{UploadEnd}
-use Rattle.iol_isdu.specs.declared.messages.Request.{Request}
-use Rattle.iol_dsindex.specs.Command.{commanded}
-use Rattle.iol_trace.proofs.Words.{acked-append}
-use Rattle.iol_trace.specs.Events.{Event, Stamp}
-use Rattle.iol_trace.specs.Words.{acked, acked_by}
+use Rattle.iol_transfer.specs.declared.command.DsCommand.TheVariants.{UploadEnd}
+use Rattle.iol_link.specs.declared.messages.Request.{Request}
+use Rattle.iol_transfer.specs.Command.{commanded}
+use Rattle.iol_core.proofs.Words.{acked-append}
+use Rattle.iol_core.specs.Events.{Event, Stamp}
+use Rattle.iol_core.specs.Words.{acked, acked_by}
 use Rattle.iol_engine.specs.Acknowledged.{AcksRise}
 use Rattle.iol_headline.specs.Conversations.{Sends}
 use Rattle.iol_headline.specs.Decisions.{DecidedFirst}

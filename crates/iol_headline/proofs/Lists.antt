@@ -6,9 +6,9 @@ use Rattle.iol_types.specs.Command.{CommandValue, Store}
 use Rattle.iol_types.specs.State.{Port, after, port_numbered}
 use Rattle.iol_front.specs.Fronts.{Start}
 use Rattle.iol_engine.specs.Engine.{EngineView, IsEngine, trace_of}
-use Rattle.iol_trace.specs.Events as trace
-use Rattle.iol_trace.specs.Events.{Event, Accepted, Refused, Page, Lost, Attended, Changed, Acknowledged, DiskFailed, Stamp}
-use Rattle.iol_trace.specs.Words.{accepted, command_in}
+use Rattle.iol_core.specs.Events as trace
+use Rattle.iol_core.specs.Events.{Event, Accepted, Refused, Page, Lost, Attended, Changed, Acknowledged, DiskFailed, Stamp}
+use Rattle.iol_core.specs.Words.{accepted, command_in}
 use Rattle.iol_headline.proofs.Engines.{engine_lawful}
 use Rattle.iol_headline.proofs.StoredSets.{sets_stored}
 use Rattle.iol_headline.specs.Lists.{IsLawfulList, SetsWereUploaded, WasUploaded}

@@ -1,16 +1,16 @@
 -- What a trace tells of a conversation leaves no choice: one place where it began, one conversation, one work.
 use Rattle.std.proofs.Common.{◌≡◌, refl, ℕ, List, [], ◌∷◌, ◌++◌, sym, ap, ◌∙◌, subst}
 use Rattle.std.specs.Prelude.{Ok, Result}
-use Rattle.iol_isdu.specs.Isdu.{IsShortestRequest}
-use Rattle.iol_isdu.specs.Reading.{answer_of}
-use Rattle.iol_isdu.specs.declared.faults.IsduFault.{IsduFault}
-use Rattle.iol_isdu.specs.declared.messages.Answer.{Answer}
-use Rattle.iol_isdu.specs.declared.messages.Request.{Request}
+use Rattle.iol_link.specs.Isdu.{IsShortestRequest}
+use Rattle.iol_link.specs.Reading.{answer_of}
+use Rattle.iol_link.specs.declared.faults.IsduFault.{IsduFault}
+use Rattle.iol_link.specs.declared.messages.Answer.{Answer}
+use Rattle.iol_link.specs.declared.messages.Request.{Request}
 use Rattle.iol_transfer.specs.Exchanges.{Exchange, busy_times, Follows}
-use Rattle.iol_trace.specs.Events as trace
-use Rattle.iol_trace.specs.Events.{Event, Page, Changed, Stamp}
-use Rattle.iol_trace.specs.Own.{own, own_in}
-use Rattle.iol_trace.specs.Statuses.{Status}
+use Rattle.iol_core.specs.Events as trace
+use Rattle.iol_core.specs.Events.{Event, Page, Changed, Stamp}
+use Rattle.iol_core.specs.Own.{own, own_in}
+use Rattle.iol_core.specs.Statuses.{Status}
 use Rattle.iol_headline.proofs.Sending.{one_request}
 use Rattle.iol_headline.proofs.Talks.{at_own}
 use Rattle.iol_headline.specs.Conversations.{IsToldAs, Converses}

@@ -1,6 +1,6 @@
 -- What holds of each event, event by event.
 use Rattle.std.proofs.Common.{List, [], ◌∷◌, ◌++◌, sym, subst, append_assoc, append-nil}
-use Rattle.iol_trace.specs.Events.{Event, Stamp}
+use Rattle.iol_core.specs.Events.{Event, Stamp}
 use Rattle.iol_headline.specs.Places.{Everywhere}
 
 module _ (Holds : List Stamp → Event → Type 0) where

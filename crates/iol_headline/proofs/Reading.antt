@@ -12,17 +12,17 @@ use Rattle.iol_types.specs.declared.key.TheConstants.{DATA_STORAGE}
 use Rattle.iol_core.specs.Core.{CoreView}
 use Rattle.iol_core.specs.Telling.{work_told}
 use Rattle.iol_core.specs.declared.port.Work.{Work}
-use Rattle.iol_dsindex.specs.Property.{PropertyValue, property_of}
-use Rattle.iol_dsindex.specs.declared.object.TheConstants.{STATE_PROPERTY, PARAMETER_CHECKSUM}
-use Rattle.iol_ident.specs.Page.{PageValue, page_of}
-use Rattle.iol_ident.specs.Validation.{ident_fault}
-use Rattle.iol_ident.specs.declared.validation.IdentFault.{IdentFault}
-use Rattle.iol_isdu.specs.Isdu.{IsShortestRequest}
-use Rattle.iol_isdu.specs.Reading.{answer_of}
-use Rattle.iol_isdu.specs.declared.faults.IsduFault.{IsduFault}
-use Rattle.iol_isdu.specs.declared.messages.Answer.{Answer}
-use Rattle.iol_isdu.specs.declared.messages.Answer.TheVariants as answer
-use Rattle.iol_isdu.specs.declared.messages.Request.{Request}
+use Rattle.iol_transfer.specs.Property.{PropertyValue, property_of}
+use Rattle.iol_transfer.specs.declared.object.TheConstants.{STATE_PROPERTY, PARAMETER_CHECKSUM}
+use Rattle.iol_link.specs.Page.{PageValue, page_of}
+use Rattle.iol_link.specs.Validation.{ident_fault}
+use Rattle.iol_link.specs.declared.validation.IdentFault.{IdentFault}
+use Rattle.iol_link.specs.Isdu.{IsShortestRequest}
+use Rattle.iol_link.specs.Reading.{answer_of}
+use Rattle.iol_link.specs.declared.faults.IsduFault.{IsduFault}
+use Rattle.iol_link.specs.declared.messages.Answer.{Answer}
+use Rattle.iol_link.specs.declared.messages.Answer.TheVariants as answer
+use Rattle.iol_link.specs.declared.messages.Request.{Request}
 use Rattle.iol_transfer.proofs.Order.{follows-more}
 use Rattle.iol_transfer.specs.Exchanges.{Exchange, busy_times, read_of}
 use Rattle.iol_transfer.specs.Upload.{number_of}
@@ -40,7 +40,7 @@ use Rattle.iol_port.specs.declared.fault.PortFault.TheVariants as fault
 use Rattle.iol_port.specs.declared.stage.AttendFor.{AttendFor}
 use Rattle.iol_port.specs.declared.stage.AttendFor.TheVariants as attend
 use Rattle.iol_port.specs.declared.stage.ExchangeFor.TheVariants as exchange
-use Rattle.iol_port.specs.declared.stage.Found.{Found}
+use Rattle.iol_port.specs.declared.stage.FoundDevice.{FoundDevice}
 use Rattle.iol_port.specs.declared.stage.PageFor.{PageFor}
 use Rattle.iol_port.specs.declared.stage.PageFor.TheVariants as page_for
 use Rattle.iol_port.specs.declared.stage.Rest.{Rest}
@@ -49,9 +49,9 @@ use Rattle.iol_port.specs.declared.status.PortStatus.{PortStatus}
 use Rattle.iol_port.specs.declared.status.PortStatus.TheVariants as status
 use Rattle.iol_engine.specs.PortRuns.{IsCoreAfter}
 use Rattle.iol_engine.specs.PortSteps.{attended_told}
-use Rattle.iol_trace.specs.Events as trace
-use Rattle.iol_trace.specs.Events.{Event, Page, Attended, Stamp, stamped}
-use Rattle.iol_trace.specs.Own.{own}
+use Rattle.iol_core.specs.Events as trace
+use Rattle.iol_core.specs.Events.{Event, Page, Attended, Stamp, stamped}
+use Rattle.iol_core.specs.Own.{own}
 use Rattle.iol_headline.proofs.Going.{Goes, NextGoes, settles, still, IsSaid, was_said, holds_since}
 use Rattle.iol_headline.proofs.Stages.{WasSaid, Shows, IsRead, AsksState, AsksChecksum, Begins, PagingTold, AttendingTold, Told, said_later}
 use Rattle.iol_headline.proofs.Talks.{talk_more, own_one, own_more, at_own}
@@ -101,7 +101,7 @@ module _ (first : ℕ) (start : State) (port connection : ℕ) (events : List St
       own_one port clock (trace.Exchange port connection octets back) (at_own port (trace.Exchange port connection octets back))
 
   -- the page is still the last one
-  shows_more : (found : Found) (conversation : List Exchange) (octets back : List ℕ) (sent : Request) (heard : Answer)
+  shows_more : (found : FoundDevice) (conversation : List Exchange) (octets back : List ℕ) (sent : Request) (heard : Answer)
       → IsShortestRequest octets sent
       → answer_of back ≡ Ok heard → Shows first start port connection found conversation events
       → Shows first start port connection found (conversation ++ record { request = sent; answer = heard } ∷ [])
@@ -171,7 +171,7 @@ module _ (first : ℕ) (start : State) (port connection : ℕ) (events : List St
   -- ---- State_Property and Parameter_Checksum
 
   -- the answer to a read of State_Property
-  pub state_goes : (found : Found) (left : ℕ) (octets back : List ℕ) (heard : Result Answer IsduFault)
+  pub state_goes : (found : FoundDevice) (left : ℕ) (octets back : List ℕ) (heard : Result Answer IsduFault)
       → IsShortestRequest octets state_request
       → AsksState first start port connection found left events → answer_of back ≡ heard
       → Leads (exchanged octets back) status.Starting (state_read found left heard)
@@ -218,7 +218,7 @@ module _ (first : ℕ) (start : State) (port connection : ℕ) (events : List St
   state_goes found left octets back other spelled is read = rests (exchanged octets back) status.Starting (rest.Failed (read_fault other))
 
   -- the answer to a read of Parameter_Checksum
-  pub checksum_goes : (found : Found) (property : PropertyValue) (left : ℕ) (octets back : List ℕ) (heard : Result Answer IsduFault)
+  pub checksum_goes : (found : FoundDevice) (property : PropertyValue) (left : ℕ) (octets back : List ℕ) (heard : Result Answer IsduFault)
       → IsShortestRequest octets checksum_request
       → AsksChecksum first start port connection found property left events → answer_of back ≡ heard
       → Leads (exchanged octets back) status.Starting (checksum_read found property left heard)
@@ -284,7 +284,7 @@ module _ (first : ℕ) (start : State) (port connection : ℕ) (events : List St
 
   module _ (old : CoreView) (core : IsCoreAfter first start events old) where
     -- it was decided so, from what was read and what the core says now
-    begins : (now : Decision) (found : Found) (property : PropertyValue) (checksum : ℕ) (work : Work)
+    begins : (now : Decision) (found : FoundDevice) (property : PropertyValue) (checksum : ℕ) (work : Work)
         → IsRead first start port connection found property checksum events
         → IsSaid first start port connection work old events → found.work.revision ≡ work.revision
         → decide work.config.validation property.state property.flag checksum work.checksum ≡ now
@@ -320,14 +320,14 @@ module _ (first : ℕ) (start : State) (port connection : ℕ) (events : List St
 
         config : found.work.config ≡ work.config
         config =
-            let held = holds_since first start port connection events earlier.upto earlier.more earlier.kept said.kept earlier.split
+            let held = holds_since first start port connection events earlier.upto earlier.more earlier.upload_requested said.upload_requested earlier.split
             earlier.there said.there in
             let later = ap (λ (w : Work). w.config) said.work_is in
             let revision = ap (λ (w : Work). w.revision) said.work_is in
             earlier.config ∙ (sym (held.config (sym revision ∙ (sym same ∙ earlier.revision))) ∙ sym later)
 
     -- each decision
-    decided_goes : (found : Found) (property : PropertyValue) (checksum : ℕ) (work : Work) (now : Decision)
+    decided_goes : (found : FoundDevice) (property : PropertyValue) (checksum : ℕ) (work : Work) (now : Decision)
         → IsRead first start port connection found property checksum events
         → IsSaid first start port connection work old events → found.work.revision ≡ work.revision
         → decide work.config.validation property.state property.flag checksum work.checksum ≡ now
@@ -346,16 +346,16 @@ module _ (first : ℕ) (start : State) (port connection : ℕ) (events : List St
         (begins decision.Download found property checksum work is said same now)
 
     -- what the core says that the port is to work with
-    pub attended_goes : (under : Option ℕ) (kept : Bool) (what : AttendFor) (work : Work)
+    pub attended_goes : (started : Option ℕ) (requested : Bool) (what : AttendFor) (work : Work)
         → AttendingTold first start port connection events what
         → IsSaid first start port connection work old events
-        → NextLeads (attended_told port (Some work)) (status_attending what) (attended under kept what (Some work))
-    attended_goes under kept (attend.Waking own) work is said = by (is_under under work.revision && not kept)
+        → NextLeads (attended_told port (Some work)) (status_attending what) (attended started requested what (Some work))
+    attended_goes started requested (attend.Waking own) work is said = by (is_under started work.revision && not requested)
       where
         by : (test : Bool) → NextLeads (attended_told port (Some work)) (status_at_rest own) (if test then resumed own work else Start work)
         by true = resumed_goes own work (was_said first start port connection events old work said)
         by false = was_said first start port connection events old work said
-    attended_goes under kept (attend.Confirming found property checksum) work is said = by (found.work.revision == work.revision) refl
+    attended_goes started requested (attend.Confirming found property checksum) work is said = by (found.work.revision == work.revision) refl
       where
         by : (test : Bool) → (found.work.revision == work.revision) ≡ test
             → NextLeads (attended_told port (Some work)) status.Starting
@@ -363,4 +363,4 @@ module _ (first : ℕ) (start : State) (port connection : ℕ) (events : List St
             else Start work)
         by true same = decided_goes found property checksum work _ is said (grind (arith, nat_tests, same)) refl
         by false same = was_said first start port connection events old work said
-    attended_goes under kept attend.Restarting work is said = was_said first start port connection events old work said
+    attended_goes started requested attend.Restarting work is said = was_said first start port connection events old work said

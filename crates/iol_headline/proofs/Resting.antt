@@ -12,10 +12,10 @@ use Rattle.iol_core.specs.declared.permit.UploadGrant.{UploadGrant}
 use Rattle.iol_core.specs.declared.port.Work.{Work}
 use Rattle.iol_core.specs.declared.upload.FinishFault.{FinishFault}
 use Rattle.iol_core.specs.declared.upload.FinishFault.TheVariants as finish
-use Rattle.iol_ident.specs.Page.{PageValue, page_of}
-use Rattle.iol_isdu.specs.Reading.{answer_of}
-use Rattle.iol_isdu.specs.declared.faults.IsduFault.{IsduFault}
-use Rattle.iol_isdu.specs.declared.messages.Answer.{Answer}
+use Rattle.iol_link.specs.Page.{PageValue, page_of}
+use Rattle.iol_link.specs.Reading.{answer_of}
+use Rattle.iol_link.specs.declared.faults.IsduFault.{IsduFault}
+use Rattle.iol_link.specs.declared.messages.Answer.{Answer}
 use Rattle.iol_link.specs.Link.{LinkCall, LinkAnswer}
 use Rattle.iol_port.proofs.Keeping.{IsAtHand}
 use Rattle.iol_port.specs.Answers.{RunsOut}
@@ -37,9 +37,9 @@ use Rattle.iol_port.specs.declared.stage.Rest.TheVariants as rest
 use Rattle.iol_port.specs.declared.status.PortStatus.TheVariants as status
 use Rattle.iol_engine.specs.PortRuns.{IsCoreAfter}
 use Rattle.iol_engine.specs.PortSteps.{Hears, filed_told}
-use Rattle.iol_trace.specs.Events as trace
-use Rattle.iol_trace.specs.Events.{Event, Page, Attended, Accepted, Stamp, stamped}
-use Rattle.iol_trace.specs.Own.{own, own_in}
+use Rattle.iol_core.specs.Events as trace
+use Rattle.iol_core.specs.Events.{Event, Page, Attended, Accepted, Stamp, stamped}
+use Rattle.iol_core.specs.Own.{own, own_in}
 use Rattle.iol_headline.proofs.Going.{IsSaid, is_said, holds_since}
 use Rattle.iol_headline.proofs.Fitting.{Stands, judged_more, fits_more}
 use Rattle.iol_headline.proofs.Settling.{Rests, KeepsConfig, stay, rests, settles_told, moved_rests, page_rests, attended_rests}
@@ -98,7 +98,7 @@ module _ {L : Type 0} (number : L → ℕ) (steps : L → LinkCall → LinkAnswe
   keeps (attend.Confirming found property checksum) work is said = λ same.
       let earlier = is.shows.said in
       let held = holds_since first start port (number link)
-      events earlier.upto earlier.more earlier.kept said.kept earlier.split earlier.there said.there in
+      events earlier.upto earlier.more earlier.upload_requested said.upload_requested earlier.split earlier.there said.there in
       let later = ap (λ (w : Work). w.config) said.work_is in
       let revision = ap (λ (w : Work). w.revision) said.work_is in
       earlier.config ∙ (sym (held.config (sym revision ∙ (sym same ∙ earlier.revision))) ∙ sym later)
@@ -140,91 +140,91 @@ module _ {L : Type 0} (number : L → ℕ) (steps : L → LinkCall → LinkAnswe
 
   -- a machine of the port
   abbrev machine : Option ℕ → Bool → Stage → PortValue
-  machine under kept stage = record { port = port; under = under; kept = kept; stage = stage }
+  machine started requested stage = record { port = port; started_revision = started; upload_requested = requested; stage = stage }
 
   abbrev After : Option ℕ → Bool → Stage → Input → Stage
-  After under kept stage heard = (fed (machine under kept (after_action stage)) heard).stage
+  After started requested stage heard = (fed (machine started requested (after_action stage)) heard).stage
 
   -- the table: each stage, and each thing that it may hear
-  acts_rest : (under : Option ℕ) (kept : Bool) (stage : Stage) (heard : Input) (called : List Event) → IsTold stage
+  acts_rest : (started : Option ℕ) (requested : Bool) (stage : Stage) (heard : Input) (called : List Event) → IsTold stage
       → StandsAt stage → IsAtHand stage → ComesOf (wanted port stage) heard
-      → Hears number steps port (wanted port stage) heard link last old new called → Leads called stage (After under kept stage heard)
-  acts_rest under kept (Settled at_rest) heard called is stands hand comes hears = absurd hears
-  acts_rest under kept (Paging what) (input.Page connection octets) called is stands hand comes hears =
+      → Hears number steps port (wanted port stage) heard link last old new called → Leads called stage (After started requested stage heard)
+  acts_rest started requested (Settled at_rest) heard called is stands hand comes hears = absurd hears
+  acts_rest started requested (Paging what) (input.Page connection octets) called is stands hand comes hears =
       by_own called (Page port (number link) octets) (Paging what) _ hears.0.3 (at_own port (Page port (number link) octets))
-      (moved_rests port _ (status_of (Paging what)) (machine under kept (Paging what)) (page_heard what connection (page_of octets))
+      (moved_rests port _ (status_of (Paging what)) (machine started requested (Paging what)) (page_heard what connection (page_of octets))
       (page_rests port (own port events) (number link) connection octets what stands))
-  acts_rest under kept (Paging what) input.Lost called is stands hand comes hears =
+  acts_rest started requested (Paging what) input.Lost called is stands hand comes hears =
       rests port (behind called) (status_of (Paging what)) rest.Lost tt
-  acts_rest under kept (Paging what) heard called is stands hand comes hears = absurd comes
-  acts_rest under kept (Attending what) (input.Reply (reply.Attended None)) called is stands hand comes hears =
+  acts_rest started requested (Paging what) heard called is stands hand comes hears = absurd comes
+  acts_rest started requested (Attending what) (input.Reply (reply.Attended None)) called is stands hand comes hears =
       absurd (none_some old port there.0 there.1 hears.0.0.0)
-  acts_rest under kept (Attending what) (input.Reply (reply.Attended (Some work))) called is stands hand comes hears =
+  acts_rest started requested (Attending what) (input.Reply (reply.Attended (Some work))) called is stands hand comes hears =
       by_own called (Attended port (work_told work)) (Attending what) _ hears.0.1 (at_own port (Attended port (work_told work)))
-      (moved_rests port _ (status_of (Attending what)) (machine under kept (Attending what)) (attended under kept what (Some work))
-      (attended_rests port (own port events) work under kept what stands
+      (moved_rests port _ (status_of (Attending what)) (machine started requested (Attending what)) (attended started requested what (Some work))
+      (attended_rests port (own port events) work started requested what stands
       (keeps what work is (is_said first start port (number link) events old work core hears.0.0.0))))
-  acts_rest under kept (Attending what) heard called is stands hand comes hears = absurd comes
-  acts_rest under kept (BeginningUpload found) (input.Reply (reply.BegunUpload begins)) called is stands hand comes hears =
+  acts_rest started requested (Attending what) heard called is stands hand comes hears = absurd comes
+  acts_rest started requested (BeginningUpload found) (input.Reply (reply.BegunUpload begins)) called is stands hand comes hears =
       by_none called (BeginningUpload found) _ hears.0.1 (upload_rests port (own port events) found.page begins stands)
-  acts_rest under kept (BeginningUpload found) heard called is stands hand comes hears = absurd comes
-  acts_rest under kept (BeginningDownload found checksum) (input.Reply (reply.BegunDownload begins)) called is stands hand comes hears =
+  acts_rest started requested (BeginningUpload found) heard called is stands hand comes hears = absurd comes
+  acts_rest started requested (BeginningDownload found checksum) (input.Reply (reply.BegunDownload begins)) called is stands hand comes hears =
       by_none called (BeginningDownload found checksum) _ hears.0.1 (download_rests port (own port events) found.page begins stands)
-  acts_rest under kept (BeginningDownload found checksum) heard called is stands hand comes hears = absurd comes
-  acts_rest under kept (Exchanging (exchange.ReadingState found left)) (input.Octets octets) called is stands hand comes hears =
+  acts_rest started requested (BeginningDownload found checksum) heard called is stands hand comes hears = absurd comes
+  acts_rest started requested (Exchanging (exchange.ReadingState found left)) (input.Octets octets) called is stands hand comes hears =
       by_talk called hears.0.0 octets.items (Exchanging (exchange.ReadingState found left)) _ hears.0.2.2
       (state_rests port _ found left (answer_of octets.items)
       (fits_more port found (own port events) (trace.Exchange port (number link) hears.0.0 octets.items ∷ []) stands ((tt, tt), tt)))
-  acts_rest under kept (Exchanging (exchange.ReadingChecksum found property left)) (input.Octets octets) called is stands hand comes hears =
+  acts_rest started requested (Exchanging (exchange.ReadingChecksum found property left)) (input.Octets octets) called is stands hand comes hears =
       by_talk called hears.0.0 octets.items (Exchanging (exchange.ReadingChecksum found property left)) _ hears.0.2.2
       (checksum_rests port _ found property left (answer_of octets.items)
       (fits_more port found (own port events) (trace.Exchange port (number link) hears.0.0 octets.items ∷ []) stands ((tt, tt), tt)))
-  acts_rest under kept (Exchanging (exchange.EndingUpload page left)) (input.Octets octets) called is stands hand comes hears =
+  acts_rest started requested (Exchanging (exchange.EndingUpload page left)) (input.Octets octets) called is stands hand comes hears =
       by_talk called hears.0.0 octets.items (Exchanging (exchange.EndingUpload page left)) _ hears.0.2.2
       (ended_rests port _ page left (answer_of octets.items)
       (judged_more port None (own port events) (trace.Exchange port (number link) hears.0.0 octets.items ∷ []) stands ((tt, tt), tt)))
-  acts_rest under kept (Exchanging (exchange.Stopping storing)) (input.Octets octets) called is stands hand comes hears =
+  acts_rest started requested (Exchanging (exchange.Stopping storing)) (input.Octets octets) called is stands hand comes hears =
       rests port (behind called) (status_of (Exchanging (exchange.Stopping storing))) (rest.Failed fault.Stopped) tt
-  acts_rest under kept (Exchanging exchange.Yielding) (input.Octets octets) called is stands hand comes hears =
+  acts_rest started requested (Exchanging exchange.Yielding) (input.Octets octets) called is stands hand comes hears =
       stay port (behind called) (Attending attend.Restarting) tt
-  acts_rest under kept (Exchanging what) input.Lost called is stands hand comes hears =
+  acts_rest started requested (Exchanging what) input.Lost called is stands hand comes hears =
       rests port (behind called) (status_of (Exchanging what)) rest.Lost tt
-  acts_rest under kept (Exchanging what) heard called is stands hand comes hears = absurd comes
-  acts_rest under kept (Uploading grant page upload) (input.Octets octets) called is stands hand comes hears =
+  acts_rest started requested (Exchanging what) heard called is stands hand comes hears = absurd comes
+  acts_rest started requested (Uploading grant page upload) (input.Octets octets) called is stands hand comes hears =
       by_talk called hears.0.0 octets.items (Uploading grant page upload) _ hears.0.2.2
       (uploaded_rests port _ grant page upload (answer_of octets.items)
       (judged_more port None (own port events) (trace.Exchange port (number link) hears.0.0 octets.items ∷ []) stands ((tt, tt), tt)))
-  acts_rest under kept (Uploading grant page upload) input.Lost called is stands hand comes hears =
+  acts_rest started requested (Uploading grant page upload) input.Lost called is stands hand comes hears =
       λ told shown. (tt, settles_told port (behind called) status.Uploading status.Lost told tt shown)
-  acts_rest under kept (Uploading grant page upload) heard called is stands hand comes hears = absurd comes
-  acts_rest under kept (Filing grant page set) (input.Reply (reply.FinishedUpload finished)) called is stands hand comes hears =
+  acts_rest started requested (Uploading grant page upload) heard called is stands hand comes hears = absurd comes
+  acts_rest started requested (Filing grant page set) (input.Reply (reply.FinishedUpload finished)) called is stands hand comes hears =
       filed_rests called grant page set finished is stands hears.0.1
-  acts_rest under kept (Filing grant page set) heard called is stands hand comes hears = absurd comes
-  acts_rest under kept (Filed page) heard called is stands hand comes hears = absurd cc
-  acts_rest under kept (Storing ticket page) (input.Reply (reply.Ticket state)) called is stands hand comes hears =
+  acts_rest started requested (Filing grant page set) heard called is stands hand comes hears = absurd comes
+  acts_rest started requested (Filed page) heard called is stands hand comes hears = absurd cc
+  acts_rest started requested (Storing ticket page) (input.Reply (reply.Ticket state)) called is stands hand comes hears =
       by_none called (Storing ticket page) _ hears.0.1 (ticket_rests port (own port events) ticket page state stands)
-  acts_rest under kept (Storing ticket page) heard called is stands hand comes hears = absurd comes
-  acts_rest under kept (Downloading permit page download) (input.Octets octets) called is stands hand comes hears =
+  acts_rest started requested (Storing ticket page) heard called is stands hand comes hears = absurd comes
+  acts_rest started requested (Downloading permit page download) (input.Octets octets) called is stands hand comes hears =
       by_talk called hears.0.0 octets.items (Downloading permit page download) _ hears.0.2.2
       (sent_rests port _ permit page download (answer_of octets.items)
       (judged_more port None (own port events) (trace.Exchange port (number link) hears.0.0 octets.items ∷ []) stands ((tt, tt), tt)))
-  acts_rest under kept (Downloading permit page download) input.Lost called is stands hand comes hears =
+  acts_rest started requested (Downloading permit page download) input.Lost called is stands hand comes hears =
       λ told shown. (tt, settles_told port (behind called) status.Downloading status.Lost told tt shown)
-  acts_rest under kept (Downloading permit page download) heard called is stands hand comes hears = absurd comes
-  acts_rest under kept (Breaking holder why) (input.Octets octets) called is stands hand comes hears =
+  acts_rest started requested (Downloading permit page download) heard called is stands hand comes hears = absurd comes
+  acts_rest started requested (Breaking holder why) (input.Octets octets) called is stands hand comes hears =
       stay port (behind called) (Returning holder (rest.Failed why)) tt
-  acts_rest under kept (Breaking holder why) input.Lost called is stands hand comes hears =
+  acts_rest started requested (Breaking holder why) input.Lost called is stands hand comes hears =
       λ told shown. (tt, settles_told port (behind called) (status_of (Breaking holder why)) status.Lost told tt shown)
-  acts_rest under kept (Breaking holder why) heard called is stands hand comes hears = absurd comes
-  acts_rest under kept (Returning (held.Upload permit) at_rest) (input.Reply reply.AbandonedUpload) called is stands hand comes hears =
+  acts_rest started requested (Breaking holder why) heard called is stands hand comes hears = absurd comes
+  acts_rest started requested (Returning (held.Upload permit) at_rest) (input.Reply reply.AbandonedUpload) called is stands hand comes hears =
       by_none called (Returning (held.Upload permit) at_rest) (Settled at_rest) hears.0.1
       (rests port _ (status_of (Returning (held.Upload permit) at_rest)) at_rest stands)
-  acts_rest under kept (Returning (held.Upload permit) at_rest) heard called is stands hand comes hears = absurd comes
-  acts_rest under kept (Returning (held.Download permit) at_rest) (input.Reply reply.EndedDownload) called is stands hand comes hears =
+  acts_rest started requested (Returning (held.Upload permit) at_rest) heard called is stands hand comes hears = absurd comes
+  acts_rest started requested (Returning (held.Download permit) at_rest) (input.Reply reply.EndedDownload) called is stands hand comes hears =
       by_none called (Returning (held.Download permit) at_rest) (Settled at_rest) hears.0.1
       (rests port _ (status_of (Returning (held.Download permit) at_rest)) at_rest stands)
-  acts_rest under kept (Returning (held.Download permit) at_rest) heard called is stands hand comes hears = absurd comes
-  acts_rest under kept (Returned transfer at_rest) heard called is stands hand comes hears = absurd cc
+  acts_rest started requested (Returning (held.Download permit) at_rest) heard called is stands hand comes hears = absurd comes
+  acts_rest started requested (Returned transfer at_rest) heard called is stands hand comes hears = absurd cc
 
   -- memory runs out in an upload
   out_rests : (was : Stage) (heard : Result Answer IsduFault) (later : Stage) (called : List Event) → RunsOut (after_action was) heard later
@@ -245,18 +245,18 @@ module _ {L : Type 0} (number : L → ℕ) (steps : L → LinkCall → LinkAnswe
       (subst (λ (p : ℕ). Hears number steps p (wanted p value.stage) heard link last old new called) at hears) fed_is
     where
       stage_at : (heard : Input) → (fed (at_stage value (after_action value.stage)) heard).stage
-          ≡ After value.under value.kept value.stage heard
-      stage_at heard = ap (λ (p : ℕ). (fed (record { port = p; under = value.under; kept = value.kept; stage = after_action value.stage })
+          ≡ After value.started_revision value.upload_requested value.stage heard
+      stage_at heard = ap (λ (p : ℕ). (fed (record { port = p; started_revision = value.started_revision; upload_requested = value.upload_requested; stage = after_action value.stage })
           heard).stage) at
 
       whole : (heard : Input) → ComesOf (wanted port value.stage) heard
           → Hears number steps port (wanted port value.stage) heard link last old new called
           → later ≡ fed (at_stage value (after_action value.stage)) heard → Leads called value.stage later.stage
       whole heard comes hears same =
-          let stage_is : later.stage ≡ After value.under value.kept value.stage heard =
+          let stage_is : later.stage ≡ After value.started_revision value.upload_requested value.stage heard =
           ap (λ (v : PortValue). v.stage) same ∙ stage_at heard in
           subst (λ (s : Stage). Leads called value.stage s) (sym stage_is)
-          (acts_rest value.under value.kept value.stage heard called is stands hand comes hears)
+          (acts_rest value.started_revision value.upload_requested value.stage heard called is stands hand comes hears)
 
       by : (heard : Input) → ComesOf (wanted port value.stage) heard
           → Hears number steps port (wanted port value.stage) heard link last old new called

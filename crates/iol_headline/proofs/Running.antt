@@ -19,9 +19,9 @@ use Rattle.iol_engine.proofs.Histories.{Led, acting_led, step_led}
 use Rattle.iol_engine.proofs.Quiet.{stamped_both}
 use Rattle.iol_engine.specs.PortRuns.{IsPortRun, IsCoreAfter, happened}
 use Rattle.iol_engine.specs.PortSteps.{PortStep, Hears, noted_by, awake}
-use Rattle.iol_trace.specs.Events.{Event, Changed, Stamp, stamped}
-use Rattle.iol_trace.specs.Own.{own, own_in}
-use Rattle.iol_trace.specs.Words.{accepted}
+use Rattle.iol_core.specs.Events.{Event, Changed, Stamp, stamped}
+use Rattle.iol_core.specs.Own.{own, own_in}
+use Rattle.iol_core.specs.Words.{accepted}
 use Rattle.iol_headline.proofs.Acting.{fed_goes}
 use Rattle.iol_headline.proofs.Going.{StatusTold, Began}
 use Rattle.iol_headline.proofs.Lawful.{IsLawfulAt}

@@ -5,27 +5,27 @@ use Rattle.std.proofs.Common.{[], false, true, ◌||◌}
 use Rattle.std.specs.Prelude.{All, ◌==◌}
 use Rattle.std.proofs.lemmas.List.Elements.{All-head, All-tail}
 use Rattle.arrayvec.specs.ArrayVec.{ArrayVec}
-use Rattle.iol_dsindex.specs.declared.command.DsCommand.{DsCommand}
-use Rattle.iol_isdu.specs.declared.messages.Request.TheVariants.{Read, Write}
+use Rattle.iol_transfer.specs.declared.command.DsCommand.{DsCommand}
+use Rattle.iol_link.specs.declared.messages.Request.TheVariants.{Read, Write}
 use Rattle.iol_types.specs.DataSet.{Entry, SetValue, IsEntry}
 use Rattle.iol_types.specs.State.{State}
 use Rattle.iol_types.specs.declared.key.TheConstants.{DATA_STORAGE, DIRECT_PARAMETER_PAGE, SYSTEM_COMMAND}
-use Rattle.iol_dsindex.specs.declared.command.DsCommand.TheVariants as command
-use Rattle.iol_isdu.proofs.RequestTexts.{request_reads}
-use Rattle.iol_isdu.specs.Isdu.{IsShortestRequest}
-use Rattle.iol_isdu.specs.declared.faults.IsduFault.{IsduFault}
-use Rattle.iol_isdu.specs.declared.messages.Request.{Request}
+use Rattle.iol_transfer.specs.declared.command.DsCommand.TheVariants as command
+use Rattle.iol_link.proofs.RequestTexts.{request_reads}
+use Rattle.iol_link.specs.Isdu.{IsShortestRequest}
+use Rattle.iol_link.specs.declared.faults.IsduFault.{IsduFault}
+use Rattle.iol_link.specs.declared.messages.Request.{Request}
 use Rattle.std.specs.Prelude.{Result}
 use Rattle.iol_transfer.specs.Asked.{Asks, Start, Size, IndexList, Value, Checksum, request_of as asked_by}
 use Rattle.iol_transfer.specs.Download.{Sender, IsDownloading, IsSending, sent_by, behind_of, entry_written, writes_of}
-use Rattle.iol_dsindex.specs.Command.{commanded}
+use Rattle.iol_transfer.specs.Command.{commanded}
 use Rattle.iol_transfer.specs.Exchanges.{Exchange}
 use Rattle.iol_port.proofs.UploadEnds.{read_other, asks_other, break_other, sends_other}
 use Rattle.iol_port.specs.Stage.{Stage, Exchanging, Uploading, Downloading, Breaking}
 use Rattle.iol_port.specs.Wanted.{AnswerTo, wanted, request_for}
 use Rattle.iol_port.specs.declared.stage.ExchangeFor.{ExchangeFor}
 use Rattle.iol_port.specs.declared.stage.ExchangeFor.TheVariants as exchange
-use Rattle.iol_trace.specs.Events.{Stamp}
+use Rattle.iol_core.specs.Events.{Stamp}
 use Rattle.iol_headline.proofs.Lawful.{WasStored}
 use Rattle.iol_headline.proofs.Stages.{Told, ExchangingTold}
 use Rattle.iol_headline.specs.Downloads.{WritesParameter, IsDownloadOf}

@@ -14,13 +14,13 @@ use Rattle.iol_core.specs.declared.port.Work.{Work}
 use Rattle.iol_core.specs.declared.ticket.TicketState.{TicketState}
 use Rattle.iol_core.specs.declared.ticket.TicketState.TheVariants as ticket
 use Rattle.iol_core.specs.declared.upload.PermitFault.{PermitFault}
-use Rattle.iol_dsindex.specs.Property.{PropertyValue, property_of}
-use Rattle.iol_ident.specs.Page.{PageValue, page_of}
-use Rattle.iol_ident.specs.Validation.{ident_fault}
-use Rattle.iol_ident.specs.declared.validation.IdentFault.{IdentFault}
-use Rattle.iol_isdu.specs.declared.faults.IsduFault.{IsduFault}
-use Rattle.iol_isdu.specs.declared.messages.Answer.{Answer}
-use Rattle.iol_isdu.specs.declared.messages.Answer.TheVariants as answer
+use Rattle.iol_transfer.specs.Property.{PropertyValue, property_of}
+use Rattle.iol_link.specs.Page.{PageValue, page_of}
+use Rattle.iol_link.specs.Validation.{ident_fault}
+use Rattle.iol_link.specs.declared.validation.IdentFault.{IdentFault}
+use Rattle.iol_link.specs.declared.faults.IsduFault.{IsduFault}
+use Rattle.iol_link.specs.declared.messages.Answer.{Answer}
+use Rattle.iol_link.specs.declared.messages.Answer.TheVariants as answer
 use Rattle.iol_transfer.specs.Download.{Sender}
 use Rattle.iol_transfer.specs.Machine.{Machine, Outcome, More, Whole, Fault, step}
 use Rattle.iol_transfer.specs.Upload.{number_of}
@@ -42,7 +42,7 @@ use Rattle.iol_port.specs.declared.stage.AttendFor.{AttendFor}
 use Rattle.iol_port.specs.declared.stage.AttendFor.TheVariants as attend
 use Rattle.iol_port.specs.declared.stage.ExchangeFor.{ExchangeFor}
 use Rattle.iol_port.specs.declared.stage.ExchangeFor.TheVariants as exchange
-use Rattle.iol_port.specs.declared.stage.Found.{Found}
+use Rattle.iol_port.specs.declared.stage.FoundDevice.{FoundDevice}
 use Rattle.iol_port.specs.declared.stage.Held.TheVariants as held
 use Rattle.iol_port.specs.declared.stage.PageFor.{PageFor}
 use Rattle.iol_port.specs.declared.stage.PageFor.TheVariants as page_for
@@ -50,8 +50,8 @@ use Rattle.iol_port.specs.declared.stage.Rest.{Rest}
 use Rattle.iol_port.specs.declared.stage.Rest.TheVariants as rest
 use Rattle.iol_port.specs.declared.status.PortStatus.{PortStatus}
 use Rattle.iol_port.specs.declared.status.PortStatus.TheVariants as status
-use Rattle.iol_trace.specs.Events.{Event, Page, Attended, Changed}
-use Rattle.iol_trace.specs.Statuses as shows
+use Rattle.iol_core.specs.Events.{Event, Page, Attended, Changed}
+use Rattle.iol_core.specs.Statuses as shows
 use Rattle.iol_headline.proofs.Going.{StatusTold, nil_one, status_is}
 use Rattle.iol_headline.proofs.Fitting.{AreQuiet, Fits, PagingStands, AttendingStands, ExchangingStands, Stands, last_more, page_more}
 use Rattle.iol_headline.proofs.Fitting.{judged_more}
@@ -136,7 +136,7 @@ module _ (port : ℕ) (events : List Event) where
       by false = rests (status_exchanging next) (rest.Failed fault.Busy) tt
 
   -- answers to a read of State_Property and to one of Parameter_Checksum
-  pub state_rests : (found : Found) (left : ℕ) (heard : Result Answer IsduFault) → Fits port found events
+  pub state_rests : (found : FoundDevice) (left : ℕ) (heard : Result Answer IsduFault) → Fits port found events
       → Rests port events status.Starting (state_read found left heard)
   state_rests found left (Ok (answer.ReadOk values)) is = by (length values.items == 1)
     where
@@ -148,7 +148,7 @@ module _ (port : ℕ) (events : List Event) where
   state_rests found left (Ok answer.Busy) is = again_rests left (exchange.ReadingState found (left - 1)) is
   state_rests found left other is = rests status.Starting (rest.Failed (read_fault other)) tt
 
-  pub checksum_rests : (found : Found) (property : PropertyValue) (left : ℕ) (heard : Result Answer IsduFault) → Fits port found events
+  pub checksum_rests : (found : FoundDevice) (property : PropertyValue) (left : ℕ) (heard : Result Answer IsduFault) → Fits port found events
       → Rests port events status.Starting (checksum_read found property left heard)
   checksum_rests found property left (Ok (answer.ReadOk values)) is = by (length values.items == 4)
     where
@@ -298,7 +298,7 @@ module _ (port : ℕ) (events : List Event) (work : Work) where
   resumed_rests own = stay port said (Paging (page_for.Comparing work own)) last_said
 
   -- each decision
-  decided_rests : (found : Found) (checksum : ℕ) (now : Decision) → IsJudged port None said
+  decided_rests : (found : FoundDevice) (checksum : ℕ) (now : Decision) → IsJudged port None said
       → Rests port said status.Starting (decided found checksum now)
   decided_rests found checksum decision.Ready is = rests port said status.Starting (rest.Ready found.page) is
   decided_rests found checksum decision.ReadyLocked is = rests port said status.Starting (rest.ReadyLocked found.page) is
@@ -307,7 +307,7 @@ module _ (port : ℕ) (events : List Event) (work : Work) where
   decided_rests found checksum decision.Download is = stay port said (BeginningDownload found checksum) is
 
   -- a device that was found fits what is told now
-  still_fits : (found : Found) → Fits port found events → found.work.config ≡ work.config → IsJudged port None said
+  still_fits : (found : FoundDevice) → Fits port found events → found.work.config ≡ work.config → IsJudged port None said
   still_fits found is same = record {
     work = work_told work;
     connection = is.connection;
@@ -319,14 +319,14 @@ module _ (port : ℕ) (events : List Event) (work : Work) where
   }
 
   -- what the core says that the port is to work with
-  pub attended_rests : (under : Option ℕ) (kept : Bool) (what : AttendFor) → AttendingStands port events what → KeepsConfig what work
-      → NextRests port said (status_attending what) (attended under kept what (Some work))
-  attended_rests under kept (attend.Waking own) is keeps = by (is_under under work.revision && not kept)
+  pub attended_rests : (started : Option ℕ) (requested : Bool) (what : AttendFor) → AttendingStands port events what → KeepsConfig what work
+      → NextRests port said (status_attending what) (attended started requested what (Some work))
+  attended_rests started requested (attend.Waking own) is keeps = by (is_under started work.revision && not requested)
     where
       by : (test : Bool) → NextRests port said (status_at_rest own) (if test then resumed own work else Start work)
       by true = resumed_rests own
       by false = last_said
-  attended_rests under kept (attend.Confirming found property checksum) is keeps = by (found.work.revision == work.revision) refl
+  attended_rests started requested (attend.Confirming found property checksum) is keeps = by (found.work.revision == work.revision) refl
     where
       by : (test : Bool) → (found.work.revision == work.revision) ≡ test
           → NextRests port said status.Starting
@@ -335,4 +335,4 @@ module _ (port : ℕ) (events : List Event) (work : Work) where
       by true same = decided_rests found checksum (decide work.config.validation property.state property.flag checksum work.checksum)
           (still_fits found is (keeps (grind (arith, nat_tests, same))))
       by false same = last_said
-  attended_rests under kept attend.Restarting is keeps = last_said
+  attended_rests started requested attend.Restarting is keeps = last_said

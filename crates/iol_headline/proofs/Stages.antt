@@ -8,10 +8,10 @@ use Rattle.iol_types.specs.declared.key.TheConstants.{DATA_STORAGE}
 use Rattle.iol_core.specs.Downloads.{stored_at}
 use Rattle.iol_core.specs.declared.permit.UploadGrant.{UploadGrant}
 use Rattle.iol_core.specs.declared.port.Work.{Work}
-use Rattle.iol_dsindex.specs.Property.{PropertyValue, property_of}
-use Rattle.iol_dsindex.specs.declared.object.TheConstants.{STATE_PROPERTY, PARAMETER_CHECKSUM}
-use Rattle.iol_ident.specs.Page.{PageValue, page_of}
-use Rattle.iol_ident.specs.Validation.{ident_fault}
+use Rattle.iol_transfer.specs.Property.{PropertyValue, property_of}
+use Rattle.iol_transfer.specs.declared.object.TheConstants.{STATE_PROPERTY, PARAMETER_CHECKSUM}
+use Rattle.iol_link.specs.Page.{PageValue, page_of}
+use Rattle.iol_link.specs.Validation.{ident_fault}
 use Rattle.iol_transfer.specs.Download.{Sender, IsDownloading}
 use Rattle.iol_transfer.specs.Exchanges.{Exchange, busy_times, read_of, Follows}
 use Rattle.iol_transfer.specs.Machine.{Machine, IsSinceBegin}
@@ -22,17 +22,17 @@ use Rattle.iol_port.specs.Stage.{Stage, Settled, Paging, Attending, BeginningUpl
 use Rattle.iol_port.specs.Stage.{Filed, Storing, Downloading, Breaking, Returning, Returned}
 use Rattle.iol_port.specs.declared.decision.Decision.{Decision}
 use Rattle.iol_port.specs.declared.decision.Decision.TheVariants as decision
-use Rattle.iol_port.specs.declared.stage.Found.{Found}
+use Rattle.iol_port.specs.declared.stage.FoundDevice.{FoundDevice}
 use Rattle.iol_port.specs.declared.stage.PageFor.{PageFor}
 use Rattle.iol_port.specs.declared.stage.PageFor.TheVariants as page_for
 use Rattle.iol_port.specs.declared.stage.AttendFor.{AttendFor}
 use Rattle.iol_port.specs.declared.stage.AttendFor.TheVariants as attend
 use Rattle.iol_port.specs.declared.stage.ExchangeFor.{ExchangeFor}
 use Rattle.iol_port.specs.declared.stage.ExchangeFor.TheVariants as exchange
-use Rattle.iol_trace.specs.Events.{Event, Page, Accepted, Changed, Stamp}
-use Rattle.iol_trace.specs.Own.{own}
-use Rattle.iol_trace.specs.Statuses as status
-use Rattle.iol_trace.specs.Words.{accepted, durable}
+use Rattle.iol_core.specs.Events.{Event, Page, Accepted, Changed, Stamp}
+use Rattle.iol_core.specs.Own.{own}
+use Rattle.iol_core.specs.Statuses as status
+use Rattle.iol_core.specs.Words.{accepted, durable}
 use Rattle.iol_headline.proofs.Lawful.{WasAcknowledged, WasStored}
 use Rattle.iol_headline.proofs.Talks.{own_same}
 use Rattle.iol_headline.specs.Conversations.{Converses, HasPage}
@@ -51,7 +51,7 @@ module _ (first : ℕ) (start : State) (port connection : ℕ) where
     pub revision : work.revision ≡ kept.revision
 
   -- the last page that was read, and the exchanges since; the device is the one that the port wants
-  pub record Shows (found : Found) (conversation : List Exchange) (events : List Stamp) : Type 0 where
+  pub record Shows (found : FoundDevice) (conversation : List Exchange) (events : List Stamp) : Type 0 where
     pub before : List Event
     pub octets : List ℕ
     pub told : List Event
@@ -62,14 +62,14 @@ module _ (first : ℕ) (start : State) (port connection : ℕ) where
     pub said : WasSaid found.work events
 
   -- State_Property is to be read: it was asked for so many times, each time answered Device busy
-  pub record AsksState (found : Found) (left : ℕ) (events : List Stamp) : Type 0 where
+  pub record AsksState (found : FoundDevice) (left : ℕ) (events : List Stamp) : Type 0 where
     pub times : ℕ
     pub shows : Shows found (busy_times times state_request) events
     pub count : times + left ≡ MOST_REQUESTS
     pub more : 0 < left
 
   -- State_Property is read, and Parameter_Checksum is to be read
-  pub record AsksChecksum (found : Found) (property : PropertyValue) (left : ℕ) (events : List Stamp) : Type 0 where
+  pub record AsksChecksum (found : FoundDevice) (property : PropertyValue) (left : ℕ) (events : List Stamp) : Type 0 where
     pub front : List Exchange
     pub state : List ℕ
     pub times : ℕ
@@ -81,7 +81,7 @@ module _ (first : ℕ) (start : State) (port connection : ℕ) where
     pub more : 0 < left
 
   -- both are read
-  pub record IsRead (found : Found) (property : PropertyValue) (checksum : ℕ) (events : List Stamp) : Type 0 where
+  pub record IsRead (found : FoundDevice) (property : PropertyValue) (checksum : ℕ) (events : List Stamp) : Type 0 where
     pub conversation : List Exchange
     pub state : List ℕ
     pub sum : List ℕ
@@ -93,7 +93,7 @@ module _ (first : ℕ) (start : State) (port connection : ℕ) where
     pub checksum_is : checksum ≡ number_of sum
 
   -- it was decided so of a device that was found
-  pub record Begins (is : Decision) (found : Found) (events : List Stamp) : Type 0 where
+  pub record Begins (is : Decision) (found : FoundDevice) (events : List Stamp) : Type 0 where
     pub examined : IsExamined is port (own port events)
     pub on : examined.connection ≡ connection
     pub page_is : found.page ≡ page_of examined.octets
@@ -214,7 +214,7 @@ module _ (first : ℕ) (start : State) (port connection : ℕ) where
     enough = is.enough;
   }
 
-  shows_later : (found : Found) (conversation : List Exchange) (events more : List Stamp) → own port more ≡ []
+  shows_later : (found : FoundDevice) (conversation : List Exchange) (events more : List Stamp) → own port more ≡ []
       → Shows found conversation events
       → Shows found conversation (events ++ more)
   shows_later found conversation events more none is = record {
@@ -228,7 +228,7 @@ module _ (first : ℕ) (start : State) (port connection : ℕ) where
     said = said_later found.work events more is.said;
   }
 
-  begins_later : (now : Decision) (found : Found) (events more : List Stamp) → own port more ≡ [] → Begins now found events
+  begins_later : (now : Decision) (found : FoundDevice) (events more : List Stamp) → own port more ≡ [] → Begins now found events
       → Begins now found (events ++ more)
   begins_later now found events more none is = record {
     examined = record {

@@ -12,11 +12,11 @@ use Rattle.iol_core.specs.Uploads.{store_of, IsFinish}
 use Rattle.iol_core.specs.declared.permit.UploadGrant.{UploadGrant}
 use Rattle.iol_core.specs.declared.port.Work.{Work}
 use Rattle.iol_core.specs.declared.upload.FinishFault.{FinishFault}
-use Rattle.iol_dsindex.specs.declared.command.DsCommand.TheVariants as command
-use Rattle.iol_isdu.specs.Isdu.{IsShortestRequest}
-use Rattle.iol_isdu.specs.declared.messages.Request.{Request}
+use Rattle.iol_transfer.specs.declared.command.DsCommand.TheVariants as command
+use Rattle.iol_link.specs.Isdu.{IsShortestRequest}
+use Rattle.iol_link.specs.declared.messages.Request.{Request}
 use Rattle.iol_link.specs.Link.{LinkCall, LinkAnswer}
-use Rattle.iol_dsindex.specs.Command.{commanded}
+use Rattle.iol_transfer.specs.Command.{commanded}
 use Rattle.iol_port.proofs.Keeping.{IsAtHand}
 use Rattle.iol_port.specs.History.{ComesOf}
 use Rattle.iol_port.specs.Stage.{Stage, Settled, Paging, Attending, BeginningUpload, BeginningDownload, Exchanging, Uploading, Filing}
@@ -28,11 +28,11 @@ use Rattle.iol_port.specs.declared.call.Reply.TheVariants as reply
 use Rattle.iol_port.specs.declared.stage.Held.TheVariants as held
 use Rattle.iol_engine.specs.PortRuns.{IsCoreAfter}
 use Rattle.iol_engine.specs.PortSteps.{Hears, HearsAnswer, filed_told}
-use Rattle.iol_trace.specs.Events as trace
-use Rattle.iol_trace.specs.Events.{Event, Page, Lost, Attended, Accepted, Changed, Stamp, stamped}
-use Rattle.iol_trace.specs.Own.{own}
-use Rattle.iol_trace.specs.Statuses.{Status}
-use Rattle.iol_trace.specs.Statuses as shows
+use Rattle.iol_core.specs.Events as trace
+use Rattle.iol_core.specs.Events.{Event, Page, Lost, Attended, Accepted, Changed, Stamp, stamped}
+use Rattle.iol_core.specs.Own.{own}
+use Rattle.iol_core.specs.Statuses.{Status}
+use Rattle.iol_core.specs.Statuses as shows
 use Rattle.iol_headline.specs.Decisions.{DecidedFirst}
 use Rattle.iol_headline.proofs.Going.{Began, is_said}
 use Rattle.iol_headline.proofs.Lawful.{IsLawfulAt, WasStored, unsent_lawful}

@@ -18,17 +18,17 @@ use Rattle.iol_core.specs.declared.upload.FinishFault.{FinishFault}
 use Rattle.iol_core.specs.declared.upload.FinishFault.TheVariants as finish
 use Rattle.iol_core.specs.declared.upload.PermitFault.{PermitFault}
 use Rattle.iol_core.specs.declared.upload.PermitFault.TheVariants as permit
-use Rattle.iol_dsindex.specs.declared.command.DsCommand.TheVariants as command
-use Rattle.iol_ident.specs.Page.{PageValue}
-use Rattle.iol_isdu.specs.Isdu.{IsShortestRequest}
-use Rattle.iol_isdu.specs.Reading.{answer_of}
-use Rattle.iol_isdu.specs.declared.faults.IsduFault.{IsduFault}
-use Rattle.iol_isdu.specs.declared.messages.Answer.{Answer}
-use Rattle.iol_isdu.specs.declared.messages.Answer.TheVariants as answer
-use Rattle.iol_isdu.specs.declared.messages.Request.{Request}
+use Rattle.iol_transfer.specs.declared.command.DsCommand.TheVariants as command
+use Rattle.iol_link.specs.Page.{PageValue}
+use Rattle.iol_link.specs.Isdu.{IsShortestRequest}
+use Rattle.iol_link.specs.Reading.{answer_of}
+use Rattle.iol_link.specs.declared.faults.IsduFault.{IsduFault}
+use Rattle.iol_link.specs.declared.messages.Answer.{Answer}
+use Rattle.iol_link.specs.declared.messages.Answer.TheVariants as answer
+use Rattle.iol_link.specs.declared.messages.Request.{Request}
 use Rattle.iol_transfer.proofs.Ending.{whole-finished}
 use Rattle.iol_transfer.proofs.Feeding.{fed-more}
-use Rattle.iol_dsindex.specs.Command.{commanded}
+use Rattle.iol_transfer.specs.Command.{commanded}
 use Rattle.iol_transfer.specs.Exchanges.{Exchange, busy_times}
 use Rattle.iol_transfer.specs.Machine.{Machine, Outcome, More, Whole, Fault, step, asked, answered as next_exchange}
 use Rattle.iol_transfer.specs.Upload.{IsFinished}
@@ -47,16 +47,16 @@ use Rattle.iol_port.specs.declared.decision.Decision.{Decision}
 use Rattle.iol_port.specs.declared.decision.Decision.TheVariants as decision
 use Rattle.iol_port.specs.declared.fault.PortFault.TheVariants as fault
 use Rattle.iol_port.specs.declared.stage.ExchangeFor.TheVariants as exchange
-use Rattle.iol_port.specs.declared.stage.Found.{Found}
+use Rattle.iol_port.specs.declared.stage.FoundDevice.{FoundDevice}
 use Rattle.iol_port.specs.declared.status.PortStatus.{PortStatus}
 use Rattle.iol_port.specs.declared.status.PortStatus.TheVariants as status
 use Rattle.iol_engine.specs.PortRuns.{IsCoreAfter}
 use Rattle.iol_engine.specs.PortSteps.{filed_told}
-use Rattle.iol_trace.specs.Events as trace
-use Rattle.iol_trace.specs.Events.{Event, Page, Attended, Accepted, Changed, Stamp, stamped}
-use Rattle.iol_trace.specs.Own.{own}
-use Rattle.iol_trace.specs.Statuses as shows
-use Rattle.iol_trace.specs.Words.{accepted}
+use Rattle.iol_core.specs.Events as trace
+use Rattle.iol_core.specs.Events.{Event, Page, Attended, Accepted, Changed, Stamp, stamped}
+use Rattle.iol_core.specs.Own.{own}
+use Rattle.iol_core.specs.Statuses as shows
+use Rattle.iol_core.specs.Words.{accepted}
 use Rattle.iol_headline.proofs.Going.{Goes, settles, still, plain_began, holds_since, stays_since}
 use Rattle.iol_headline.proofs.Reading.{exchanged_own}
 use Rattle.iol_headline.proofs.Revisions.{Holds}
@@ -114,7 +114,7 @@ module _ (first : ℕ) (start : State) (port connection : ℕ) (events : List St
   rests called was own = settles first start port connection events clock called was own
 
   -- the page by which it was decided
-  pub page_shown : (now : Decision) (found : Found) → Begins first start port connection now found events
+  pub page_shown : (now : Decision) (found : FoundDevice) → Begins first start port connection now found events
       → HasPage port connection found.page (own port events)
   page_shown now found is = subst (λ (c : ℕ). HasPage port c found.page (own port events)) is.on (record {
     before = is.examined.before;
@@ -130,7 +130,7 @@ module _ (first : ℕ) (start : State) (port connection : ℕ) (events : List St
   -- ---- uploads
 
   -- the core gives a permit to upload, or refuses it
-  pub upload_goes : (found : Found) (begins : Result UploadGrant PermitFault) (old new : CoreView) → IsCoreAfter first start events old
+  pub upload_goes : (found : FoundDevice) (begins : Result UploadGrant PermitFault) (old new : CoreView) → IsCoreAfter first start events old
       → Begins first start port connection decision.Upload found events
       → IsBeginUpload old port found.page.vendor found.page.device found.connection new begins
       → Leads [] status.Starting (upload_begun found.page begins)

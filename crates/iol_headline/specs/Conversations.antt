@@ -1,12 +1,12 @@
 -- Conversations with a device, as a trace tells them.
 use Rattle.std.specs.Prelude.{◌≡◌, ℕ, List, [], ◌∷◌, ◌++◌, Some, Ok}
-use Rattle.iol_isdu.specs.Isdu.{IsShortestRequest}
-use Rattle.iol_isdu.specs.Reading.{answer_of}
-use Rattle.iol_isdu.specs.declared.messages.Request.{Request}
-use Rattle.iol_ident.specs.Page.{PageValue, page_of}
+use Rattle.iol_link.specs.Isdu.{IsShortestRequest}
+use Rattle.iol_link.specs.Reading.{answer_of}
+use Rattle.iol_link.specs.declared.messages.Request.{Request}
+use Rattle.iol_link.specs.Page.{PageValue, page_of}
 use Rattle.iol_transfer.specs.Exchanges.{Exchange}
-use Rattle.iol_trace.specs.Events as trace
-use Rattle.iol_trace.specs.Events.{Event, Page, Lost}
+use Rattle.iol_core.specs.Events as trace
+use Rattle.iol_core.specs.Events.{Event, Page, Lost}
 
 -- an event tells an exchange with the device of a port, on a connection: the octets of the request, in its shortest form, and
 -- octets that say the answer (own)

@@ -1,18 +1,18 @@
 -- A transfer begins only where the device was identified and examined, and where it was decided so.
 use Rattle.std.specs.Prelude.{◌≡◌, ℕ, List, [], ◌∷◌, ◌++◌, length, slice_index, None}
 use Rattle.iol_types.specs.declared.key.TheConstants.{DATA_STORAGE}
-use Rattle.iol_ident.specs.Page.{page_of}
-use Rattle.iol_ident.specs.Validation.{ident_fault}
-use Rattle.iol_dsindex.specs.Property.{property_of}
-use Rattle.iol_dsindex.specs.declared.object.TheConstants.{STATE_PROPERTY, PARAMETER_CHECKSUM}
+use Rattle.iol_link.specs.Page.{page_of}
+use Rattle.iol_link.specs.Validation.{ident_fault}
+use Rattle.iol_transfer.specs.Property.{property_of}
+use Rattle.iol_transfer.specs.declared.object.TheConstants.{STATE_PROPERTY, PARAMETER_CHECKSUM}
 use Rattle.iol_transfer.specs.Exchanges.{Exchange, read_of, Follows}
 use Rattle.iol_transfer.specs.Upload.{number_of}
 use Rattle.iol_port.specs.Decision.{decide}
 use Rattle.iol_port.specs.declared.decision.Decision.{Decision}
 use Rattle.iol_port.specs.declared.decision.Decision.TheVariants as decision
-use Rattle.iol_trace.specs.Events.{Event, Page, Attended, Changed, Stamp}
-use Rattle.iol_trace.specs.Own.{own}
-use Rattle.iol_trace.specs.Statuses.{Work, Uploading, Downloading}
+use Rattle.iol_core.specs.Events.{Event, Page, Attended, Changed, Stamp}
+use Rattle.iol_core.specs.Own.{own}
+use Rattle.iol_core.specs.Statuses.{Work, Uploading, Downloading}
 use Rattle.iol_headline.specs.Conversations.{Converses}
 
 -- a port's own events end so: the page of its device, on a connection; there one read of State_Property, one octet, and one of

@@ -3,18 +3,18 @@ use Rattle.std.specs.Prelude.{◌≡◌, ℕ, List, ◌∷◌, ◌++◌, Some}
 use Rattle.arrayvec.specs.ArrayVec.{ArrayVec}
 use Rattle.iol_types.specs.State.{State, Stored, port_numbered}
 use Rattle.iol_types.specs.declared.key.TheConstants.{DATA_STORAGE}
-use Rattle.iol_isdu.specs.declared.messages.Request.{Request}
-use Rattle.iol_isdu.specs.declared.messages.Request.TheVariants.{Read, Write}
-use Rattle.iol_ident.specs.Page.{PageValue}
+use Rattle.iol_link.specs.declared.messages.Request.{Request}
+use Rattle.iol_link.specs.declared.messages.Request.TheVariants.{Read, Write}
+use Rattle.iol_link.specs.Page.{PageValue}
 use Rattle.iol_core.specs.Downloads.{stored_at}
-use Rattle.iol_dsindex.specs.declared.command.DsCommand.{DsCommand}
-use Rattle.iol_dsindex.specs.Command.{commanded}
+use Rattle.iol_transfer.specs.declared.command.DsCommand.{DsCommand}
+use Rattle.iol_transfer.specs.Command.{commanded}
 use Rattle.iol_transfer.specs.Exchanges.{Exchange}
 use Rattle.iol_transfer.specs.Download.{IsSending}
-use Rattle.iol_trace.specs.Events.{Event, Changed, Stamp}
-use Rattle.iol_trace.specs.Own.{own}
-use Rattle.iol_trace.specs.Statuses.{Downloading}
-use Rattle.iol_trace.specs.Words.{durable}
+use Rattle.iol_core.specs.Events.{Event, Changed, Stamp}
+use Rattle.iol_core.specs.Own.{own}
+use Rattle.iol_core.specs.Statuses.{Downloading}
+use Rattle.iol_core.specs.Words.{durable}
 use Rattle.iol_headline.specs.Conversations.{Converses, HasPage, Sends}
 
 -- a request writes a parameter, and no command (own)

@@ -2,13 +2,13 @@
 use Rattle.std.specs.Prelude.{◌≡◌, ◌≤◌, ℕ, List, ◌∷◌, ◌++◌}
 use Rattle.iol_types.specs.Command.{Store}
 use Rattle.iol_types.specs.DataSet.{SetValue}
-use Rattle.iol_dsindex.specs.declared.command.DsCommand.TheVariants.{UploadEnd}
-use Rattle.iol_dsindex.specs.Command.{commanded}
+use Rattle.iol_transfer.specs.declared.command.DsCommand.TheVariants.{UploadEnd}
+use Rattle.iol_transfer.specs.Command.{commanded}
 use Rattle.iol_transfer.specs.Exchanges.{busy_times}
-use Rattle.iol_trace.specs.Events.{Event, Accepted, Changed, Stamp}
-use Rattle.iol_trace.specs.Own.{own}
-use Rattle.iol_trace.specs.Statuses.{Storing}
-use Rattle.iol_trace.specs.Words.{acked}
+use Rattle.iol_core.specs.Events.{Event, Accepted, Changed, Stamp}
+use Rattle.iol_core.specs.Own.{own}
+use Rattle.iol_core.specs.Statuses.{Storing}
+use Rattle.iol_core.specs.Words.{acked}
 use Rattle.iol_headline.specs.Conversations.{Converses, Sends}
 use Rattle.iol_headline.specs.WholeSets.{IsUploadedWhole}
 

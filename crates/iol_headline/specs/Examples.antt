@@ -6,9 +6,9 @@ use Rattle.iol_types.specs.State.{Stored}
 use Rattle.iol_types.specs.declared.config.PortConfig.{PortConfig}
 use Rattle.iol_types.specs.declared.config.PortMode.TheVariants.{IolManual}
 use Rattle.iol_types.specs.declared.config.Validation.TheVariants.{BackupAndRestore, Restore}
-use Rattle.iol_trace.specs.Events.{Event, Accepted, Page, Exchange, Lost, Attended, Changed, Acknowledged}
-use Rattle.iol_trace.specs.Statuses as status
-use Rattle.iol_trace.specs.Statuses.{Work, Starting, Uploading, Storing, Ready, Downloading}
+use Rattle.iol_core.specs.Events.{Event, Accepted, Page, Exchange, Lost, Attended, Changed, Acknowledged}
+use Rattle.iol_core.specs.Statuses as status
+use Rattle.iol_core.specs.Statuses.{Work, Starting, Uploading, Storing, Ready, Downloading}
 
 -- for worked examples: a port is IOL_MANUAL with Backup and Restore, for the device 43981 of vendor 500 (own)
 abbrev pub example_config : PortConfig

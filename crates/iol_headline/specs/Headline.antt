@@ -3,7 +3,7 @@ use Rattle.std.specs.Prelude.{ℕ, List}
 use Rattle.iol_disk.specs.Disk.{Disk, Shows}
 use Rattle.iol_journal.specs.Kept.{IsKept}
 use Rattle.iol_link.specs.Link.{LinkCall, LinkAnswer}
-use Rattle.iol_trace.specs.CrashPrefix.{CrashPrefix}
+use Rattle.iol_core.specs.CrashPrefix.{CrashPrefix}
 use Rattle.iol_run.specs.Schedules.{IsTraceOf, told_in}
 use Rattle.iol_run.specs.declared.schedule.Trace.{Trace}
 use Rattle.iol_run.specs.declared.task.Task.{Task}

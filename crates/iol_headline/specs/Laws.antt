@@ -1,8 +1,8 @@
 -- What holds of a whole trace.
 use Rattle.std.specs.Prelude.{ℕ, List, take}
 use Rattle.iol_types.specs.State.{State}
-use Rattle.iol_trace.specs.Events.{Stamp}
-use Rattle.iol_trace.specs.Words.{accepted}
+use Rattle.iol_core.specs.Events.{Stamp}
+use Rattle.iol_core.specs.Words.{accepted}
 use Rattle.iol_headline.specs.Decisions.{DecidedFirst}
 use Rattle.iol_headline.specs.Downloads.{DownloadsOnly, CommandsOnly}
 use Rattle.iol_headline.specs.DurableEnds.{DurableThenEnd}

@@ -3,8 +3,8 @@ use Rattle.std.specs.Prelude.{◌≡◌, ◌⊎◌, ◌-◌, ℕ, List, ◌∷�
 use Rattle.iol_types.specs.Command.{CommandValue, Store}
 use Rattle.iol_types.specs.State.{Port, Stored}
 use Rattle.iol_front.specs.Fronts.{Start}
-use Rattle.iol_trace.specs.Events.{Accepted, Stamp}
-use Rattle.iol_trace.specs.Words.{accepted, acked}
+use Rattle.iol_core.specs.Events.{Accepted, Stamp}
+use Rattle.iol_core.specs.Words.{accepted, acked}
 use Rattle.iol_headline.specs.Laws.{IsLawful}
 use Rattle.iol_headline.specs.StoredSets.{HadSet, HasSet}
 use Rattle.iol_headline.specs.WholeSets.{IsUploadedWhole}

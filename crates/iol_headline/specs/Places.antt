@@ -1,6 +1,6 @@
 -- What holds of each event of a trace.
 use Rattle.std.specs.Prelude.{◌≡◌, List, ◌∷◌, ◌++◌}
-use Rattle.iol_trace.specs.Events.{Event, Stamp}
+use Rattle.iol_core.specs.Events.{Event, Stamp}
 
 -- wherever an event stands in a trace, this holds of the events before it and of the event (own)
 abbrev pub Everywhere : (List Stamp → Event → Type 0) → List Stamp → Type 0

@@ -1,12 +1,12 @@
 -- A port settles by what it was last told to work with, and by the page of its device.
 use Rattle.std.specs.Prelude.{◌≡◌, ℕ, true, false, List, [], ◌∷◌, ◌++◌, Option, Some, None}
 use Rattle.iol_types.specs.Config.{is_manual}
-use Rattle.iol_ident.specs.Page.{PageValue}
-use Rattle.iol_ident.specs.Validation.{ident_fault}
-use Rattle.iol_ident.specs.declared.validation.IdentFault.{IdentFault}
-use Rattle.iol_trace.specs.Events.{Event, Attended, Changed, Stamp}
-use Rattle.iol_trace.specs.Own.{own}
-use Rattle.iol_trace.specs.Statuses.{Work, Status, Off, Starting, Ready, ReadyLocked, ReadyEmpty, Uploading, Storing, Downloading, Mismatch}
+use Rattle.iol_link.specs.Page.{PageValue}
+use Rattle.iol_link.specs.Validation.{ident_fault}
+use Rattle.iol_link.specs.declared.validation.IdentFault.{IdentFault}
+use Rattle.iol_core.specs.Events.{Event, Attended, Changed, Stamp}
+use Rattle.iol_core.specs.Own.{own}
+use Rattle.iol_core.specs.Statuses.{Work, Status, Off, Starting, Ready, ReadyLocked, ReadyEmpty, Uploading, Storing, Downloading, Mismatch}
 use Rattle.iol_headline.specs.Conversations.{HasPage}
 
 -- an event tells neither what a port is to work with nor a status of a settled port, as `off`, `lost`, `ready` of any kind,

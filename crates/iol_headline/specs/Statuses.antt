@@ -3,8 +3,8 @@ use Rattle.std.specs.Prelude.{◌≡◌, ℕ, List}
 use Rattle.iol_front.specs.Fronts.{Start}
 use Rattle.iol_port.specs.Telling.{status_told}
 use Rattle.iol_port.specs.declared.status.PortStatus.{PortStatus}
-use Rattle.iol_trace.specs.Events.{Stamp}
-use Rattle.iol_trace.specs.Own.{status_shown}
+use Rattle.iol_core.specs.Events.{Stamp}
+use Rattle.iol_core.specs.Own.{status_shown}
 use Rattle.iol_headline.specs.Laws.{IsLawful}
 
 -- a lawful trace that began as the front did reported this status of the port last (own)

@@ -2,13 +2,13 @@
 use Rattle.std.specs.Prelude.{◌≡◌, ℕ, List, ◌∷◌, ◌++◌}
 use Rattle.iol_types.specs.Command.{Store}
 use Rattle.iol_types.specs.DataSet.{SetValue}
-use Rattle.iol_ident.specs.Page.{PageValue}
+use Rattle.iol_link.specs.Page.{PageValue}
 use Rattle.iol_transfer.specs.Exchanges.{Exchange}
 use Rattle.iol_transfer.specs.Upload.{IsFinished}
-use Rattle.iol_trace.specs.Events.{Event, Accepted, Changed, Stamp}
-use Rattle.iol_trace.specs.Own.{own}
-use Rattle.iol_trace.specs.Statuses.{Uploading}
-use Rattle.iol_trace.specs.Words.{accepted}
+use Rattle.iol_core.specs.Events.{Event, Accepted, Changed, Stamp}
+use Rattle.iol_core.specs.Own.{own}
+use Rattle.iol_core.specs.Statuses.{Uploading}
+use Rattle.iol_core.specs.Words.{accepted}
 use Rattle.iol_headline.specs.Conversations.{Converses, HasPage}
 use Rattle.iol_headline.specs.Works.{Unconfigured}
 

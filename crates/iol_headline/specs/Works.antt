@@ -4,9 +4,9 @@ use Rattle.std.specs.Option.{option_map}
 use Rattle.iol_types.specs.Command.{CommandValue, Configure}
 use Rattle.iol_types.specs.State.{State, Port, after, port_numbered}
 use Rattle.iol_core.specs.Downloads.{stored_at}
-use Rattle.iol_trace.specs.Events.{Event, Attended, Stamp}
-use Rattle.iol_trace.specs.Statuses.{Work}
-use Rattle.iol_trace.specs.Words.{accepted, durable}
+use Rattle.iol_core.specs.Events.{Event, Attended, Stamp}
+use Rattle.iol_core.specs.Statuses.{Work}
+use Rattle.iol_core.specs.Words.{accepted, durable}
 
 -- none of these commands configures this port (own)
 abbrev pub Unconfigured : ℕ → List CommandValue → Type 0

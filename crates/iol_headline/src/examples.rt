@@ -3,12 +3,12 @@
 //! sets that no command stored so is said that the law does not allow the port to have them.
 
 ghost use Rattle.std.specs.Prelude.{◌⊎◌, [], ◌∷◌, ◌++◌, Some, None};
-ghost use Rattle.iol_ident.specs.declared.validation.IdentFault.TheVariants.{Device};
+ghost use Rattle.iol_link.specs.declared.validation.IdentFault.TheVariants.{Device};
 ghost use Rattle.iol_types.specs.Command.{Configure, Store};
 ghost use Rattle.iol_types.specs.Examples.{renewed_port, newer_stored, example_stored};
 ghost use Rattle.iol_types.specs.State.{empty_state};
-ghost use Rattle.iol_trace.specs.Events.{Accepted, Exchange, Lost, Attended, Changed, stamped};
-ghost use Rattle.iol_trace.specs.Statuses.{Off, Ready, Uploading, Downloading, Mismatch};
+ghost use Rattle.iol_core.specs.Events.{Accepted, Exchange, Lost, Attended, Changed, stamped};
+ghost use Rattle.iol_core.specs.Statuses.{Off, Ready, Uploading, Downloading, Mismatch};
 ghost use Rattle.iol_headline.specs.Decisions.{DecidedFirst};
 ghost use Rattle.iol_headline.specs.Downloads.{DownloadsOnly, CommandsOnly};
 ghost use Rattle.iol_headline.specs.DurableEnds.{DurableThenEnd};

@@ -2,7 +2,7 @@
 
 ghost use Rattle.std.specs.Prelude.{◌≡◌, ℕ, List, length};
 ghost use Rattle.iol_types.specs.State.{State};
-ghost use Rattle.iol_trace.specs.Events.{Stamp};
+ghost use Rattle.iol_core.specs.Events.{Stamp};
 ghost use Rattle.iol_engine.specs.Acknowledged.{AcksRise};
 ghost use Rattle.iol_run.specs.PortRuns.{ArePortRuns};
 ghost use Rattle.iol_run.specs.declared.step.Step.{Step};

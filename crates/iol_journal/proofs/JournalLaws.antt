@@ -5,26 +5,26 @@ use Rattle.std.proofs.lemmas.Bool.Decides.{nat_tests}
 use Rattle.iol_types.specs.Command.{CommandValue}
 use Rattle.iol_disk.specs.Content.{Image, Content, IsImage}
 use Rattle.iol_disk.specs.Disk.{Disk}
-use Rattle.iol_batch.specs.Batches.{body_for, sectors_for}
-use Rattle.iol_batch.specs.Begin.{follows, is_too_large, fits_no_area, wants_checkpoint, batch_refusal}
+use Rattle.iol_journal.specs.Batches.{body_for, sectors_for}
+use Rattle.iol_journal.specs.Begin.{follows, is_too_large, fits_no_area, wants_checkpoint, batch_refusal}
 use Rattle.iol_layout.specs.Layout.{Layout, is_renewed}
 use Rattle.iol_layout.proofs.Layouts.{renewed-same}
 use Rattle.iol_layout.specs.Body.{slots_for}
-use Rattle.iol_checkpoint.specs.Checkpoints.{target}
+use Rattle.iol_journal.specs.Checkpoints.{target}
 use Rattle.iol_journal.specs.CheckpointViews.{CheckpointingView, IsCheckpointUnderway}
 use Rattle.iol_journal.specs.Journals.{WritingView}
 use Rattle.iol_layout.specs.Kept.{KeptEither, EachMeans}
 use Rattle.iol_layout.specs.Meaning.{Standing}
-use Rattle.iol_batch.specs.Phases.{IsAtRest, Holds}
+use Rattle.iol_journal.specs.Phases.{IsAtRest, Holds}
 use Rattle.iol_journal.specs.Underway.{IsUnderway}
-use Rattle.iol_batch.specs.declared.refusal.BeginCause.TheVariants.{NeedsCheckpoint}
+use Rattle.iol_journal.specs.declared.refusal.BeginCause.TheVariants.{NeedsCheckpoint}
 use Rattle.iol_layout.specs.declared.idle.Idle.{Idle}
-use Rattle.iol_batch.specs.declared.phase.Phase.{Phase}
-use Rattle.iol_batch.specs.declared.phase.Phase.TheVariants.{Body, SyncBody, Gate, SyncGate}
+use Rattle.iol_journal.specs.declared.phase.Phase.{Phase}
+use Rattle.iol_journal.specs.declared.phase.Phase.TheVariants.{Body, SyncBody, Gate, SyncGate}
 use Rattle.iol_layout.proofs.Chains.{by_test}
 use Rattle.iol_layout.proofs.Frames.{kept_means}
-use Rattle.iol_batch.proofs.Phases.{between_means_either}
-use Rattle.iol_checkpoint.proofs.StageMeanings.{stage_means}
+use Rattle.iol_journal.proofs.Phases.{between_means_either}
+use Rattle.iol_journal.proofs.StageMeanings.{stage_means}
 
 -- before the call of each phase
 holds_means_either : (size : ℕ) (s : Standing) (idle : Idle) (commands : List CommandValue) (body : List ℕ) (sectors : ℕ) (p : Phase)

@@ -11,7 +11,7 @@ use Rattle.iol_record.specs.Reading.{◌>>=◌}
 use Rattle.iol_layout.specs.Meaning.{Cause, Standing, Meaning, standing_in}
 use Rattle.iol_layout.specs.Kept.{IsIdle, IsKept, IsKeptAs, KeptMeans, EachMeans}
 use Rattle.iol_recovery.specs.Finding.{idle_in}
-use Rattle.iol_batch.specs.Phases.{IsAtRest}
+use Rattle.iol_journal.specs.Phases.{IsAtRest}
 use Rattle.iol_layout.specs.declared.idle.Idle.{Idle}
 use Rattle.iol_layout.specs.declared.idle.Idle.TheVariants.{Older, Closed}
 

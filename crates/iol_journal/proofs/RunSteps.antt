@@ -13,10 +13,10 @@ use Rattle.iol_layout.specs.Meaning.{Standing}
 use Rattle.iol_journal.specs.Runs.{Run, IsRun, number_of, state_of, begun, with_mark, with_batch_begun, with_batch_written}
 use Rattle.iol_journal.specs.Running.{IsRunAt, IsRunAtRest, IsRunWriting}
 use Rattle.iol_journal.specs.CheckpointRuns.{IsRunCheckpointing}
-use Rattle.iol_checkpoint.specs.BegunViews.{BegunView}
+use Rattle.iol_journal.specs.BegunViews.{BegunView}
 use Rattle.iol_journal.specs.CheckpointViews.{CheckpointingView}
-use Rattle.iol_checkpoint.specs.Pauses.{IsPaused, IsBeside}
-use Rattle.iol_batch.specs.Phases.{IsAtRest}
+use Rattle.iol_journal.specs.Pauses.{IsPaused, IsBeside}
+use Rattle.iol_journal.specs.Phases.{IsAtRest}
 use Rattle.iol_journal.specs.Underway.{IsUnderway}
 use Rattle.iol_journal.proofs.JournalLaws.{checkpoint_means_its_state, rest_means_its_state, underway_means_either}
 use Rattle.iol_journal.proofs.RunLaws.{batch_begins, batch_ends, batch_stays, checkpoint_stays, marked, run_begins}

@@ -9,21 +9,21 @@ use Rattle.iol_disk.specs.Moments.{LeavesOnly}
 use Rattle.iol_disk.specs.declared.fault.DiskFault.{DiskFault}
 use Rattle.iol_disk.proofs.DiskLaws.{HasOnTheWay, made_leaves, failed_leaves}
 use Rattle.iol_disk.specs.Content.{EachImage}
-use Rattle.iol_batch.specs.Batches.{body_for, sectors_for, call_of, calls_from, next_phase, IsPhase}
+use Rattle.iol_journal.specs.Batches.{body_for, sectors_for, call_of, calls_from, next_phase, IsPhase}
 use Rattle.iol_journal.specs.Journals.{WritingView}
-use Rattle.iol_batch.specs.Planned.{IsPlanned, IsPlan}
+use Rattle.iol_journal.specs.Planned.{IsPlanned, IsPlan}
 use Rattle.iol_layout.specs.Standings.{IsResting, with_batch}
 use Rattle.iol_layout.specs.Kept.{KeptEither, IsKeptAs}
 use Rattle.iol_layout.specs.Meaning.{Standing}
-use Rattle.iol_batch.specs.Phases.{Holds}
+use Rattle.iol_journal.specs.Phases.{Holds}
 use Rattle.iol_journal.specs.Underway.{IsUnderway}
 use Rattle.iol_layout.specs.declared.idle.Idle.{Idle}
 use Rattle.iol_layout.specs.Layout.{total}
-use Rattle.iol_batch.specs.declared.phase.Phase.{Phase}
-use Rattle.iol_batch.specs.declared.phase.Phase.TheVariants.{Body, SyncBody, Gate, SyncGate}
-use Rattle.iol_batch.specs.declared.plan.Plan.{Plan}
-use Rattle.iol_batch.proofs.BatchCalls.{rests_with, phase_of, first_call, last_call, some_call}
-use Rattle.iol_batch.proofs.Phases.{fit_of, on_the_way, next_holds, batch_durable}
+use Rattle.iol_journal.specs.declared.phase.Phase.{Phase}
+use Rattle.iol_journal.specs.declared.phase.Phase.TheVariants.{Body, SyncBody, Gate, SyncGate}
+use Rattle.iol_journal.specs.declared.plan.Plan.{Plan}
+use Rattle.iol_journal.proofs.BatchCalls.{rests_with, phase_of, first_call, last_call, some_call}
+use Rattle.iol_journal.proofs.Phases.{fit_of, on_the_way, next_holds, batch_durable}
 
 -- the phase behind a phase is one
 in_next : (sectors : ℕ) (p q : Phase) → IsPhase sectors p → next_phase sectors p ≡ Some q → IsPhase sectors q

@@ -5,18 +5,18 @@ use Rattle.iol_disk.specs.Calls.{Makes}
 use Rattle.iol_disk.specs.Disk.{Disk}
 use Rattle.iol_disk.specs.Moments.{LeavesOnly}
 use Rattle.iol_disk.specs.declared.fault.DiskFault.{DiskFault}
-use Rattle.iol_checkpoint.specs.Checkpoints.{target}
-use Rattle.iol_checkpoint.specs.Checkpoints.{call_at}
-use Rattle.iol_checkpoint.specs.Drafts.{IsDrafted}
+use Rattle.iol_journal.specs.Checkpoints.{target}
+use Rattle.iol_journal.specs.Checkpoints.{call_at}
+use Rattle.iol_journal.specs.Drafts.{IsDrafted}
 use Rattle.iol_journal.specs.CheckpointViews.{CheckpointingView, IsCheckpointUnderway}
 use Rattle.iol_layout.specs.Kept.{KeptMeans}
 use Rattle.iol_layout.specs.Meaning.{Standing}
 use Rattle.iol_layout.specs.Standings.{IsResting}
-use Rattle.iol_batch.specs.Planned.{CanFollow, IsPlan, IsPlanned}
-use Rattle.iol_batch.specs.declared.phase.Phase.TheVariants.{Body}
-use Rattle.iol_batch.specs.declared.plan.Plan.{Plan}
-use Rattle.iol_batch.proofs.BatchCalls.{sectors_for-some}
-use Rattle.iol_checkpoint.proofs.CheckpointSteps.{moment}
+use Rattle.iol_journal.specs.Planned.{CanFollow, IsPlan, IsPlanned}
+use Rattle.iol_journal.specs.declared.phase.Phase.TheVariants.{Body}
+use Rattle.iol_journal.specs.declared.plan.Plan.{Plan}
+use Rattle.iol_journal.proofs.BatchCalls.{sectors_for-some}
+use Rattle.iol_journal.proofs.CheckpointSteps.{moment}
 
 -- the same of the checkpoint as contracts see it
 pub moment_of : {D : Type 0} (disk : D → Disk) {c v : CheckpointingView D} (left : D) (result : Result Unit DiskFault) → c ≡ v

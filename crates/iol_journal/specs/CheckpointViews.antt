@@ -2,13 +2,13 @@
 use Rattle.std.specs.Prelude.{List, Some, unwrap_or}
 use Rattle.iol_disk.specs.Calls.{Call}
 use Rattle.iol_disk.specs.Disk.{Disk}
-use Rattle.iol_checkpoint.specs.BegunViews.{BegunView}
-use Rattle.iol_checkpoint.specs.Checkpoints.{new_begun}
-use Rattle.iol_checkpoint.specs.Drafts.{idle_at}
+use Rattle.iol_journal.specs.BegunViews.{BegunView}
+use Rattle.iol_journal.specs.Checkpoints.{new_begun}
+use Rattle.iol_journal.specs.Drafts.{idle_at}
 use Rattle.iol_journal.specs.Journals.{JournalView}
 use Rattle.iol_layout.specs.Meaning.{Standing}
-use Rattle.iol_batch.specs.declared.history.History.{History}
-use Rattle.iol_checkpoint.specs.Pauses.{end_in, calls_of, IsDrawnUp}
+use Rattle.iol_journal.specs.declared.history.History.{History}
+use Rattle.iol_journal.specs.Pauses.{end_in, calls_of, IsDrawnUp}
 
 -- a checkpoint on its way as contracts see it: the disk, how the journal stands and what it has done, and how far the
 -- checkpoint is (own)

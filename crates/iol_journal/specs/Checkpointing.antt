@@ -2,7 +2,7 @@
 use Rattle.std.specs.Prelude.{◌≡◌, List, [], Some, None, Ok, Err}
 use Rattle.iol_disk.specs.Calls.{Call, MakesFirst}
 use Rattle.iol_disk.specs.Disk.{Disk}
-use Rattle.iol_checkpoint.specs.Drafts.{begun_behind}
+use Rattle.iol_journal.specs.Drafts.{begun_behind}
 use Rattle.iol_layout.specs.Layout.{renewed}
 use Rattle.iol_layout.specs.declared.idle.Idle.TheVariants.{Older}
 use Rattle.iol_journal.specs.Journals.{JournalView}

@@ -1,14 +1,14 @@
 -- What contracts see of a journal, of a batch on its way, and of what their calls answer.
 use Rattle.std.specs.Prelude.{List, Option}
 use Rattle.iol_types.specs.Command.{CommandValue}
-use Rattle.iol_checkpoint.specs.BegunViews.{BegunView}
+use Rattle.iol_journal.specs.BegunViews.{BegunView}
 use Rattle.iol_layout.specs.Meaning.{Standing}
-use Rattle.iol_batch.specs.declared.history.History.{History}
+use Rattle.iol_journal.specs.declared.history.History.{History}
 use Rattle.iol_layout.specs.declared.idle.Idle.{Idle}
-use Rattle.iol_batch.specs.declared.phase.Phase.{Phase}
-use Rattle.iol_batch.specs.declared.phase.Phase.TheVariants.{Body}
+use Rattle.iol_journal.specs.declared.phase.Phase.{Phase}
+use Rattle.iol_journal.specs.declared.phase.Phase.TheVariants.{Body}
 use Rattle.iol_disk.specs.Calls.{Call}
-use Rattle.iol_batch.specs.Batches.{body_for, sectors_for, calls_from}
+use Rattle.iol_journal.specs.Batches.{body_for, sectors_for, calls_from}
 
 -- a journal as contracts see it: its disk, how it stands, how the other area is harmless, what it has done since it was
 -- recovered, and the checkpoint that is paused, if one is (own)

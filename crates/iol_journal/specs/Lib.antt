@@ -16,30 +16,29 @@ pub use Rattle.iol_layout.specs.Kept
 pub use Rattle.iol_layout.specs.Layout
 pub use Rattle.iol_layout.specs.Meaning
 pub use Rattle.iol_layout.specs.Standings
-pub use Rattle.iol_format.specs.Erasing
-pub use Rattle.iol_format.specs.Formatting
 pub use Rattle.iol_recovery.specs.Finding
 pub use Rattle.iol_recovery.specs.Reading
-pub use Rattle.iol_batch.specs.Batches
-pub use Rattle.iol_batch.specs.Begin
-pub use Rattle.iol_batch.specs.Phases
-pub use Rattle.iol_batch.specs.Planned
-pub use Rattle.iol_checkpoint.specs.BegunViews
-pub use Rattle.iol_checkpoint.specs.Checkpoints
-pub use Rattle.iol_checkpoint.specs.Drafts
-pub use Rattle.iol_checkpoint.specs.Pauses
 pub use Rattle.iol_layout.specs.declared.area.Area
 pub use Rattle.iol_layout.specs.declared.body.Head
 pub use Rattle.iol_layout.specs.declared.header.Header
 pub use Rattle.iol_layout.specs.declared.idle.Idle
 pub use Rattle.iol_layout.specs.declared.in_use.InUse
-pub use Rattle.iol_format.specs.declared.formatting.FormatFault
 pub use Rattle.iol_recovery.specs.declared.cause.RecoverCause
-pub use Rattle.iol_batch.specs.declared.batch.Batch
-pub use Rattle.iol_batch.specs.declared.refusal.BeginCause
-pub use Rattle.iol_batch.specs.declared.history.History
-pub use Rattle.iol_batch.specs.declared.phase.Phase
-pub use Rattle.iol_checkpoint.specs.declared.stage.Stage
 pub use Rattle.iol_layout.specs.declared.body.TheConstants as Limits
-pub use Rattle.iol_slots.specs.declared.slot.TheConstants as Sectors
+pub use Rattle.iol_disk.specs.declared.slot.TheConstants as Sectors
 pub use Rattle.iol_layout.specs.declared.header.TheConstants as Numbers
+pub mod Batches
+pub mod Begin
+pub mod Planned
+pub mod History
+pub mod Parts
+pub mod Phases
+pub mod BegunViews
+pub mod Checkpoints
+pub mod Drafts
+pub mod BegunParts
+pub mod Expected
+pub mod Pauses
+pub mod Erasing
+pub mod Formatting
+pub mod Orders

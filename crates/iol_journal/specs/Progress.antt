@@ -3,8 +3,8 @@ use Rattle.std.specs.Prelude.{◌≡◌, ◌+◌, List, [], Ok, Err}
 use Rattle.std.specs.Option.{option_map}
 use Rattle.iol_disk.specs.Calls.{Call, MakesFirst}
 use Rattle.iol_disk.specs.Disk.{Disk}
-use Rattle.iol_batch.specs.Planned.{written_behind}
-use Rattle.iol_checkpoint.specs.Drafts.{with_owed}
+use Rattle.iol_journal.specs.Planned.{written_behind}
+use Rattle.iol_journal.specs.Drafts.{with_owed}
 use Rattle.iol_layout.specs.Standings.{with_batch}
 use Rattle.iol_journal.specs.Journals.{JournalView, WritingView, calls_left}
 use Rattle.iol_journal.specs.Written.{WrittenView}

@@ -4,8 +4,8 @@ use Rattle.iol_disk.specs.Disk.{Disk}
 use Rattle.iol_journal.specs.Journals.{JournalView, WritingView}
 use Rattle.iol_layout.specs.Meaning.{Standing}
 use Rattle.iol_journal.specs.Runs.{Run, IsRun, number_of, state_of, with_batch_written}
-use Rattle.iol_checkpoint.specs.Pauses.{IsPaused, IsBeside}
-use Rattle.iol_batch.specs.Phases.{IsAtRest}
+use Rattle.iol_journal.specs.Pauses.{IsPaused, IsBeside}
+use Rattle.iol_journal.specs.Phases.{IsAtRest}
 use Rattle.iol_journal.specs.Underway.{IsUnderway}
 use Rattle.iol_journal.specs.declared.writing.Progress.{Progress}
 use Rattle.iol_journal.specs.declared.writing.Progress.TheVariants.{More, Done, Failed}

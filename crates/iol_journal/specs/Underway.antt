@@ -1,9 +1,9 @@
 -- What holds of an honest disk while a journal is at rest on it, and while a batch is on its way.
 use Rattle.std.specs.Prelude.{IsTrue}
 use Rattle.iol_disk.specs.Disk.{Disk}
-use Rattle.iol_batch.specs.Batches.{body_for, sectors_for}
+use Rattle.iol_journal.specs.Batches.{body_for, sectors_for}
 use Rattle.iol_journal.specs.Journals.{WritingView}
-use Rattle.iol_batch.specs.Phases.{Holds}
+use Rattle.iol_journal.specs.Phases.{Holds}
 
 -- a batch is on its way on an honest disk: what its phase says holds (own)
 abbrev pub IsUnderway : {D : Type 0} → (D → Disk) → WritingView D → Type 0

@@ -1,21 +1,21 @@
 //! The checkpoint of a journal at rest: a new one, or the one that is paused.
 
+use crate::begun::Begun;
 use crate::checkpointing::Checkpointing;
 use crate::journal::{CheckpointFault, Journal};
-use iol_checkpoint::Begun;
 use iol_disk::SectorDisk;
 use std::alloc::AllocError;
 
 impl<D: SectorDisk> Journal<D> {
     ghost use Rattle.std.specs.Prelude.{◌≡◌, ◌≤◌, ◌<◌, ◌+◌, ◌*◌, true, [], length, Some, None, is_some, IfOk, IfErr};
-    ghost use Rattle.iol_checkpoint.specs.BegunParts.{view_of, IsBegun};
-    ghost use Rattle.iol_checkpoint.specs.Checkpoints.{checkpointed, checkpoint_calls, new_begun};
+    ghost use Rattle.iol_journal.specs.BegunParts.{view_of, IsBegun};
+    ghost use Rattle.iol_journal.specs.Checkpoints.{checkpointed, checkpoint_calls, new_begun};
     ghost use Rattle.iol_journal.specs.CheckpointViews.{checkpoint_of, stages_left, IsCheckpointUnderway};
-    ghost use Rattle.iol_checkpoint.specs.Pauses.{calls_of, IsPaused};
+    ghost use Rattle.iol_journal.specs.Pauses.{calls_of, IsPaused};
     ghost use Rattle.iol_journal.specs.CheckpointRuns.{IsRunCheckpointing};
     ghost use Rattle.iol_journal.specs.Runs.{Run};
     ghost use Rattle.iol_journal.specs.Running.{IsRunAtRest};
-    ghost use Rattle.iol_batch.specs.Phases.{IsAtRest};
+    ghost use Rattle.iol_journal.specs.Phases.{IsAtRest};
     ghost use Rattle.iol_layout.specs.Layout.{is_renewed, renewed, record_sectors};
 
     /// Makes a checkpoint ready, which writes the newest layout and frees all slots but those of the batches that are written

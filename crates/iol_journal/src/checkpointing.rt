@@ -1,8 +1,9 @@
 //! A checkpoint on its way to the disk.
 
+use crate::begun::Begun;
 use crate::journal::Journal;
-use iol_batch::Parts;
-use iol_checkpoint::{Begun, make_stage};
+use crate::parts::Parts;
+use crate::stage_calls::make_stage;
 use iol_disk::{DiskFault, SectorDisk};
 use iol_layout::{Idle, Place};
 use std::marker::Model;
@@ -17,11 +18,11 @@ pub struct Checkpointing<D: SectorDisk> {
 }
 
 impl<D: SectorDisk> Model for Checkpointing<D> {
-    ghost use Rattle.iol_checkpoint.specs.BegunParts.{view_of, IsBegun};
+    ghost use Rattle.iol_journal.specs.BegunParts.{view_of, IsBegun};
     ghost use Rattle.iol_journal.specs.CheckpointViews.{CheckpointingView};
     ghost use Rattle.iol_layout.specs.Standings.{IsResting};
-    ghost use Rattle.iol_batch.specs.Parts.{stands};
-    ghost use Rattle.iol_batch.specs.Planned.{LeadsTo};
+    ghost use Rattle.iol_journal.specs.Parts.{stands};
+    ghost use Rattle.iol_journal.specs.Planned.{LeadsTo};
 
     ghost Value = { CheckpointingView D };
 
@@ -50,20 +51,20 @@ pub enum CheckpointProgress<D: SectorDisk> {
 impl<D: SectorDisk> Checkpointing<D> {
     ghost use Rattle.std.specs.Prelude.{◌≡◌, true, Some, None};
     ghost use Rattle.iol_disk.specs.Moments.{LeavesOnly};
-    ghost use Rattle.iol_checkpoint.specs.BegunParts.{view_of, IsBegun};
-    ghost use Rattle.iol_checkpoint.specs.Drafts.{may_pause};
+    ghost use Rattle.iol_journal.specs.BegunParts.{view_of, IsBegun};
+    ghost use Rattle.iol_journal.specs.Drafts.{may_pause};
     ghost use Rattle.iol_layout.specs.Standings.{IsResting};
-    ghost use Rattle.iol_batch.specs.Parts.{stands};
-    ghost use Rattle.iol_batch.specs.Planned.{LeadsTo};
+    ghost use Rattle.iol_journal.specs.Parts.{stands};
+    ghost use Rattle.iol_journal.specs.Planned.{LeadsTo};
     ghost use Rattle.iol_journal.specs.CheckpointViews.{paused_in, stages_left, IsCheckpointUnderway};
-    ghost use Rattle.iol_checkpoint.specs.Pauses.{IsPaused};
+    ghost use Rattle.iol_journal.specs.Pauses.{IsPaused};
     ghost use Rattle.iol_journal.specs.Checkpointing.{checkpoint_disk, IfGoesOn, IfCheckpointed, CheckpointStepMakes};
     ghost use Rattle.iol_journal.specs.Checkpointing.{IsCheckpointMoved, IsCheckpointDone};
     ghost use Rattle.iol_journal.specs.CheckpointRuns.{IsRunCheckpointing, HasCheckpointed};
     ghost use Rattle.iol_layout.specs.Kept.{KeptMeans, EachMeans};
     ghost use Rattle.iol_journal.specs.Runs.{Run};
     ghost use Rattle.iol_journal.specs.Running.{IsRunAtRest};
-    ghost use Rattle.iol_batch.specs.Phases.{IsAtRest};
+    ghost use Rattle.iol_journal.specs.Phases.{IsAtRest};
     ghost use Rattle.iol_layout.specs.declared.idle.Idle.TheVariants.{Older};
 
     // A checkpoint that goes on.

@@ -1,8 +1,11 @@
 //! A journal at rest, and which batches it takes.
 
+use crate::batch::Batch;
+use crate::begun::{Begun, make_room};
+use crate::parts::Parts;
+use crate::plan::Plan;
+use crate::refusal::BeginCause;
 use crate::writing::Writing;
-use iol_batch::{Batch, BeginCause, Parts, Plan};
-use iol_checkpoint::{Begun, make_room};
 use iol_disk::SectorDisk;
 use iol_layout::{BODY_HEAD_OCTETS, BODY_OCTETS};
 use std::alloc::AllocError;
@@ -20,11 +23,11 @@ pub struct Journal<D: SectorDisk> {
 
 impl<D: SectorDisk> Model for Journal<D> {
     ghost use Rattle.std.specs.Option.{option_map};
-    ghost use Rattle.iol_checkpoint.specs.BegunParts.{view_of, IsSetAside};
+    ghost use Rattle.iol_journal.specs.BegunParts.{view_of, IsSetAside};
     ghost use Rattle.iol_journal.specs.Journals.{JournalView};
     ghost use Rattle.iol_layout.specs.Standings.{IsResting};
-    ghost use Rattle.iol_batch.specs.Parts.{stands};
-    ghost use Rattle.iol_batch.specs.Planned.{LeadsTo};
+    ghost use Rattle.iol_journal.specs.Parts.{stands};
+    ghost use Rattle.iol_journal.specs.Planned.{LeadsTo};
 
     ghost Value = { JournalView D };
 
@@ -59,26 +62,26 @@ impl<D: SectorDisk> Journal<D> {
     ghost use Rattle.std.specs.Prelude.{◌≡◌, ◌≤◌, ◌<◌, ◌+◌, ◌*◌, ◌++◌, ℕ, nat_lt, nat_le, true, false, List, length, None, is_some};
     ghost use Rattle.std.specs.Prelude.{IfOk, IfErr, OnOk};
     ghost use Rattle.std.specs.Option.{option_map};
-    ghost use Rattle.iol_checkpoint.specs.BegunParts.{view_of, IsSetAside};
-    ghost use Rattle.iol_checkpoint.specs.Pauses.{IsPaused, IsBeside};
-    ghost use Rattle.iol_batch.specs.Begin.{batch_refusal, room_in, IsBatchRefusal};
-    ghost use Rattle.iol_batch.specs.Phases.{IsAtRest};
+    ghost use Rattle.iol_journal.specs.BegunParts.{view_of, IsSetAside};
+    ghost use Rattle.iol_journal.specs.Pauses.{IsPaused, IsBeside};
+    ghost use Rattle.iol_journal.specs.Begin.{batch_refusal, room_in, IsBatchRefusal};
+    ghost use Rattle.iol_journal.specs.Phases.{IsAtRest};
     ghost use Rattle.iol_journal.specs.Underway.{IsUnderway};
-    ghost use Rattle.iol_batch.specs.Batches.{batch_calls};
+    ghost use Rattle.iol_journal.specs.Batches.{batch_calls};
     ghost use Rattle.iol_journal.specs.Runs.{Run, with_batch_begun};
     ghost use Rattle.iol_journal.specs.Running.{IsRunAtRest, IsRunWriting};
     ghost use Rattle.iol_types.specs.Command.{CommandValue};
     ghost use Rattle.iol_layout.specs.Layout.{is_renewed, renewed};
     ghost use Rattle.iol_layout.specs.Standings.{IsResting, free_slots};
-    ghost use Rattle.iol_batch.specs.Parts.{stands};
+    ghost use Rattle.iol_journal.specs.Parts.{stands};
     ghost use Rattle.iol_layout.specs.Body.{values};
     ghost use Rattle.iol_journal.specs.Journals.{calls_left, writing_of};
-    ghost use Rattle.iol_batch.specs.Planned.{IsPlan, IsPlanned, LeadsTo};
+    ghost use Rattle.iol_journal.specs.Planned.{IsPlan, IsPlanned, LeadsTo};
     ghost use Rattle.iol_layout.specs.Body.{slots_of, slots_for};
     ghost use Rattle.iol_layout.specs.declared.body.TheConstants.{MOST_RECORD_OCTETS};
-    ghost use Rattle.iol_slots.specs.declared.slot.TheConstants.{BODY_SECTORS};
+    ghost use Rattle.iol_disk.specs.declared.slot.TheConstants.{BODY_SECTORS};
     ghost use Rattle.iol_layout.specs.declared.header.TheConstants.{LAST_NUMBER};
-    ghost use Rattle.iol_batch.specs.declared.phase.Phase.TheVariants.{Body};
+    ghost use Rattle.iol_journal.specs.declared.phase.Phase.TheVariants.{Body};
 
     // A journal of these parts, beside which this checkpoint is paused.
     pub(crate) fn at_rest(disk: D, parts: Parts, begun: Option<Begun>) -> Journal<D>

@@ -5,16 +5,16 @@ ghost use Rattle.iol_types.specs.Command.{CommandValue};
 ghost use Rattle.iol_disk.specs.Content.{EachImage};
 ghost use Rattle.iol_disk.specs.Disk.{Disk};
 ghost use Rattle.iol_layout.specs.Layout.{is_renewed};
-ghost use Rattle.iol_batch.specs.Begin.{follows, fits_no_area, wants_checkpoint, batch_refusal};
+ghost use Rattle.iol_journal.specs.Begin.{follows, fits_no_area, wants_checkpoint, batch_refusal};
 ghost use Rattle.iol_journal.specs.CheckpointViews.{CheckpointingView, IsCheckpointUnderway};
 ghost use Rattle.iol_journal.specs.Journals.{WritingView};
 ghost use Rattle.iol_layout.specs.Kept.{KeptEither, EachMeans};
 ghost use Rattle.iol_layout.specs.Meaning.{Standing};
-ghost use Rattle.iol_batch.specs.Phases.{IsAtRest};
+ghost use Rattle.iol_journal.specs.Phases.{IsAtRest};
 ghost use Rattle.iol_journal.specs.Underway.{IsUnderway};
 ghost use Rattle.iol_layout.specs.declared.idle.Idle.{Idle};
 
-use iol_batch::BeginCause;
+use crate::refusal::BeginCause;
 use iol_disk::SectorDisk;
 
 /// While a batch is under way each image of an honest disk is kept, and means the state before it or the state after it.

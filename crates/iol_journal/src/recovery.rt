@@ -8,8 +8,9 @@ ghost use Rattle.iol_disk.specs.Disk.{Shows};
 ghost use Rattle.iol_recovery.specs.Reading.{Finds};
 ghost use Rattle.iol_recovery.specs.Finding.{HasChosen, MakesRecovery, idle_in};
 
+use crate::history::History;
 use crate::journal::Journal;
-use iol_batch::{History, Parts};
+use crate::parts::Parts;
 use iol_disk::SectorDisk;
 use iol_recovery::{RecoverCause, find};
 use iol_types::MasterState;
@@ -26,7 +27,7 @@ impl<D: SectorDisk> Journal<D> {
     ghost use Rattle.std.specs.Prelude.{◌≡◌, ℕ, [], None, Ok, IsTrue, IfOk, IfErr};
     ghost use Rattle.iol_types.specs.State.{State};
     ghost use Rattle.iol_layout.specs.Kept.{IsKept, EachMeans};
-    ghost use Rattle.iol_batch.specs.Phases.{IsAtRest};
+    ghost use Rattle.iol_journal.specs.Phases.{IsAtRest};
     ghost use Rattle.iol_recovery.specs.Reading.{SaysWhy};
     ghost use Rattle.iol_journal.specs.Recovery.{recovered_disk, cause_of};
     ghost use Rattle.iol_journal.specs.Runs.{Run, IsRun, begun};

@@ -3,8 +3,8 @@
 //!
 //! [`Layout`] has the places. Each reader is one that a recovery reads by, and none writes to the disk.
 
+pub use iol_disk::BODY_SECTORS;
 pub use iol_layout::{DISK_GATE, GEOMETRY, Layout, is_formatted, read_sector};
 pub use iol_recovery::{
     SlotFront, greatest_of, read_header, read_open_headers, read_port, read_slot,
 };
-pub use iol_slots::BODY_SECTORS;

@@ -1,8 +1,12 @@
 //! A batch on its way to the disk.
 
+use crate::batch::Batch;
+use crate::begun::{Begun, owing};
+use crate::calls::make;
 use crate::journal::Journal;
-use iol_batch::{Batch, Parts, Phase, Plan, make};
-use iol_checkpoint::{Begun, owing};
+use crate::parts::Parts;
+use crate::phase::Phase;
+use crate::plan::Plan;
 use iol_disk::{DiskFault, SectorDisk};
 use std::marker::Model;
 
@@ -22,15 +26,15 @@ impl<D: SectorDisk> Model for Writing<D> {
     ghost use Rattle.std.specs.Prelude.{◌≡◌, ◌≤◌, ◌+◌};
     ghost use Rattle.std.specs.Option.{option_map};
     ghost use Rattle.iol_types.specs.State.{after};
-    ghost use Rattle.iol_checkpoint.specs.BegunParts.{view_of, IsSetAside, HasRoom};
+    ghost use Rattle.iol_journal.specs.BegunParts.{view_of, IsSetAside, HasRoom};
     ghost use Rattle.iol_journal.specs.Journals.{WritingView};
-    ghost use Rattle.iol_batch.specs.Planned.{IsPlanned};
+    ghost use Rattle.iol_journal.specs.Planned.{IsPlanned};
 
     ghost Value = { WritingView D };
 
-    ghost use Rattle.iol_batch.specs.Parts.{stands};
+    ghost use Rattle.iol_journal.specs.Parts.{stands};
     ghost use Rattle.iol_layout.specs.Body.{values};
-    ghost use Rattle.iol_batch.specs.Planned.{IsPlan, LeadsTo};
+    ghost use Rattle.iol_journal.specs.Planned.{IsPlan, LeadsTo};
 
     ghost view = { λ w. record {
       disk = w.disk;
@@ -100,19 +104,19 @@ impl<D: SectorDisk> Writing<D> {
     ghost use Rattle.std.specs.Prelude.{◌≡◌, ◌+◌};
     ghost use Rattle.std.specs.Option.{option_map};
     ghost use Rattle.iol_disk.specs.Moments.{LeavesOnly};
-    ghost use Rattle.iol_checkpoint.specs.BegunParts.{view_of, IsSetAside, HasRoom};
-    ghost use Rattle.iol_checkpoint.specs.Pauses.{IsPaused, IsBeside};
+    ghost use Rattle.iol_journal.specs.BegunParts.{view_of, IsSetAside, HasRoom};
+    ghost use Rattle.iol_journal.specs.Pauses.{IsPaused, IsBeside};
     ghost use Rattle.iol_layout.specs.Kept.{KeptEither, EachMeans};
-    ghost use Rattle.iol_batch.specs.Phases.{IsAtRest};
+    ghost use Rattle.iol_journal.specs.Phases.{IsAtRest};
     ghost use Rattle.iol_journal.specs.Underway.{IsUnderway};
-    ghost use Rattle.iol_batch.specs.Planned.{IsPlan, IsPlanned, LeadsTo};
+    ghost use Rattle.iol_journal.specs.Planned.{IsPlan, IsPlanned, LeadsTo};
     ghost use Rattle.iol_journal.specs.Journals.{calls_left};
-    ghost use Rattle.iol_batch.specs.Parts.{stands};
+    ghost use Rattle.iol_journal.specs.Parts.{stands};
     ghost use Rattle.iol_layout.specs.Body.{values};
     ghost use Rattle.iol_journal.specs.Progress.{stepped_disk, IfMore, IfDone, IsBatchMoved, IsBatchDone, StepMakes};
     ghost use Rattle.iol_journal.specs.Runs.{Run};
     ghost use Rattle.iol_journal.specs.Running.{IsRunWriting, HasStepped};
-    ghost use Rattle.iol_batch.specs.declared.phase.Phase.TheVariants.{Body};
+    ghost use Rattle.iol_journal.specs.declared.phase.Phase.TheVariants.{Body};
 
     // A batch before its first step.
     pub(crate) fn begun(

@@ -5,7 +5,7 @@ use Rattle.std.proofs.lemmas.Bool.{cases_lt}
 use Rattle.iol_types.specs.Command.{CommandValue}
 use Rattle.iol_types.specs.State.{State, legal}
 use Rattle.iol_disk.specs.Content.{Image}
-use Rattle.iol_slots.specs.Gate.{is_open}
+use Rattle.iol_disk.specs.Gate.{is_open}
 use Rattle.iol_record.specs.Record.{newest}
 use Rattle.iol_record.specs.declared.version.Version.{Version}
 use Rattle.iol_layout.specs.Layout.{Layout, other, gate_at, header_at, slot_at}

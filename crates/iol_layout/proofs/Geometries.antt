@@ -14,7 +14,7 @@ use Rattle.iol_layout.specs.Meaning.{unformatted, too_small, if_sound, or_damage
 use Rattle.iol_layout.specs.Octets.{number_at, padded}
 use Rattle.iol_layout.specs.declared.area.Area.{Area}
 use Rattle.iol_layout.specs.declared.area.Area.TheVariants.{A, B}
-use Rattle.iol_slots.specs.declared.slot.TheConstants.{BODY_SECTORS}
+use Rattle.iol_disk.specs.declared.slot.TheConstants.{BODY_SECTORS}
 use Rattle.iol_layout.specs.declared.geometry.TheConstants.{GEOMETRY, GEOMETRY_MARK}
 
 pub is_in_range-true : (g : Geometry) → IsInRange g → is_in_range g ≡ true

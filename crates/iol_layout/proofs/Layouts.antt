@@ -5,7 +5,7 @@ use Rattle.iol_record.specs.declared.version.Version.{Version}
 use Rattle.iol_record.specs.declared.version.Version.TheVariants.{One, Two}
 use Rattle.iol_record.specs.Record.{newest, is_newest}
 use Rattle.iol_disk.specs.Content.{Image}
-use Rattle.iol_slots.specs.Gate.{is_open}
+use Rattle.iol_disk.specs.Gate.{is_open}
 use Rattle.iol_layout.specs.Geometry.{Geometry, IsGeometry, given_up}
 use Rattle.iol_layout.specs.Header.{header_of, epochs_ahead, is_sound}
 use Rattle.iol_layout.specs.Layout.{Layout, IsLayout, placed, kept_slots, laid_out, layout_of, geometry_for, renewed_from, renewed}
@@ -15,7 +15,7 @@ use Rattle.iol_layout.specs.Meaning.{damaged, if_sound, header_in, in_use, great
 use Rattle.iol_layout.specs.declared.area.Area.{Area}
 use Rattle.iol_layout.specs.declared.area.Area.TheVariants.{A, B}
 use Rattle.iol_layout.specs.declared.header.Header.{Header}
-use Rattle.iol_slots.specs.declared.slot.TheConstants.{BODY_SECTORS}
+use Rattle.iol_disk.specs.declared.slot.TheConstants.{BODY_SECTORS}
 use Rattle.iol_layout.specs.declared.geometry.TheConstants.{PORT_SECTORS}
 
 -- in every version an area has as many sectors

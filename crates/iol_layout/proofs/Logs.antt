@@ -5,7 +5,7 @@ use Rattle.iol_types.specs.Command.{CommandValue}
 use Rattle.iol_types.specs.State.{State, after, legal}
 use Rattle.iol_disk.specs.Content.{Image}
 use Rattle.iol_record.specs.Reading.{◌>>=◌}
-use Rattle.iol_slots.specs.Gate.{is_open}
+use Rattle.iol_disk.specs.Gate.{is_open}
 use Rattle.iol_layout.specs.Layout.{Layout, slot_at, body_at}
 use Rattle.iol_layout.specs.Body.{head_of, batch_of}
 use Rattle.iol_layout.specs.Meaning.{Cause, if_sound, or_damaged, Log, body_in, span_in, batch_in, log_from}

@@ -4,7 +4,7 @@ use Rattle.std.proofs.Common.{◌≡◌, ◌≤◌, ◌<◌, ◌⊎◌, inl, inr
 use Rattle.std.proofs.Common.{None, Ok, refl, ◌∙◌, ap, arith}
 use Rattle.iol_types.specs.State.{State}
 use Rattle.iol_disk.specs.Content.{Image}
-use Rattle.iol_slots.specs.Gate.{is_open}
+use Rattle.iol_disk.specs.Gate.{is_open}
 use Rattle.iol_layout.specs.Header.{header_of, is_sound}
 use Rattle.iol_layout.specs.Layout.{Layout, other, area_sectors, gate_at, header_at, slot_at}
 use Rattle.iol_record.specs.declared.version.Version.{Version}

@@ -9,7 +9,7 @@ use Rattle.iol_disk.specs.declared.disk.TheConstants.{SECTOR_OCTETS}
 use Rattle.iol_record.specs.declared.version.Version.{Version}
 use Rattle.iol_layout.specs.Octets.{octets_at, sector_of}
 use Rattle.iol_layout.specs.Body.{head_of, fits, commands_of, batch_of, HoldsRecords}
-use Rattle.iol_slots.specs.Gate.{body_sector}
+use Rattle.iol_disk.specs.Gate.{body_sector}
 use Rattle.iol_layout.specs.declared.body.Head.{Head}
 use Rattle.iol_layout.specs.declared.body.TheConstants.{BODY_HEAD_OCTETS}
 use Rattle.iol_layout.proofs.Sectors.{octets_at-add}

@@ -4,14 +4,14 @@ use Rattle.std.proofs.Common.{refl, sym, ◌∙◌, ap, arith}
 use Rattle.std.proofs.lemmas.Bool.Decides.{nat_tests}
 use Rattle.iol_types.specs.Command.{CommandValue}
 use Rattle.iol_disk.specs.Content.{Image}
-use Rattle.iol_slots.specs.Gate.{body_sector}
+use Rattle.iol_disk.specs.Gate.{body_sector}
 use Rattle.iol_layout.specs.Layout.{Layout, slot_at, body_at, total}
 use Rattle.iol_layout.specs.Octets.{octets_at}
 use Rattle.iol_layout.specs.Body.{head_of, slots_of, batch_of}
 use Rattle.iol_layout.specs.Meaning.{body_in, span_in, batch_in}
 use Rattle.iol_layout.specs.declared.area.Area.{Area}
 use Rattle.iol_layout.specs.declared.area.Area.TheVariants.{A, B}
-use Rattle.iol_slots.specs.declared.slot.TheConstants.{BODY_SECTORS}
+use Rattle.iol_disk.specs.declared.slot.TheConstants.{BODY_SECTORS}
 use Rattle.iol_layout.proofs.Chains.{by_test}
 use Rattle.iol_layout.proofs.Sectors.{octets_at-same}
 

@@ -5,7 +5,7 @@ use Rattle.iol_types.specs.State.{State}
 use Rattle.iol_record.specs.Record.{port_octets}
 use Rattle.iol_disk.specs.Calls.{Call, write, sync}
 use Rattle.iol_disk.specs.Content.{Image}
-use Rattle.iol_slots.specs.Gate.{closed_gate}
+use Rattle.iol_disk.specs.Gate.{closed_gate}
 use Rattle.iol_layout.specs.Header.{header_octets}
 use Rattle.iol_layout.specs.Layout.{Layout, header_at, port_at, slot_at}
 use Rattle.iol_layout.specs.Octets.{padded, sectors_reached, sector_of}

@@ -6,7 +6,7 @@ use Rattle.std.specs.List.{starts_with}
 use Rattle.iol_record.specs.declared.version.Version.{Version}
 use Rattle.iol_record.specs.declared.version.Version.TheVariants.{One, Two}
 use Rattle.iol_layout.specs.Octets.{number_at, padded}
-use Rattle.iol_slots.specs.declared.slot.TheConstants.{BODY_SECTORS}
+use Rattle.iol_disk.specs.declared.slot.TheConstants.{BODY_SECTORS}
 use Rattle.iol_layout.specs.declared.geometry.TheConstants.{MOST_PORTS, MOST_SLOTS, PORT_SECTORS, PORT_SECTORS_OF_TWO, GEOMETRY_MARK}
 
 -- a geometry: how many ports a master has, and how many slots each area (format, Disk layout)

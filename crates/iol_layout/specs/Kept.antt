@@ -4,7 +4,7 @@ use Rattle.iol_types.specs.Command.{CommandValue}
 use Rattle.iol_types.specs.State.{State, after}
 use Rattle.iol_disk.specs.Content.{Image, EachImage}
 use Rattle.iol_disk.specs.Disk.{Disk}
-use Rattle.iol_slots.specs.Gate.{is_open}
+use Rattle.iol_disk.specs.Gate.{is_open}
 use Rattle.iol_layout.specs.Layout.{other, gate_at, header_at, slot_at}
 use Rattle.iol_layout.specs.Header.{header_of}
 use Rattle.iol_layout.specs.Meaning.{Standing, standing_in, meaning}

@@ -4,7 +4,7 @@ use Rattle.iol_record.specs.declared.version.Version.{Version}
 use Rattle.iol_record.specs.declared.version.Version.TheVariants.{One, Two}
 use Rattle.iol_record.specs.Record.{newest, is_newest}
 use Rattle.iol_layout.specs.Geometry.{Geometry, IsGeometry, given_up}
-use Rattle.iol_slots.specs.declared.slot.TheConstants.{BODY_SECTORS}
+use Rattle.iol_disk.specs.declared.slot.TheConstants.{BODY_SECTORS}
 use Rattle.iol_layout.specs.declared.geometry.TheConstants.{PORT_SECTORS, PORT_SECTORS_OF_TWO}
 use Rattle.iol_layout.specs.declared.area.Area.{Area}
 use Rattle.iol_layout.specs.declared.area.Area.TheVariants.{A, B}

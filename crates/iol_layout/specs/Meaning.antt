@@ -7,7 +7,7 @@ use Rattle.iol_record.specs.declared.fault.RecordFault.{RecordFault}
 use Rattle.iol_record.specs.declared.version.Version.{Version}
 use Rattle.iol_record.specs.declared.version.Version.TheVariants.{One, Two}
 use Rattle.iol_disk.specs.Content.{Image}
-use Rattle.iol_slots.specs.Gate.{is_open}
+use Rattle.iol_disk.specs.Gate.{is_open}
 use Rattle.iol_layout.specs.Geometry.{Geometry, geometry_of, given_up}
 use Rattle.iol_layout.specs.Layout.{Layout, laid_out, layout_of, total, gate_at, header_at, port_at, slot_at, body_at}
 use Rattle.iol_layout.specs.Octets.{octets_at}
@@ -16,7 +16,7 @@ use Rattle.iol_layout.specs.Body.{head_of, slots_of, batch_of}
 use Rattle.iol_layout.specs.Header.{header_of, is_sound, version_in}
 use Rattle.iol_layout.specs.declared.area.Area.{Area}
 use Rattle.iol_layout.specs.declared.area.Area.TheVariants.{A, B}
-use Rattle.iol_slots.specs.declared.slot.TheConstants.{BODY_SECTORS}
+use Rattle.iol_disk.specs.declared.slot.TheConstants.{BODY_SECTORS}
 use Rattle.iol_layout.specs.declared.geometry.TheConstants.{GEOMETRY, DISK_GATE}
 use Rattle.iol_layout.specs.declared.header.Header.{Header}
 use Rattle.iol_layout.specs.declared.in_use.InUse.{InUse}

@@ -11,7 +11,7 @@ ghost use Rattle.iol_layout.specs.Body.{batch_of, body_octets, commands_of, fits
 ghost use Rattle.iol_layout.specs.Examples.{two_by_four, first_body, first_body_of_one, header_with};
 ghost use Rattle.iol_layout.specs.Geometry.{IsGeometry, geometry_of, geometry_octets, given_up};
 ghost use Rattle.iol_layout.specs.Header.{header_of, header_octets, is_sound, version_named};
-ghost use Rattle.iol_slots.specs.Gate.{open_gate, closed_gate};
+ghost use Rattle.iol_disk.specs.Gate.{open_gate, closed_gate};
 ghost use Rattle.iol_layout.specs.Meaning.{unformatted, too_small, damaged, geometry_in, greatest};
 ghost use Rattle.iol_layout.specs.Octets.{sectors_reached};
 ghost use Rattle.iol_layout.specs.Layout.{laid_out, layout_of, renewed, total, gate_at, header_at, port_at, slot_at, body_at};
@@ -146,7 +146,7 @@ pub fn bodies_read()
 
 /// Why an image means nothing: there is no gate of the disk, the disk is smaller than its geometry, no area is open, both are
 /// open under one epoch, or the header in use is out of its bounds.
-#[tactic(auto, unfolding(crate::specs::Geometry::geometry_of, crate::specs::Octets::padded, iol_slots::specs::Gate::is_open, iol_slots::specs::Gate::open_gate, iol_slots::specs::Gate::closed_gate))]
+#[tactic(auto, unfolding(crate::specs::Geometry::geometry_of, crate::specs::Octets::padded, iol_disk::specs::Gate::is_open, iol_disk::specs::Gate::open_gate, iol_disk::specs::Gate::closed_gate))]
 pub fn first_causes()
     ensures one_sector { geometry_in 1 (λ i. open_gate) ≡ Err unformatted }
     ensures closed_disk { geometry_in 178 (λ i. closed_gate) ≡ Err unformatted }

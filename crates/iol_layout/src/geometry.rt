@@ -2,9 +2,8 @@
 
 use crate::layout::{Layout, given_up};
 use crate::sector::sector_of;
-use iol_disk::SECTOR_OCTETS;
+use iol_disk::{BODY_SECTORS, SECTOR_OCTETS};
 use iol_record::Version;
-use iol_slots::BODY_SECTORS;
 use std::marker::Model;
 
 // The most ports that a master has.

@@ -8,9 +8,8 @@ use crate::geometry::{
     GEOMETRY_MARK, Geometry, MOST_PORTS, MOST_SLOTS, PORT_SECTORS, PORT_SECTORS_OF_TWO,
 };
 use crate::numbers::array_at;
-use iol_disk::SECTOR_OCTETS;
+use iol_disk::{BODY_SECTORS, SECTOR_OCTETS, Slot};
 use iol_record::Version;
-use iol_slots::{BODY_SECTORS, Slot};
 use std::marker::Model;
 
 /// Where everything stands on the disk of a geometry (docs/FORMATS.md, "Disk layout").

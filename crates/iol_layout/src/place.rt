@@ -3,7 +3,7 @@
 use crate::area::Area;
 use crate::idle::Idle;
 use crate::layout::Layout;
-use iol_slots::Slot;
+use iol_disk::Slot;
 
 /// Where a journal writes next.
 #[derive(Clone, Copy)]
@@ -19,7 +19,7 @@ impl Place {
     ghost use Rattle.std.specs.Prelude.{◌≡◌, ◌≤◌, ◌+◌, ◌-◌, ◌*◌, if◌then◌else◌};
     ghost use Rattle.iol_layout.specs.Geometry.{IsGeometry};
     ghost use Rattle.iol_layout.specs.Layout.{geometry_for, is_renewed, renewed, slot_at, body_at};
-    ghost use Rattle.iol_slots.specs.declared.slot.TheConstants.{BODY_SECTORS};
+    ghost use Rattle.iol_disk.specs.declared.slot.TheConstants.{BODY_SECTORS};
 
     /// How many slots the area has, 1 to 256.
     pub fn slots(&self) -> usize

@@ -5,11 +5,10 @@ ghost use Rattle.iol_disk.specs.Disk.{Same, FailsOnlyAs, Shows};
 ghost use Rattle.iol_disk.specs.declared.fault.DiskFault.{DiskFault};
 ghost use Rattle.iol_layout.specs.Meaning.{is_formatted};
 ghost use Rattle.iol_layout.specs.declared.geometry.TheConstants.{DISK_GATE};
-ghost use Rattle.iol_slots.specs.Gate.{is_open};
+ghost use Rattle.iol_disk.specs.Gate.{is_open};
 
 use crate::geometry::DISK_GATE;
-use iol_disk::{DiskFault, SECTOR_OCTETS, SectorDisk};
-use iol_slots::Slot;
+use iol_disk::{DiskFault, SECTOR_OCTETS, SectorDisk, Slot};
 
 /// The octets of a sector.
 ///

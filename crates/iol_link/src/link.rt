@@ -4,8 +4,8 @@ ghost use Rattle.std.specs.Prelude.{◌≡◌, ℕ, IsErr, IsNone};
 ghost use Rattle.iol_link.specs.Link.{LinkCall, TakeEvent, ReadPage, Exchange, LinkAnswer, event_answer, page_answer, exchange_answer};
 ghost use Rattle.iol_link.specs.Link.{connection_after, last_connection};
 
+use crate::parts::ISDU_OCTETS;
 use arrayvec::ArrayVec;
-use iol_isdu::ISDU_OCTETS;
 use thiserror::Error;
 
 /// How many octets Direct Parameter page 1 has.

@@ -5,7 +5,7 @@ ghost use Rattle.iol_live.specs.Asked.{changes_of};
 ghost use Rattle.iol_live.specs.Ends.{missing_with, unreceived};
 ghost use Rattle.iol_live.specs.Lived.{IsRunCause};
 
-use crate::telling::{Telling, Told};
+use crate::telling::{PortReceipt, Telling};
 use crossbeam_channel::{Receiver, Sender};
 use iol_commands::Fault;
 use iol_disk::SectorDisk;
@@ -77,7 +77,7 @@ fn start_clients<
     alloc: Global,
     master: &mut Master<D, F>,
     changes: &[Change],
-    told: Sender<Told, Global>,
+    told: Sender<PortReceipt, Global>,
     clients: &mut Asking,
 ) -> Result<(), Fault<'static>>
     ensures same { master.new ≡ master.old }
@@ -104,7 +104,7 @@ fn start_at<
     master: &mut Master<D, F>,
     changes: &[Change],
     number: u8,
-    told: &Sender<Told, Global>,
+    told: &Sender<PortReceipt, Global>,
     clients: &mut Asking,
 ) -> Result<(), Fault<'static>>
     ensures same { master.new ≡ master.old }
@@ -144,7 +144,7 @@ fn start_client<
     rt: &R,
     master: &mut Master<D, F>,
     asked: Vec<Change>,
-    told: &Sender<Told, Global>,
+    told: &Sender<PortReceipt, Global>,
     clients: &mut Asking,
 ) -> Result<(), Fault<'static>>
     ensures same { master.new ≡ master.old }
@@ -160,8 +160,8 @@ fn start_client<
 // Makes a further client of a master, and the sender for its receipts.
 fn ends_of<D: SectorDisk + Drop + Send + 'static, F: Name + 'static>(
     master: &mut Master<D, F>,
-    told: &Sender<Told, Global>,
-) -> Result<(Client<F>, Sender<Told, Global>), AllocError>
+    told: &Sender<PortReceipt, Global>,
+) -> Result<(Client<F>, Sender<PortReceipt, Global>), AllocError>
     ensures { master.new ≡ master.old }
 {
     let told = told.clone()?;
@@ -179,7 +179,7 @@ fn spawn_client<F: Name + 'static, R: Threads + Wait + Copy + Send + 'static>(
     rt: &R,
     client: Client<F>,
     asked: Vec<Change>,
-    told: Sender<Told, Global>,
+    told: Sender<PortReceipt, Global>,
     clients: &mut Asking,
 ) -> Result<(), Fault<'static>>
     ensures cause { IfErr result IsRunCause }
@@ -197,7 +197,7 @@ fn ask<F: Name, R: Wait>(
     rt: &R,
     mut client: Client<F>,
     asked: &[Change],
-    told: &Sender<Told, Global>,
+    told: &Sender<PortReceipt, Global>,
 ) -> Result<(), CallFault> {
     for change in asked {
         match number_of(rt, &mut client, *change) {
@@ -209,8 +209,8 @@ fn ask<F: Name, R: Wait>(
 }
 
 // Reports a receipt. A receipt that nobody receives is not counted.
-fn tell<R: Wait>(rt: &R, told: &Sender<Told, Global>, port: PortId, number: u64) {
-    let _ = told.send(rt, Told { port, number });
+fn tell<R: Wait>(rt: &R, told: &Sender<PortReceipt, Global>, port: PortId, number: u64) {
+    let _ = told.send(rt, PortReceipt { port, number });
 }
 
 // Requests a change, and returns the number under which it is durable, if the client gets its receipt.
@@ -233,7 +233,7 @@ fn number_of<F: Name, R: Wait>(
 // Reports each receipt as it comes, until all clients have ended, and returns the number of receipts.
 fn hear<E: Write, R: Wait>(
     rt: &R,
-    heard: Receiver<Told, Global>,
+    heard: Receiver<PortReceipt, Global>,
     telling: Telling,
     err: &mut E,
 ) -> usize

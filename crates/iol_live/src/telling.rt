@@ -17,14 +17,14 @@ pub enum Telling {
 
 /// A receipt, as its client reports it.
 #[derive(Clone, Copy, Debug)]
-pub(crate) struct Told {
+pub(crate) struct PortReceipt {
     pub(crate) port: PortId,
     pub(crate) number: u64,
 }
 
 impl Telling {
     // Reports a receipt; `count` includes it. A failed write changes nothing of the run.
-    pub(crate) fn tell<E: Write>(self, err: &mut E, told: Told, count: usize)
+    pub(crate) fn tell<E: Write>(self, err: &mut E, told: PortReceipt, count: usize)
         ensures { self ≡ Telling.Nothing → err.new ≡ err.old }
     {
         let _ = match self {
@@ -44,7 +44,7 @@ impl Telling {
     }
 }
 
-fn write_receipt<E: Write>(err: &mut E, told: Told) -> io::Result<()> {
+fn write_receipt<E: Write>(err: &mut E, told: PortReceipt) -> io::Result<()> {
     writeln!(err, "port {} receipt {}", told.port.number(), told.number)?;
     err.flush()
 }

@@ -1,6 +1,6 @@
 -- Where a flusher waits for memory, and that it may end from there.
 use Rattle.std.proofs.Common.{◌≡◌, inl, inr, Bool, true, false, Option, Some, None, if◌then◌else◌, refl, sym, ap, subst}
-use Rattle.iol_journal.specs.Batch.{Batch}
+use Rattle.iol_journal.specs.declared.batch.Batch.{Batch}
 use Rattle.iol_journal.specs.Journals.{JournalView}
 use Rattle.iol_journal.specs.Layout.{is_renewed}
 use Rattle.iol_flush.specs.Stages.{due_need, is_due, names_batch}

@@ -2,8 +2,8 @@
 use Rattle.std.specs.Prelude.{◌≡◌, ℕ, Bool, true, false}
 use Rattle.iol_flush.specs.declared.stage.FlushStage.{FlushStage}
 use Rattle.iol_flush.specs.declared.stage.FlushStage.TheVariants.{Resting, Opening, Given}
-use Rattle.iol_master.specs.declared.finding.Found.{Found}
-use Rattle.iol_master.specs.declared.finding.Found.TheVariants.{Batch, Nothing, Closed, NoMemory}
+use Rattle.iol_master.specs.declared.finding.SearchResult.{SearchResult}
+use Rattle.iol_master.specs.declared.finding.SearchResult.TheVariants.{Batch, Nothing, Closed, NoMemory}
 use Rattle.iol_master.specs.declared.pace.Checkpoint.{Checkpoint}
 use Rattle.iol_master.specs.declared.pace.Checkpoint.TheVariants.{Due, Begun, Owing}
 
@@ -18,7 +18,7 @@ pub record PaceView : Type 0 where
 
 -- the progress of a checkpoint after a search for a batch: if nothing was found, one of its calls is made; a batch that is given once it
 -- has begun is owed to it (own)
-abbrev pub after : Checkpoint → Found → Checkpoint
+abbrev pub after : Checkpoint → SearchResult → Checkpoint
 after Due (Batch batch) = Due
 after Begun (Batch batch) = Owing
 after Due Nothing = Begun
@@ -31,7 +31,7 @@ is_owing Begun = false
 is_owing Owing = true
 
 -- a checkpoint that owes a batch comes before the next batch (own)
-abbrev pub MayFind : Checkpoint → Found → Type 0
+abbrev pub MayFind : Checkpoint → SearchResult → Type 0
 MayFind Owing (Batch batch) = ⊥
 MayFind Owing NoMemory = ⊥
 MayFind checkpoint found = Unit {0}
@@ -53,11 +53,11 @@ IsBegun Due (Resting journal) (Resting left) = left.begun ≡ journal.begun
 IsBegun checkpoint old new = Unit {0}
 
 -- if no batch was found, the next wait is 0 microseconds long (own)
-abbrev pub IsSpent : Found → ℕ → Type 0
+abbrev pub IsSpent : SearchResult → ℕ → Type 0
 IsSpent Nothing microseconds = microseconds ≡ 0
 IsSpent found microseconds = Unit {0}
 
 -- the pace follows what the flusher finds (own)
-pub record Follows (old : PaceView) (found : Found) (new : PaceView) : Type 0 where
+pub record Follows (old : PaceView) (found : SearchResult) (new : PaceView) : Type 0 where
   pub checkpoint : new.checkpoint ≡ after old.checkpoint found
   pub spent : IsSpent found new.microseconds

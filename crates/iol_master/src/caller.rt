@@ -59,7 +59,7 @@ impl<F: Name> Notice<F> {
 
 /// The answer to a waiting caller.
 #[derive(Drop)]
-pub(crate) enum Answer<F: Name> {
+pub(crate) enum CallerAnswer<F: Name> {
     // Its change is durable.
     Durable(Notice<F>),
     // Memory ran out for the batch of its change.
@@ -72,5 +72,5 @@ pub(crate) enum Answer<F: Name> {
 pub(crate) struct Caller<F: Name> {
     pub(crate) change: Change,
     pub(crate) pass: Pass<F>,
-    pub(crate) answers: Sender<Answer<F>, Global>,
+    pub(crate) answers: Sender<CallerAnswer<F>, Global>,
 }

@@ -13,7 +13,7 @@ ghost use Rattle.iol_master.specs.News.{IsNew, IsSo, known_after};
 ghost use Rattle.iol_master.specs.Receipts.{IsReceiptFor};
 ghost use Rattle.iol_master.specs.Watching.{IsWatchFault};
 
-use crate::caller::{Answer, Caller, Notice};
+use crate::caller::{Caller, CallerAnswer, Notice};
 use crate::guarded::Guarded;
 use crate::news::{Known, News, wait_for_news};
 use crate::watching::{WatchFault, watch};
@@ -284,7 +284,7 @@ impl<F: Name> Client<F> {
 // Waits for the answer to an accepted change: the notice that it is durable, or why that is not known.
 fn hear<F: Name, R: Wait>(
     rt: &R,
-    heard: &Receiver<Answer<F>, Global>,
+    heard: &Receiver<CallerAnswer<F>, Global>,
 ) -> Result<Notice<F>, CallFault>
     ensures { IfErr result IsUntold }
 {
@@ -292,13 +292,13 @@ fn hear<F: Name, R: Wait>(
 }
 
 // Turns an answer into a notice or a fault. If no answer comes any more, the disk has failed.
-fn told_by<F: Name>(answer: Option<Answer<F>>) -> Result<Notice<F>, CallFault>
+fn told_by<F: Name>(answer: Option<CallerAnswer<F>>) -> Result<Notice<F>, CallFault>
     ensures answer { IsToldBy answer result }
     ensures untold { IfErr result IsUntold }
 {
     match answer {
-        Some(Answer::Durable(notice)) => Ok(notice),
-        Some(Answer::Unwritten) => Err(CallFault::Unwritten),
+        Some(CallerAnswer::Durable(notice)) => Ok(notice),
+        Some(CallerAnswer::Unwritten) => Err(CallFault::Unwritten),
         None => Err(CallFault::Unsure),
     }
 }

@@ -10,7 +10,7 @@ use iol_journal::Batch;
 
 /// The result of the flusher's search for a batch.
 #[derive(Drop)]
-pub(crate) enum Found {
+pub(crate) enum SearchResult {
     Batch(Batch),
     Nothing,
     // There is no batch, and no more commands come.
@@ -21,28 +21,28 @@ pub(crate) enum Found {
 
 impl<F: Name> Guarded<F> {
     // Takes the first batch that fits. Returns `Closed` only if there is no batch.
-    pub(crate) fn find(&mut self, room: usize) -> Found
+    pub(crate) fn find(&mut self, room: usize) -> SearchResult
         requires { LARGEST_COMMAND_RECORD ≤ room }
         ensures finds { Finds self.old room self.new result }
         ensures callers { self.new.callers ≡ self.old.callers }
     {
         match self.take_batch(room) {
-            Ok(Some(batch)) => Found::Batch(batch),
-            Ok(None) if self.phase() == Phase::Closed => Found::Closed,
-            Ok(None) => Found::Nothing,
-            Err(_) => Found::NoMemory,
+            Ok(Some(batch)) => SearchResult::Batch(batch),
+            Ok(None) if self.phase() == Phase::Closed => SearchResult::Closed,
+            Ok(None) => SearchResult::Nothing,
+            Err(_) => SearchResult::NoMemory,
         }
     }
 
     // Takes no batch. Returns `Closed` if nothing waits and no more commands come.
-    pub(crate) fn find_end(&self) -> Found
+    pub(crate) fn find_end(&self) -> SearchResult
         ensures end { result ≡ end_found self.now }
         ensures closed { IsEndIn self.now.phase result }
     {
         if self.is_over() {
-            Found::Closed
+            SearchResult::Closed
         } else {
-            Found::Nothing
+            SearchResult::Nothing
         }
     }
 }

@@ -13,7 +13,7 @@ ghost use Rattle.iol_master.specs.Since.{IsSince};
 
 use crate::client::Shared;
 use crate::ending::Ending;
-use crate::finding::Found;
+use crate::finding::SearchResult;
 use crate::guarded::Guarded;
 use crate::pace::Pace;
 use iol_disk::SectorDisk;
@@ -253,7 +253,7 @@ fn publish<D: SectorDisk, F: Name, R: Wait + Clock>(
 }
 
 // Looks for a batch, and releases the lock.
-fn look<F: Name>(mut guarded: MutexGuard<'_, Guarded<F>>, room: usize) -> Found
+fn look<F: Name>(mut guarded: MutexGuard<'_, Guarded<F>>, room: usize) -> SearchResult
     requires { LARGEST_COMMAND_RECORD ≤ room }
 {
     guarded.find(room)
@@ -266,7 +266,7 @@ fn look_again<F: Name, R: Wait + Clock>(
     shared: &Shared<F>,
     room: usize,
     pace: &mut Pace,
-) -> Found
+) -> SearchResult
     requires { LARGEST_COMMAND_RECORD ≤ room }
     ensures owed { MayFind pace.old.checkpoint result }
     ensures follows { Follows pace.old result pace.new }
@@ -315,14 +315,14 @@ fn take<D: SectorDisk, F: Name, R: Wait + Clock>(
         .wait_while(rt, shared.guarded.lock(rt), |guarded| guarded.is_idle());
     pace.rest();
     match look(guarded, flusher.room()) {
-        Found::Batch(batch) => {
+        SearchResult::Batch(batch) => {
             pace.begin(rt);
             let _ = flusher.give(batch);
             Turned::Made
         }
-        Found::Closed => Turned::Ended(Leaves::Nothing),
+        SearchResult::Closed => Turned::Ended(Leaves::Nothing),
         // No batch is in flight here, so a waiting command is found.
-        Found::Nothing | Found::NoMemory => Turned::Waited,
+        SearchResult::Nothing | SearchResult::NoMemory => Turned::Waited,
     }
 }
 
@@ -341,13 +341,13 @@ fn take_or_call<D: SectorDisk, F: Name, R: Wait + Clock>(
     ensures turned { MayTurn flusher.new.stage result }
 {
     match look_again(rt, shared, flusher.room(), pace) {
-        Found::Batch(batch) => {
+        SearchResult::Batch(batch) => {
             pace.begin(rt);
             let _ = flusher.give(batch);
             Turned::Made
         }
-        Found::Nothing => call_disk(rt, shared, flusher),
-        Found::Closed => Turned::Ended(Leaves::Nothing),
-        Found::NoMemory => Turned::Waited,
+        SearchResult::Nothing => call_disk(rt, shared, flusher),
+        SearchResult::Closed => Turned::Ended(Leaves::Nothing),
+        SearchResult::NoMemory => Turned::Waited,
     }
 }

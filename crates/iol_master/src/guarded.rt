@@ -12,7 +12,7 @@ ghost use Rattle.iol_core.specs.Ports.{view_at};
 ghost use Rattle.iol_core.specs.Standing.{Stands};
 ghost use Rattle.iol_core.specs.Submit.{IsSubmit, stopped_by};
 ghost use Rattle.iol_core.specs.declared.stop.StopCause.TheVariants.{Closed, DiskFailed};
-ghost use Rattle.iol_trace.specs.Events as trace;
+ghost use Rattle.iol_core.specs.Events as trace;
 ghost use Rattle.iol_engine.specs.Events.{told_of};
 ghost use Rattle.iol_engine.specs.HandedSteps.{StepsHanded, status_in};
 ghost use Rattle.iol_engine.specs.Submitted.{submit_told};
@@ -24,7 +24,7 @@ ghost use Rattle.iol_master.specs.Finding.{is_idle, is_over};
 ghost use Rattle.iol_master.specs.Wakes.{AreWoken, woken};
 ghost use Rattle.iol_master.specs.declared.guarded.Phase.TheVariants as phase;
 
-use crate::caller::{Answer, Caller, Notice};
+use crate::caller::{Caller, CallerAnswer, Notice};
 use iol_core::{AckFault, QUEUE_COMMANDS, StopCause, SubmitFault, View};
 use iol_engine::{Engine, Exchanged, Handed, PortTold};
 use iol_front::{Committed, Name, Pass};
@@ -328,7 +328,7 @@ fn wake_all(wakes: &mut [u64])
 fn tell_unwritten<F: Name, R: Wait>(rt: &R, callers: &VecDeque<Option<Caller<F>>>) {
     for caller in callers.iter().flatten() {
         // A caller that is gone needs no answer.
-        let _ = caller.answers.send(rt, Answer::Unwritten);
+        let _ = caller.answers.send(rt, CallerAnswer::Unwritten);
     }
 }
 
@@ -378,5 +378,5 @@ fn tell<F: Name, R: Wait>(rt: &R, caller: Caller<F>, committed: &mut Committed<F
     let number = committed.first() + place as u64;
     let notice = Notice::new(number, change, pass);
     // A caller that is gone needs no answer.
-    let _ = answers.send(rt, Answer::Durable(notice));
+    let _ = answers.send(rt, CallerAnswer::Durable(notice));
 }

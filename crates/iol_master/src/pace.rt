@@ -2,12 +2,12 @@
 
 ghost use Rattle.std.specs.Prelude.{◌≡◌, ◌*◌, ◌/◌, min, IfNone, IfSome};
 ghost use Rattle.std.specs.Duration.{as_nanos};
-ghost use Rattle.iol_journal.specs.Batch.{Batch};
+ghost use Rattle.iol_journal.specs.declared.batch.Batch.{Batch};
 ghost use Rattle.iol_master.specs.Pace.{Follows, after, is_owing, longest_delay};
-ghost use Rattle.iol_master.specs.declared.finding.Found.TheVariants as found;
+ghost use Rattle.iol_master.specs.declared.finding.SearchResult.TheVariants as found;
 ghost use Rattle.iol_master.specs.declared.pace.Checkpoint.TheVariants as checkpoint;
 
-use crate::finding::Found;
+use crate::finding::SearchResult;
 use std::marker::Model;
 use std::time::{Clock, Duration, Instant};
 
@@ -101,16 +101,16 @@ impl Pace {
     }
 
     // Updates the pace with what the flusher found.
-    pub(crate) fn follow(&mut self, found: &Found)
+    pub(crate) fn follow(&mut self, found: &SearchResult)
         ensures { Follows self.old found.now self.new }
     {
         match (found, self.checkpoint) {
-            (Found::Nothing, Checkpoint::Due) => {
+            (SearchResult::Nothing, Checkpoint::Due) => {
                 self.microseconds = 0;
                 self.checkpoint = Checkpoint::Begun;
             }
-            (Found::Nothing, _) => self.microseconds = 0,
-            (Found::Batch(_), Checkpoint::Begun) => self.checkpoint = Checkpoint::Owing,
+            (SearchResult::Nothing, _) => self.microseconds = 0,
+            (SearchResult::Batch(_), Checkpoint::Begun) => self.checkpoint = Checkpoint::Owing,
             _ => {}
         }
     }

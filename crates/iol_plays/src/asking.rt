@@ -17,20 +17,20 @@ const SENSOR: u32 = 0xABCD;
 pub(crate) struct Asking<F: Name> {
     pub(crate) number: usize,
     pub(crate) client: Client<F>,
-    pub(crate) told: Sender<Told, Global>,
+    pub(crate) told: Sender<ClientAnswer, Global>,
     pub(crate) granted: Sender<Receipt<F>, Global>,
     pub(crate) receipts: Receiver<Receipt<F>, Global>,
 }
 
 /// The answer to a client, with the client's number.
 #[derive(Clone, Copy)]
-pub(crate) struct Told {
+pub(crate) struct ClientAnswer {
     client: usize,
-    answer: Answer,
+    answer: CallResult,
 }
 
 #[derive(Clone, Copy)]
-enum Answer {
+enum CallResult {
     Receipt(u64),
     Met(u64),
     Read {
@@ -44,21 +44,21 @@ enum Answer {
     Unwatched(WatchFault),
 }
 
-impl fmt::Display for Told {
+impl fmt::Display for ClientAnswer {
     fn fmt<W: fmt::Write>(&self, f: &mut fmt::Formatter<W>) -> fmt::Result {
         write!(f, "{} ", self.client)?;
         match self.answer {
-            Answer::Receipt(number) => write!(f, "receipt {number}"),
-            Answer::Met(number) => write!(f, "met {number}"),
-            Answer::Read {
+            CallResult::Receipt(number) => write!(f, "receipt {number}"),
+            CallResult::Met(number) => write!(f, "met {number}"),
+            CallResult::Read {
                 number,
                 revision,
                 device,
             } => write!(f, "read {number} revision {revision} device {device}"),
-            Answer::Status(status) => write!(f, "status {status:?}"),
-            Answer::NoReceipt(fault) => write!(f, "{fault}"),
-            Answer::Unread(fault) => write!(f, "{fault}"),
-            Answer::Unwatched(fault) => write!(f, "{fault}"),
+            CallResult::Status(status) => write!(f, "status {status:?}"),
+            CallResult::NoReceipt(fault) => write!(f, "{fault}"),
+            CallResult::Unread(fault) => write!(f, "{fault}"),
+            CallResult::Unwatched(fault) => write!(f, "{fault}"),
         }
     }
 }
@@ -103,10 +103,10 @@ impl<F: Name> Asking<F> {
     fn tell_call<R: Wait>(&mut self, rt: &R, answer: Result<Receipt<F>, CallFault>) {
         match answer {
             Ok(receipt) => {
-                self.tell(rt, Answer::Receipt(receipt.number));
+                self.tell(rt, CallResult::Receipt(receipt.number));
                 let _ = self.granted.send(rt, receipt);
             }
-            Err(fault) => self.tell(rt, Answer::NoReceipt(fault)),
+            Err(fault) => self.tell(rt, CallResult::NoReceipt(fault)),
         }
     }
 
@@ -114,7 +114,7 @@ impl<F: Name> Asking<F> {
     fn meet<R: Wait>(&mut self, rt: &R) {
         if let Ok(mut receipt) = self.receipts.recv(rt) {
             self.client.meet(&mut receipt.pass);
-            self.tell(rt, Answer::Met(receipt.number));
+            self.tell(rt, CallResult::Met(receipt.number));
         }
     }
 
@@ -123,7 +123,7 @@ impl<F: Name> Asking<F> {
         for _ in rt.forever() {
             match self.client.read(rt, port) {
                 Ok(view) => {
-                    let read = Answer::Read {
+                    let read = CallResult::Read {
                         number: view.number,
                         revision: view.port.revision(),
                         device: view.port.config().device.number(),
@@ -131,7 +131,7 @@ impl<F: Name> Asking<F> {
                     return self.tell(rt, read);
                 }
                 Err(fault) => {
-                    self.tell(rt, Answer::Unread(fault));
+                    self.tell(rt, CallResult::Unread(fault));
                     if fault == ReadFault::UnknownPort {
                         return;
                     }
@@ -144,16 +144,16 @@ impl<F: Name> Asking<F> {
     // Reports the status of a port.
     fn look<R: Wait>(&mut self, rt: &R, port: PortId) {
         match self.client.status(rt, port) {
-            Some(status) => self.tell(rt, Answer::Status(status)),
-            None => self.tell(rt, Answer::Unwatched(WatchFault::UnknownPort)),
+            Some(status) => self.tell(rt, CallResult::Status(status)),
+            None => self.tell(rt, CallResult::Unwatched(WatchFault::UnknownPort)),
         }
     }
 
     // Reports the next status of a port that is off.
     fn wait<R: Wait>(&mut self, rt: &R, port: PortId) {
         match self.client.watch(rt, port, PortStatus::Off) {
-            Ok(status) => self.tell(rt, Answer::Status(status)),
-            Err(fault) => self.tell(rt, Answer::Unwatched(fault)),
+            Ok(status) => self.tell(rt, CallResult::Status(status)),
+            Err(fault) => self.tell(rt, CallResult::Unwatched(fault)),
         }
     }
 
@@ -163,16 +163,19 @@ impl<F: Name> Asking<F> {
         let mut last = PortStatus::Off;
         for _ in rt.forever() {
             match self.client.watch(rt, port, last) {
-                Ok(status) if is_settled(status) => return self.tell(rt, Answer::Status(status)),
+                Ok(status) if is_settled(status) => return self.tell(
+                    rt,
+                    CallResult::Status(status),
+                ),
                 Ok(status) => last = status,
-                Err(fault) => return self.tell(rt, Answer::Unwatched(fault)),
+                Err(fault) => return self.tell(rt, CallResult::Unwatched(fault)),
             }
         }
     }
 
-    fn tell<R: Wait>(&mut self, rt: &R, answer: Answer) {
+    fn tell<R: Wait>(&mut self, rt: &R, answer: CallResult) {
         let client = self.number;
-        let _ = self.told.send(rt, Told { client, answer });
+        let _ = self.told.send(rt, ClientAnswer { client, answer });
     }
 }
 

@@ -3,7 +3,7 @@
 ghost use Rattle.std.specs.Prelude.{◌≡◌, []};
 ghost use Rattle.iol_flush.specs.Stages.{HasHistory};
 
-use crate::asking::{Asking, Told};
+use crate::asking::{Asking, ClientAnswer};
 use crate::meeting_link::{MeetingLink, Meetings};
 use anyhow::bail;
 use crossbeam_channel::{Receiver, Sender};
@@ -193,7 +193,7 @@ fn end_beside<
 // What clients share: the channels for their answers, for their receipts, and for the receipts of other clients.
 #[derive(Drop)]
 struct Ends<F: Name> {
-    told: Sender<Told, Global>,
+    told: Sender<ClientAnswer, Global>,
     granted: Sender<Receipt<F>, Global>,
     receipts: Receiver<Receipt<F>, Global>,
 }
@@ -262,7 +262,11 @@ fn start<F: Name + 'static, R: Threads + Wait + Copy + Send + 'static>(
 }
 
 // Prints each answer as it comes, until all clients have ended.
-fn hear<R: Wait>(rt: &R, heard: &Receiver<Told, Global>, out: &mut Stdout) -> anyhow::Result<()> {
+fn hear<R: Wait>(
+    rt: &R,
+    heard: &Receiver<ClientAnswer, Global>,
+    out: &mut Stdout,
+) -> anyhow::Result<()> {
     for told in heard.iter(rt) {
         writeln!(out, "{told}")?;
         out.flush()?;

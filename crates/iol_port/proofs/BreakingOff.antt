@@ -2,12 +2,12 @@
 use Rattle.std.proofs.Common.{◌≡◌, ℕ, Bool, refl, sym, ap, ◌∙◌, subst}
 use Rattle.std.specs.Prelude.{Option, Some, None, Result, Ok, Err}
 use Rattle.arrayvec.specs.ArrayVec.{ArrayVec}
-use Rattle.iol_isdu.specs.Reading.{answer_of}
-use Rattle.iol_isdu.specs.declared.messages.Answer.{Answer}
-use Rattle.iol_isdu.specs.declared.faults.IsduFault.{IsduFault}
-use Rattle.iol_ident.specs.Page.{PageValue, page_of}
-use Rattle.iol_dsindex.specs.declared.command.DsCommand.TheVariants as command
-use Rattle.iol_dsindex.specs.Command.{commanded}
+use Rattle.iol_link.specs.Reading.{answer_of}
+use Rattle.iol_link.specs.declared.messages.Answer.{Answer}
+use Rattle.iol_link.specs.declared.faults.IsduFault.{IsduFault}
+use Rattle.iol_link.specs.Page.{PageValue, page_of}
+use Rattle.iol_transfer.specs.declared.command.DsCommand.TheVariants as command
+use Rattle.iol_transfer.specs.Command.{commanded}
 use Rattle.iol_transfer.specs.Machine.{Machine, Outcome, More, Whole, Fault, step}
 use Rattle.iol_transfer.specs.Download.{Sender}
 use Rattle.iol_core.specs.declared.permit.UploadGrant.{UploadGrant}
@@ -95,64 +95,64 @@ ticket_breaks wants heard was number page ticket.Durable = tt
 ticket_breaks wants heard was number page ticket.Unsure = tt
 
 -- what comes of what was wanted
-comes_breaks : (port : ℕ) (under : Option ℕ) (kept : Bool) (stage : Stage) (heard : Input) → ComesOf (wanted port stage) heard
+comes_breaks : (port : ℕ) (started : Option ℕ) (requested : Bool) (stage : Stage) (heard : Input) → ComesOf (wanted port stage) heard
     → Breaks (wanted port stage) heard stage
-    (fed (record { port = port; under = under; kept = kept; stage = after_action stage }) heard).stage
-comes_breaks port under kept (Settled own) input.Wake comes = tt
-comes_breaks port under kept (Settled own) heard comes = absurd comes
-comes_breaks port under kept (Paging what) (input.Page connection octets) comes =
+    (fed (record { port = port; started_revision = started; upload_requested = requested; stage = after_action stage }) heard).stage
+comes_breaks port started requested (Settled own) input.Wake comes = tt
+comes_breaks port started requested (Settled own) heard comes = absurd comes
+comes_breaks port started requested (Paging what) (input.Page connection octets) comes =
     free_breaks (wanted port (Paging what)) (input.Page connection octets) (Paging what)
-    (moved (record { port = port; under = under; kept = kept; stage = Paging what }) (page_heard what connection (page_of octets))).stage
-    (moved_holds (record { port = port; under = under; kept = kept; stage = Paging what }) (page_heard what connection (page_of octets))
+    (moved (record { port = port; started_revision = started; upload_requested = requested; stage = Paging what }) (page_heard what connection (page_of octets))).stage
+    (moved_holds (record { port = port; started_revision = started; upload_requested = requested; stage = Paging what }) (page_heard what connection (page_of octets))
     (page_free what connection (page_of octets)))
-comes_breaks port under kept (Paging what) input.Lost comes = tt
-comes_breaks port under kept (Paging what) heard comes = absurd comes
-comes_breaks port under kept (Attending what) (input.Reply (reply.Attended work)) comes =
+comes_breaks port started requested (Paging what) input.Lost comes = tt
+comes_breaks port started requested (Paging what) heard comes = absurd comes
+comes_breaks port started requested (Attending what) (input.Reply (reply.Attended work)) comes =
     free_breaks (wanted port (Attending what)) (input.Reply (reply.Attended work)) (Attending what)
-    (moved (record { port = port; under = under; kept = kept; stage = Attending what }) (attended under kept what work)).stage
-    (moved_holds (record { port = port; under = under; kept = kept; stage = Attending what }) (attended under kept what work)
-    (attended_free under kept what work))
-comes_breaks port under kept (Attending what) heard comes = absurd comes
-comes_breaks port under kept (BeginningUpload found) (input.Reply (reply.BegunUpload begins)) comes =
+    (moved (record { port = port; started_revision = started; upload_requested = requested; stage = Attending what }) (attended started requested what work)).stage
+    (moved_holds (record { port = port; started_revision = started; upload_requested = requested; stage = Attending what }) (attended started requested what work)
+    (attended_free started requested what work))
+comes_breaks port started requested (Attending what) heard comes = absurd comes
+comes_breaks port started requested (BeginningUpload found) (input.Reply (reply.BegunUpload begins)) comes =
     begun_breaks (wanted port (BeginningUpload found)) (input.Reply (reply.BegunUpload begins)) (BeginningUpload found) found.page begins
-comes_breaks port under kept (BeginningUpload found) heard comes = absurd comes
-comes_breaks port under kept (BeginningDownload found checksum) (input.Reply (reply.BegunDownload begins)) comes =
+comes_breaks port started requested (BeginningUpload found) heard comes = absurd comes
+comes_breaks port started requested (BeginningDownload found checksum) (input.Reply (reply.BegunDownload begins)) comes =
     download_begun_breaks (wanted port (BeginningDownload found checksum)) (input.Reply (reply.BegunDownload begins))
     (BeginningDownload found checksum) found.page begins
-comes_breaks port under kept (BeginningDownload found checksum) heard comes = absurd comes
-comes_breaks port under kept (Exchanging what) (input.Octets octets) comes =
+comes_breaks port started requested (BeginningDownload found checksum) heard comes = absurd comes
+comes_breaks port started requested (Exchanging what) (input.Octets octets) comes =
     free_breaks (wanted port (Exchanging what)) (input.Octets octets) (Exchanging what) (exchanged what (answer_of octets.items))
     (exchanged_holds what (answer_of octets.items))
-comes_breaks port under kept (Exchanging what) input.Lost comes = tt
-comes_breaks port under kept (Exchanging what) heard comes = absurd comes
-comes_breaks port under kept (Uploading grant page upload) (input.Octets octets) comes =
+comes_breaks port started requested (Exchanging what) input.Lost comes = tt
+comes_breaks port started requested (Exchanging what) heard comes = absurd comes
+comes_breaks port started requested (Uploading grant page upload) (input.Octets octets) comes =
     upload_breaks (wanted port (Uploading grant page upload)) (input.Octets octets) (Uploading grant page upload) grant page upload
     (answer_of octets.items)
-comes_breaks port under kept (Uploading grant page upload) input.Lost comes = tt
-comes_breaks port under kept (Uploading grant page upload) heard comes = absurd comes
-comes_breaks port under kept (Filing grant page set) (input.Reply (reply.FinishedUpload finished)) comes =
+comes_breaks port started requested (Uploading grant page upload) input.Lost comes = tt
+comes_breaks port started requested (Uploading grant page upload) heard comes = absurd comes
+comes_breaks port started requested (Filing grant page set) (input.Reply (reply.FinishedUpload finished)) comes =
     finished_breaks (wanted port (Filing grant page set)) (input.Reply (reply.FinishedUpload finished))
     (Filing grant page set) page finished
-comes_breaks port under kept (Filing grant page set) heard comes = absurd comes
-comes_breaks port under kept (Filed page) input.Wake comes = tt
-comes_breaks port under kept (Filed page) heard comes = absurd comes
-comes_breaks port under kept (Storing number page) (input.Reply (reply.Ticket state)) comes =
+comes_breaks port started requested (Filing grant page set) heard comes = absurd comes
+comes_breaks port started requested (Filed page) input.Wake comes = tt
+comes_breaks port started requested (Filed page) heard comes = absurd comes
+comes_breaks port started requested (Storing number page) (input.Reply (reply.Ticket state)) comes =
     ticket_breaks (wanted port (Storing number page)) (input.Reply (reply.Ticket state)) (Storing number page) number page state
-comes_breaks port under kept (Storing number page) heard comes = absurd comes
-comes_breaks port under kept (Downloading permit page download) (input.Octets octets) comes =
+comes_breaks port started requested (Storing number page) heard comes = absurd comes
+comes_breaks port started requested (Downloading permit page download) (input.Octets octets) comes =
     download_breaks (wanted port (Downloading permit page download)) (input.Octets octets)
     (Downloading permit page download) permit page download (answer_of octets.items)
-comes_breaks port under kept (Downloading permit page download) input.Lost comes = tt
-comes_breaks port under kept (Downloading permit page download) heard comes = absurd comes
-comes_breaks port under kept (Breaking holder why) (input.Octets octets) comes = (refl, refl, (octets, refl))
-comes_breaks port under kept (Breaking holder why) input.Lost comes = tt
-comes_breaks port under kept (Breaking holder why) heard comes = absurd comes
-comes_breaks port under kept (Returning (held.Upload permit) own) (input.Reply reply.AbandonedUpload) comes = tt
-comes_breaks port under kept (Returning (held.Upload permit) own) heard comes = absurd comes
-comes_breaks port under kept (Returning (held.Download permit) own) (input.Reply reply.EndedDownload) comes = tt
-comes_breaks port under kept (Returning (held.Download permit) own) heard comes = absurd comes
-comes_breaks port under kept (Returned transfer own) input.Wake comes = tt
-comes_breaks port under kept (Returned transfer own) heard comes = absurd comes
+comes_breaks port started requested (Downloading permit page download) input.Lost comes = tt
+comes_breaks port started requested (Downloading permit page download) heard comes = absurd comes
+comes_breaks port started requested (Breaking holder why) (input.Octets octets) comes = (refl, refl, (octets, refl))
+comes_breaks port started requested (Breaking holder why) input.Lost comes = tt
+comes_breaks port started requested (Breaking holder why) heard comes = absurd comes
+comes_breaks port started requested (Returning (held.Upload permit) own) (input.Reply reply.AbandonedUpload) comes = tt
+comes_breaks port started requested (Returning (held.Upload permit) own) heard comes = absurd comes
+comes_breaks port started requested (Returning (held.Download permit) own) (input.Reply reply.EndedDownload) comes = tt
+comes_breaks port started requested (Returning (held.Download permit) own) heard comes = absurd comes
+comes_breaks port started requested (Returned transfer own) input.Wake comes = tt
+comes_breaks port started requested (Returned transfer own) heard comes = absurd comes
 
 out_breaks : (wants : Wanted) (said : Input) (was stage : Stage) (heard : Result Answer IsduFault) (new : Stage) → RunsOut stage heard new
     → Breaks wants said was new
@@ -166,7 +166,7 @@ fed_breaks : (old new : PortValue) (heard : Input) → ComesOf (wanted old.port 
 fed_breaks old new heard comes fed_so =
     fed_is (λ value. Breaks (wanted old.port old.stage) heard old.stage value.stage)
     (at_stage old (after_action old.stage)) new heard fed_so
-    (comes_breaks old.port old.under old.kept old.stage heard comes)
+    (comes_breaks old.port old.started_revision old.upload_requested old.stage heard comes)
     (λ octets stage runs. out_breaks (wanted old.port old.stage) heard old.stage (after_action old.stage)
     (answer_of octets.items) stage runs)
 
@@ -183,33 +183,33 @@ failed_breaks old new wants heard holder why happens returns =
 
 -- ---- where the core took the permit
 
-refused : (port : ℕ) (under : Option ℕ) (kept : Bool) (stage : Stage) (why : FinishFault)
+refused : (port : ℕ) (started : Option ℕ) (requested : Bool) (stage : Stage) (why : FinishFault)
     → ComesOf (wanted port stage) (input.Reply (reply.FinishedUpload (Err why)))
     → (page : PageValue)
-    × ((fed (record { port = port; under = under; kept = kept; stage = after_action stage })
+    × ((fed (record { port = port; started_revision = started; upload_requested = requested; stage = after_action stage })
     (input.Reply (reply.FinishedUpload (Err why)))).stage
     ≡ upload_finished page (Err why))
-refused port under kept (Filing grant page set) why comes = (page, refl)
-refused port under kept (Returning (held.Upload permit) own) why comes = absurd comes
-refused port under kept (Returning (held.Download permit) own) why comes = absurd comes
-refused port under kept stage why comes = absurd comes
+refused port started requested (Filing grant page set) why comes = (page, refl)
+refused port started requested (Returning (held.Upload permit) own) why comes = absurd comes
+refused port started requested (Returning (held.Download permit) own) why comes = absurd comes
+refused port started requested stage why comes = absurd comes
 
-unknown : (port : ℕ) (under : Option ℕ) (kept : Bool) (stage : Stage)
+unknown : (port : ℕ) (started : Option ℕ) (requested : Bool) (stage : Stage)
     → ComesOf (wanted port stage) (input.Reply (reply.Ticket ticket.Unsure))
     → (number : ℕ) × (page : PageValue)
-    × ((fed (record { port = port; under = under; kept = kept; stage = after_action stage })
+    × ((fed (record { port = port; started_revision = started; upload_requested = requested; stage = after_action stage })
     (input.Reply (reply.Ticket ticket.Unsure))).stage
     ≡ ticket_told number page ticket.Unsure)
-unknown port under kept (Storing number page) comes = (number, page, refl)
-unknown port under kept (Returning (held.Upload permit) own) comes = absurd comes
-unknown port under kept (Returning (held.Download permit) own) comes = absurd comes
-unknown port under kept stage comes = absurd comes
+unknown port started requested (Storing number page) comes = (number, page, refl)
+unknown port started requested (Returning (held.Upload permit) own) comes = absurd comes
+unknown port started requested (Returning (held.Download permit) own) comes = absurd comes
+unknown port started requested stage comes = absurd comes
 
 pub stopped_breaks : (old new : PortValue) (wants : Wanted)
     → Happens old (Did wants (input.Reply (reply.FinishedUpload (Err finish.Stopped)))) new
     → wanted new.port new.stage ≡ AnswerTo (commanded command.Break)
 stopped_breaks old new wants happens =
-    let was = refused old.port old.under old.kept old.stage finish.Stopped
+    let was = refused old.port old.started_revision old.upload_requested old.stage finish.Stopped
     (subst (λ w. ComesOf w (input.Reply (reply.FinishedUpload (Err finish.Stopped)))) happens.0 happens.1) in
     ap (wanted new.port) (ap (λ (value : PortValue). value.stage) happens.2 ∙ was.1)
 
@@ -217,13 +217,13 @@ pub changed_breaks : (old new : PortValue) (wants : Wanted)
     → Happens old (Did wants (input.Reply (reply.FinishedUpload (Err finish.ConfigChanged)))) new
     → wanted new.port new.stage ≡ AnswerTo (commanded command.Break)
 changed_breaks old new wants happens =
-    let was = refused old.port old.under old.kept old.stage finish.ConfigChanged
+    let was = refused old.port old.started_revision old.upload_requested old.stage finish.ConfigChanged
     (subst (λ w. ComesOf w (input.Reply (reply.FinishedUpload (Err finish.ConfigChanged)))) happens.0 happens.1) in
     ap (wanted new.port) (ap (λ (value : PortValue). value.stage) happens.2 ∙ was.1)
 
 pub unsure_breaks : (old new : PortValue) (wants : Wanted) → Happens old (Did wants (input.Reply (reply.Ticket ticket.Unsure))) new
     → wanted new.port new.stage ≡ AnswerTo (commanded command.Break)
 unsure_breaks old new wants happens =
-    let was = unknown old.port old.under old.kept old.stage
+    let was = unknown old.port old.started_revision old.upload_requested old.stage
     (subst (λ w. ComesOf w (input.Reply (reply.Ticket ticket.Unsure))) happens.0 happens.1) in
     ap (wanted new.port) (ap (λ (value : PortValue). value.stage) happens.2 ∙ was.2)

@@ -3,9 +3,9 @@ use Rattle.std.proofs.Common.{◌≡◌, ◌⊎◌, inl, inr, ℕ, Bool, true, f
 use Rattle.std.proofs.lemmas.Bool.Decides.{nat_tests}
 use Rattle.std.specs.Prelude.{Option, Some, None, ◌==◌, ◌&&◌}
 use Rattle.iol_types.specs.Config.{is_manual, restores}
-use Rattle.iol_ident.specs.Page.{PageValue, page_of}
-use Rattle.iol_ident.specs.Validation.{ident_fault}
-use Rattle.iol_ident.specs.declared.validation.IdentFault.{IdentFault}
+use Rattle.iol_link.specs.Page.{PageValue, page_of}
+use Rattle.iol_link.specs.Validation.{ident_fault}
+use Rattle.iol_link.specs.declared.validation.IdentFault.{IdentFault}
 use Rattle.iol_core.specs.declared.port.Work.{Work}
 use Rattle.iol_transfer.specs.declared.repeats.TheConstants.{MOST_REQUESTS}
 use Rattle.iol_port.specs.Heard.{same_flag, same_page, settled_with, found_by, judged, page_heard, fed, moved}
@@ -125,13 +125,13 @@ a_settled_port_keeps_its_page connection octets old new own happens settles =
     by old.stage (paging_only old.port old.stage happens.0) happens.2
   where
     by : (stage : Stage) → (what : PageFor) × (stage ≡ Paging what)
-        → new ≡ fed (record { port = old.port; under = old.under; kept = old.kept; stage = after_action stage })
+        → new ≡ fed (record { port = old.port; started_revision = old.started_revision; upload_requested = old.upload_requested; stage = after_action stage })
         (input.Page connection octets)
         → (own ≡ rest.Off) ⊎ (page_at own ≡ Some (page_of octets))
     by stage (what, at) same =
-        let value : PortValue = record { port = old.port; under = old.under; kept = old.kept; stage = Paging what } in
+        let value : PortValue = record { port = old.port; started_revision = old.started_revision; upload_requested = old.upload_requested; stage = Paging what } in
         let is : new ≡ moved value (page_heard what connection (page_of octets)) =
-        same ∙ ap (λ (at : Stage). fed (record { port = old.port; under = old.under; kept = old.kept; stage = after_action at })
+        same ∙ ap (λ (at : Stage). fed (record { port = old.port; started_revision = old.started_revision; upload_requested = old.upload_requested; stage = after_action at })
         (input.Page connection octets)) at in
         keeps_of (page_of octets) new.stage own settles
         (subst (λ (value : PortValue). Keeps (page_of octets) value.stage) (sym is)

@@ -5,8 +5,8 @@ use Rattle.std.specs.Prelude.{Option, Some, None, is_none, ◌==◌, ◌↔◌}
 use Rattle.iol_types.specs.Config.{restores, backs_up}
 use Rattle.iol_types.specs.declared.config.Validation.{Validation}
 use Rattle.iol_types.specs.declared.config.Validation.TheVariants as validation
-use Rattle.iol_dsindex.specs.declared.property.State.{State}
-use Rattle.iol_dsindex.specs.declared.property.State.TheVariants as state
+use Rattle.iol_transfer.specs.declared.property.State.{State}
+use Rattle.iol_transfer.specs.declared.property.State.TheVariants as state
 use Rattle.iol_port.specs.Decision.{is_locked, has_checksum, decide}
 use Rattle.iol_port.specs.declared.decision.Decision.{Decision}
 use Rattle.iol_port.specs.declared.decision.Decision.TheVariants as decision

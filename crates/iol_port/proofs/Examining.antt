@@ -1,11 +1,11 @@
 -- What holds of a machine after an exchange outside of a transfer, by its history.
 use Rattle.std.proofs.Common.{◌≡◌, ℕ, Bool, true, false, if◌then◌else◌, nat_lt, List, [], ◌∷◌, refl, sym, ap, ◌∙◌}
 use Rattle.std.specs.Prelude.{Result, Ok, ◌==◌, length, slice_index}
-use Rattle.iol_isdu.specs.Reading.{answer_of}
-use Rattle.iol_isdu.specs.declared.messages.Answer.{Answer}
-use Rattle.iol_isdu.specs.declared.messages.Answer.TheVariants as answer
-use Rattle.iol_isdu.specs.declared.faults.IsduFault.{IsduFault}
-use Rattle.iol_ident.specs.Page.{PageValue}
+use Rattle.iol_link.specs.Reading.{answer_of}
+use Rattle.iol_link.specs.declared.messages.Answer.{Answer}
+use Rattle.iol_link.specs.declared.messages.Answer.TheVariants as answer
+use Rattle.iol_link.specs.declared.faults.IsduFault.{IsduFault}
+use Rattle.iol_link.specs.Page.{PageValue}
 use Rattle.arrayvec.specs.ArrayVec.{ArrayVec}
 use Rattle.iol_port.specs.declared.fault.PortFault.TheVariants as fault
 use Rattle.iol_port.specs.Answers.{failed, state_read, checksum_read, upload_ended, exchanged}
@@ -13,26 +13,26 @@ use Rattle.iol_port.specs.History.{Happening, Did}
 use Rattle.iol_port.specs.Stage.{Attending, Exchanging}
 use Rattle.iol_port.specs.Wanted.{AnswerTo, wanted, request_for}
 use Rattle.iol_port.specs.declared.action.Input.TheVariants as input
-use Rattle.iol_port.specs.declared.stage.Found.{Found}
+use Rattle.iol_port.specs.declared.stage.FoundDevice.{FoundDevice}
 use Rattle.iol_port.specs.declared.stage.AttendFor.TheVariants as attend
 use Rattle.iol_port.specs.declared.stage.ExchangeFor.{ExchangeFor}
 use Rattle.iol_port.specs.declared.stage.ExchangeFor.TheVariants as exchange
-use Rattle.iol_dsindex.specs.Property.{PropertyValue}
+use Rattle.iol_transfer.specs.Property.{PropertyValue}
 use Rattle.std.proofs.Common.{◌++◌, ◌+◌, ◌-◌, ◌<◌, arith, lit<, append_assoc}
 use Rattle.std.proofs.lemmas.Bool.{ltb-true}
 use Rattle.std.proofs.lemmas.Bool.Decides.{nat_tests}
 use Rattle.std.proofs.lemmas.List.{replicate_more, append-nil}
 use Rattle.iol_types.specs.declared.key.TheConstants.{DATA_STORAGE}
-use Rattle.iol_dsindex.specs.Property.{property_of}
-use Rattle.iol_dsindex.specs.declared.object.TheConstants.{STATE_PROPERTY, PARAMETER_CHECKSUM}
+use Rattle.iol_transfer.specs.Property.{property_of}
+use Rattle.iol_transfer.specs.declared.object.TheConstants.{STATE_PROPERTY, PARAMETER_CHECKSUM}
 use Rattle.iol_transfer.specs.Exchanges.{busy_times, read_of}
 use Rattle.iol_transfer.specs.Upload.{number_of}
 use Rattle.iol_transfer.specs.declared.repeats.TheConstants.{MOST_REQUESTS}
 use Rattle.iol_transfer.proofs.Order.{follows-more}
 use Rattle.iol_port.specs.Laws.{IsDurable}
-use Rattle.iol_isdu.specs.declared.messages.Answer.TheVariants.{ReadOk, Busy}
-use Rattle.iol_dsindex.specs.declared.command.DsCommand.TheVariants as command
-use Rattle.iol_dsindex.specs.Command.{commanded}
+use Rattle.iol_link.specs.declared.messages.Answer.TheVariants.{ReadOk, Busy}
+use Rattle.iol_transfer.specs.declared.command.DsCommand.TheVariants as command
+use Rattle.iol_transfer.specs.Command.{commanded}
 use Rattle.iol_port.proofs.Stages.{state_request, checksum_request, AsksState, AsksChecksum}
 use Rattle.iol_port.proofs.Stages.{ExchangingIs, StageIs}
 
@@ -41,7 +41,7 @@ is_length octets count test = grind (arith, nat_tests, test)
 
 -- ---- reads
 
-state_told : (port : ℕ) (found : Found) (left : ℕ) (before : List Happening) (octets : ArrayVec ℕ) (heard : Result Answer IsduFault)
+state_told : (port : ℕ) (found : FoundDevice) (left : ℕ) (before : List Happening) (octets : ArrayVec ℕ) (heard : Result Answer IsduFault)
     → AsksState found left before → answer_of octets.items ≡ heard
     → StageIs port (Did (AnswerTo state_request) (input.Octets octets) ∷ before) (state_read found left heard)
 state_told port found left before octets (Ok (answer.ReadOk values)) is read = by (length values.items == 1) refl
@@ -87,7 +87,7 @@ state_told port found left before octets (Ok answer.Busy) is read = by (nat_lt 1
     by false below = tt
 state_told port found left before octets other is read = tt
 
-checksum_told : (port : ℕ) (found : Found) (property : PropertyValue) (left : ℕ) (before : List Happening) (octets : ArrayVec ℕ)
+checksum_told : (port : ℕ) (found : FoundDevice) (property : PropertyValue) (left : ℕ) (before : List Happening) (octets : ArrayVec ℕ)
     (heard : Result Answer IsduFault)
     → AsksChecksum found property left before → answer_of octets.items ≡ heard
     → StageIs port (Did (AnswerTo checksum_request) (input.Octets octets) ∷ before) (checksum_read found property left heard)

@@ -1,7 +1,7 @@
 -- A machine that is fed, also where memory runs out.
 use Rattle.std.proofs.Common.{ℕ, sym, subst, inl, inr}
 use Rattle.arrayvec.specs.ArrayVec.{ArrayVec}
-use Rattle.iol_isdu.specs.Reading.{answer_of}
+use Rattle.iol_link.specs.Reading.{answer_of}
 use Rattle.iol_port.specs.Answers.{RunsOut}
 use Rattle.iol_port.specs.Heard.{IsFed, fed, at_stage}
 use Rattle.iol_port.specs.Stage.{Stage, PortValue}

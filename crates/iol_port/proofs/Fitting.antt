@@ -16,15 +16,15 @@ use Rattle.iol_port.specs.declared.action.Input.TheVariants as input
 use Rattle.iol_port.specs.declared.call.Reply.TheVariants as reply
 use Rattle.iol_port.specs.declared.stage.Held.TheVariants as held
 
-under-back : (grant permit : UploadGrant) (set back : SetValue) → IsUnder grant set → permit ≡ grant → back ≡ set → IsUnder permit back
-under-back grant permit set back is same all = subst (λ p. IsUnder p back) (sym same) (subst (λ s. IsUnder grant s) (sym all) is)
+started-back : (grant permit : UploadGrant) (set back : SetValue) → IsUnder grant set → permit ≡ grant → back ≡ set → IsUnder permit back
+started-back grant permit set back is same all = subst (λ p. IsUnder p back) (sym same) (subst (λ s. IsUnder grant s) (sym all) is)
 
 hands_back : (grant : UploadGrant) (set : SetValue) (finished : Result ℕ FinishFault) → IsUnder grant set
     → IsHandedBack grant set finished → HandsBack finished
 hands_back grant set (Ok number) is back = tt
 hands_back grant set (Err finish.Stopped) is back = tt
 hands_back grant set (Err finish.ConfigChanged) is back = tt
-hands_back grant set (Err (finish.QueueFull permit own)) is back = under-back grant permit set own.value is back.0 back.1
+hands_back grant set (Err (finish.QueueFull permit own)) is back = started-back grant permit set own.value is back.0 back.1
 hands_back grant set (Err (finish.Exhausted permit own)) is back = tt
 hands_back grant set (Err (finish.Memory permit own)) is back = tt
 

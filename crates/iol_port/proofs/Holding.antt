@@ -2,12 +2,12 @@
 use Rattle.std.proofs.Common.{◌≡◌, ℕ, Bool, true, false, if◌then◌else◌, nat_lt, refl, ap, ◌∙◌, subst}
 use Rattle.std.specs.Prelude.{Option, Some, None, Result, Ok, Err, ◌&&◌, ◌==◌, not, length}
 use Rattle.iol_types.specs.Config.{is_manual, restores}
-use Rattle.iol_isdu.specs.Reading.{answer_of}
-use Rattle.iol_isdu.specs.declared.messages.Answer.{Answer}
-use Rattle.iol_isdu.specs.declared.faults.IsduFault.{IsduFault}
-use Rattle.iol_ident.specs.Page.{PageValue, page_of}
-use Rattle.iol_ident.specs.Validation.{ident_fault}
-use Rattle.iol_ident.specs.declared.validation.IdentFault.{IdentFault}
+use Rattle.iol_link.specs.Reading.{answer_of}
+use Rattle.iol_link.specs.declared.messages.Answer.{Answer}
+use Rattle.iol_link.specs.declared.faults.IsduFault.{IsduFault}
+use Rattle.iol_link.specs.Page.{PageValue, page_of}
+use Rattle.iol_link.specs.Validation.{ident_fault}
+use Rattle.iol_link.specs.declared.validation.IdentFault.{IdentFault}
 use Rattle.iol_transfer.specs.Machine.{Machine, Outcome, More, Whole, Fault, step}
 use Rattle.iol_transfer.specs.Download.{Sender}
 use Rattle.iol_core.specs.declared.permit.UploadGrant.{UploadGrant}
@@ -27,7 +27,7 @@ use Rattle.iol_port.specs.declared.stage.PageFor.{PageFor}
 use Rattle.iol_port.specs.declared.stage.AttendFor.{AttendFor}
 use Rattle.iol_port.specs.declared.stage.ExchangeFor.{ExchangeFor}
 use Rattle.iol_port.proofs.Keeping.{IsAtHand}
-use Rattle.iol_isdu.specs.declared.messages.Answer.TheVariants as answer
+use Rattle.iol_link.specs.declared.messages.Answer.TheVariants as answer
 use Rattle.iol_port.specs.declared.action.Input.TheVariants as input
 use Rattle.iol_port.specs.declared.decision.Decision.TheVariants as decision
 use Rattle.iol_port.specs.declared.stage.Rest.TheVariants as rest
@@ -107,16 +107,16 @@ page_free (page_for.Identifying work) connection page = by (ident_fault work.con
     by None = none_if (restores work.config.validation) _ _ refl refl
     by (Some why) = refl
 
-pub attended_free : (under : Option ℕ) (kept : Bool) (what : AttendFor) (work : Option Work) → GoesFree (attended under kept what work)
-attended_free under kept what None = refl
-attended_free under kept (attend.Waking own) (Some work) = free_if (is_under under work.revision && not kept) _ _ (by own) tt
+pub attended_free : (started : Option ℕ) (requested : Bool) (what : AttendFor) (work : Option Work) → GoesFree (attended started requested what work)
+attended_free started requested what None = refl
+attended_free started requested (attend.Waking own) (Some work) = free_if (is_under started work.revision && not requested) _ _ (by own) tt
   where
     by : (own : Rest) → GoesFree (resumed own work)
     by rest.Off = refl
     by rest.Lost = tt
     by (rest.Failed why) = tt
     by own = refl
-attended_free under kept (attend.Confirming found property checksum) (Some work) =
+attended_free started requested (attend.Confirming found property checksum) (Some work) =
     free_if (found.work.revision == work.revision) _ _
     (by (decide work.config.validation property.state property.flag checksum work.checksum)) tt
   where
@@ -126,42 +126,42 @@ attended_free under kept (attend.Confirming found property checksum) (Some work)
     by decision.ReadyEmpty = refl
     by decision.Upload = refl
     by decision.Download = refl
-attended_free under kept attend.Restarting (Some work) = tt
+attended_free started requested attend.Restarting (Some work) = tt
 
-link_holds : (port : ℕ) (under : Option ℕ) (kept : Bool) (stage : Stage) (heard : Input) → IsAtHand stage → IsOfLink heard
+link_holds : (port : ℕ) (started : Option ℕ) (requested : Bool) (stage : Stage) (heard : Input) → IsAtHand stage → IsOfLink heard
     → ComesOf (wanted port stage) heard
-    → held_by (fed (record { port = port; under = under; kept = kept; stage = after_action stage }) heard).stage ≡ held_by stage
-link_holds port under kept stage (input.Reply heard) hand link comes = absurd link
-link_holds port under kept (Settled own) input.Wake hand link comes = refl
-link_holds port under kept (Settled own) heard hand link comes = absurd comes
-link_holds port under kept (Paging what) (input.Page connection octets) hand link comes =
-    moved_holds (record { port = port; under = under; kept = kept; stage = Paging what }) (page_heard what connection (page_of octets))
+    → held_by (fed (record { port = port; started_revision = started; upload_requested = requested; stage = after_action stage }) heard).stage ≡ held_by stage
+link_holds port started requested stage (input.Reply heard) hand link comes = absurd link
+link_holds port started requested (Settled own) input.Wake hand link comes = refl
+link_holds port started requested (Settled own) heard hand link comes = absurd comes
+link_holds port started requested (Paging what) (input.Page connection octets) hand link comes =
+    moved_holds (record { port = port; started_revision = started; upload_requested = requested; stage = Paging what }) (page_heard what connection (page_of octets))
     (page_free what connection (page_of octets))
-link_holds port under kept (Paging what) input.Lost hand link comes = refl
-link_holds port under kept (Paging what) heard hand link comes = absurd comes
-link_holds port under kept (Attending what) heard hand link comes = absurd comes
-link_holds port under kept (BeginningUpload found) heard hand link comes = absurd comes
-link_holds port under kept (BeginningDownload found checksum) heard hand link comes = absurd comes
-link_holds port under kept (Exchanging what) (input.Octets octets) hand link comes = exchanged_holds what (answer_of octets.items)
-link_holds port under kept (Exchanging what) input.Lost hand link comes = refl
-link_holds port under kept (Exchanging what) heard hand link comes = absurd comes
-link_holds port under kept (Uploading grant page upload) (input.Octets octets) hand link comes =
+link_holds port started requested (Paging what) input.Lost hand link comes = refl
+link_holds port started requested (Paging what) heard hand link comes = absurd comes
+link_holds port started requested (Attending what) heard hand link comes = absurd comes
+link_holds port started requested (BeginningUpload found) heard hand link comes = absurd comes
+link_holds port started requested (BeginningDownload found checksum) heard hand link comes = absurd comes
+link_holds port started requested (Exchanging what) (input.Octets octets) hand link comes = exchanged_holds what (answer_of octets.items)
+link_holds port started requested (Exchanging what) input.Lost hand link comes = refl
+link_holds port started requested (Exchanging what) heard hand link comes = absurd comes
+link_holds port started requested (Uploading grant page upload) (input.Octets octets) hand link comes =
     upload_holds grant page upload (answer_of octets.items)
-link_holds port under kept (Uploading grant page upload) input.Lost hand link comes = refl
-link_holds port under kept (Uploading grant page upload) heard hand link comes = absurd comes
-link_holds port under kept (Filing grant page set) heard hand link comes = absurd comes
-link_holds port under kept (Filed page) heard hand link comes = absurd cc
-link_holds port under kept (Storing number page) heard hand link comes = absurd comes
-link_holds port under kept (Downloading permit page download) (input.Octets octets) hand link comes =
+link_holds port started requested (Uploading grant page upload) input.Lost hand link comes = refl
+link_holds port started requested (Uploading grant page upload) heard hand link comes = absurd comes
+link_holds port started requested (Filing grant page set) heard hand link comes = absurd comes
+link_holds port started requested (Filed page) heard hand link comes = absurd cc
+link_holds port started requested (Storing number page) heard hand link comes = absurd comes
+link_holds port started requested (Downloading permit page download) (input.Octets octets) hand link comes =
     download_holds permit page download (answer_of octets.items)
-link_holds port under kept (Downloading permit page download) input.Lost hand link comes = refl
-link_holds port under kept (Downloading permit page download) heard hand link comes = absurd comes
-link_holds port under kept (Breaking holder why) (input.Octets octets) hand link comes = refl
-link_holds port under kept (Breaking holder why) input.Lost hand link comes = refl
-link_holds port under kept (Breaking holder why) heard hand link comes = absurd comes
-link_holds port under kept (Returning (held.Upload permit) own) heard hand link comes = absurd comes
-link_holds port under kept (Returning (held.Download permit) own) heard hand link comes = absurd comes
-link_holds port under kept (Returned transfer own) heard hand link comes = absurd cc
+link_holds port started requested (Downloading permit page download) input.Lost hand link comes = refl
+link_holds port started requested (Downloading permit page download) heard hand link comes = absurd comes
+link_holds port started requested (Breaking holder why) (input.Octets octets) hand link comes = refl
+link_holds port started requested (Breaking holder why) input.Lost hand link comes = refl
+link_holds port started requested (Breaking holder why) heard hand link comes = absurd comes
+link_holds port started requested (Returning (held.Upload permit) own) heard hand link comes = absurd comes
+link_holds port started requested (Returning (held.Download permit) own) heard hand link comes = absurd comes
+link_holds port started requested (Returned transfer own) heard hand link comes = absurd cc
 
 runs_out_holds : (stage : Stage) (heard : Result Answer IsduFault) (new : Stage) → RunsOut stage heard new → held_by new ≡ held_by stage
 runs_out_holds (Uploading grant page upload) heard new out = ap held_by out.1
@@ -179,6 +179,6 @@ pub link_keeps : (old new : PortValue) (wants : Wanted) (heard : Input) → IsAt
     → held_by new.stage ≡ held_by old.stage
 link_keeps old new wants heard hand link happens =
     fed_is (λ value. held_by value.stage ≡ held_by old.stage) (at_stage old (after_action old.stage)) new heard happens.2
-    (link_holds old.port old.under old.kept old.stage heard hand link (subst (λ w. ComesOf w heard) happens.0 happens.1))
+    (link_holds old.port old.started_revision old.upload_requested old.stage heard hand link (subst (λ w. ComesOf w heard) happens.0 happens.1))
     (λ octets stage out. runs_out_holds (after_action old.stage) (answer_of octets.items) stage out
     ∙ after_holds old.port old.stage (answer_of octets.items) stage out)

@@ -2,13 +2,13 @@
 use Rattle.std.proofs.Common.{◌≡◌, ℕ, Bool, true, false, if◌then◌else◌, nat_lt, refl, ap, ◌∙◌, subst}
 use Rattle.std.specs.Prelude.{Option, Some, None, Result, Ok, Err, ◌&&◌, ◌==◌, not, length}
 use Rattle.iol_types.specs.Config.{is_manual, restores}
-use Rattle.iol_isdu.specs.Reading.{answer_of}
-use Rattle.iol_isdu.specs.declared.messages.Answer.{Answer}
-use Rattle.iol_isdu.specs.declared.messages.Answer.TheVariants as answer
-use Rattle.iol_isdu.specs.declared.faults.IsduFault.{IsduFault}
-use Rattle.iol_ident.specs.Page.{PageValue, page_of}
-use Rattle.iol_ident.specs.Validation.{ident_fault}
-use Rattle.iol_ident.specs.declared.validation.IdentFault.{IdentFault}
+use Rattle.iol_link.specs.Reading.{answer_of}
+use Rattle.iol_link.specs.declared.messages.Answer.{Answer}
+use Rattle.iol_link.specs.declared.messages.Answer.TheVariants as answer
+use Rattle.iol_link.specs.declared.faults.IsduFault.{IsduFault}
+use Rattle.iol_link.specs.Page.{PageValue, page_of}
+use Rattle.iol_link.specs.Validation.{ident_fault}
+use Rattle.iol_link.specs.declared.validation.IdentFault.{IdentFault}
 use Rattle.iol_transfer.specs.Machine.{Machine, Outcome, More, Whole, Fault, step}
 use Rattle.iol_transfer.specs.Download.{Sender}
 use Rattle.iol_core.specs.declared.permit.UploadGrant.{UploadGrant}
@@ -29,7 +29,7 @@ use Rattle.iol_port.specs.declared.action.Input.TheVariants as input
 use Rattle.iol_port.specs.declared.call.Reply.TheVariants as reply
 use Rattle.iol_port.specs.declared.decision.Decision.{Decision}
 use Rattle.iol_port.specs.declared.decision.Decision.TheVariants as decision
-use Rattle.iol_port.specs.declared.stage.Found.{Found}
+use Rattle.iol_port.specs.declared.stage.FoundDevice.{FoundDevice}
 use Rattle.iol_port.specs.declared.stage.Rest.{Rest}
 use Rattle.iol_port.specs.declared.stage.Rest.TheVariants as rest
 use Rattle.iol_port.specs.declared.stage.PageFor.{PageFor}
@@ -43,7 +43,7 @@ use Rattle.iol_core.specs.declared.ticket.TicketState.{TicketState}
 use Rattle.iol_core.specs.declared.upload.PermitFault.{PermitFault}
 use Rattle.iol_core.specs.declared.download.DownloadBegun.{DownloadBegun}
 use Rattle.iol_core.specs.declared.download.DownloadFault.{DownloadFault}
-use Rattle.iol_dsindex.specs.Property.{PropertyValue}
+use Rattle.iol_transfer.specs.Property.{PropertyValue}
 use Rattle.iol_port.specs.Heard.{page_heard, paged, settled_with, found_by, judged, resumed, is_under, decided, attended, told}
 use Rattle.iol_port.specs.Heard.{upload_begun, download_begun, upload_finished, ticket_told, lost}
 use Rattle.iol_port.proofs.Feeding.{fed_is}
@@ -67,12 +67,12 @@ goes false one other first second = second
 again_hand : (left : ℕ) (next : ExchangeFor) → IsAtHand (again left next)
 again_hand left next = either (nat_lt 1 left) _ _ refl refl
 
-state_hand : (found : Found) (left : ℕ) (heard : Result Answer IsduFault) → IsAtHand (state_read found left heard)
+state_hand : (found : FoundDevice) (left : ℕ) (heard : Result Answer IsduFault) → IsAtHand (state_read found left heard)
 state_hand found left (Ok (answer.ReadOk octets)) = either (length octets.items == 1) _ _ refl refl
 state_hand found left (Ok answer.Busy) = again_hand left _
 state_hand found left other = refl
 
-checksum_hand : (found : Found) (property : PropertyValue) (left : ℕ) (heard : Result Answer IsduFault)
+checksum_hand : (found : FoundDevice) (property : PropertyValue) (left : ℕ) (heard : Result Answer IsduFault)
     → IsAtHand (checksum_read found property left heard)
 checksum_hand found property left (Ok (answer.ReadOk octets)) = either (length octets.items == 4) _ _ refl refl
 checksum_hand found property left (Ok answer.Busy) = again_hand left _
@@ -141,24 +141,24 @@ resumed_hand rest.Lost work = tt
 resumed_hand (rest.Failed why) work = tt
 resumed_hand own work = refl
 
-decided_hand : (found : Found) (checksum : ℕ) (is : Decision) → IsAtHand (decided found checksum is)
+decided_hand : (found : FoundDevice) (checksum : ℕ) (is : Decision) → IsAtHand (decided found checksum is)
 decided_hand found checksum decision.Ready = refl
 decided_hand found checksum decision.ReadyLocked = refl
 decided_hand found checksum decision.ReadyEmpty = refl
 decided_hand found checksum decision.Upload = refl
 decided_hand found checksum decision.Download = refl
 
-attended_hand : (under : Option ℕ) (kept : Bool) (what : AttendFor) (work : Option Work) → GoesAtHand (attended under kept what work)
-attended_hand under kept what None = refl
-attended_hand under kept (attend.Waking own) (Some work) = goes (is_under under work.revision && not kept) _ _ (resumed_hand own work) tt
-attended_hand under kept (attend.Confirming found property checksum) (Some work) =
+attended_hand : (started : Option ℕ) (requested : Bool) (what : AttendFor) (work : Option Work) → GoesAtHand (attended started requested what work)
+attended_hand started requested what None = refl
+attended_hand started requested (attend.Waking own) (Some work) = goes (is_under started work.revision && not requested) _ _ (resumed_hand own work) tt
+attended_hand started requested (attend.Confirming found property checksum) (Some work) =
     goes (found.work.revision == work.revision) _ _
     (decided_hand found checksum (decide work.config.validation property.state property.flag checksum work.checksum)) tt
-attended_hand under kept attend.Restarting (Some work) = tt
+attended_hand started requested attend.Restarting (Some work) = tt
 
-told_hand : (under : Option ℕ) (kept : Bool) (stage : Stage) (work : Option Work) → IsAtHand stage → GoesAtHand (told under kept stage work)
-told_hand under kept (Attending what) work hand = attended_hand under kept what work
-told_hand under kept stage work hand = hand
+told_hand : (started : Option ℕ) (requested : Bool) (stage : Stage) (work : Option Work) → IsAtHand stage → GoesAtHand (told started requested stage work)
+told_hand started requested (Attending what) work hand = attended_hand started requested what work
+told_hand started requested stage work hand = hand
 
 upload_begun_hand : (page : PageValue) (begins : Result UploadGrant PermitFault) → IsAtHand (upload_begun page begins)
 upload_begun_hand page (Ok grant) = refl
@@ -193,53 +193,53 @@ moved_hand : (value : PortValue) (next : Next) → GoesAtHand next → IsAtHand 
 moved_hand value (To stage) hand = hand
 moved_hand value (Start work) hand = either (is_manual work.config.mode) _ _ refl refl
 
-comes_by : (port : ℕ) (under : Option ℕ) (kept : Bool) (stage : Stage) (heard : Input) → IsAtHand stage → ComesOf (wanted port stage) heard
-    → IsAtHand (fed (record { port = port; under = under; kept = kept; stage = after_action stage }) heard).stage
-comes_by port under kept (Settled own) input.Wake hand comes = refl
-comes_by port under kept (Settled own) heard hand comes = absurd comes
-comes_by port under kept (Paging what) (input.Page connection octets) hand comes =
-    moved_hand (record { port = port; under = under; kept = kept; stage = Paging what }) (page_heard what connection (page_of octets))
+comes_by : (port : ℕ) (started : Option ℕ) (requested : Bool) (stage : Stage) (heard : Input) → IsAtHand stage → ComesOf (wanted port stage) heard
+    → IsAtHand (fed (record { port = port; started_revision = started; upload_requested = requested; stage = after_action stage }) heard).stage
+comes_by port started requested (Settled own) input.Wake hand comes = refl
+comes_by port started requested (Settled own) heard hand comes = absurd comes
+comes_by port started requested (Paging what) (input.Page connection octets) hand comes =
+    moved_hand (record { port = port; started_revision = started; upload_requested = requested; stage = Paging what }) (page_heard what connection (page_of octets))
     (page_hand what connection (page_of octets))
-comes_by port under kept (Paging what) input.Lost hand comes = refl
-comes_by port under kept (Paging what) heard hand comes = absurd comes
-comes_by port under kept (Attending what) (input.Reply (reply.Attended work)) hand comes =
-    moved_hand (record { port = port; under = under; kept = kept; stage = Attending what }) (attended under kept what work)
-    (attended_hand under kept what work)
-comes_by port under kept (Attending what) heard hand comes = absurd comes
-comes_by port under kept (BeginningUpload found) (input.Reply (reply.BegunUpload begins)) hand comes = upload_begun_hand found.page begins
-comes_by port under kept (BeginningUpload found) heard hand comes = absurd comes
-comes_by port under kept (BeginningDownload found checksum) (input.Reply (reply.BegunDownload begins)) hand comes =
+comes_by port started requested (Paging what) input.Lost hand comes = refl
+comes_by port started requested (Paging what) heard hand comes = absurd comes
+comes_by port started requested (Attending what) (input.Reply (reply.Attended work)) hand comes =
+    moved_hand (record { port = port; started_revision = started; upload_requested = requested; stage = Attending what }) (attended started requested what work)
+    (attended_hand started requested what work)
+comes_by port started requested (Attending what) heard hand comes = absurd comes
+comes_by port started requested (BeginningUpload found) (input.Reply (reply.BegunUpload begins)) hand comes = upload_begun_hand found.page begins
+comes_by port started requested (BeginningUpload found) heard hand comes = absurd comes
+comes_by port started requested (BeginningDownload found checksum) (input.Reply (reply.BegunDownload begins)) hand comes =
     download_begun_hand found.page begins
-comes_by port under kept (BeginningDownload found checksum) heard hand comes = absurd comes
-comes_by port under kept (Exchanging what) (input.Octets octets) hand comes = exchanged_hand what (answer_of octets.items)
-comes_by port under kept (Exchanging what) input.Lost hand comes = refl
-comes_by port under kept (Exchanging what) heard hand comes = absurd comes
-comes_by port under kept (Uploading grant page upload) (input.Octets octets) hand comes =
+comes_by port started requested (BeginningDownload found checksum) heard hand comes = absurd comes
+comes_by port started requested (Exchanging what) (input.Octets octets) hand comes = exchanged_hand what (answer_of octets.items)
+comes_by port started requested (Exchanging what) input.Lost hand comes = refl
+comes_by port started requested (Exchanging what) heard hand comes = absurd comes
+comes_by port started requested (Uploading grant page upload) (input.Octets octets) hand comes =
     upload_hand grant page upload (answer_of octets.items)
-comes_by port under kept (Uploading grant page upload) input.Lost hand comes = refl
-comes_by port under kept (Uploading grant page upload) heard hand comes = absurd comes
-comes_by port under kept (Filing grant page set) (input.Reply (reply.FinishedUpload finished)) hand comes = finished_hand page finished
-comes_by port under kept (Filing grant page set) heard hand comes = absurd comes
-comes_by port under kept (Filed page) heard hand comes = absurd cc
-comes_by port under kept (Storing number page) (input.Reply (reply.Ticket state)) hand comes = ticket_hand number page state
-comes_by port under kept (Storing number page) heard hand comes = absurd comes
-comes_by port under kept (Downloading permit page download) (input.Octets octets) hand comes =
+comes_by port started requested (Uploading grant page upload) input.Lost hand comes = refl
+comes_by port started requested (Uploading grant page upload) heard hand comes = absurd comes
+comes_by port started requested (Filing grant page set) (input.Reply (reply.FinishedUpload finished)) hand comes = finished_hand page finished
+comes_by port started requested (Filing grant page set) heard hand comes = absurd comes
+comes_by port started requested (Filed page) heard hand comes = absurd cc
+comes_by port started requested (Storing number page) (input.Reply (reply.Ticket state)) hand comes = ticket_hand number page state
+comes_by port started requested (Storing number page) heard hand comes = absurd comes
+comes_by port started requested (Downloading permit page download) (input.Octets octets) hand comes =
     download_hand permit page download (answer_of octets.items)
-comes_by port under kept (Downloading permit page download) input.Lost hand comes = refl
-comes_by port under kept (Downloading permit page download) heard hand comes = absurd comes
-comes_by port under kept (Breaking holder why) (input.Octets octets) hand comes = refl
-comes_by port under kept (Breaking holder why) input.Lost hand comes = refl
-comes_by port under kept (Breaking holder why) heard hand comes = absurd comes
-comes_by port under kept (Returning (held.Upload permit) own) (input.Reply reply.AbandonedUpload) hand comes = refl
-comes_by port under kept (Returning (held.Upload permit) own) heard hand comes = absurd comes
-comes_by port under kept (Returning (held.Download permit) own) (input.Reply reply.EndedDownload) hand comes = refl
-comes_by port under kept (Returning (held.Download permit) own) heard hand comes = absurd comes
-comes_by port under kept (Returned transfer own) heard hand comes = absurd cc
+comes_by port started requested (Downloading permit page download) input.Lost hand comes = refl
+comes_by port started requested (Downloading permit page download) heard hand comes = absurd comes
+comes_by port started requested (Breaking holder why) (input.Octets octets) hand comes = refl
+comes_by port started requested (Breaking holder why) input.Lost hand comes = refl
+comes_by port started requested (Breaking holder why) heard hand comes = absurd comes
+comes_by port started requested (Returning (held.Upload permit) own) (input.Reply reply.AbandonedUpload) hand comes = refl
+comes_by port started requested (Returning (held.Upload permit) own) heard hand comes = absurd comes
+comes_by port started requested (Returning (held.Download permit) own) (input.Reply reply.EndedDownload) hand comes = refl
+comes_by port started requested (Returning (held.Download permit) own) heard hand comes = absurd comes
+comes_by port started requested (Returned transfer own) heard hand comes = absurd cc
 
 -- what comes of what was wanted leaves no permit with the core
 comes_hand : (value : PortValue) (heard : Input) → IsAtHand value.stage → ComesOf (wanted value.port value.stage) heard
     → IsAtHand (fed (at_stage value (after_action value.stage)) heard).stage
-comes_hand value heard hand comes = comes_by value.port value.under value.kept value.stage heard hand comes
+comes_hand value heard hand comes = comes_by value.port value.started_revision value.upload_requested value.stage heard hand comes
 
 -- and so does the machine that heard it, also where memory ran out
 pub fed_hand : (old new : PortValue) (heard : Input) → IsAtHand old.stage → ComesOf (wanted old.port old.stage) heard

@@ -4,19 +4,19 @@ use Rattle.iol_port.specs.Stage.{Filed, Storing, Downloading, Breaking, Returnin
 use Rattle.iol_port.specs.Wanted.{Wanted, AnswerTo}
 use Rattle.iol_port.specs.History.{Happening, Raised, Did}
 use Rattle.iol_transfer.specs.Exchanges.{Exchange}
-use Rattle.iol_isdu.specs.declared.messages.Request.{Request}
+use Rattle.iol_link.specs.declared.messages.Request.{Request}
 use Rattle.iol_port.specs.declared.call.Reply.{Reply}
 use Rattle.iol_port.specs.declared.stage.Rest.{Rest}
-use Rattle.iol_port.specs.declared.stage.Found.{Found}
+use Rattle.iol_port.specs.declared.stage.FoundDevice.{FoundDevice}
 use Rattle.iol_port.specs.declared.stage.PageFor.{PageFor}
 use Rattle.iol_port.specs.declared.stage.AttendFor.{AttendFor}
 use Rattle.iol_port.specs.declared.stage.ExchangeFor.{ExchangeFor}
 use Rattle.std.proofs.Common.{◌≡◌, inl, ℕ, true, List, [], ◌∷◌, refl, ◌∙◌}
 use Rattle.std.specs.Prelude.{Some, None, Ok}
-use Rattle.iol_isdu.specs.Reading.{answer_of}
-use Rattle.iol_isdu.specs.declared.messages.Answer.{Answer}
-use Rattle.iol_ident.specs.Page.{PageValue}
-use Rattle.iol_ident.specs.Validation.{ident_fault}
+use Rattle.iol_link.specs.Reading.{answer_of}
+use Rattle.iol_link.specs.declared.messages.Answer.{Answer}
+use Rattle.iol_link.specs.Page.{PageValue}
+use Rattle.iol_link.specs.Validation.{ident_fault}
 use Rattle.arrayvec.specs.ArrayVec.{ArrayVec}
 use Rattle.iol_core.specs.declared.port.Work.{Work}
 use Rattle.iol_port.specs.declared.action.Input.TheVariants as input
@@ -34,7 +34,7 @@ use Rattle.iol_port.specs.Status.{status_of, status_at_rest}
 use Rattle.iol_port.specs.declared.status.PortStatus.{PortStatus}
 
 -- a device was found, and the core has said nothing since
-pub record IsFound (found : Found) (history : List Happening) : Type 0 where
+pub record IsFound (found : FoundDevice) (history : List Happening) : Type 0 where
   pub conversation : List Exchange
   pub shown : HasShown found.connection found.page conversation history
   pub manual : is_manual found.work.config.mode ≡ true
@@ -161,7 +161,7 @@ known_raised page code before is = record {
   revision = is.revision;
 }
 
-pub found_answered : (found : Found) (request : Request) (octets : ArrayVec ℕ) (said : Answer) (before : List Happening)
+pub found_answered : (found : FoundDevice) (request : Request) (octets : ArrayVec ℕ) (said : Answer) (before : List Happening)
     → IsFound found before
     → answer_of octets.items ≡ Ok said → IsFound found (Did (AnswerTo request) (input.Octets octets) ∷ before)
 found_answered found request octets said before is read = record {
@@ -172,7 +172,7 @@ found_answered found request octets said before is read = record {
   said = is.said;
 }
 
-pub found_raised : (found : Found) (code : ℕ) (before : List Happening) → IsFound found before → IsFound found (Raised code ∷ before)
+pub found_raised : (found : FoundDevice) (code : ℕ) (before : List Happening) → IsFound found before → IsFound found (Raised code ∷ before)
 found_raised found code before is =
     record { conversation = is.conversation; shown = is.shown; manual = is.manual; wanted = is.wanted; said = is.said }
 

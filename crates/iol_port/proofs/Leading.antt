@@ -2,10 +2,10 @@
 use Rattle.std.proofs.Common.{◌≡◌, ℕ, Bool, true, false, if◌then◌else◌, List, [], ◌∷◌, refl, sym, ap, ◌∙◌, subst}
 use Rattle.std.specs.Prelude.{Option, Result}
 use Rattle.iol_types.specs.Config.{is_manual}
-use Rattle.iol_isdu.specs.Reading.{answer_of}
-use Rattle.iol_isdu.specs.declared.messages.Answer.{Answer}
-use Rattle.iol_isdu.specs.declared.faults.IsduFault.{IsduFault}
-use Rattle.iol_ident.specs.Page.{page_of}
+use Rattle.iol_link.specs.Reading.{answer_of}
+use Rattle.iol_link.specs.declared.messages.Answer.{Answer}
+use Rattle.iol_link.specs.declared.faults.IsduFault.{IsduFault}
+use Rattle.iol_link.specs.Page.{page_of}
 use Rattle.arrayvec.specs.ArrayVec.{ArrayVec}
 use Rattle.iol_port.specs.Answers.{RunsOut}
 use Rattle.iol_port.proofs.Keeping.{IsAtHand}
@@ -39,55 +39,55 @@ moved_is port value (Start work) history is = by (is_manual work.config.mode)
     by false = tt
 
 -- what comes of what was wanted
-comes_told : (port : ℕ) (under : Option ℕ) (kept : Bool) (stage : Stage) (heard : Input) (before : List Happening)
+comes_told : (port : ℕ) (started : Option ℕ) (requested : Bool) (stage : Stage) (heard : Input) (before : List Happening)
     → StageIs port before stage → IsAtHand stage
     → ComesOf (wanted port stage) heard
-    → IsStage (fed (record { port = port; under = under; kept = kept; stage = after_action stage }) heard).stage
+    → IsStage (fed (record { port = port; started_revision = started; upload_requested = requested; stage = after_action stage }) heard).stage
     → StageIs port (Did (wanted port stage) heard ∷ before)
-    (fed (record { port = port; under = under; kept = kept; stage = after_action stage }) heard).stage
-comes_told port under kept (Settled own) input.Wake before is hand comes good = tt
-comes_told port under kept (Settled own) heard before is hand comes good = absurd comes
-comes_told port under kept (Paging what) (input.Page connection octets) before is hand comes good =
-    moved_is port (record { port = port; under = under; kept = kept; stage = Paging what }) (page_heard what connection (page_of octets))
+    (fed (record { port = port; started_revision = started; upload_requested = requested; stage = after_action stage }) heard).stage
+comes_told port started requested (Settled own) input.Wake before is hand comes good = tt
+comes_told port started requested (Settled own) heard before is hand comes good = absurd comes
+comes_told port started requested (Paging what) (input.Page connection octets) before is hand comes good =
+    moved_is port (record { port = port; started_revision = started; upload_requested = requested; stage = Paging what }) (page_heard what connection (page_of octets))
     (Did ThePage (input.Page connection octets) ∷ before) (page_told port what connection octets before is)
-comes_told port under kept (Paging what) input.Lost before is hand comes good = tt
-comes_told port under kept (Paging what) heard before is hand comes good = absurd comes
-comes_told port under kept (Attending what) (input.Reply (reply.Attended work)) before is hand comes good =
-    moved_is port (record { port = port; under = under; kept = kept; stage = Attending what }) (attended under kept what work)
-    (Did (ReplyTo (Attend port)) (input.Reply (reply.Attended work)) ∷ before) (attended_told port under kept what work before is)
-comes_told port under kept (Attending what) heard before is hand comes good = absurd comes
-comes_told port under kept (BeginningUpload found) (input.Reply (reply.BegunUpload begins)) before is hand comes good =
+comes_told port started requested (Paging what) input.Lost before is hand comes good = tt
+comes_told port started requested (Paging what) heard before is hand comes good = absurd comes
+comes_told port started requested (Attending what) (input.Reply (reply.Attended work)) before is hand comes good =
+    moved_is port (record { port = port; started_revision = started; upload_requested = requested; stage = Attending what }) (attended started requested what work)
+    (Did (ReplyTo (Attend port)) (input.Reply (reply.Attended work)) ∷ before) (attended_told port started requested what work before is)
+comes_told port started requested (Attending what) heard before is hand comes good = absurd comes
+comes_told port started requested (BeginningUpload found) (input.Reply (reply.BegunUpload begins)) before is hand comes good =
     begun_told port found begins before comes
-comes_told port under kept (BeginningUpload found) heard before is hand comes good = absurd comes
-comes_told port under kept (BeginningDownload found checksum) (input.Reply (reply.BegunDownload begins)) before is hand comes good =
+comes_told port started requested (BeginningUpload found) heard before is hand comes good = absurd comes
+comes_told port started requested (BeginningDownload found checksum) (input.Reply (reply.BegunDownload begins)) before is hand comes good =
     download_begun_told port found checksum begins before comes
-comes_told port under kept (BeginningDownload found checksum) heard before is hand comes good = absurd comes
-comes_told port under kept (Exchanging what) (input.Octets octets) before is hand comes good = exchanged_told port what before octets is
-comes_told port under kept (Exchanging what) input.Lost before is hand comes good = tt
-comes_told port under kept (Exchanging what) heard before is hand comes good = absurd comes
-comes_told port under kept (Uploading grant page upload) (input.Octets octets) before is hand comes good =
+comes_told port started requested (BeginningDownload found checksum) heard before is hand comes good = absurd comes
+comes_told port started requested (Exchanging what) (input.Octets octets) before is hand comes good = exchanged_told port what before octets is
+comes_told port started requested (Exchanging what) input.Lost before is hand comes good = tt
+comes_told port started requested (Exchanging what) heard before is hand comes good = absurd comes
+comes_told port started requested (Uploading grant page upload) (input.Octets octets) before is hand comes good =
     upload_told port grant page upload before octets (answer_of octets.items) is refl good
-comes_told port under kept (Uploading grant page upload) input.Lost before is hand comes good = tt
-comes_told port under kept (Uploading grant page upload) heard before is hand comes good = absurd comes
-comes_told port under kept (Filing grant page set) (input.Reply (reply.FinishedUpload finished)) before is hand comes good =
+comes_told port started requested (Uploading grant page upload) input.Lost before is hand comes good = tt
+comes_told port started requested (Uploading grant page upload) heard before is hand comes good = absurd comes
+comes_told port started requested (Filing grant page set) (input.Reply (reply.FinishedUpload finished)) before is hand comes good =
     finished_told port grant page set finished before is comes
-comes_told port under kept (Filing grant page set) heard before is hand comes good = absurd comes
-comes_told port under kept (Filed page) heard before is hand comes good = absurd cc
-comes_told port under kept (Storing number page) (input.Reply (reply.Ticket state)) before is hand comes good =
+comes_told port started requested (Filing grant page set) heard before is hand comes good = absurd comes
+comes_told port started requested (Filed page) heard before is hand comes good = absurd cc
+comes_told port started requested (Storing number page) (input.Reply (reply.Ticket state)) before is hand comes good =
     ticket_told_is port number page state before is
-comes_told port under kept (Storing number page) heard before is hand comes good = absurd comes
-comes_told port under kept (Downloading permit page download) (input.Octets octets) before is hand comes good =
+comes_told port started requested (Storing number page) heard before is hand comes good = absurd comes
+comes_told port started requested (Downloading permit page download) (input.Octets octets) before is hand comes good =
     download_told port permit page download before octets (answer_of octets.items) is refl
-comes_told port under kept (Downloading permit page download) input.Lost before is hand comes good = tt
-comes_told port under kept (Downloading permit page download) heard before is hand comes good = absurd comes
-comes_told port under kept (Breaking holder why) (input.Octets octets) before is hand comes good = tt
-comes_told port under kept (Breaking holder why) input.Lost before is hand comes good = tt
-comes_told port under kept (Breaking holder why) heard before is hand comes good = absurd comes
-comes_told port under kept (Returning (held.Upload permit) own) (input.Reply reply.AbandonedUpload) before is hand comes good = tt
-comes_told port under kept (Returning (held.Upload permit) own) heard before is hand comes good = absurd comes
-comes_told port under kept (Returning (held.Download permit) own) (input.Reply reply.EndedDownload) before is hand comes good = tt
-comes_told port under kept (Returning (held.Download permit) own) heard before is hand comes good = absurd comes
-comes_told port under kept (Returned transfer own) heard before is hand comes good = absurd cc
+comes_told port started requested (Downloading permit page download) input.Lost before is hand comes good = tt
+comes_told port started requested (Downloading permit page download) heard before is hand comes good = absurd comes
+comes_told port started requested (Breaking holder why) (input.Octets octets) before is hand comes good = tt
+comes_told port started requested (Breaking holder why) input.Lost before is hand comes good = tt
+comes_told port started requested (Breaking holder why) heard before is hand comes good = absurd comes
+comes_told port started requested (Returning (held.Upload permit) own) (input.Reply reply.AbandonedUpload) before is hand comes good = tt
+comes_told port started requested (Returning (held.Upload permit) own) heard before is hand comes good = absurd comes
+comes_told port started requested (Returning (held.Download permit) own) (input.Reply reply.EndedDownload) before is hand comes good = tt
+comes_told port started requested (Returning (held.Download permit) own) heard before is hand comes good = absurd comes
+comes_told port started requested (Returned transfer own) heard before is hand comes good = absurd cc
 
 -- the port of a machine stays
 moved_port : (value : PortValue) (next : Next) → (moved value next).port ≡ value.port
@@ -100,7 +100,7 @@ fed_port value (input.Event code) = refl
 fed_port value (input.Page connection octets) = moved_port value (paged value.stage connection (page_of octets))
 fed_port value (input.Octets octets) = refl
 fed_port value input.Lost = refl
-fed_port value (input.Reply heard) = moved_port value (replied value.under value.kept value.stage heard)
+fed_port value (input.Reply heard) = moved_port value (replied value.started_revision value.upload_requested value.stage heard)
 
 runs_out_is : (port : ℕ) (stage : Stage) (heard : Result Answer IsduFault) (new : Stage) (history : List Happening)
     → RunsOut stage heard new
@@ -136,7 +136,7 @@ did_is port before old new heard led comes is good =
     whole fits = (
       fed_port (at_stage old (after_action old.stage)) heard ∙ led.port_is,
       subst (λ p. StageIs p history after.stage) led.port_is
-          (comes_told old.port old.under old.kept old.stage heard before here led.hand comes fits),
+          (comes_told old.port old.started_revision old.upload_requested old.stage heard before here led.hand comes fits),
     )
 
     out : (octets : ArrayVec ℕ) (stage : Stage) → RunsOut (after_action old.stage) (answer_of octets.items) stage

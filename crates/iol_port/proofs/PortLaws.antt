@@ -13,19 +13,19 @@ use Rattle.iol_port.specs.declared.action.Input.{Input}
 use Rattle.iol_port.specs.declared.action.Input.TheVariants as input
 use Rattle.iol_port.specs.declared.call.Reply.TheVariants as reply
 use Rattle.iol_port.specs.declared.decision.Decision.TheVariants as decision
-use Rattle.iol_port.specs.declared.stage.Found.{Found}
+use Rattle.iol_port.specs.declared.stage.FoundDevice.{FoundDevice}
 use Rattle.iol_port.specs.declared.stage.ExchangeFor.{ExchangeFor}
 use Rattle.iol_port.specs.declared.stage.ExchangeFor.TheVariants as exchange
 use Rattle.iol_port.specs.declared.stage.Held.TheVariants as held
 use Rattle.iol_types.specs.DataSet.{IsSet}
-use Rattle.iol_isdu.specs.declared.messages.Request.{Request}
+use Rattle.iol_link.specs.declared.messages.Request.{Request}
 use Rattle.iol_transfer.specs.Exchanges.{Exchange}
 use Rattle.iol_transfer.specs.Upload.{IsFinished}
 use Rattle.iol_transfer.specs.Machine.{asked}
 use Rattle.iol_transfer.specs.Download.{sent_by, IsDownloading}
 use Rattle.iol_port.specs.Laws.{HasUploaded, HasDownloaded, IsDurable, IsDecided}
-use Rattle.iol_dsindex.specs.declared.command.DsCommand.TheVariants as command
-use Rattle.iol_dsindex.specs.Command.{commanded}
+use Rattle.iol_transfer.specs.declared.command.DsCommand.TheVariants as command
+use Rattle.iol_transfer.specs.Command.{commanded}
 use Rattle.iol_port.specs.Calls.{BeginUpload, FinishUpload, BeginDownload}
 use Rattle.iol_port.proofs.Stages.{ExchangingIs, StageIs}
 use Rattle.iol_transfer.specs.Asked.{IsNext}
@@ -45,7 +45,7 @@ what_comes_fits port history value heard led holds comes =
 -- a machine wants a reply, and its stage is the one that wants it
 upload_asked : (port : ℕ) (history : List Happening) (asks vendor device connection : ℕ) (stage : Stage) → StageIs port history stage
     → wanted port stage ≡ ReplyTo (BeginUpload asks vendor device connection)
-    → (found : Found) × (checksum : ℕ) × IsDecided decision.Upload found checksum history
+    → (found : FoundDevice) × (checksum : ℕ) × IsDecided decision.Upload found checksum history
     × (BeginUpload asks vendor device connection ≡ BeginUpload port found.page.vendor found.page.device found.connection)
 upload_asked port history asks vendor device connection (BeginningUpload found) is wants = (found, is.0, is.1, cc)
 upload_asked port history asks vendor device connection (Settled own) is wants = absurd cc
@@ -66,7 +66,7 @@ upload_asked port history asks vendor device connection (Returned transfer own) 
 pub an_upload_is_decided : (port : ℕ) (history : List Happening) (value : PortValue) (asks vendor device connection : ℕ)
     → HasLed port history value
     → wanted value.port value.stage ≡ ReplyTo (BeginUpload asks vendor device connection)
-    → (found : Found) × (checksum : ℕ) × IsDecided decision.Upload found checksum history
+    → (found : FoundDevice) × (checksum : ℕ) × IsDecided decision.Upload found checksum history
     × (BeginUpload asks vendor device connection ≡ BeginUpload port found.page.vendor found.page.device found.connection)
 an_upload_is_decided port history value asks vendor device connection led wants =
     let is = led_is port history value led in
@@ -74,7 +74,7 @@ an_upload_is_decided port history value asks vendor device connection led wants 
 
 download_asked : (port : ℕ) (history : List Happening) (asks vendor device checksum : ℕ) (stage : Stage) → StageIs port history stage
     → wanted port stage ≡ ReplyTo (BeginDownload asks vendor device checksum)
-    → (found : Found) × IsDecided decision.Download found checksum history
+    → (found : FoundDevice) × IsDecided decision.Download found checksum history
     × (BeginDownload asks vendor device checksum ≡ BeginDownload port found.page.vendor found.page.device checksum)
 download_asked port history asks vendor device checksum (BeginningDownload found own) is wants =
     let same : own ≡ checksum = cc in
@@ -97,7 +97,7 @@ download_asked port history asks vendor device checksum (Returned transfer own) 
 pub a_download_is_decided : (port : ℕ) (history : List Happening) (value : PortValue) (asks vendor device checksum : ℕ)
     → HasLed port history value
     → wanted value.port value.stage ≡ ReplyTo (BeginDownload asks vendor device checksum)
-    → (found : Found) × IsDecided decision.Download found checksum history
+    → (found : FoundDevice) × IsDecided decision.Download found checksum history
     × (BeginDownload asks vendor device checksum ≡ BeginDownload port found.page.vendor found.page.device checksum)
 a_download_is_decided port history value asks vendor device checksum led wants =
     let is = led_is port history value led in

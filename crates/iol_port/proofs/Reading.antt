@@ -2,13 +2,13 @@
 use Rattle.std.proofs.Common.{◌≡◌, ℕ, List, sym, ◌∙◌}
 use Rattle.std.specs.Prelude.{Some, Result, Ok, Err, IfOk}
 use Rattle.std.specs.Result.{result_err}
-use Rattle.iol_isdu.specs.Faults.{answer_fault}
-use Rattle.iol_isdu.specs.Isdu.{IsAnswer}
-use Rattle.iol_isdu.specs.Reading.{answer_of}
-use Rattle.iol_isdu.specs.declared.messages.Answer.{Answer}
-use Rattle.iol_isdu.specs.declared.faults.IsduFault.{IsduFault}
-use Rattle.iol_isdu.proofs.AnswerTexts.{answer_reads}
-use Rattle.iol_isdu.proofs.FirstFaults.{answer_refused}
+use Rattle.iol_link.specs.Faults.{answer_fault}
+use Rattle.iol_link.specs.Isdu.{IsAnswer}
+use Rattle.iol_link.specs.Reading.{answer_of}
+use Rattle.iol_link.specs.declared.messages.Answer.{Answer}
+use Rattle.iol_link.specs.declared.faults.IsduFault.{IsduFault}
+use Rattle.iol_link.proofs.AnswerTexts.{answer_reads}
+use Rattle.iol_link.proofs.FirstFaults.{answer_refused}
 
 only_fault : (read : Result Answer IsduFault) (why : IsduFault) → result_err read ≡ Some why → Err why ≡ read
 only_fault (Ok answer) why is = absurd cc

@@ -2,7 +2,7 @@
 use Rattle.std.proofs.Common.{◌≡◌, ℕ, Bool, true, false, if◌then◌else◌, List, [], ◌∷◌, refl, sym, ap, ◌∙◌, subst}
 use Rattle.std.specs.Prelude.{Option, Some, None, Result, Ok, Err, length}
 use Rattle.iol_types.specs.DataSet.{SetValue}
-use Rattle.iol_ident.specs.Page.{PageValue}
+use Rattle.iol_link.specs.Page.{PageValue}
 use Rattle.iol_core.specs.declared.permit.UploadGrant.{UploadGrant}
 use Rattle.iol_core.specs.declared.upload.FinishFault.{FinishFault}
 use Rattle.iol_core.specs.declared.upload.PermitFault.{PermitFault}
@@ -212,36 +212,36 @@ ticket_free number page ticket.Waiting = refl
 ticket_free number page ticket.Durable = refl
 ticket_free number page ticket.Unsure = refl
 
-core_holds : (start : FrontStart) (before after : CoreView) (port : ℕ) (under : Option ℕ) (kept : Bool) (stage : Stage) (heard : Reply)
+core_holds : (start : FrontStart) (before after : CoreView) (port : ℕ) (started : Option ℕ) (requested : Bool) (stage : Stage) (heard : Reply)
     → IsCore start before
     → IsAtHand stage → HasOut before port (held_by stage) → RepliesTo (wanted port stage) before after heard
-    → HasOut after port (held_by (fed (record { port = port; under = under; kept = kept; stage = after_action stage })
+    → HasOut after port (held_by (fed (record { port = port; started_revision = started; upload_requested = requested; stage = after_action stage })
     (input.Reply heard)).stage)
-core_holds start before after port under kept (Attending what) (reply.Attended work) is hand out replies =
+core_holds start before after port started requested (Attending what) (reply.Attended work) is hand out replies =
     subst (HasOut after port)
-    (sym (moved_holds (record { port = port; under = under; kept = kept; stage = Attending what }) (attended under kept what work)
-    (attended_free under kept what work)))
+    (sym (moved_holds (record { port = port; started_revision = started; upload_requested = requested; stage = Attending what }) (attended started requested what work)
+    (attended_free started requested what work)))
     (ap (λ (core : CoreView). permit_at core port) replies.1 ∙ out)
-core_holds start before after port under kept (Attending what) heard is hand out replies = absurd replies
-core_holds start before after port under kept (BeginningUpload found) (reply.BegunUpload begins) is hand out replies =
+core_holds start before after port started requested (Attending what) heard is hand out replies = absurd replies
+core_holds start before after port started requested (BeginningUpload found) (reply.BegunUpload begins) is hand out replies =
     upload_given start port _ _ _ found.page before after begins is out replies
-core_holds start before after port under kept (BeginningUpload found) heard is hand out replies = absurd replies
-core_holds start before after port under kept (BeginningDownload found checksum) (reply.BegunDownload begins) is hand out replies =
+core_holds start before after port started requested (BeginningUpload found) heard is hand out replies = absurd replies
+core_holds start before after port started requested (BeginningDownload found checksum) (reply.BegunDownload begins) is hand out replies =
     download_given start port _ _ _ found.page before after begins is out replies
-core_holds start before after port under kept (BeginningDownload found checksum) heard is hand out replies = absurd replies
-core_holds start before after port under kept (Filing grant page set) (reply.FinishedUpload finished) is hand out replies =
+core_holds start before after port started requested (BeginningDownload found checksum) heard is hand out replies = absurd replies
+core_holds start before after port started requested (Filing grant page set) (reply.FinishedUpload finished) is hand out replies =
     set_filed port grant page set before after finished out replies
-core_holds start before after port under kept (Filing grant page set) heard is hand out replies = absurd replies
-core_holds start before after port under kept (Storing number page) (reply.Ticket state) is hand out replies =
+core_holds start before after port started requested (Filing grant page set) heard is hand out replies = absurd replies
+core_holds start before after port started requested (Storing number page) (reply.Ticket state) is hand out replies =
     subst (HasOut after port) (sym (ticket_free number page state)) (ap (λ (core : CoreView). permit_at core port) replies.1 ∙ out)
-core_holds start before after port under kept (Storing number page) heard is hand out replies = absurd replies
-core_holds start before after port under kept (Returning (held.Upload permit) own) reply.AbandonedUpload is hand out replies =
+core_holds start before after port started requested (Storing number page) heard is hand out replies = absurd replies
+core_holds start before after port started requested (Returning (held.Upload permit) own) reply.AbandonedUpload is hand out replies =
     ap (λ (core : CoreView). permit_at core port) replies ∙ released_out before port (held.Upload permit) out
-core_holds start before after port under kept (Returning (held.Upload permit) own) heard is hand out replies = absurd replies
-core_holds start before after port under kept (Returning (held.Download permit) own) reply.EndedDownload is hand out replies =
+core_holds start before after port started requested (Returning (held.Upload permit) own) heard is hand out replies = absurd replies
+core_holds start before after port started requested (Returning (held.Download permit) own) reply.EndedDownload is hand out replies =
     ap (λ (core : CoreView). permit_at core port) replies ∙ released_out before port (held.Download permit) out
-core_holds start before after port under kept (Returning (held.Download permit) own) heard is hand out replies = absurd replies
-core_holds start before after port under kept stage heard is hand out replies = absurd replies
+core_holds start before after port started requested (Returning (held.Download permit) own) heard is hand out replies = absurd replies
+core_holds start before after port started requested stage heard is hand out replies = absurd replies
 
 pub core_keeps : (start : FrontStart) (before after : CoreView) (old new : PortValue) (call : Call) (heard : Reply) → IsCore start before
     → IsAtHand old.stage
@@ -250,5 +250,5 @@ pub core_keeps : (start : FrontStart) (before after : CoreView) (old new : PortV
     → HasOut after old.port (held_by new.stage)
 core_keeps start before after old new call heard is hand out happens replies =
     subst (λ (value : PortValue). HasOut after old.port (held_by value.stage)) (sym happens.2)
-    (core_holds start before after old.port old.under old.kept old.stage heard is hand out
+    (core_holds start before after old.port old.started_revision old.upload_requested old.stage heard is hand out
     (subst (λ (wants : Wanted). RepliesTo wants before after heard) happens.0 replies))

@@ -2,10 +2,10 @@
 use Rattle.std.proofs.Common.{◌≡◌, inl, inr, ℕ, Bool, true, false, if◌then◌else◌, List, [], ◌∷◌, refl, sym, ap, ◌∙◌, subst}
 use Rattle.std.specs.Prelude.{Option, Result}
 use Rattle.iol_types.specs.Config.{is_manual}
-use Rattle.iol_isdu.specs.Reading.{answer_of}
-use Rattle.iol_isdu.specs.declared.messages.Answer.{Answer}
-use Rattle.iol_isdu.specs.declared.faults.IsduFault.{IsduFault}
-use Rattle.iol_ident.specs.Page.{PageValue, page_of}
+use Rattle.iol_link.specs.Reading.{answer_of}
+use Rattle.iol_link.specs.declared.messages.Answer.{Answer}
+use Rattle.iol_link.specs.declared.faults.IsduFault.{IsduFault}
+use Rattle.iol_link.specs.Page.{PageValue, page_of}
 use Rattle.iol_port.specs.Answers.{RunsOut}
 use Rattle.iol_port.specs.Calls.{Attend}
 use Rattle.iol_port.specs.Heard.{page_heard, attended, IsFed, fed, moved, at_stage}
@@ -44,67 +44,67 @@ moved_written port was value (Start work) history is = by (is_manual work.config
     by false = inr tt
 
 -- what comes of what was wanted
-comes_written : (port : ℕ) (was : PortStatus) (under : Option ℕ) (kept : Bool) (stage : Stage) (heard : Input) (before : List Happening)
+comes_written : (port : ℕ) (was : PortStatus) (started : Option ℕ) (requested : Bool) (stage : Stage) (heard : Input) (before : List Happening)
     → StageIs port before stage → WrittenIs port was before stage → IsAtHand stage → ComesOf (wanted port stage) heard
     → WrittenIs port (status_of stage) (Did (wanted port stage) heard ∷ before)
-    (fed (record { port = port; under = under; kept = kept; stage = after_action stage }) heard).stage
-comes_written port was under kept (Settled own) input.Wake before at is hand comes = tt
-comes_written port was under kept (Settled own) heard before at is hand comes = absurd comes
-comes_written port was under kept (Paging what) (input.Page connection octets) before at is hand comes =
-    moved_written port (status_of (Paging what)) (record { port = port; under = under; kept = kept; stage = Paging what })
+    (fed (record { port = port; started_revision = started; upload_requested = requested; stage = after_action stage }) heard).stage
+comes_written port was started requested (Settled own) input.Wake before at is hand comes = tt
+comes_written port was started requested (Settled own) heard before at is hand comes = absurd comes
+comes_written port was started requested (Paging what) (input.Page connection octets) before at is hand comes =
+    moved_written port (status_of (Paging what)) (record { port = port; started_revision = started; upload_requested = requested; stage = Paging what })
     (page_heard what connection (page_of octets))
     (Did ThePage (input.Page connection octets) ∷ before) (page_written port what connection octets before at)
-comes_written port was under kept (Paging what) input.Lost before at is hand comes = inr tt
-comes_written port was under kept (Paging what) heard before at is hand comes = absurd comes
-comes_written port was under kept (Attending what) (input.Reply (reply.Attended work)) before at is hand comes =
-    moved_written port (status_of (Attending what)) (record { port = port; under = under; kept = kept; stage = Attending what })
-    (attended under kept what work)
+comes_written port was started requested (Paging what) input.Lost before at is hand comes = inr tt
+comes_written port was started requested (Paging what) heard before at is hand comes = absurd comes
+comes_written port was started requested (Attending what) (input.Reply (reply.Attended work)) before at is hand comes =
+    moved_written port (status_of (Attending what)) (record { port = port; started_revision = started; upload_requested = requested; stage = Attending what })
+    (attended started requested what work)
     (Did (ReplyTo (Attend port)) (input.Reply (reply.Attended work)) ∷ before)
-    (attended_written port (status_of (Attending what)) under kept what work before at)
-comes_written port was under kept (Attending what) heard before at is hand comes = absurd comes
-comes_written port was under kept (BeginningUpload found) (input.Reply (reply.BegunUpload begins)) before at is hand comes =
+    (attended_written port (status_of (Attending what)) started requested what work before at)
+comes_written port was started requested (Attending what) heard before at is hand comes = absurd comes
+comes_written port was started requested (BeginningUpload found) (input.Reply (reply.BegunUpload begins)) before at is hand comes =
     begun_written port (status_of (BeginningUpload found))
     (Did (wanted port (BeginningUpload found)) (input.Reply (reply.BegunUpload begins)) ∷ before) found.page begins
-comes_written port was under kept (BeginningUpload found) heard before at is hand comes = absurd comes
-comes_written port was under kept (BeginningDownload found checksum) (input.Reply (reply.BegunDownload begins)) before at is hand comes =
+comes_written port was started requested (BeginningUpload found) heard before at is hand comes = absurd comes
+comes_written port was started requested (BeginningDownload found checksum) (input.Reply (reply.BegunDownload begins)) before at is hand comes =
     download_begun_written port (status_of (BeginningDownload found checksum)) found checksum begins before comes
-comes_written port was under kept (BeginningDownload found checksum) heard before at is hand comes = absurd comes
-comes_written port was under kept (Exchanging what) (input.Octets octets) before at is hand comes =
+comes_written port was started requested (BeginningDownload found checksum) heard before at is hand comes = absurd comes
+comes_written port was started requested (Exchanging what) (input.Octets octets) before at is hand comes =
     exchanged_written port (status_of (Exchanging what)) what before octets at
-comes_written port was under kept (Exchanging what) input.Lost before at is hand comes = inr tt
-comes_written port was under kept (Exchanging what) heard before at is hand comes = absurd comes
-comes_written port was under kept (Uploading grant page upload) (input.Octets octets) before at is hand comes =
+comes_written port was started requested (Exchanging what) input.Lost before at is hand comes = inr tt
+comes_written port was started requested (Exchanging what) heard before at is hand comes = absurd comes
+comes_written port was started requested (Uploading grant page upload) (input.Octets octets) before at is hand comes =
     upload_written port (status_of (Uploading grant page upload))
     (Did (wanted port (Uploading grant page upload)) (input.Octets octets) ∷ before) grant page upload
     (answer_of octets.items)
-comes_written port was under kept (Uploading grant page upload) input.Lost before at is hand comes = tt
-comes_written port was under kept (Uploading grant page upload) heard before at is hand comes = absurd comes
-comes_written port was under kept (Filing grant page set) (input.Reply (reply.FinishedUpload finished)) before at is hand comes =
+comes_written port was started requested (Uploading grant page upload) input.Lost before at is hand comes = tt
+comes_written port was started requested (Uploading grant page upload) heard before at is hand comes = absurd comes
+comes_written port was started requested (Filing grant page set) (input.Reply (reply.FinishedUpload finished)) before at is hand comes =
     finished_written port (status_of (Filing grant page set))
     (Did (wanted port (Filing grant page set)) (input.Reply (reply.FinishedUpload finished)) ∷ before) page finished
-comes_written port was under kept (Filing grant page set) heard before at is hand comes = absurd comes
-comes_written port was under kept (Filed page) heard before at is hand comes = absurd cc
-comes_written port was under kept (Storing number page) (input.Reply (reply.Ticket state)) before at is hand comes =
+comes_written port was started requested (Filing grant page set) heard before at is hand comes = absurd comes
+comes_written port was started requested (Filed page) heard before at is hand comes = absurd cc
+comes_written port was started requested (Storing number page) (input.Reply (reply.Ticket state)) before at is hand comes =
     ticket_written port (status_of (Storing number page))
     (Did (wanted port (Storing number page)) (input.Reply (reply.Ticket state)) ∷ before) number page state
-comes_written port was under kept (Storing number page) heard before at is hand comes = absurd comes
-comes_written port was under kept (Downloading permit page download) (input.Octets octets) before at is hand comes =
+comes_written port was started requested (Storing number page) heard before at is hand comes = absurd comes
+comes_written port was started requested (Downloading permit page download) (input.Octets octets) before at is hand comes =
     download_written port permit (status_of (Downloading permit page download)) page download before octets (answer_of octets.items) is refl
-comes_written port was under kept (Downloading permit page download) input.Lost before at is hand comes = tt
-comes_written port was under kept (Downloading permit page download) heard before at is hand comes = absurd comes
-comes_written port was under kept (Breaking holder why) (input.Octets octets) before at is hand comes = tt
-comes_written port was under kept (Breaking holder why) input.Lost before at is hand comes = tt
-comes_written port was under kept (Breaking holder why) heard before at is hand comes = absurd comes
-comes_written port was under kept (Returning (held.Upload permit) own) (input.Reply reply.AbandonedUpload) before at is hand comes =
+comes_written port was started requested (Downloading permit page download) input.Lost before at is hand comes = tt
+comes_written port was started requested (Downloading permit page download) heard before at is hand comes = absurd comes
+comes_written port was started requested (Breaking holder why) (input.Octets octets) before at is hand comes = tt
+comes_written port was started requested (Breaking holder why) input.Lost before at is hand comes = tt
+comes_written port was started requested (Breaking holder why) heard before at is hand comes = absurd comes
+comes_written port was started requested (Returning (held.Upload permit) own) (input.Reply reply.AbandonedUpload) before at is hand comes =
     upload_returned port (status_of (Returning (held.Upload permit) own)) before
     (Did (wanted port (Returning (held.Upload permit) own)) (input.Reply reply.AbandonedUpload) ∷ before)
     permit own is
-comes_written port was under kept (Returning (held.Upload permit) own) heard before at is hand comes = absurd comes
-comes_written port was under kept (Returning (held.Download permit) own) (input.Reply reply.EndedDownload) before at is hand comes =
+comes_written port was started requested (Returning (held.Upload permit) own) heard before at is hand comes = absurd comes
+comes_written port was started requested (Returning (held.Download permit) own) (input.Reply reply.EndedDownload) before at is hand comes =
     download_returned port (status_of (Returning (held.Download permit) own))
     (wanted port (Returning (held.Download permit) own)) before permit own is
-comes_written port was under kept (Returning (held.Download permit) own) heard before at is hand comes = absurd comes
-comes_written port was under kept (Returned transfer own) heard before at is hand comes = absurd cc
+comes_written port was started requested (Returning (held.Download permit) own) heard before at is hand comes = absurd comes
+comes_written port was started requested (Returned transfer own) heard before at is hand comes = absurd cc
 
 out_written : (port : ℕ) (was : PortStatus) (stage : Stage) (heard : Result Answer IsduFault) (new : Stage) (history : List Happening)
     → RunsOut stage heard new
@@ -133,7 +133,7 @@ did_written port was before old new heard led is comes fed_so =
     whole : WrittenIs port (status_of old.stage) history (fed (at_stage old (after_action old.stage)) heard).stage
     whole =
         subst (λ p. WrittenIs p (status_of old.stage) history (fed (at_stage old (after_action old.stage)) heard).stage) led.port_is
-        (comes_written old.port was old.under old.kept old.stage heard before at here led.hand comes)
+        (comes_written old.port was old.started_revision old.upload_requested old.stage heard before at here led.hand comes)
 
 happens_written : (port : ℕ) (was : PortStatus) (before : List Happening) (old new : PortValue) (latest : Happening) → IsLed port before old
     → WrittenIs port was before old.stage → Happens old latest new → WrittenIs port (status_of old.stage) (latest ∷ before) new.stage

@@ -2,27 +2,27 @@
 use Rattle.iol_port.specs.Stage.{Settled, Paging, Attending, Exchanging, To, Start}
 use Rattle.iol_port.specs.Wanted.{Wanted, ThePage, AnswerTo, wanted}
 use Rattle.iol_port.specs.History.{Happening, Did}
-use Rattle.iol_isdu.specs.declared.messages.Request.{Request}
+use Rattle.iol_link.specs.declared.messages.Request.{Request}
 use Rattle.iol_port.specs.declared.call.Reply.{Reply}
 use Rattle.iol_transfer.specs.Machine.{Machine, Outcome, More, Whole, Fault, step}
 use Rattle.iol_transfer.specs.Download.{Sender}
 use Rattle.iol_port.specs.Heard.{page_heard, settled_with, found_by, judged, resumed, is_under, decided, attended, upload_begun}
 use Rattle.iol_port.specs.Heard.{download_begun, upload_finished, ticket_told}
 use Rattle.iol_port.specs.declared.stage.Rest.{Rest}
-use Rattle.iol_port.specs.declared.stage.Found.{Found}
+use Rattle.iol_port.specs.declared.stage.FoundDevice.{FoundDevice}
 use Rattle.iol_port.specs.declared.stage.PageFor.{PageFor}
 use Rattle.iol_port.specs.declared.stage.AttendFor.{AttendFor}
 use Rattle.iol_port.specs.declared.stage.ExchangeFor.{ExchangeFor}
 use Rattle.std.proofs.Common.{◌≡◌, inl, inr, ℕ, Bool, true, false, if◌then◌else◌, nat_lt, List, [], ◌∷◌, refl}
 use Rattle.std.specs.Prelude.{Option, Some, None, Result, Ok, Err, ◌&&◌, ◌==◌, not, length, slice_index}
 use Rattle.iol_types.specs.Config.{restores}
-use Rattle.iol_isdu.specs.Reading.{answer_of}
-use Rattle.iol_isdu.specs.declared.messages.Answer.{Answer}
-use Rattle.iol_isdu.specs.declared.messages.Answer.TheVariants as answer
-use Rattle.iol_isdu.specs.declared.faults.IsduFault.{IsduFault}
-use Rattle.iol_ident.specs.Page.{PageValue, page_of}
-use Rattle.iol_ident.specs.Validation.{ident_fault}
-use Rattle.iol_ident.specs.declared.validation.IdentFault.{IdentFault}
+use Rattle.iol_link.specs.Reading.{answer_of}
+use Rattle.iol_link.specs.declared.messages.Answer.{Answer}
+use Rattle.iol_link.specs.declared.messages.Answer.TheVariants as answer
+use Rattle.iol_link.specs.declared.faults.IsduFault.{IsduFault}
+use Rattle.iol_link.specs.Page.{PageValue, page_of}
+use Rattle.iol_link.specs.Validation.{ident_fault}
+use Rattle.iol_link.specs.declared.validation.IdentFault.{IdentFault}
 use Rattle.arrayvec.specs.ArrayVec.{ArrayVec}
 use Rattle.iol_port.specs.declared.fault.PortFault.TheVariants as fault
 use Rattle.iol_core.specs.declared.permit.UploadGrant.{UploadGrant}
@@ -45,14 +45,14 @@ use Rattle.iol_core.specs.declared.ticket.TicketState.{TicketState}
 use Rattle.iol_core.specs.declared.upload.PermitFault.{PermitFault}
 use Rattle.iol_core.specs.declared.download.DownloadBegun.{DownloadBegun}
 use Rattle.iol_core.specs.declared.download.DownloadFault.{DownloadFault}
-use Rattle.iol_dsindex.specs.Property.{PropertyValue}
+use Rattle.iol_transfer.specs.Property.{PropertyValue}
 use Rattle.std.proofs.Common.{◌-◌, arith}
 use Rattle.std.proofs.lemmas.Bool.Decides.{nat_tests}
-use Rattle.iol_dsindex.specs.Property.{property_of}
+use Rattle.iol_transfer.specs.Property.{property_of}
 use Rattle.iol_transfer.specs.Upload.{number_of}
 use Rattle.iol_transfer.specs.declared.repeats.TheConstants.{MOST_REQUESTS}
 use Rattle.iol_port.specs.Laws.{last_work}
-use Rattle.iol_isdu.specs.declared.messages.Answer.TheVariants.{ReadOk, Busy}
+use Rattle.iol_link.specs.declared.messages.Answer.TheVariants.{ReadOk, Busy}
 use Rattle.iol_types.specs.Config.{is_manual}
 use Rattle.iol_port.specs.Laws.{IsKnown}
 use Rattle.iol_port.specs.Status.{status_of, status_at_rest}
@@ -63,7 +63,7 @@ use Rattle.iol_port.proofs.Knowing.{known_replied, known_answered, found_answere
 
 -- ---- answers
 
-state_known : (was : PortStatus) (found : Found) (left : ℕ) (request : Request) (before : List Happening) (octets : ArrayVec ℕ)
+state_known : (was : PortStatus) (found : FoundDevice) (left : ℕ) (request : Request) (before : List Happening) (octets : ArrayVec ℕ)
     (heard : Result Answer IsduFault)
     → IsFound found before → answer_of octets.items ≡ heard
     → KnownIs was (Did (AnswerTo request) (input.Octets octets) ∷ before) (state_read found left heard)
@@ -82,7 +82,7 @@ state_known was found left request before octets (Ok answer.Busy) is read = by (
     by false = inr tt
 state_known was found left request before octets other is read = inr tt
 
-checksum_known : (was : PortStatus) (found : Found) (property : PropertyValue) (left : ℕ) (request : Request) (before : List Happening)
+checksum_known : (was : PortStatus) (found : FoundDevice) (property : PropertyValue) (left : ℕ) (request : Request) (before : List Happening)
     (octets : ArrayVec ℕ)
     (heard : Result Answer IsduFault) → IsFound found before → answer_of octets.items ≡ heard
     → KnownIs was (Did (AnswerTo request) (input.Octets octets) ∷ before) (checksum_read found property left heard)
@@ -202,7 +202,7 @@ resumed_known port (rest.Failed why) work before = refl
 resumed_known port own work before = refl
 
 -- what was found is known once the core has said the same revision
-confirmed_known : (port : ℕ) (found : Found) (work : Work) (before : List Happening) → IsFound found before
+confirmed_known : (port : ℕ) (found : FoundDevice) (work : Work) (before : List Happening) → IsFound found before
     → found.work.revision ≡ work.revision
     → IsKnown found.page (Said port (Some work) ∷ before)
 confirmed_known port found work before is same = record {
@@ -218,7 +218,7 @@ confirmed_known port found work before is same = record {
   revision = same;
 }
 
-decided_known : (was : PortStatus) (port : ℕ) (found : Found) (checksum : ℕ) (work : Work) (before : List Happening) (now : Decision)
+decided_known : (was : PortStatus) (port : ℕ) (found : FoundDevice) (checksum : ℕ) (work : Work) (before : List Happening) (now : Decision)
     → IsFound found before
     → found.work.revision ≡ work.revision → KnownIs was (Said port (Some work) ∷ before) (decided found checksum now)
 decided_known was port found checksum work before decision.Ready is same = inr (confirmed_known port found work before is same)
@@ -227,16 +227,16 @@ decided_known was port found checksum work before decision.ReadyEmpty is same = 
 decided_known was port found checksum work before decision.Upload is same = confirmed_known port found work before is same
 decided_known was port found checksum work before decision.Download is same = confirmed_known port found work before is same
 
-pub attended_known : (port : ℕ) (under : Option ℕ) (kept : Bool) (what : AttendFor) (work : Option Work) (before : List Happening)
+pub attended_known : (port : ℕ) (started : Option ℕ) (requested : Bool) (what : AttendFor) (work : Option Work) (before : List Happening)
     → KnownAttending before what
-    → NextKnown (status_of (Attending what)) (Said port work ∷ before) (attended under kept what work)
-attended_known port under kept what None before is = inr (inl refl)
-attended_known port under kept (attend.Waking own) (Some work) before is = by (is_under under work.revision && not kept)
+    → NextKnown (status_of (Attending what)) (Said port work ∷ before) (attended started requested what work)
+attended_known port started requested what None before is = inr (inl refl)
+attended_known port started requested (attend.Waking own) (Some work) before is = by (is_under started work.revision && not requested)
   where
     by : (test : Bool) → NextKnown (status_at_rest own) (Said port (Some work) ∷ before) (if test then resumed own work else Start work)
     by true = resumed_known port own work before
     by false = refl
-attended_known port under kept (attend.Confirming found property checksum) (Some work) before is =
+attended_known port started requested (attend.Confirming found property checksum) (Some work) before is =
     by (found.work.revision == work.revision) refl
   where
     by : (test : Bool) → (found.work.revision == work.revision) ≡ test
@@ -245,7 +245,7 @@ attended_known port under kept (attend.Confirming found property checksum) (Some
         else Start work)
     by true same = decided_known _ port found checksum work before _ is (grind (arith, nat_tests, same))
     by false same = refl
-attended_known port under kept attend.Restarting (Some work) before is = refl
+attended_known port started requested attend.Restarting (Some work) before is = refl
 
 -- ---- replies
 

@@ -8,10 +8,10 @@ use Rattle.iol_port.specs.declared.stage.Rest.{Rest}
 use Rattle.std.proofs.Common.{◌≡◌, inl, inr, ℕ, Bool, true, false, if◌then◌else◌, List, [], ◌∷◌, refl, sym, ap, ◌∙◌, subst}
 use Rattle.std.specs.Prelude.{Option, Result}
 use Rattle.iol_types.specs.Config.{is_manual}
-use Rattle.iol_isdu.specs.Reading.{answer_of}
-use Rattle.iol_isdu.specs.declared.messages.Answer.{Answer}
-use Rattle.iol_isdu.specs.declared.faults.IsduFault.{IsduFault}
-use Rattle.iol_ident.specs.Page.{page_of}
+use Rattle.iol_link.specs.Reading.{answer_of}
+use Rattle.iol_link.specs.declared.messages.Answer.{Answer}
+use Rattle.iol_link.specs.declared.faults.IsduFault.{IsduFault}
+use Rattle.iol_link.specs.Page.{page_of}
 use Rattle.iol_port.specs.Answers.{RunsOut}
 use Rattle.iol_port.proofs.Keeping.{IsAtHand}
 use Rattle.iol_port.specs.declared.action.Input.{Input}
@@ -41,58 +41,58 @@ moved_known was value (Start work) history is = by (is_manual work.config.mode) 
     by false manual = inr (inr (work, is, manual))
 
 -- what comes of what was wanted
-comes_known : (was : PortStatus) (port : ℕ) (under : Option ℕ) (kept : Bool) (stage : Stage) (heard : Input) (before : List Happening)
+comes_known : (was : PortStatus) (port : ℕ) (started : Option ℕ) (requested : Bool) (stage : Stage) (heard : Input) (before : List Happening)
     → KnownIs was before stage
     → IsAtHand stage → ComesOf (wanted port stage) heard
     → KnownIs (status_of stage) (Did (wanted port stage) heard ∷ before)
-    (fed (record { port = port; under = under; kept = kept; stage = after_action stage }) heard).stage
-comes_known was port under kept (Settled own) input.Wake before is hand comes = tt
-comes_known was port under kept (Settled own) heard before is hand comes = absurd comes
-comes_known was port under kept (Paging what) (input.Page connection octets) before is hand comes =
-    moved_known (status_of (Paging what)) (record { port = port; under = under; kept = kept; stage = Paging what })
+    (fed (record { port = port; started_revision = started; upload_requested = requested; stage = after_action stage }) heard).stage
+comes_known was port started requested (Settled own) input.Wake before is hand comes = tt
+comes_known was port started requested (Settled own) heard before is hand comes = absurd comes
+comes_known was port started requested (Paging what) (input.Page connection octets) before is hand comes =
+    moved_known (status_of (Paging what)) (record { port = port; started_revision = started; upload_requested = requested; stage = Paging what })
     (page_heard what connection (page_of octets))
     (Did ThePage (input.Page connection octets) ∷ before) (page_known what connection octets before is)
-comes_known was port under kept (Paging what) input.Lost before is hand comes = inr tt
-comes_known was port under kept (Paging what) heard before is hand comes = absurd comes
-comes_known was port under kept (Attending what) (input.Reply (reply.Attended work)) before is hand comes =
-    moved_known (status_of (Attending what)) (record { port = port; under = under; kept = kept; stage = Attending what })
-    (attended under kept what work)
-    (Did (ReplyTo (Attend port)) (input.Reply (reply.Attended work)) ∷ before) (attended_known port under kept what work before is)
-comes_known was port under kept (Attending what) heard before is hand comes = absurd comes
-comes_known was port under kept (BeginningUpload found) (input.Reply (reply.BegunUpload begins)) before is hand comes =
+comes_known was port started requested (Paging what) input.Lost before is hand comes = inr tt
+comes_known was port started requested (Paging what) heard before is hand comes = absurd comes
+comes_known was port started requested (Attending what) (input.Reply (reply.Attended work)) before is hand comes =
+    moved_known (status_of (Attending what)) (record { port = port; started_revision = started; upload_requested = requested; stage = Attending what })
+    (attended started requested what work)
+    (Did (ReplyTo (Attend port)) (input.Reply (reply.Attended work)) ∷ before) (attended_known port started requested what work before is)
+comes_known was port started requested (Attending what) heard before is hand comes = absurd comes
+comes_known was port started requested (BeginningUpload found) (input.Reply (reply.BegunUpload begins)) before is hand comes =
     begun_known _ found.page _ begins before is
-comes_known was port under kept (BeginningUpload found) heard before is hand comes = absurd comes
-comes_known was port under kept (BeginningDownload found checksum) (input.Reply (reply.BegunDownload begins)) before is hand comes =
+comes_known was port started requested (BeginningUpload found) heard before is hand comes = absurd comes
+comes_known was port started requested (BeginningDownload found checksum) (input.Reply (reply.BegunDownload begins)) before is hand comes =
     download_begun_known _ found.page _ begins before is
-comes_known was port under kept (BeginningDownload found checksum) heard before is hand comes = absurd comes
-comes_known was port under kept (Exchanging what) (input.Octets octets) before is hand comes = exchanged_known _ what _ before octets is
-comes_known was port under kept (Exchanging what) input.Lost before is hand comes = inr tt
-comes_known was port under kept (Exchanging what) heard before is hand comes = absurd comes
-comes_known was port under kept (Uploading grant page upload) (input.Octets octets) before is hand comes =
+comes_known was port started requested (BeginningDownload found checksum) heard before is hand comes = absurd comes
+comes_known was port started requested (Exchanging what) (input.Octets octets) before is hand comes = exchanged_known _ what _ before octets is
+comes_known was port started requested (Exchanging what) input.Lost before is hand comes = inr tt
+comes_known was port started requested (Exchanging what) heard before is hand comes = absurd comes
+comes_known was port started requested (Uploading grant page upload) (input.Octets octets) before is hand comes =
     upload_known _ grant page upload _ before octets (answer_of octets.items) is refl
-comes_known was port under kept (Uploading grant page upload) input.Lost before is hand comes = tt
-comes_known was port under kept (Uploading grant page upload) heard before is hand comes = absurd comes
-comes_known was port under kept (Filing grant page set) (input.Reply (reply.FinishedUpload finished)) before is hand comes =
+comes_known was port started requested (Uploading grant page upload) input.Lost before is hand comes = tt
+comes_known was port started requested (Uploading grant page upload) heard before is hand comes = absurd comes
+comes_known was port started requested (Filing grant page set) (input.Reply (reply.FinishedUpload finished)) before is hand comes =
     finished_known _ page _ finished before is
-comes_known was port under kept (Filing grant page set) heard before is hand comes = absurd comes
-comes_known was port under kept (Filed page) heard before is hand comes = absurd cc
-comes_known was port under kept (Storing number page) (input.Reply (reply.Ticket state)) before is hand comes =
+comes_known was port started requested (Filing grant page set) heard before is hand comes = absurd comes
+comes_known was port started requested (Filed page) heard before is hand comes = absurd cc
+comes_known was port started requested (Storing number page) (input.Reply (reply.Ticket state)) before is hand comes =
     ticket_known _ number page _ state before is
-comes_known was port under kept (Storing number page) heard before is hand comes = absurd comes
-comes_known was port under kept (Downloading permit page download) (input.Octets octets) before is hand comes =
+comes_known was port started requested (Storing number page) heard before is hand comes = absurd comes
+comes_known was port started requested (Downloading permit page download) (input.Octets octets) before is hand comes =
     download_known _ permit page download _ before octets (answer_of octets.items) is refl
-comes_known was port under kept (Downloading permit page download) input.Lost before is hand comes = tt
-comes_known was port under kept (Downloading permit page download) heard before is hand comes = absurd comes
-comes_known was port under kept (Breaking holder why) (input.Octets octets) before is hand comes = tt
-comes_known was port under kept (Breaking holder why) input.Lost before is hand comes = tt
-comes_known was port under kept (Breaking holder why) heard before is hand comes = absurd comes
-comes_known was port under kept (Returning (held.Upload permit) own) (input.Reply reply.AbandonedUpload) before is hand comes =
+comes_known was port started requested (Downloading permit page download) input.Lost before is hand comes = tt
+comes_known was port started requested (Downloading permit page download) heard before is hand comes = absurd comes
+comes_known was port started requested (Breaking holder why) (input.Octets octets) before is hand comes = tt
+comes_known was port started requested (Breaking holder why) input.Lost before is hand comes = tt
+comes_known was port started requested (Breaking holder why) heard before is hand comes = absurd comes
+comes_known was port started requested (Returning (held.Upload permit) own) (input.Reply reply.AbandonedUpload) before is hand comes =
     returned_known _ _ reply.AbandonedUpload own before tt is
-comes_known was port under kept (Returning (held.Upload permit) own) heard before is hand comes = absurd comes
-comes_known was port under kept (Returning (held.Download permit) own) (input.Reply reply.EndedDownload) before is hand comes =
+comes_known was port started requested (Returning (held.Upload permit) own) heard before is hand comes = absurd comes
+comes_known was port started requested (Returning (held.Download permit) own) (input.Reply reply.EndedDownload) before is hand comes =
     returned_known _ _ reply.EndedDownload own before tt is
-comes_known was port under kept (Returning (held.Download permit) own) heard before is hand comes = absurd comes
-comes_known was port under kept (Returned transfer own) heard before is hand comes = absurd cc
+comes_known was port started requested (Returning (held.Download permit) own) heard before is hand comes = absurd comes
+comes_known was port started requested (Returned transfer own) heard before is hand comes = absurd cc
 
 out_known : (was : PortStatus) (stage : Stage) (heard : Result Answer IsduFault) (new : Stage) (history : List Happening)
     → RunsOut stage heard new → KnownIs was history new
@@ -105,7 +105,7 @@ did_known : (was : PortStatus) (before : List Happening) (old new : PortValue) (
     → KnownIs (status_of old.stage) (Did (wanted old.port old.stage) heard ∷ before) new.stage
 did_known was before old new heard is hand comes led =
     fed_is (λ value. KnownIs (status_of old.stage) history value.stage) (at_stage old (after_action old.stage)) new heard led
-    (comes_known was old.port old.under old.kept old.stage heard before is hand comes)
+    (comes_known was old.port old.started_revision old.upload_requested old.stage heard before is hand comes)
     (λ octets stage runs. out_known (status_of old.stage) (after_action old.stage) (answer_of octets.items) stage history runs)
   where
     history : List Happening

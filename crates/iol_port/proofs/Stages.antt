@@ -9,20 +9,20 @@ use Rattle.iol_port.specs.History.{Happening, Raised}
 use Rattle.iol_port.specs.Stage.{Stage, Settled, Paging, Attending, BeginningUpload, BeginningDownload, Exchanging, Uploading, Filing}
 use Rattle.iol_port.specs.Stage.{Filed, Storing, Downloading, Breaking, Returning, Returned}
 use Rattle.iol_port.specs.declared.decision.Decision.TheVariants as decision
-use Rattle.iol_port.specs.declared.stage.Found.{Found}
+use Rattle.iol_port.specs.declared.stage.FoundDevice.{FoundDevice}
 use Rattle.iol_port.specs.declared.stage.PageFor.{PageFor}
 use Rattle.iol_port.specs.declared.stage.PageFor.TheVariants as page_for
 use Rattle.iol_port.specs.declared.stage.AttendFor.{AttendFor}
 use Rattle.iol_port.specs.declared.stage.AttendFor.TheVariants as attend
 use Rattle.iol_port.specs.declared.stage.ExchangeFor.{ExchangeFor}
 use Rattle.iol_port.specs.declared.stage.ExchangeFor.TheVariants as exchange
-use Rattle.iol_dsindex.specs.Property.{PropertyValue}
+use Rattle.iol_transfer.specs.Property.{PropertyValue}
 use Rattle.std.proofs.Common.{◌++◌, ◌+◌, ◌<◌}
 use Rattle.iol_types.specs.declared.key.TheConstants.{DATA_STORAGE}
-use Rattle.iol_isdu.specs.declared.messages.Request.{Request}
-use Rattle.iol_isdu.specs.declared.messages.Request.TheVariants.{Read}
-use Rattle.iol_dsindex.specs.Property.{property_of}
-use Rattle.iol_dsindex.specs.declared.object.TheConstants.{STATE_PROPERTY, PARAMETER_CHECKSUM}
+use Rattle.iol_link.specs.declared.messages.Request.{Request}
+use Rattle.iol_link.specs.declared.messages.Request.TheVariants.{Read}
+use Rattle.iol_transfer.specs.Property.{property_of}
+use Rattle.iol_transfer.specs.declared.object.TheConstants.{STATE_PROPERTY, PARAMETER_CHECKSUM}
 use Rattle.iol_transfer.specs.Exchanges.{Exchange, busy_times, read_of, Follows}
 use Rattle.iol_transfer.specs.Upload.{IsFinished}
 use Rattle.iol_transfer.specs.Machine.{IsSinceBegin}
@@ -37,14 +37,14 @@ abbrev pub checksum_request : Request
 checksum_request = Read DATA_STORAGE PARAMETER_CHECKSUM
 
 -- State_Property is asked for, and was so many times answered Device busy
-pub record AsksState (found : Found) (left : ℕ) (history : List Happening) : Type 0 where
+pub record AsksState (found : FoundDevice) (left : ℕ) (history : List Happening) : Type 0 where
   pub times : ℕ
   pub found_is : HasFound found (busy_times times state_request) history
   pub count : times + left ≡ MOST_REQUESTS
   pub more : 0 < left
 
 -- Parameter_Checksum is asked for, behind State_Property
-pub record AsksChecksum (found : Found) (property : PropertyValue) (left : ℕ) (history : List Happening) : Type 0 where
+pub record AsksChecksum (found : FoundDevice) (property : PropertyValue) (left : ℕ) (history : List Happening) : Type 0 where
   pub front : List Exchange
   pub state : List ℕ
   pub times : ℕ
@@ -109,7 +109,7 @@ raised_paging : (history : List Happening) (code : ℕ) (what : PageFor) → Pag
 raised_paging history code (page_for.Comparing work own) is = is
 raised_paging history code (page_for.Identifying work) is = is
 
-raised_found : (history : List Happening) (code : ℕ) (found : Found) (conversation : List Exchange) → HasFound found conversation history
+raised_found : (history : List Happening) (code : ℕ) (found : FoundDevice) (conversation : List Exchange) → HasFound found conversation history
     → HasFound found conversation (Raised code ∷ history)
 raised_found history code found conversation is = record { shown = is.shown; said = is.said; wanted = is.wanted }
 

@@ -3,13 +3,13 @@ use Rattle.std.proofs.Common.{◌≡◌, inl, inr, ℕ, Bool, true, false, if◌
 use Rattle.std.specs.Prelude.{Option, Some, None, Result, Ok, Err, ◌&&◌, ◌==◌, not}
 use Rattle.iol_types.specs.Config.{restores}
 use Rattle.iol_types.specs.DataSet.{SetValue}
-use Rattle.iol_isdu.specs.Reading.{answer_of}
-use Rattle.iol_isdu.specs.declared.messages.Answer.{Answer}
-use Rattle.iol_isdu.specs.declared.messages.Answer.TheVariants as answer
-use Rattle.iol_isdu.specs.declared.faults.IsduFault.{IsduFault}
-use Rattle.iol_ident.specs.Page.{PageValue, page_of}
-use Rattle.iol_ident.specs.Validation.{ident_fault}
-use Rattle.iol_ident.specs.declared.validation.IdentFault.{IdentFault}
+use Rattle.iol_link.specs.Reading.{answer_of}
+use Rattle.iol_link.specs.declared.messages.Answer.{Answer}
+use Rattle.iol_link.specs.declared.messages.Answer.TheVariants as answer
+use Rattle.iol_link.specs.declared.faults.IsduFault.{IsduFault}
+use Rattle.iol_link.specs.Page.{PageValue, page_of}
+use Rattle.iol_link.specs.Validation.{ident_fault}
+use Rattle.iol_link.specs.declared.validation.IdentFault.{IdentFault}
 use Rattle.iol_transfer.specs.Machine.{Machine, Outcome, More, Whole, Fault, step}
 use Rattle.iol_transfer.specs.Download.{Sender, Sends, Opening, Parameter, Closing}
 use Rattle.arrayvec.specs.ArrayVec.{ArrayVec}
@@ -31,7 +31,7 @@ use Rattle.iol_port.specs.declared.action.Input.TheVariants as input
 use Rattle.iol_port.specs.declared.call.Reply.TheVariants as reply
 use Rattle.iol_port.specs.declared.decision.Decision.{Decision}
 use Rattle.iol_port.specs.declared.decision.Decision.TheVariants as decision
-use Rattle.iol_port.specs.declared.stage.Found.{Found}
+use Rattle.iol_port.specs.declared.stage.FoundDevice.{FoundDevice}
 use Rattle.iol_port.specs.declared.stage.Rest.{Rest}
 use Rattle.iol_port.specs.declared.stage.Rest.TheVariants as rest
 use Rattle.iol_port.specs.declared.stage.PageFor.{PageFor}
@@ -43,7 +43,7 @@ use Rattle.iol_core.specs.declared.ticket.TicketState.{TicketState}
 use Rattle.iol_core.specs.declared.upload.PermitFault.{PermitFault}
 use Rattle.iol_core.specs.declared.download.DownloadBegun.{DownloadBegun}
 use Rattle.iol_core.specs.declared.download.DownloadFault.{DownloadFault}
-use Rattle.iol_dsindex.specs.Property.{PropertyValue}
+use Rattle.iol_transfer.specs.Property.{PropertyValue}
 use Rattle.iol_port.specs.Heard.{page_heard, settled_with, found_by, judged, resumed, is_under, decided, attended, upload_begun}
 use Rattle.iol_port.specs.Heard.{download_begun, upload_finished, ticket_told}
 use Rattle.std.proofs.Common.{◌++◌, ◌+◌, ◌-◌, ◌<◌, arith, lit<}
@@ -59,7 +59,7 @@ use Rattle.iol_transfer.proofs.Feeding.{fed-more}
 use Rattle.iol_transfer.proofs.Ending.{whole-finished}
 use Rattle.iol_transfer.proofs.Sending.{fed-on}
 use Rattle.iol_port.specs.Laws.{last_work, HasUploaded, HasFiled, HasExamined}
-use Rattle.iol_isdu.specs.declared.messages.Answer.TheVariants.{ReadOk, Busy}
+use Rattle.iol_link.specs.declared.messages.Answer.TheVariants.{ReadOk, Busy}
 use Rattle.iol_port.specs.Calls.{Attend, BeginUpload, FinishUpload, AskTicket, BeginDownload}
 use Rattle.iol_port.proofs.Stages.{AsksUpload, IsWhole, AsksDownload, PagingIs}
 use Rattle.iol_port.proofs.Stages.{AttendingIs, StageIs}
@@ -196,7 +196,7 @@ resumed_told port rest.Lost work before = refl
 resumed_told port (rest.Failed why) work before = refl
 resumed_told port own work before = refl
 
-decided_told : (port : ℕ) (found : Found) (property : PropertyValue) (checksum : ℕ) (work : Work) (before : List Happening) (now : Decision)
+decided_told : (port : ℕ) (found : FoundDevice) (property : PropertyValue) (checksum : ℕ) (work : Work) (before : List Happening) (now : Decision)
     → HasExamined found property checksum before → found.work.revision ≡ work.revision
     → decide work.config.validation property.state property.flag checksum work.checksum ≡ now
     → StageIs port (Said port (Some work) ∷ before) (decided found checksum now)
@@ -208,16 +208,16 @@ decided_told port found property checksum work before decision.Upload is same no
 decided_told port found property checksum work before decision.Download is same now =
     record { property = property; examined = is; revision = same; decided = now }
 
-pub attended_told : (port : ℕ) (under : Option ℕ) (kept : Bool) (what : AttendFor) (work : Option Work) (before : List Happening)
+pub attended_told : (port : ℕ) (started : Option ℕ) (requested : Bool) (what : AttendFor) (work : Option Work) (before : List Happening)
     → AttendingIs before what
-    → NextIs port (Said port work ∷ before) (attended under kept what work)
-attended_told port under kept what None before is = tt
-attended_told port under kept (attend.Waking own) (Some work) before is = by (is_under under work.revision && not kept)
+    → NextIs port (Said port work ∷ before) (attended started requested what work)
+attended_told port started requested what None before is = tt
+attended_told port started requested (attend.Waking own) (Some work) before is = by (is_under started work.revision && not requested)
   where
     by : (test : Bool) → NextIs port (Said port (Some work) ∷ before) (if test then resumed own work else Start work)
     by true = resumed_told port own work before
     by false = refl
-attended_told port under kept (attend.Confirming found property checksum) (Some work) before is =
+attended_told port started requested (attend.Confirming found property checksum) (Some work) before is =
     by (found.work.revision == work.revision) refl
   where
     by : (test : Bool) → (found.work.revision == work.revision) ≡ test → NextIs port (Said port (Some work) ∷ before)
@@ -225,11 +225,11 @@ attended_told port under kept (attend.Confirming found property checksum) (Some 
         else Start work)
     by true same = decided_told port found property checksum work before _ is (grind (arith, nat_tests, same)) refl
     by false same = refl
-attended_told port under kept attend.Restarting (Some work) before is = refl
+attended_told port started requested attend.Restarting (Some work) before is = refl
 
 -- ---- permits
 
-pub begun_told : (port : ℕ) (found : Found) (begins : Result UploadGrant PermitFault) (before : List Happening)
+pub begun_told : (port : ℕ) (found : FoundDevice) (begins : Result UploadGrant PermitFault) (before : List Happening)
     → ComesOf (wanted port (BeginningUpload found)) (input.Reply (reply.BegunUpload begins))
     → StageIs port (Did (wanted port (BeginningUpload found)) (input.Reply (reply.BegunUpload begins)) ∷ before)
     (upload_begun found.page begins)
@@ -242,7 +242,7 @@ begun_told port found (Ok grant) before comes =
     }
 begun_told port found (Err why) before comes = tt
 
-pub download_begun_told : (port : ℕ) (found : Found) (checksum : ℕ) (begins : Result DownloadBegun DownloadFault) (before : List Happening)
+pub download_begun_told : (port : ℕ) (found : FoundDevice) (checksum : ℕ) (begins : Result DownloadBegun DownloadFault) (before : List Happening)
     → ComesOf (wanted port (BeginningDownload found checksum)) (input.Reply (reply.BegunDownload begins))
     → StageIs port (Did (wanted port (BeginningDownload found checksum)) (input.Reply (reply.BegunDownload begins)) ∷ before)
     (download_begun found.page begins)

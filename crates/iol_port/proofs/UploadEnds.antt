@@ -4,11 +4,11 @@ use Rattle.std.specs.Prelude.{All, ◌==◌, slice_index}
 use Rattle.std.proofs.lemmas.List.Elements.{All-head, All-tail}
 use Rattle.iol_types.specs.DataSet.{Entry, SetValue, IsEntry, IsSet}
 use Rattle.iol_types.specs.declared.key.TheConstants.{DATA_STORAGE, DIRECT_PARAMETER_PAGE, SYSTEM_COMMAND}
-use Rattle.iol_isdu.specs.declared.messages.Request.{Request}
-use Rattle.iol_isdu.specs.declared.messages.Request.TheVariants.{Read, Write}
-use Rattle.iol_dsindex.specs.declared.command.DsCommand.TheVariants as command
+use Rattle.iol_link.specs.declared.messages.Request.{Request}
+use Rattle.iol_link.specs.declared.messages.Request.TheVariants.{Read, Write}
+use Rattle.iol_transfer.specs.declared.command.DsCommand.TheVariants as command
 use Rattle.iol_transfer.specs.Asked.{Asks, Start, Size, IndexList, Value, Checksum, request_of}
-use Rattle.iol_dsindex.specs.Command.{commanded}
+use Rattle.iol_transfer.specs.Command.{commanded}
 use Rattle.iol_transfer.specs.Exchanges.{Exchange}
 use Rattle.iol_transfer.specs.Download.{Sender, entry_written, writes_of, order_of, sent_by, behind_of, IsDownloading}
 

@@ -5,16 +5,16 @@ use Rattle.std.proofs.lemmas.Bool.Decides.{nat_tests}
 use Rattle.std.specs.Prelude.{Option, Some, None, Result, Ok, Err, ◌&&◌, ◌==◌, not, length, slice_index}
 use Rattle.arrayvec.specs.ArrayVec.{ArrayVec}
 use Rattle.iol_types.specs.Config.{restores}
-use Rattle.iol_isdu.specs.Reading.{answer_of}
-use Rattle.iol_isdu.specs.declared.messages.Answer.{Answer}
-use Rattle.iol_isdu.specs.declared.messages.Answer.TheVariants as answer
-use Rattle.iol_isdu.specs.declared.faults.IsduFault.{IsduFault}
-use Rattle.iol_ident.specs.Page.{PageValue, page_of}
-use Rattle.iol_ident.specs.Validation.{ident_fault}
-use Rattle.iol_ident.specs.declared.validation.IdentFault.{IdentFault}
-use Rattle.iol_dsindex.specs.Property.{PropertyValue, property_of}
-use Rattle.iol_dsindex.specs.declared.command.DsCommand.TheVariants as command
-use Rattle.iol_dsindex.specs.Command.{commanded}
+use Rattle.iol_link.specs.Reading.{answer_of}
+use Rattle.iol_link.specs.declared.messages.Answer.{Answer}
+use Rattle.iol_link.specs.declared.messages.Answer.TheVariants as answer
+use Rattle.iol_link.specs.declared.faults.IsduFault.{IsduFault}
+use Rattle.iol_link.specs.Page.{PageValue, page_of}
+use Rattle.iol_link.specs.Validation.{ident_fault}
+use Rattle.iol_link.specs.declared.validation.IdentFault.{IdentFault}
+use Rattle.iol_transfer.specs.Property.{PropertyValue, property_of}
+use Rattle.iol_transfer.specs.declared.command.DsCommand.TheVariants as command
+use Rattle.iol_transfer.specs.Command.{commanded}
 use Rattle.iol_transfer.specs.Upload.{number_of}
 use Rattle.iol_transfer.specs.Machine.{Machine, Outcome, More, Whole, Fault, step}
 use Rattle.iol_transfer.specs.Download.{Sender, Sends, Opening, Parameter, Closing, sent_by, answered_to}
@@ -50,7 +50,7 @@ use Rattle.iol_port.specs.declared.decision.Decision.TheVariants as decision
 use Rattle.iol_port.specs.declared.fault.PortFault.TheVariants as fault
 use Rattle.iol_port.specs.declared.stage.Rest.{Rest}
 use Rattle.iol_port.specs.declared.stage.Rest.TheVariants as rest
-use Rattle.iol_port.specs.declared.stage.Found.{Found}
+use Rattle.iol_port.specs.declared.stage.FoundDevice.{FoundDevice}
 use Rattle.iol_port.specs.declared.stage.PageFor.{PageFor}
 use Rattle.iol_port.specs.declared.stage.PageFor.TheVariants as page_for
 use Rattle.iol_port.specs.declared.stage.AttendFor.{AttendFor}
@@ -73,7 +73,7 @@ again_written port was history left next = by (nat_lt 1 left)
     by true = tt
     by false = inr tt
 
-state_written : (port : ℕ) (was : PortStatus) (history : List Happening) (found : Found) (left : ℕ) (heard : Result Answer IsduFault)
+state_written : (port : ℕ) (was : PortStatus) (history : List Happening) (found : FoundDevice) (left : ℕ) (heard : Result Answer IsduFault)
     → WrittenIs port was history (state_read found left heard)
 state_written port was history found left (Ok (answer.ReadOk octets)) = by (length octets.items == 1)
   where
@@ -85,7 +85,7 @@ state_written port was history found left (Ok (answer.ReadOk octets)) = by (leng
 state_written port was history found left (Ok answer.Busy) = again_written port was history left (exchange.ReadingState found (left - 1))
 state_written port was history found left other = inr tt
 
-checksum_written : (port : ℕ) (was : PortStatus) (history : List Happening) (found : Found) (property : PropertyValue) (left : ℕ)
+checksum_written : (port : ℕ) (was : PortStatus) (history : List Happening) (found : FoundDevice) (property : PropertyValue) (left : ℕ)
     (heard : Result Answer IsduFault) → WrittenIs port was history (checksum_read found property left heard)
 checksum_written port was history found property left (Ok (answer.ReadOk octets)) = by (length octets.items == 4)
   where
@@ -216,7 +216,7 @@ resumed_written port was rest.Lost work history = tt
 resumed_written port was (rest.Failed why) work history = tt
 resumed_written port was own work history = tt
 
-decided_written : (port : ℕ) (was : PortStatus) (found : Found) (property : PropertyValue) (checksum : ℕ) (work : Work)
+decided_written : (port : ℕ) (was : PortStatus) (found : FoundDevice) (property : PropertyValue) (checksum : ℕ) (work : Work)
     (before : List Happening) (now : Decision)
     → HasExamined found property checksum before → found.work.revision ≡ work.revision
     → decide work.config.validation property.state property.flag checksum work.checksum ≡ now
@@ -230,16 +230,16 @@ decided_written port was found property checksum work before decision.ReadyEmpty
 decided_written port was found property checksum work before decision.Upload is same now = tt
 decided_written port was found property checksum work before decision.Download is same now = tt
 
-pub attended_written : (port : ℕ) (was : PortStatus) (under : Option ℕ) (kept : Bool) (what : AttendFor) (work : Option Work)
+pub attended_written : (port : ℕ) (was : PortStatus) (started : Option ℕ) (requested : Bool) (what : AttendFor) (work : Option Work)
     (before : List Happening)
-    → AttendingIs before what → NextWritten port was (Said port work ∷ before) (attended under kept what work)
-attended_written port was under kept what None before is = inr tt
-attended_written port was under kept (attend.Waking own) (Some work) before is = by (is_under under work.revision && not kept)
+    → AttendingIs before what → NextWritten port was (Said port work ∷ before) (attended started requested what work)
+attended_written port was started requested what None before is = inr tt
+attended_written port was started requested (attend.Waking own) (Some work) before is = by (is_under started work.revision && not requested)
   where
     by : (test : Bool) → NextWritten port was (Said port (Some work) ∷ before) (if test then resumed own work else Start work)
     by true = resumed_written port was own work (Said port (Some work) ∷ before)
     by false = tt
-attended_written port was under kept (attend.Confirming found property checksum) (Some work) before is =
+attended_written port was started requested (attend.Confirming found property checksum) (Some work) before is =
     by (found.work.revision == work.revision) refl
   where
     by : (test : Bool) → (found.work.revision == work.revision) ≡ test → NextWritten port was (Said port (Some work) ∷ before)
@@ -247,7 +247,7 @@ attended_written port was under kept (attend.Confirming found property checksum)
         else Start work)
     by true same = decided_written port was found property checksum work before _ is (grind (arith, nat_tests, same)) refl
     by false same = tt
-attended_written port was under kept attend.Restarting (Some work) before is = tt
+attended_written port was started requested attend.Restarting (Some work) before is = tt
 
 -- ---- replies
 
@@ -256,7 +256,7 @@ pub begun_written : (port : ℕ) (was : PortStatus) (history : List Happening) (
 begun_written port was history page (Ok grant) = tt
 begun_written port was history page (Err why) = inr tt
 
-pub download_begun_written : (port : ℕ) (was : PortStatus) (found : Found) (checksum : ℕ) (begins : Result DownloadBegun DownloadFault)
+pub download_begun_written : (port : ℕ) (was : PortStatus) (found : FoundDevice) (checksum : ℕ) (begins : Result DownloadBegun DownloadFault)
     (before : List Happening)
     → ComesOf (wanted port (BeginningDownload found checksum)) (input.Reply (reply.BegunDownload begins))
     → WrittenIs port was (Did (wanted port (BeginningDownload found checksum)) (input.Reply (reply.BegunDownload begins)) ∷ before)

@@ -1,7 +1,7 @@
 -- What is written to the device of a port at each stage, by the history, also where an event is raised.
 use Rattle.std.proofs.Common.{◌≡◌, ◌⊎◌, inl, ℕ, List, ◌∷◌, refl}
 use Rattle.iol_types.specs.DataSet.{SetValue}
-use Rattle.iol_ident.specs.Page.{PageValue}
+use Rattle.iol_link.specs.Page.{PageValue}
 use Rattle.iol_transfer.specs.Exchanges.{Exchange}
 use Rattle.iol_transfer.specs.Download.{Sender, IsDownloading}
 use Rattle.iol_port.specs.History.{Happening, Raised}

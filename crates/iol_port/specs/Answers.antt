@@ -1,11 +1,11 @@
 -- What an answer of the device makes of a port.
 use Rattle.std.specs.Prelude.{◌≡◌, ◌⊎◌, ℕ, ◌+◌, ◌-◌, ◌==◌, nat_lt, if◌then◌else◌, length, slice_index, Result, Ok, Err}
 use Rattle.iol_types.specs.DataSet.{SetValue}
-use Rattle.iol_isdu.specs.declared.messages.Answer.{Answer}
-use Rattle.iol_isdu.specs.declared.messages.Answer.TheVariants as answer
-use Rattle.iol_isdu.specs.declared.faults.IsduFault.{IsduFault}
-use Rattle.iol_ident.specs.Page.{PageValue}
-use Rattle.iol_dsindex.specs.Property.{PropertyValue, property_of}
+use Rattle.iol_link.specs.declared.messages.Answer.{Answer}
+use Rattle.iol_link.specs.declared.messages.Answer.TheVariants as answer
+use Rattle.iol_link.specs.declared.faults.IsduFault.{IsduFault}
+use Rattle.iol_link.specs.Page.{PageValue}
+use Rattle.iol_transfer.specs.Property.{PropertyValue, property_of}
 use Rattle.iol_transfer.specs.Asked.{NeedsMemory}
 use Rattle.iol_transfer.specs.Upload.{number_of}
 use Rattle.iol_transfer.specs.Machine.{Machine, Outcome, More, Whole, Fault, step}
@@ -19,7 +19,7 @@ use Rattle.iol_port.specs.Stage.{Stage, Settled, Attending, Exchanging, Uploadin
 use Rattle.iol_port.specs.declared.fault.PortFault.{PortFault}
 use Rattle.iol_port.specs.declared.fault.PortFault.TheVariants as fault
 use Rattle.iol_port.specs.declared.stage.Rest.TheVariants as rest
-use Rattle.iol_port.specs.declared.stage.Found.{Found}
+use Rattle.iol_port.specs.declared.stage.FoundDevice.{FoundDevice}
 use Rattle.iol_port.specs.declared.stage.AttendFor.TheVariants as attend
 use Rattle.iol_port.specs.declared.stage.ExchangeFor.{ExchangeFor}
 use Rattle.iol_port.specs.declared.stage.ExchangeFor.TheVariants as exchange
@@ -34,7 +34,7 @@ abbrev pub again : ℕ → ExchangeFor → Stage
 again left next = if nat_lt 1 left then Exchanging next else failed fault.Busy
 
 -- after State_Property, one octet, was read of a device that was found (own)
-abbrev pub state_read : Found → ℕ → Result Answer IsduFault → Stage
+abbrev pub state_read : FoundDevice → ℕ → Result Answer IsduFault → Stage
 state_read found left (Ok (answer.ReadOk octets)) =
     if length octets.items == 1
     then Exchanging (exchange.ReadingChecksum found (property_of (slice_index octets.items 0)) MOST_REQUESTS)
@@ -43,7 +43,7 @@ state_read found left (Ok answer.Busy) = again left (exchange.ReadingState found
 state_read found left other = failed (read_fault other)
 
 -- after Parameter_Checksum, four octets, was read (own)
-abbrev pub checksum_read : Found → PropertyValue → ℕ → Result Answer IsduFault → Stage
+abbrev pub checksum_read : FoundDevice → PropertyValue → ℕ → Result Answer IsduFault → Stage
 checksum_read found property left (Ok (answer.ReadOk octets)) =
     if length octets.items == 4
     then Attending (attend.Confirming found property (number_of octets.items))

@@ -2,8 +2,8 @@
 use Rattle.std.specs.Prelude.{ℕ, ◌==◌, ◌&&◌, not, Bool, true, false, if◌then◌else◌, Option, Some, None, is_none}
 use Rattle.iol_types.specs.Config.{restores, backs_up}
 use Rattle.iol_types.specs.declared.config.Validation.{Validation}
-use Rattle.iol_dsindex.specs.declared.property.State.{State}
-use Rattle.iol_dsindex.specs.declared.property.State.TheVariants.{Locked}
+use Rattle.iol_transfer.specs.declared.property.State.{State}
+use Rattle.iol_transfer.specs.declared.property.State.TheVariants.{Locked}
 use Rattle.iol_port.specs.declared.decision.Decision.{Decision}
 use Rattle.iol_port.specs.declared.decision.Decision.TheVariants.{Ready, ReadyLocked, ReadyEmpty, Upload, Download}
 

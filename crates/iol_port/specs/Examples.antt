@@ -1,14 +1,14 @@
 -- The ports that examples speak of.
 use Rattle.std.specs.Prelude.{ℕ, Bool, true, Option, Some}
 use Rattle.iol_types.specs.Examples.{example_config}
-use Rattle.iol_ident.specs.Examples.{example_page}
-use Rattle.iol_ident.specs.Page.{PageValue}
-use Rattle.iol_dsindex.specs.Property.{PropertyValue}
-use Rattle.iol_dsindex.specs.declared.property.State.TheVariants.{Inactive}
+use Rattle.iol_link.specs.Examples.{example_page}
+use Rattle.iol_link.specs.Page.{PageValue}
+use Rattle.iol_transfer.specs.Property.{PropertyValue}
+use Rattle.iol_transfer.specs.declared.property.State.TheVariants.{Inactive}
 use Rattle.iol_core.specs.declared.permit.UploadGrant.{UploadGrant}
 use Rattle.iol_core.specs.declared.port.Work.{Work}
 use Rattle.iol_port.specs.Stage.{Stage, PortValue}
-use Rattle.iol_port.specs.declared.stage.Found.{Found}
+use Rattle.iol_port.specs.declared.stage.FoundDevice.{FoundDevice}
 
 -- for worked examples: what port 1 is to work with, at revision 1 and with a durable set of this checksum, if there is one
 -- (own)
@@ -24,7 +24,7 @@ abbrev pub flagged : PropertyValue
 flagged = record { state = Inactive; flag = true }
 
 -- for worked examples: the device of port 1, found on connection 3 (own)
-abbrev pub example_found : Option ℕ → Found
+abbrev pub example_found : Option ℕ → FoundDevice
 example_found checksum = record { work = example_work checksum; page = fitting_page; connection = 3 }
 
 -- for worked examples: a permit of port 1 to upload from it (own)
@@ -34,4 +34,4 @@ example_grant = record { port = 1; revision = 1; vendor = 500; device = 43981; c
 -- for worked examples: the machine of port 1 at a stage, started under revision 1, with a kept request for an upload or
 -- without one (own)
 abbrev pub example_machine : Bool → Stage → PortValue
-example_machine kept stage = record { port = 1; under = Some 1; kept = kept; stage = stage }
+example_machine requested stage = record { port = 1; started_revision = Some 1; upload_requested = requested; stage = stage }

@@ -1,11 +1,11 @@
 -- What a port makes of what it hears.
 use Rattle.std.specs.Prelude.{◌≡◌, ◌⊎◌, ℕ, ◌==◌, ◌&&◌, ◌||◌, not, Bool, true, false, if◌then◌else◌, Option, Some, None, Result, Ok, Err}
 use Rattle.iol_types.specs.Config.{is_manual, restores}
-use Rattle.iol_isdu.specs.Reading.{answer_of}
-use Rattle.iol_ident.specs.Page.{PageValue, page_of}
-use Rattle.iol_ident.specs.Validation.{ident_fault}
-use Rattle.iol_ident.specs.declared.validation.IdentFault.{IdentFault}
-use Rattle.iol_dsindex.specs.Property.{PropertyValue}
+use Rattle.iol_link.specs.Reading.{answer_of}
+use Rattle.iol_link.specs.Page.{PageValue, page_of}
+use Rattle.iol_link.specs.Validation.{ident_fault}
+use Rattle.iol_link.specs.declared.validation.IdentFault.{IdentFault}
+use Rattle.iol_transfer.specs.Property.{PropertyValue}
 use Rattle.iol_transfer.specs.Machine.{begun}
 use Rattle.iol_transfer.specs.Download.{begun_download}
 use Rattle.iol_transfer.specs.declared.repeats.TheConstants.{MOST_REQUESTS}
@@ -34,7 +34,7 @@ use Rattle.iol_port.specs.declared.decision.Decision.TheVariants as decision
 use Rattle.iol_port.specs.declared.fault.PortFault.TheVariants as fault
 use Rattle.iol_port.specs.declared.stage.Rest.{Rest}
 use Rattle.iol_port.specs.declared.stage.Rest.TheVariants as rest
-use Rattle.iol_port.specs.declared.stage.Found.{Found}
+use Rattle.iol_port.specs.declared.stage.FoundDevice.{FoundDevice}
 use Rattle.iol_port.specs.declared.stage.PageFor.{PageFor}
 use Rattle.iol_port.specs.declared.stage.PageFor.TheVariants as page_for
 use Rattle.iol_port.specs.declared.stage.AttendFor.{AttendFor}
@@ -93,10 +93,10 @@ resumed own work = To (Paging (page_for.Comparing work own))
 -- the port last started under this revision (own)
 abbrev pub is_under : Option ℕ → ℕ → Bool
 is_under None revision = false
-is_under (Some under) revision = under == revision
+is_under (Some started) revision = started == revision
 
 -- what is decided of a device that was found (own)
-abbrev pub decided : Found → ℕ → Decision → Stage
+abbrev pub decided : FoundDevice → ℕ → Decision → Stage
 decided found checksum decision.Ready = Settled (rest.Ready found.page)
 decided found checksum decision.ReadyLocked = Settled (rest.ReadyLocked found.page)
 decided found checksum decision.ReadyEmpty = Settled (rest.ReadyEmpty found.page)
@@ -105,7 +105,7 @@ decided found checksum decision.Download = BeginningDownload found checksum
 
 -- what was read of a device counts under the configuration that the port started under; under another it starts anew
 -- (own)
-abbrev pub confirmed : Found → PropertyValue → ℕ → Work → Next
+abbrev pub confirmed : FoundDevice → PropertyValue → ℕ → Work → Next
 confirmed found property checksum work =
     if found.work.revision == work.revision
     then To (decided found checksum (decide work.config.validation property.state property.flag checksum work.checksum))
@@ -113,14 +113,14 @@ confirmed found property checksum work =
 
 -- after the core has said what is to be done; a port that is not there is off (own)
 abbrev pub attended : Option ℕ → Bool → AttendFor → Option Work → Next
-attended under kept what None = To (Settled rest.Off)
-attended under kept (attend.Waking own) (Some work) = if is_under under work.revision && not kept then resumed own work else Start work
-attended under kept (attend.Confirming found property checksum) (Some work) = confirmed found property checksum work
-attended under kept attend.Restarting (Some work) = Start work
+attended started requested what None = To (Settled rest.Off)
+attended started requested (attend.Waking own) (Some work) = if is_under started work.revision && not requested then resumed own work else Start work
+attended started requested (attend.Confirming found property checksum) (Some work) = confirmed found property checksum work
+attended started requested attend.Restarting (Some work) = Start work
 
 abbrev pub told : Option ℕ → Bool → Stage → Option Work → Next
-told under kept (Attending what) work = attended under kept what work
-told under kept stage work = To stage
+told started requested (Attending what) work = attended started requested what work
+told started requested stage work = To stage
 
 -- after a permit to upload is given or refused (own)
 abbrev pub upload_begun : PageValue → Result UploadGrant PermitFault → Stage
@@ -171,13 +171,13 @@ settled stage = stage
 
 -- after a reply of the core (own)
 abbrev pub replied : Option ℕ → Bool → Stage → Reply → Next
-replied under kept stage (reply.Attended work) = told under kept stage work
-replied under kept stage (reply.BegunUpload begins) = To (upload_permitted stage begins)
-replied under kept stage (reply.FinishedUpload finished) = To (finished_upload stage finished)
-replied under kept stage reply.AbandonedUpload = To (settled stage)
-replied under kept stage (reply.Ticket state) = To (told_ticket stage state)
-replied under kept stage (reply.BegunDownload begins) = To (download_permitted stage begins)
-replied under kept stage reply.EndedDownload = To (settled stage)
+replied started requested stage (reply.Attended work) = told started requested stage work
+replied started requested stage (reply.BegunUpload begins) = To (upload_permitted stage begins)
+replied started requested stage (reply.FinishedUpload finished) = To (finished_upload stage finished)
+replied started requested stage reply.AbandonedUpload = To (settled stage)
+replied started requested stage (reply.Ticket state) = To (told_ticket stage state)
+replied started requested stage (reply.BegunDownload begins) = To (download_permitted stage begins)
+replied started requested stage reply.EndedDownload = To (settled stage)
 
 -- the device is lost: a port that holds a permit returns it, and nothing that was read is kept (own)
 abbrev pub lost : Stage → Stage
@@ -199,10 +199,10 @@ first_stage work = if is_manual work.config.mode then Paging (page_for.Identifyi
 
 -- the machine at another stage; the machine as it starts, which forgets that the device asked for an upload (own)
 abbrev pub at_stage : PortValue → Stage → PortValue
-at_stage value stage = record { port = value.port; under = value.under; kept = value.kept; stage = stage }
+at_stage value stage = record { port = value.port; started_revision = value.started_revision; upload_requested = value.upload_requested; stage = stage }
 
 abbrev pub started : PortValue → Work → PortValue
-started value work = record { port = value.port; under = Some work.revision; kept = false; stage = first_stage work }
+started value work = record { port = value.port; started_revision = Some work.revision; upload_requested = false; stage = first_stage work }
 
 abbrev pub moved : PortValue → Next → PortValue
 moved value (To stage) = at_stage value stage
@@ -211,7 +211,7 @@ moved value (Start work) = started value work
 -- an event is kept where it is the device's request for an upload (standard, Data Storage object)
 abbrev pub noted : PortValue → ℕ → PortValue
 noted value code =
-    record { port = value.port; under = value.under; kept = value.kept || (code == UPLOAD_REQUEST); stage = value.stage }
+    record { port = value.port; started_revision = value.started_revision; upload_requested = value.upload_requested || (code == UPLOAD_REQUEST); stage = value.stage }
 
 -- the machine after what it hears (own)
 abbrev pub fed : PortValue → Input → PortValue
@@ -220,7 +220,7 @@ fed value (input.Event code) = noted value code
 fed value (input.Page connection octets) = moved value (paged value.stage connection (page_of octets))
 fed value (input.Octets octets) = at_stage value (answered value.stage (answer_of octets.items))
 fed value input.Lost = at_stage value (lost value.stage)
-fed value (input.Reply heard) = moved value (replied value.under value.kept value.stage heard)
+fed value (input.Reply heard) = moved value (replied value.started_revision value.upload_requested value.stage heard)
 
 -- the machine after what it heard: as above, or memory ran out at an answer that asked for it (own)
 abbrev pub IsFed : PortValue → Input → PortValue → Type 0

@@ -3,17 +3,17 @@ use Rattle.std.specs.Prelude.{◌≡◌, ◌⊎◌, ℕ, false, true, List, [], 
 use Rattle.iol_types.specs.Config.{is_manual, restores}
 use Rattle.iol_types.specs.DataSet.{SetValue, IsSet}
 use Rattle.iol_types.specs.declared.key.TheConstants.{DATA_STORAGE}
-use Rattle.iol_isdu.specs.Reading.{answer_of}
-use Rattle.iol_isdu.specs.declared.messages.Answer.{Answer}
-use Rattle.iol_isdu.specs.declared.messages.Answer.TheVariants.{WriteOk, Busy}
-use Rattle.iol_isdu.specs.declared.messages.Request.{Request}
-use Rattle.iol_ident.specs.Page.{PageValue, page_of}
-use Rattle.iol_ident.specs.Validation.{ident_fault}
-use Rattle.iol_ident.specs.declared.validation.IdentFault.{IdentFault}
-use Rattle.iol_dsindex.specs.Property.{PropertyValue, property_of}
-use Rattle.iol_dsindex.specs.declared.command.DsCommand.TheVariants as command
-use Rattle.iol_dsindex.specs.declared.object.TheConstants.{STATE_PROPERTY, PARAMETER_CHECKSUM}
-use Rattle.iol_dsindex.specs.Command.{commanded}
+use Rattle.iol_link.specs.Reading.{answer_of}
+use Rattle.iol_link.specs.declared.messages.Answer.{Answer}
+use Rattle.iol_link.specs.declared.messages.Answer.TheVariants.{WriteOk, Busy}
+use Rattle.iol_link.specs.declared.messages.Request.{Request}
+use Rattle.iol_link.specs.Page.{PageValue, page_of}
+use Rattle.iol_link.specs.Validation.{ident_fault}
+use Rattle.iol_link.specs.declared.validation.IdentFault.{IdentFault}
+use Rattle.iol_transfer.specs.Property.{PropertyValue, property_of}
+use Rattle.iol_transfer.specs.declared.command.DsCommand.TheVariants as command
+use Rattle.iol_transfer.specs.declared.object.TheConstants.{STATE_PROPERTY, PARAMETER_CHECKSUM}
+use Rattle.iol_transfer.specs.Command.{commanded}
 use Rattle.iol_transfer.specs.Exchanges.{Exchange, read_of, Follows}
 use Rattle.iol_transfer.specs.Upload.{IsFinished, number_of}
 use Rattle.iol_transfer.specs.Download.{IsDownload}
@@ -30,7 +30,7 @@ use Rattle.iol_port.specs.declared.action.Input.TheVariants as input
 use Rattle.iol_port.specs.declared.call.Reply.TheVariants as reply
 use Rattle.iol_port.specs.declared.decision.Decision.{Decision}
 use Rattle.iol_port.specs.declared.decision.Decision.TheVariants as decision
-use Rattle.iol_port.specs.declared.stage.Found.{Found}
+use Rattle.iol_port.specs.declared.stage.FoundDevice.{FoundDevice}
 use Rattle.iol_port.specs.declared.stage.Held.{Held}
 use Rattle.iol_port.specs.declared.stage.Held.TheVariants as held
 use Rattle.iol_port.specs.declared.stage.Rest.{Rest}
@@ -109,14 +109,14 @@ IsDurable port (Did wants heard ∷ before) = ⊥
 
 -- a device was found: its page is the last that was read, on its connection, with these exchanges since, and it is wanted
 -- by what the core has last said is to be done (own)
-pub record HasFound (found : Found) (conversation : List Exchange) (history : List Happening) : Type 0 where
+pub record HasFound (found : FoundDevice) (conversation : List Exchange) (history : List Happening) : Type 0 where
   pub shown : HasShown found.connection found.page conversation history
   pub said : last_work history ≡ Some found.work
   pub wanted : ident_fault found.work.config found.page ≡ None
 
 -- a device was found, and the exchanges since are one read of State_Property, one octet, and one of Parameter_Checksum, four
 -- octets, each sent again at Device busy (own)
-pub record HasExamined (found : Found) (property : PropertyValue) (checksum : ℕ) (history : List Happening) : Type 0 where
+pub record HasExamined (found : FoundDevice) (property : PropertyValue) (checksum : ℕ) (history : List Happening) : Type 0 where
   pub conversation : List Exchange
   pub state : List ℕ
   pub sum : List ℕ
@@ -129,7 +129,7 @@ pub record HasExamined (found : Found) (property : PropertyValue) (checksum : �
 
 -- a device was found and examined, and then the core said that this is to be done, under the revision for which the device
 -- was found: from these it is decided so (own)
-pub record IsConfirmed (decision : Decision) (found : Found) (checksum : ℕ) (work : Work) (before : List Happening) : Type 0 where
+pub record IsConfirmed (decision : Decision) (found : FoundDevice) (checksum : ℕ) (work : Work) (before : List Happening) : Type 0 where
   pub property : PropertyValue
   pub examined : HasExamined found property checksum before
   pub revision : found.work.revision ≡ work.revision
@@ -137,7 +137,7 @@ pub record IsConfirmed (decision : Decision) (found : Found) (checksum : ℕ) (w
 
 -- the last that happened, events apart, is that the core said what is to be done with a device that was examined, and it was
 -- decided so (own)
-abbrev pub IsDecided : Decision → Found → ℕ → List Happening → Type 0
+abbrev pub IsDecided : Decision → FoundDevice → ℕ → List Happening → Type 0
 IsDecided decision found checksum [] = ⊥
 IsDecided decision found checksum (Raised code ∷ before) = IsDecided decision found checksum before
 IsDecided decision found checksum (Did wants (input.Reply (reply.Attended (Some work))) ∷ before) =
@@ -219,7 +219,7 @@ RestoresNothing history = (work : Work) × (last_work history ≡ Some work) × 
 -- the last that happened, events apart, is that it was decided so of the device with this page, which was found and examined
 -- (own)
 abbrev pub IsSoDecided : Decision → PageValue → List Happening → Type 0
-IsSoDecided is page history = (found : Found) × (checksum : ℕ) × IsDecided is found checksum history × (found.page ≡ page)
+IsSoDecided is page history = (found : FoundDevice) × (checksum : ℕ) × IsDecided is found checksum history × (found.page ≡ page)
 
 -- a set was written to the device with this page. It came with the last permit to download, and is one for the numbers of
 -- the page. The exchanges with the device since are a whole download of it, each request answered (+) (own)

@@ -1,6 +1,6 @@
 -- What a port wants of its link.
-use Rattle.iol_dsindex.specs.declared.command.DsCommand.TheVariants as command
-use Rattle.iol_dsindex.specs.Command.{commanded}
+use Rattle.iol_transfer.specs.declared.command.DsCommand.TheVariants as command
+use Rattle.iol_transfer.specs.Command.{commanded}
 use Rattle.iol_transfer.specs.Machine.{asked}
 use Rattle.iol_transfer.specs.Download.{sent_by}
 use Rattle.iol_port.specs.Stage.{Stage, Paging, Exchanging, Uploading, Downloading, Breaking}

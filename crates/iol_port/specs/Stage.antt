@@ -1,7 +1,7 @@
 -- How far a port is.
 use Rattle.std.specs.Prelude.{ℕ, Bool, List, Option, None, false}
 use Rattle.iol_types.specs.DataSet.{SetValue}
-use Rattle.iol_ident.specs.Page.{PageValue}
+use Rattle.iol_link.specs.Page.{PageValue}
 use Rattle.iol_transfer.specs.Exchanges.{Exchange}
 use Rattle.iol_transfer.specs.Machine.{Machine, IsSinceBegin}
 use Rattle.iol_transfer.specs.Download.{Sender}
@@ -11,7 +11,7 @@ use Rattle.iol_port.specs.Calls.{IsUnder}
 use Rattle.iol_port.specs.declared.fault.PortFault.{PortFault}
 use Rattle.iol_port.specs.declared.stage.Rest.{Rest}
 use Rattle.iol_port.specs.declared.stage.Rest.TheVariants.{Off}
-use Rattle.iol_port.specs.declared.stage.Found.{Found}
+use Rattle.iol_port.specs.declared.stage.FoundDevice.{FoundDevice}
 use Rattle.iol_port.specs.declared.stage.PageFor.{PageFor}
 use Rattle.iol_port.specs.declared.stage.AttendFor.{AttendFor}
 use Rattle.iol_port.specs.declared.stage.ExchangeFor.{ExchangeFor}
@@ -25,8 +25,8 @@ pub data Stage : Type 0 where
   Settled : (rest : Rest) → Stage
   Paging : (page_for : PageFor) → Stage
   Attending : (attend_for : AttendFor) → Stage
-  BeginningUpload : (found : Found) → Stage
-  BeginningDownload : (found : Found) (checksum : ℕ) → Stage
+  BeginningUpload : (found : FoundDevice) → Stage
+  BeginningDownload : (found : FoundDevice) (checksum : ℕ) → Stage
   Exchanging : (exchange_for : ExchangeFor) → Stage
   Uploading : (grant : UploadGrant) (page : PageValue) (upload : Machine) → Stage
   Filing : (grant : UploadGrant) (page : PageValue) (set : SetValue) → Stage
@@ -41,13 +41,13 @@ pub data Stage : Type 0 where
 -- whether the device has asked for an upload since it started; and how far it is (own)
 pub record PortValue : Type 0 where
   pub port : ℕ
-  pub under : Option ℕ
-  pub kept : Bool
+  pub started_revision : Option ℕ
+  pub upload_requested : Bool
   pub stage : Stage
 
 -- a new machine is settled as off (own)
 abbrev pub new_machine : ℕ → PortValue
-new_machine port = record { port = port; under = None; kept = false; stage = Settled Off }
+new_machine port = record { port = port; started_revision = None; upload_requested = false; stage = Settled Off }
 
 -- what holds of a stage: an upload under way is one from the device of its permit, and so is the set that is filed (own)
 abbrev pub IsStage : Stage → Type 0

@@ -3,7 +3,7 @@ use Rattle.iol_port.specs.declared.fault.PortFault.{PortFault}
 use Rattle.iol_port.specs.declared.fault.PortFault.TheVariants as fault
 use Rattle.iol_port.specs.declared.status.PortStatus.{PortStatus}
 use Rattle.iol_port.specs.declared.status.PortStatus.TheVariants as status
-use Rattle.iol_trace.specs.Statuses as trace
+use Rattle.iol_core.specs.Statuses as trace
 
 -- why a port has failed (own)
 abbrev pub failure_told : PortFault → trace.Failure

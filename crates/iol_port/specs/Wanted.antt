@@ -1,11 +1,11 @@
 -- What a port does next.
 use Rattle.std.specs.Prelude.{ℕ}
 use Rattle.iol_types.specs.declared.key.TheConstants.{DATA_STORAGE}
-use Rattle.iol_isdu.specs.declared.messages.Request.{Request}
-use Rattle.iol_isdu.specs.declared.messages.Request.TheVariants.{Read}
-use Rattle.iol_dsindex.specs.declared.command.DsCommand.TheVariants as command
-use Rattle.iol_dsindex.specs.declared.object.TheConstants.{STATE_PROPERTY, PARAMETER_CHECKSUM}
-use Rattle.iol_dsindex.specs.Command.{commanded}
+use Rattle.iol_link.specs.declared.messages.Request.{Request}
+use Rattle.iol_link.specs.declared.messages.Request.TheVariants.{Read}
+use Rattle.iol_transfer.specs.declared.command.DsCommand.TheVariants as command
+use Rattle.iol_transfer.specs.declared.object.TheConstants.{STATE_PROPERTY, PARAMETER_CHECKSUM}
+use Rattle.iol_transfer.specs.Command.{commanded}
 use Rattle.iol_transfer.specs.Machine.{asked}
 use Rattle.iol_transfer.specs.Download.{sent_by}
 use Rattle.iol_port.specs.Calls.{Call, Attend, BeginUpload, FinishUpload, AbandonUpload, AskTicket, BeginDownload, EndDownload, call_of}

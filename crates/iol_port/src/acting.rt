@@ -11,12 +11,12 @@ ghost use Rattle.iol_port.specs.Wanted.{AnswerTo, ReplyTo, wanted, wanted_of, af
 use crate::action::{Action, Want};
 use crate::call::CoreCall;
 use crate::stage::{
-    AttendFor, AwaitsAnswer, AwaitsCore, ExchangeFor, Found, Held, PageFor, Rest, SpendsPermit,
-    Stage, Transfer,
+    AttendFor, AwaitsAnswer, AwaitsCore, ExchangeFor, FoundDevice, Held, PageFor, Rest,
+    SpendsPermit, Stage, Transfer,
 };
 use crate::status::PortStatus;
-use iol_dsindex::{DATA_STORAGE, DsCommand, PARAMETER_CHECKSUM, STATE_PROPERTY};
-use iol_isdu::Request;
+use iol_link::Request;
+use iol_transfer::{DATA_STORAGE, DsCommand, PARAMETER_CHECKSUM, STATE_PROPERTY};
 use iol_types::PortId;
 
 // The next action, and the stage once it is taken.
@@ -88,7 +88,7 @@ fn spend(spends: SpendsPermit) -> (CoreCall, AwaitsCore)
 }
 
 // The call for a permit to upload from a device that was found.
-fn begin_upload(port: PortId, found: &Found) -> CoreCall
+fn begin_upload(port: PortId, found: &FoundDevice) -> CoreCall
     ensures { call_of result ≡ BeginUpload port found.now.page.vendor found.now.page.device found.now.connection }
 {
     CoreCall::BeginUpload {
@@ -100,7 +100,7 @@ fn begin_upload(port: PortId, found: &Found) -> CoreCall
 }
 
 // The call for a permit to download to a device that was found, which has this checksum.
-fn begin_download(port: PortId, found: &Found, checksum: u32) -> CoreCall
+fn begin_download(port: PortId, found: &FoundDevice, checksum: u32) -> CoreCall
     ensures { call_of result ≡ BeginDownload port found.now.page.vendor found.now.page.device checksum }
 {
     CoreCall::BeginDownload {

@@ -2,8 +2,7 @@
 
 use crate::call::{CoreCall, Reply};
 use arrayvec::ArrayVec;
-use iol_ident::PAGE_OCTETS;
-use iol_isdu::{ISDU_OCTETS, Request};
+use iol_link::{ISDU_OCTETS, PAGE_OCTETS, Request};
 
 /// The EventCode by which a device asks for an upload (IO-Link V1.1, Data Storage, DS_UPLOAD_REQ).
 pub const UPLOAD_REQUEST: u16 = 0xFF91;

@@ -6,9 +6,9 @@ ghost use Rattle.iol_port.specs.Heard.{attended, resumed, is_under, decided, con
 ghost use Rattle.iol_port.specs.View.{stage_of, next_of};
 
 use crate::decision::{Decision, decide};
-use crate::stage::{AttendFor, AwaitsCore, Found, Next, PageFor, Rest, Stage};
+use crate::stage::{AttendFor, AwaitsCore, FoundDevice, Next, PageFor, Rest, Stage};
 use iol_core::Work;
-use iol_dsindex::StateProperty;
+use iol_transfer::StateProperty;
 
 // The port asks the core what is to be done.
 pub(crate) fn attend(what: AttendFor) -> Stage
@@ -19,8 +19,13 @@ pub(crate) fn attend(what: AttendFor) -> Stage
 }
 
 // The core has said what is to be done.
-pub(crate) fn attended(under: Option<u64>, kept: bool, what: AttendFor, work: Option<Work>) -> Next
-    ensures next { next_of result ≡ attended under kept what work }
+pub(crate) fn attended(
+    started_revision: Option<u64>,
+    upload_requested: bool,
+    what: AttendFor,
+    work: Option<Work>,
+) -> Next
+    ensures next { next_of result ≡ attended started_revision upload_requested what work }
     ensures holds { IsNext (next_of result) }
 {
     let Some(work) = work else {
@@ -28,7 +33,7 @@ pub(crate) fn attended(under: Option<u64>, kept: bool, what: AttendFor, work: Op
     };
     match what {
         AttendFor::Waking { rest } => {
-            if is_under(under, work.revision) && !kept {
+            if is_under(started_revision, work.revision) && !upload_requested {
                 resume(rest, work)
             } else {
                 Next::Start(work)
@@ -43,11 +48,11 @@ pub(crate) fn attended(under: Option<u64>, kept: bool, what: AttendFor, work: Op
     }
 }
 
-fn is_under(under: Option<u64>, revision: u64) -> bool
-    ensures { result ≡ is_under under revision }
+fn is_under(started_revision: Option<u64>, revision: u64) -> bool
+    ensures { result ≡ is_under started_revision revision }
 {
-    match under {
-        Some(under) => under == revision,
+    match started_revision {
+        Some(started) => started == revision,
         None => false,
     }
 }
@@ -68,7 +73,7 @@ fn resume(rest: Rest, work: Work) -> Next
 }
 
 // What was read of a device counts under the configuration that the port started under.
-fn confirm(found: Found, property: StateProperty, checksum: u32, work: Work) -> Next
+fn confirm(found: FoundDevice, property: StateProperty, checksum: u32, work: Work) -> Next
     ensures next { next_of result ≡ confirmed found property checksum work }
     ensures holds { IsNext (next_of result) }
 {
@@ -85,7 +90,7 @@ fn confirm(found: Found, property: StateProperty, checksum: u32, work: Work) -> 
     Next::To(stage_decided(found, checksum, decision))
 }
 
-fn stage_decided(found: Found, checksum: u32, decision: Decision) -> Stage
+fn stage_decided(found: FoundDevice, checksum: u32, decision: Decision) -> Stage
     ensures stage { stage_of result ≡ decided found checksum decision }
     ensures holds { IsStage (stage_of result) }
 {

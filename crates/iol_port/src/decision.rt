@@ -3,7 +3,7 @@
 ghost use Rattle.std.specs.Prelude.{◌≡◌};
 ghost use Rattle.iol_port.specs.Decision.{decide};
 
-use iol_dsindex::State;
+use iol_transfer::State;
 use iol_types::Validation;
 
 /// What is to be done with the parameters of a device that a port wants.

@@ -11,8 +11,7 @@ use crate::fault::PortFault;
 use crate::losing::give_back;
 use crate::stage::{AwaitsAnswer, Held, Rest, Stage};
 use iol_core::{DownloadBegun, DownloadFault, DownloadPermit};
-use iol_ident::Page;
-use iol_isdu::{Answer, IsduFault};
+use iol_link::{Answer, IsduFault, Page};
 use iol_transfer::{Download, DownloadStep};
 
 // A permit is given, with the set, or refused.

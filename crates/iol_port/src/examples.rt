@@ -4,12 +4,12 @@ ghost use Rattle.std.specs.Prelude.{◌≡◌, ℕ, [], ◌∷◌, map, replicat
 ghost use Rattle.iol_types.specs.Examples.{example_config, example_set};
 ghost use Rattle.iol_types.specs.declared.config.PortMode.TheVariants as mode;
 ghost use Rattle.iol_types.specs.declared.config.Validation.TheVariants as validation;
-ghost use Rattle.iol_isdu.specs.declared.faults.IsduFault.TheVariants as isdu;
-ghost use Rattle.iol_isdu.specs.declared.messages.Answer.TheVariants as answer;
-ghost use Rattle.iol_isdu.specs.declared.messages.Request.TheVariants as request;
-ghost use Rattle.iol_dsindex.specs.declared.property.State.TheVariants as state;
-ghost use Rattle.iol_ident.specs.Examples.{example_page};
-ghost use Rattle.iol_ident.specs.declared.validation.IdentFault.TheVariants as ident;
+ghost use Rattle.iol_link.specs.declared.faults.IsduFault.TheVariants as isdu;
+ghost use Rattle.iol_link.specs.declared.messages.Answer.TheVariants as answer;
+ghost use Rattle.iol_link.specs.declared.messages.Request.TheVariants as request;
+ghost use Rattle.iol_transfer.specs.declared.property.State.TheVariants as state;
+ghost use Rattle.iol_link.specs.Examples.{example_page};
+ghost use Rattle.iol_link.specs.declared.validation.IdentFault.TheVariants as ident;
 ghost use Rattle.iol_transfer.specs.Download.{begun_download};
 ghost use Rattle.iol_transfer.specs.Exchanges.{carried};
 ghost use Rattle.iol_transfer.specs.Machine.{begun};
@@ -113,8 +113,8 @@ pub fn what_is_read()
 /// Event FF91 is the request for an upload; it starts a settled port, which else looks for its device first.
 pub fn a_request_for_an_upload()
     ensures code { UPLOAD_REQUEST ≡ 0xFF91 }
-    ensures kept { (noted (example_machine false (Settled rest.Off)) 0xFF91).kept ≡ true }
-    ensures dropped { (noted (example_machine false (Settled rest.Off)) 0xFF90).kept ≡ false }
+    ensures kept { (noted (example_machine false (Settled rest.Off)) 0xFF91).upload_requested ≡ true }
+    ensures dropped { (noted (example_machine false (Settled rest.Off)) 0xFF90).upload_requested ≡ false }
     ensures starts { fed (example_machine true (Attending (attend.Waking (rest.Ready fitting_page))))
         (input.Reply (reply.Attended (Some (example_work None))))
         ≡ example_machine false (Paging (page.Identifying (example_work None))) }

@@ -1,18 +1,16 @@
 //! Messages outside of a transfer.
 
 ghost use Rattle.std.specs.Prelude.{◌≡◌};
-ghost use Rattle.iol_isdu.specs.Reading.{answer_of};
+ghost use Rattle.iol_link.specs.Reading.{answer_of};
 ghost use Rattle.iol_port.specs.Answers.{exchanged, state_read, checksum_read, upload_ended, failed, again};
 ghost use Rattle.iol_port.specs.Stage.{IsStage, Exchanging, Breaking};
 ghost use Rattle.iol_port.specs.View.{stage_of};
 
 use crate::attending::attend;
 use crate::fault::PortFault;
-use crate::stage::{AttendFor, AwaitsAnswer, ExchangeFor, Found, Held, Rest, Stage};
-use iol_dsindex::StateProperty;
-use iol_ident::Page;
-use iol_isdu::{Answer, IsduFault, read_answer};
-use iol_transfer::MOST_REQUESTS;
+use crate::stage::{AttendFor, AwaitsAnswer, ExchangeFor, FoundDevice, Held, Rest, Stage};
+use iol_link::{Answer, IsduFault, Page, read_answer};
+use iol_transfer::{MOST_REQUESTS, StateProperty};
 
 // The answer that octets are read as, or their fault.
 pub(crate) fn answer_in(octets: &[u8]) -> Result<Answer, IsduFault>
@@ -76,7 +74,7 @@ pub(crate) fn exchange(what: ExchangeFor, answer: Result<Answer, IsduFault>) -> 
 }
 
 // State_Property was read.
-fn read_state(found: Found, left: u8, answer: Result<Answer, IsduFault>) -> Stage
+fn read_state(found: FoundDevice, left: u8, answer: Result<Answer, IsduFault>) -> Stage
     ensures stage { stage_of result ≡ state_read found left answer }
     ensures holds { IsStage (stage_of result) }
 {
@@ -102,7 +100,7 @@ fn read_state(found: Found, left: u8, answer: Result<Answer, IsduFault>) -> Stag
 
 // Parameter_Checksum was read.
 fn read_checksum(
-    found: Found,
+    found: FoundDevice,
     property: StateProperty,
     left: u8,
     answer: Result<Answer, IsduFault>,

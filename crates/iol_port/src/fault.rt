@@ -4,7 +4,7 @@ ghost use Rattle.std.specs.Prelude.{◌≡◌};
 ghost use Rattle.iol_port.specs.Faults.{of_isdu, of_transfer, of_permit, of_download, read_fault, write_fault};
 
 use iol_core::{DownloadFault, PermitFault};
-use iol_isdu::{Answer, IsduFault};
+use iol_link::{Answer, IsduFault};
 use iol_transfer::TransferFault;
 use thiserror::Error;
 

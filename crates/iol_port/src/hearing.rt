@@ -1,7 +1,7 @@
 //! What a port makes of an answer of its device, and of a reply of the core.
 
 ghost use Rattle.std.specs.Prelude.{◌≡◌, ◌⊎◌};
-ghost use Rattle.iol_isdu.specs.Reading.{answer_of};
+ghost use Rattle.iol_link.specs.Reading.{answer_of};
 ghost use Rattle.iol_port.specs.Answers.{answered, RunsOut};
 ghost use Rattle.iol_port.specs.Heard.{replied, FitsReply};
 ghost use Rattle.iol_port.specs.Stage.{IsStage, IsNext};
@@ -37,18 +37,18 @@ pub(crate) fn answer(alloc: Global, awaits: AwaitsAnswer, octets: &[u8]) -> Stag
 // The core has replied.
 pub(crate) fn reply(
     alloc: Global,
-    under: Option<u64>,
-    kept: bool,
+    started_revision: Option<u64>,
+    upload_requested: bool,
     awaits: &AwaitsCore,
     reply: Reply,
 ) -> Next
     requires { FitsReply (awaiting_core awaits.now) reply }
-    ensures next { next_of result ≡ replied under kept (awaiting_core awaits.now) reply }
+    ensures next { next_of result ≡ replied started_revision upload_requested (awaiting_core awaits.now) reply }
     ensures holds { IsNext (next_of result) }
 {
     match (awaits, reply) {
         (AwaitsCore::Attending(what), Reply::Attended(work)) => {
-            attending::attended(under, kept, *what, work)
+            attending::attended(started_revision, upload_requested, *what, work)
         }
         (AwaitsCore::BeginningUpload(found), Reply::BegunUpload(begun)) => {
             Next::To(uploading::begin(alloc, found.page, begun))

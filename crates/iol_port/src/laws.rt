@@ -10,14 +10,14 @@ ghost use Rattle.iol_core.specs.Core.{CoreView, IsCore, permit_at};
 ghost use Rattle.iol_types.specs.Config.{restores, backs_up};
 ghost use Rattle.iol_types.specs.DataSet.{SetValue};
 ghost use Rattle.iol_types.specs.declared.config.Validation.{Validation};
-ghost use Rattle.iol_ident.specs.Page.{PageValue, page_of};
-ghost use Rattle.iol_isdu.specs.declared.messages.Request.{Request};
-ghost use Rattle.iol_dsindex.specs.declared.command.DsCommand.TheVariants as command;
-ghost use Rattle.iol_dsindex.specs.declared.property.State.{State};
-ghost use Rattle.iol_dsindex.specs.declared.property.State.TheVariants as state;
+ghost use Rattle.iol_link.specs.Page.{PageValue, page_of};
+ghost use Rattle.iol_link.specs.declared.messages.Request.{Request};
+ghost use Rattle.iol_transfer.specs.declared.command.DsCommand.TheVariants as command;
+ghost use Rattle.iol_transfer.specs.declared.property.State.{State};
+ghost use Rattle.iol_transfer.specs.declared.property.State.TheVariants as state;
 ghost use Rattle.iol_transfer.specs.Asked.{IsNext};
 ghost use Rattle.iol_transfer.specs.Download.{IsSending};
-ghost use Rattle.iol_dsindex.specs.Command.{commanded};
+ghost use Rattle.iol_transfer.specs.Command.{commanded};
 ghost use Rattle.iol_transfer.specs.Exchanges.{Exchange};
 ghost use Rattle.iol_transfer.specs.Upload.{IsFinished};
 ghost use Rattle.iol_core.specs.declared.permit.UploadGrant.{UploadGrant};
@@ -42,7 +42,7 @@ ghost use Rattle.iol_port.specs.declared.call.Reply.TheVariants as reply;
 ghost use Rattle.iol_port.specs.declared.decision.Decision.TheVariants as decision;
 ghost use Rattle.iol_port.specs.declared.fault.PortFault.{PortFault};
 ghost use Rattle.iol_port.specs.declared.stage.AttendFor.TheVariants as attend;
-ghost use Rattle.iol_port.specs.declared.stage.Found.{Found};
+ghost use Rattle.iol_port.specs.declared.stage.FoundDevice.{FoundDevice};
 ghost use Rattle.iol_port.specs.declared.stage.Held.{Held};
 ghost use Rattle.iol_port.specs.declared.stage.Held.TheVariants as held;
 ghost use Rattle.iol_port.specs.declared.stage.Rest.{Rest};
@@ -83,7 +83,7 @@ pub fn what_is_decided()
 pub fn an_upload_is_decided()
     ensures { (port : ℕ) (history : List Happening) (value : PortValue) (asks vendor device connection : ℕ) → HasLed port history value
         → wanted value.port value.stage ≡ ReplyTo (BeginUpload asks vendor device connection)
-        → (found : Found) × (checksum : ℕ) × IsDecided decision.Upload found checksum history
+        → (found : FoundDevice) × (checksum : ℕ) × IsDecided decision.Upload found checksum history
         × (BeginUpload asks vendor device connection ≡ BeginUpload port found.page.vendor found.page.device found.connection) }
 {}
 
@@ -92,7 +92,7 @@ pub fn an_upload_is_decided()
 pub fn a_download_is_decided()
     ensures { (port : ℕ) (history : List Happening) (value : PortValue) (asks vendor device checksum : ℕ) → HasLed port history value
         → wanted value.port value.stage ≡ ReplyTo (BeginDownload asks vendor device checksum)
-        → (found : Found) × IsDecided decision.Download found checksum history
+        → (found : FoundDevice) × IsDecided decision.Download found checksum history
         × (BeginDownload asks vendor device checksum ≡ BeginDownload port found.page.vendor found.page.device checksum) }
 {}
 

@@ -27,8 +27,8 @@ use std::marker::Model;
 pub struct PortMachine {
     alloc: Global,
     port: PortId,
-    under: Option<u64>,
-    kept: bool,
+    started_revision: Option<u64>,
+    upload_requested: bool,
     stage: Stage,
 }
 
@@ -39,7 +39,7 @@ impl Model for PortMachine {
 
     ghost use Rattle.iol_port.specs.View.{stage_of};
 
-    ghost view = { λ m. record { port = m.port; under = m.under; kept = m.kept; stage = stage_of m.stage } };
+    ghost view = { λ m. record { port = m.port; started_revision = m.started_revision; upload_requested = m.upload_requested; stage = stage_of m.stage } };
 
     ghost invariant = { λ m. IsStage (stage_of m.stage) };
 }
@@ -52,8 +52,8 @@ impl PortMachine {
         PortMachine {
             alloc,
             port,
-            under: None,
-            kept: false,
+            started_revision: None,
+            upload_requested: false,
             stage: Stage::Settled(Rest::Off),
         }
     }
@@ -134,7 +134,13 @@ impl PortMachine {
             }
             (Stage::Answer(awaits), Input::Lost) => self.go(Next::To(losing::lose(awaits))),
             (Stage::Core(awaits), Input::Reply(reply)) => {
-                self.go(hearing::reply(self.alloc, self.under, self.kept, &awaits, reply));
+                self.go(hearing::reply(
+                    self.alloc,
+                    self.started_revision,
+                    self.upload_requested,
+                    &awaits,
+                    reply,
+                ));
             }
             _ => unreachable!(),
         }
@@ -147,8 +153,8 @@ impl PortMachine {
         let PortMachine {
             alloc: _,
             port: _,
-            under: _,
-            kept: _,
+            started_revision: _,
+            upload_requested: _,
             stage,
         } = self;
         losing::release(stage, core);
@@ -159,7 +165,7 @@ impl PortMachine {
         ensures noted { self.new ≡ noted self.old code }
         ensures holds { IsStage self.new.stage }
     {
-        self.kept = self.kept || code == UPLOAD_REQUEST;
+        self.upload_requested = self.upload_requested || code == UPLOAD_REQUEST;
     }
 
     // Takes the stage out; the machine is settled as off meanwhile.
@@ -180,8 +186,8 @@ impl PortMachine {
         let stage = match next {
             Next::To(stage) => stage,
             Next::Start(work) => {
-                self.under = Some(work.revision);
-                self.kept = false;
+                self.started_revision = Some(work.revision);
+                self.upload_requested = false;
                 paging::start(work)
             }
         };

@@ -1,15 +1,15 @@
 //! What the page of the device says.
 
 ghost use Rattle.std.specs.Prelude.{◌≡◌};
-ghost use Rattle.iol_ident.specs.Page.{page_of};
+ghost use Rattle.iol_link.specs.Page.{page_of};
 ghost use Rattle.iol_port.specs.Heard.{page_heard, found_by, settled_with, first_stage};
 ghost use Rattle.iol_port.specs.Stage.{IsStage, IsNext};
 ghost use Rattle.iol_port.specs.View.{stage_of, next_of};
 
 use crate::exchanging::send;
-use crate::stage::{ExchangeFor, Found, Next, PageFor, Rest, Stage};
+use crate::stage::{ExchangeFor, FoundDevice, Next, PageFor, Rest, Stage};
 use iol_core::Work;
-use iol_ident::{PAGE_OCTETS, Page, validate};
+use iol_link::{PAGE_OCTETS, Page, validate};
 use iol_transfer::MOST_REQUESTS;
 use iol_types::{PortMode, Validation};
 
@@ -56,7 +56,7 @@ fn find(work: Work, connection: u64, page: Page) -> Stage
         work.config.validation,
         Validation::BackupAndRestore | Validation::Restore
     ) {
-        let found = Found {
+        let found = FoundDevice {
             work,
             page,
             connection,

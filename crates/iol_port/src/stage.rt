@@ -2,9 +2,8 @@
 
 use crate::fault::PortFault;
 use iol_core::{DownloadPermit, Ticket, UploadPermit, Work};
-use iol_dsindex::StateProperty;
-use iol_ident::{IdentFault, Page};
-use iol_transfer::{Download, Upload};
+use iol_link::{IdentFault, Page};
+use iol_transfer::{Download, StateProperty, Upload};
 use iol_types::DataSet;
 use std::sync::Arc;
 
@@ -23,7 +22,7 @@ pub(crate) enum Rest {
 // A device that was found to be the one that the port wants: what the port was to work with, the device's page, and the
 // connection on which it was read.
 #[derive(Clone, Copy)]
-pub(crate) struct Found {
+pub(crate) struct FoundDevice {
     pub(crate) work: Work,
     pub(crate) page: Page,
     pub(crate) connection: u64,
@@ -47,7 +46,7 @@ pub(crate) enum AttendFor {
     },
     // Whether what was read of a device still counts.
     Confirming {
-        found: Found,
+        found: FoundDevice,
         property: StateProperty,
         checksum: u32,
     },
@@ -59,11 +58,11 @@ pub(crate) enum AttendFor {
 #[derive(Clone, Copy)]
 pub(crate) enum ExchangeFor {
     ReadingState {
-        found: Found,
+        found: FoundDevice,
         left: u8,
     },
     ReadingChecksum {
-        found: Found,
+        found: FoundDevice,
         property: StateProperty,
         left: u8,
     },
@@ -106,8 +105,8 @@ pub(crate) enum AwaitsAnswer {
 #[derive(Clone, Copy)]
 pub(crate) enum AwaitsCore {
     Attending(AttendFor),
-    BeginningUpload(Found),
-    BeginningDownload(Found, u32),
+    BeginningUpload(FoundDevice),
+    BeginningDownload(FoundDevice, u32),
     // The set and its permit are with the core.
     Filed(Page),
     Storing(Ticket, Page),

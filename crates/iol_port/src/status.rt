@@ -2,7 +2,7 @@
 
 use crate::fault::PortFault;
 use crate::same_status::is_same_status;
-use iol_ident::IdentFault;
+use iol_link::IdentFault;
 
 /// How a port is.
 #[derive(Clone, Copy, Debug)]

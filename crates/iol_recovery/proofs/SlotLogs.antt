@@ -5,7 +5,7 @@ use Rattle.iol_types.specs.Command.{CommandValue}
 use Rattle.iol_types.specs.State.{State, after, legal}
 use Rattle.iol_disk.specs.Content.{Image, reads}
 use Rattle.iol_disk.specs.Disk.{Disk, Same, Shows}
-use Rattle.iol_slots.specs.Gate.{is_open, body_sector}
+use Rattle.iol_disk.specs.Gate.{is_open, body_sector}
 use Rattle.iol_layout.specs.Layout.{Layout, slot_at, body_at}
 use Rattle.iol_layout.specs.Octets.{octets_at}
 use Rattle.iol_record.specs.declared.version.Version.{Version}
@@ -17,7 +17,7 @@ use Rattle.iol_disk.proofs.Unchanged.{same-honest, same-reads}
 use Rattle.iol_layout.proofs.Logs.{log-skipped}
 use Rattle.iol_layout.proofs.Spans.{body_in-placed, batch_in-there, batch_in-past}
 use Rattle.iol_layout.specs.declared.area.Area.{Area}
-use Rattle.iol_slots.specs.declared.slot.TheConstants.{BODY_SECTORS}
+use Rattle.iol_disk.specs.declared.slot.TheConstants.{BODY_SECTORS}
 
 -- commands that are there and legal lead on
 goes_on : (sector number : ℕ) (state : State) (next : Meaning) (rest : ℕ → State → Result Log Cause) (commands : Option (List CommandValue))

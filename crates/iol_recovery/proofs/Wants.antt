@@ -11,8 +11,8 @@ use Rattle.iol_layout.specs.Octets.{octets_at}
 use Rattle.iol_layout.specs.declared.body.TheConstants.{BODY_HEAD_OCTETS}
 use Rattle.iol_layout.proofs.ReachedBodies.{HaveRead, head_of-append, front-kept}
 use Rattle.iol_layout.proofs.Sectors.{octets_at-add}
-use Rattle.iol_slots.specs.Gate.{is_open, body_sector}
-use Rattle.iol_slots.specs.declared.slot.TheConstants.{BODY_SECTORS}
+use Rattle.iol_disk.specs.Gate.{is_open, body_sector}
+use Rattle.iol_disk.specs.declared.slot.TheConstants.{BODY_SECTORS}
 use Rattle.iol_layout.specs.Layout.{Layout, slot_at, body_at}
 use Rattle.iol_layout.specs.Meaning.{body_in, span_in, log_from}
 use Rattle.iol_layout.specs.declared.area.Area.{Area}

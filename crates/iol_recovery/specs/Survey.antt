@@ -1,7 +1,7 @@
 -- What a slot shows before it is judged.
 use Rattle.std.specs.Prelude.{ℕ, if◌then◌else◌, Option, Some, None}
 use Rattle.iol_disk.specs.Content.{Image}
-use Rattle.iol_slots.specs.Gate.{is_open}
+use Rattle.iol_disk.specs.Gate.{is_open}
 use Rattle.iol_layout.specs.Body.{head_of}
 use Rattle.iol_layout.specs.Layout.{Layout, slot_at, body_at}
 use Rattle.iol_layout.specs.declared.area.Area.{Area}

@@ -7,7 +7,7 @@ use Rattle.iol_record.specs.declared.fault.RecordFault.TheVariants.{Short}
 use Rattle.iol_record.specs.declared.version.Version.{Version}
 use Rattle.iol_disk.specs.Content.{Image}
 use Rattle.iol_disk.specs.declared.disk.TheConstants.{SECTOR_OCTETS}
-use Rattle.iol_slots.specs.Gate.{is_open}
+use Rattle.iol_disk.specs.Gate.{is_open}
 use Rattle.iol_layout.specs.Body.{head_of, fits}
 use Rattle.iol_layout.specs.Layout.{Layout, port_at, slot_at}
 use Rattle.iol_layout.specs.Meaning.{ports_from, body_in, span_in, log_from}

@@ -13,17 +13,16 @@ ghost use Rattle.iol_layout.specs.Body.{head_of, slots_of, batch_of, commands_of
 ghost use Rattle.iol_recovery.specs.Faults.{Counted, IsFault};
 ghost use Rattle.iol_layout.specs.Layout.{total};
 ghost use Rattle.iol_layout.specs.Meaning.{log_from};
-ghost use Rattle.iol_slots.specs.Gate.{body_sector};
+ghost use Rattle.iol_disk.specs.Gate.{body_sector};
 ghost use Rattle.iol_layout.specs.Octets.{octets_at, sectors_reached};
 ghost use Rattle.iol_recovery.specs.Reading.{Finds};
 ghost use Rattle.iol_recovery.specs.Replay.{reached};
 ghost use Rattle.iol_recovery.specs.Wants.{CommandsWant, BatchWants, LogWants};
 
 use crate::cause::RecoverCause;
-use iol_disk::{SECTOR_OCTETS, SectorDisk};
+use iol_disk::{BODY_SECTORS, SECTOR_OCTETS, SectorDisk, Slot};
 use iol_layout::{Area, BODY_HEAD_OCTETS, Head, Header, LAST_NUMBER, Layout, slots_of};
 use iol_record::{RecordFault, Version, decode_command};
-use iol_slots::{BODY_SECTORS, Slot};
 use iol_types::{Command, MasterState};
 use std::alloc::{AllocError, Global};
 

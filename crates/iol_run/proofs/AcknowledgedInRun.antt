@@ -9,7 +9,7 @@ use Rattle.iol_flush.specs.declared.need.Need.TheVariants as need
 use Rattle.iol_front.specs.Fronts.{CommittedView}
 use Rattle.iol_journal.specs.Journals.{JournalView}
 use Rattle.iol_link.specs.Link.{LinkCall, LinkAnswer}
-use Rattle.iol_trace.specs.Events.{Event, Acknowledged, stamped}
+use Rattle.iol_core.specs.Events.{Event, Acknowledged, stamped}
 use Rattle.iol_engine.proofs.Acknowledging.{Rises, more_rises, one_rises, silent_rises, stepped_rises, submit_rises}
 use Rattle.iol_engine.proofs.PortCalls.{step_becomes}
 use Rattle.iol_engine.specs.Acknowledged.{AcksRise}

@@ -3,7 +3,7 @@ use Rattle.std.proofs.Common.{◌≡◌, ℕ, List, [], ◌∷◌, ◌++◌, ap,
 use Rattle.iol_disk.specs.Disk.{Disk}
 use Rattle.iol_journal.specs.Journals.{JournalView}
 use Rattle.iol_link.specs.Link.{LinkCall, LinkAnswer}
-use Rattle.iol_trace.specs.Events.{Event, Stamp, stamped}
+use Rattle.iol_core.specs.Events.{Event, Stamp, stamped}
 use Rattle.iol_run.specs.CoreOnDisk.{CoreOnDiskView, clock_of}
 use Rattle.iol_engine.specs.Ports.{PortsView}
 use Rattle.iol_run.specs.Runs.{RunView}

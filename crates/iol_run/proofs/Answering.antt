@@ -17,9 +17,9 @@ use Rattle.iol_flush.specs.declared.need.Need.TheVariants as need
 use Rattle.iol_front.specs.Fronts.{CommittedView}
 use Rattle.iol_journal.specs.Journals.{JournalView}
 use Rattle.iol_link.specs.Link.{LinkCall, LinkAnswer}
-use Rattle.iol_trace.proofs.Words.{failure-append}
-use Rattle.iol_trace.specs.Events.{Event, Accepted, Refused, Stamp, stamped}
-use Rattle.iol_trace.specs.Words.{durable, IsFailure, HasFailure}
+use Rattle.iol_core.proofs.Words.{failure-append}
+use Rattle.iol_core.specs.Events.{Event, Accepted, Refused, Stamp, stamped}
+use Rattle.iol_core.specs.Words.{durable, IsFailure, HasFailure}
 use Rattle.iol_engine.proofs.Changes.{Change, Permits, Waits, Tells, changed}
 use Rattle.iol_engine.proofs.CoreAfter.{core_after}
 use Rattle.iol_run.proofs.CoreOfRun.{Stands, fresh_stands, step_stands}

@@ -23,7 +23,7 @@ use Rattle.iol_front.specs.Fronts.{Start, CommittedView}
 use Rattle.iol_journal.specs.Body.{records_of, slots_of, slots_for, values}
 use Rattle.iol_journal.specs.Layout.{renewed}
 use Rattle.iol_journal.specs.Meaning.{Standing}
-use Rattle.iol_journal.specs.Batch.{Batch}
+use Rattle.iol_journal.specs.declared.batch.Batch.{Batch}
 use Rattle.iol_journal.specs.Numbers.{LAST_NUMBER}
 use Rattle.iol_run.specs.CoreOnDisk.{IsInFlight, IsDurable, HasFlight, IsAtRest, IsInStep, KeepsRunning}
 

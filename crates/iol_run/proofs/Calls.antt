@@ -19,7 +19,7 @@ use Rattle.iol_front.specs.Fronts.{Start, CommittedView}
 use Rattle.iol_journal.specs.Body.{values}
 use Rattle.iol_port.specs.Calls.{Call, Replies, Passes}
 use Rattle.iol_port.specs.declared.call.Reply.{Reply}
-use Rattle.iol_trace.specs.Events.{Event}
+use Rattle.iol_core.specs.Events.{Event}
 use Rattle.iol_engine.proofs.Changes.{Becomes, Change, Permits, Waits, changed, IsPassing, replied, with_permits}
 use Rattle.iol_run.proofs.InStep.{queued_in_step, waits_more, live_is}
 use Rattle.iol_run.specs.CoreOnDisk.{IsInFlight, HasFlight, IsInStep, KeepsRunning, waiting_of}

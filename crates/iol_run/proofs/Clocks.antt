@@ -8,7 +8,7 @@ use Rattle.iol_disk.specs.declared.fault.DiskFault.{DiskFault}
 use Rattle.iol_flush.specs.Stages.{disk_of}
 use Rattle.iol_journal.specs.Journals.{JournalView}
 use Rattle.iol_link.specs.Link.{LinkCall, LinkAnswer}
-use Rattle.iol_trace.specs.Events.{Event, Stamp, stamped}
+use Rattle.iol_core.specs.Events.{Event, Stamp, stamped}
 use Rattle.iol_run.proofs.DiskSteps.{DiskStep, Stays, Makes, Fails, disk_step}
 use Rattle.iol_run.specs.Clocks.{ClocksRise}
 use Rattle.iol_run.specs.CoreOnDisk.{clock_of}

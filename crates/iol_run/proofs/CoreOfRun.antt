@@ -10,8 +10,8 @@ use Rattle.iol_flush.specs.declared.need.Need.TheVariants as need
 use Rattle.iol_front.specs.Fronts.{CommittedView}
 use Rattle.iol_journal.specs.Journals.{JournalView}
 use Rattle.iol_link.specs.Link.{LinkCall, LinkAnswer}
-use Rattle.iol_trace.specs.Events.{Event, Stamp, stamped}
-use Rattle.iol_trace.specs.Words.{accepted, acked}
+use Rattle.iol_core.specs.Events.{Event, Stamp, stamped}
+use Rattle.iol_core.specs.Words.{accepted, acked}
 use Rattle.iol_engine.proofs.CoreAfter as core_after
 use Rattle.iol_engine.proofs.PortCalls.{step_becomes}
 use Rattle.iol_engine.specs.Engine as engine

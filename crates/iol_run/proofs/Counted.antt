@@ -11,9 +11,9 @@ use Rattle.iol_flush.specs.declared.need.Need.{Need}
 use Rattle.iol_flush.specs.declared.need.Need.TheVariants as need
 use Rattle.iol_front.specs.Fronts.{CommittedView}
 use Rattle.iol_journal.specs.Layout.{Layout}
-use Rattle.iol_trace.proofs.Words.{accepted-append, acked-append}
-use Rattle.iol_trace.specs.Events.{Event, Accepted, Refused, Acknowledged, DiskFailed, Stamp, stamped}
-use Rattle.iol_trace.specs.Words.{accepted, acked, HasFailure}
+use Rattle.iol_core.proofs.Words.{accepted-append, acked-append}
+use Rattle.iol_core.specs.Events.{Event, Accepted, Refused, Acknowledged, DiskFailed, Stamp, stamped}
+use Rattle.iol_core.specs.Words.{accepted, acked, HasFailure}
 use Rattle.iol_link.specs.Link.{LinkCall, LinkAnswer}
 use Rattle.iol_engine.proofs.Changes.{Becomes, Change, Permits, Waits, Tells, changed}
 use Rattle.iol_engine.proofs.PortCalls.{step_becomes}

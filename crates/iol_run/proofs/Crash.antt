@@ -16,10 +16,10 @@ use Rattle.iol_journal.specs.Meaning.{Standing, Meaning, Cause, standing_in, mea
 use Rattle.iol_record.specs.Reading.{◌>>=◌}
 use Rattle.iol_journal.specs.Runs as journal
 use Rattle.iol_journal.specs.Running.{IsRunAtRest}
-use Rattle.iol_trace.proofs.CrashPrefix.{crash_prefix}
-use Rattle.iol_trace.specs.CrashPrefix.{CrashPrefix, marks_of}
-use Rattle.iol_trace.specs.Events.{Stamp}
-use Rattle.iol_trace.specs.Words.{accepted}
+use Rattle.iol_core.proofs.CrashPrefix.{crash_prefix}
+use Rattle.iol_core.specs.CrashPrefix.{CrashPrefix, marks_of}
+use Rattle.iol_core.specs.Events.{Stamp}
+use Rattle.iol_core.specs.Words.{accepted}
 use Rattle.iol_run.specs.CoreOnDisk.{waiting_of}
 use Rattle.iol_run.specs.Runs.{RunView, IsTold, IsMarked}
 use Rattle.iol_run.specs.Schedules.{IsFresh}

@@ -14,11 +14,11 @@ use Rattle.iol_flush.specs.declared.need.Need.TheVariants as need
 use Rattle.iol_flush.specs.declared.stage.FlushStage.{FlushStage}
 use Rattle.iol_flush.specs.declared.stage.FlushStage.TheVariants.{Resting, Opening, Given, Checkpointing, Writing, Publishing, Failed}
 use Rattle.iol_front.specs.Fronts.{CommittedView}
-use Rattle.iol_journal.specs.Batch.{Batch}
+use Rattle.iol_journal.specs.declared.batch.Batch.{Batch}
 use Rattle.iol_link.specs.Link.{LinkCall, LinkAnswer}
-use Rattle.iol_trace.proofs.Words.{failure-append}
-use Rattle.iol_trace.specs.Events.{Event, DiskFailed, stamped}
-use Rattle.iol_trace.specs.Words.{IsFailure, HasFailure}
+use Rattle.iol_core.proofs.Words.{failure-append}
+use Rattle.iol_core.specs.Events.{Event, DiskFailed, stamped}
+use Rattle.iol_core.specs.Words.{IsFailure, HasFailure}
 use Rattle.iol_engine.proofs.Changes.{Change, Permits, Waits, Tells}
 use Rattle.iol_engine.proofs.PortCalls.{step_becomes}
 use Rattle.iol_engine.proofs.Quiet.{quiet_fails, stamped_both}

@@ -11,8 +11,8 @@ use Rattle.iol_front.specs.Fronts.{CommittedView}
 use Rattle.iol_journal.specs.Journals.{JournalView}
 use Rattle.iol_journal.specs.Layout.{Layout, renewed}
 use Rattle.iol_link.specs.Link.{LinkCall, LinkAnswer}
-use Rattle.iol_trace.specs.Events.{Event}
-use Rattle.iol_trace.specs.Words.{accepted, acked, HasFailure}
+use Rattle.iol_core.specs.Events.{Event}
+use Rattle.iol_core.specs.Words.{accepted, acked, HasFailure}
 use Rattle.iol_run.proofs.Flushing.{Holds, steps_told, steps_hold, fresh_holds}
 use Rattle.iol_run.proofs.Making.{made_join, tried_made}
 use Rattle.iol_run.proofs.Progress.{nothing_waits, resting, stopped}

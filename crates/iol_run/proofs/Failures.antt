@@ -6,9 +6,9 @@ use Rattle.iol_flush.specs.Stages.{disk_of}
 use Rattle.iol_flush.specs.declared.stage.FlushStage.{FlushStage}
 use Rattle.iol_journal.specs.Journals.{JournalView}
 use Rattle.iol_link.specs.Link.{LinkCall, LinkAnswer}
-use Rattle.iol_trace.proofs.Words.{failure-append}
-use Rattle.iol_trace.specs.Events.{Event, Stamp, stamped}
-use Rattle.iol_trace.specs.Words.{HasFailure}
+use Rattle.iol_core.proofs.Words.{failure-append}
+use Rattle.iol_core.specs.Events.{Event, Stamp, stamped}
+use Rattle.iol_core.specs.Words.{HasFailure}
 use Rattle.iol_run.proofs.AllSteps.{all_tell}
 use Rattle.iol_run.proofs.Counted.{failure_stays, failure_told}
 use Rattle.iol_run.proofs.DiskSteps.{DiskStep, Stays, Makes, Fails, disk_step}

@@ -4,7 +4,7 @@ use Rattle.iol_disk.specs.Disk.{Disk}
 use Rattle.iol_flush.specs.declared.need.Need.{Need}
 use Rattle.iol_flush.specs.declared.need.Need.TheVariants as need
 use Rattle.iol_front.specs.Fronts.{CommittedView}
-use Rattle.iol_trace.specs.Events.{Event, Acknowledged, DiskFailed}
+use Rattle.iol_core.specs.Events.{Event, Acknowledged, DiskFailed}
 use Rattle.iol_run.specs.CoreOnDisk.{CoreOnDiskView}
 use Rattle.iol_run.specs.Turns.{Takes, HasCalled, Serves, IsTurn, met_by}
 use Rattle.iol_run.specs.declared.turn.Turned.{Turned}

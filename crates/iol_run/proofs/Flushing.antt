@@ -10,8 +10,8 @@ use Rattle.iol_front.specs.Fronts.{CommittedView}
 use Rattle.iol_journal.specs.Journals.{JournalView}
 use Rattle.iol_journal.specs.Layout.{Layout, renewed}
 use Rattle.iol_link.specs.Link.{LinkCall, LinkAnswer}
-use Rattle.iol_trace.specs.Events.{Stamp, stamped}
-use Rattle.iol_trace.specs.Words.{accepted, acked, HasFailure}
+use Rattle.iol_core.specs.Events.{Stamp, stamped}
+use Rattle.iol_core.specs.Words.{accepted, acked, HasFailure}
 use Rattle.iol_run.proofs.Counted.{IsCounted, step_counted, failure_stays}
 use Rattle.iol_run.proofs.Progress.{left_of, turn_fewer, none_left}
 use Rattle.iol_run.proofs.Served.{IsServed, Served, step_served}

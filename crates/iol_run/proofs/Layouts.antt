@@ -10,7 +10,7 @@ use Rattle.iol_journal.proofs.Layouts.{size-renewed, renewed-is, renewed-some, r
 use Rattle.iol_journal.proofs.Readings.{stands_read}
 use Rattle.iol_journal.specs.Layout.{Layout, IsLayout, renewed, port_sectors_of, total}
 use Rattle.iol_journal.specs.Meaning.{Standing, standing_in}
-use Rattle.iol_trace.specs.Events.{Stamp}
+use Rattle.iol_core.specs.Events.{Stamp}
 use Rattle.iol_run.specs.Flushed.{AllFlushed, queue_turns}
 use Rattle.iol_run.specs.declared.step.Step.{Step}
 

@@ -14,10 +14,10 @@ use Rattle.iol_port.specs.declared.action.Input.{Input}
 use Rattle.iol_port.specs.declared.action.Input.TheVariants as input
 use Rattle.iol_port.specs.declared.call.Reply.{Reply}
 use Rattle.iol_port.specs.declared.call.Reply.TheVariants as reply
-use Rattle.iol_trace.proofs.Links.{joined, calls-append}
-use Rattle.iol_trace.specs.Events.{Event, Stamp, stamped}
-use Rattle.iol_trace.specs.Links.{IsLinkRun, call_told, calls_told, if_told}
-use Rattle.iol_trace.specs.Own.{at_port}
+use Rattle.iol_core.proofs.Links.{joined, calls-append}
+use Rattle.iol_core.specs.Events.{Event, Stamp, stamped}
+use Rattle.iol_core.specs.Links.{IsLinkRun, call_told, calls_told, if_told}
+use Rattle.iol_core.specs.Own.{at_port}
 use Rattle.iol_engine.proofs.Machines.{awake_port}
 use Rattle.iol_engine.proofs.Quiet.{stamped_both}
 use Rattle.iol_engine.specs.PortSteps.{Hears, HearsCore, HasEvent, IsStatusTold, PortStep, reply_told, attended_told, filed_told}

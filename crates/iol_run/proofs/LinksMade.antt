@@ -10,9 +10,9 @@ use Rattle.iol_core.specs.declared.ticket.SubmitFault.{SubmitFault}
 use Rattle.iol_journal.specs.Journals.{JournalView}
 use Rattle.iol_link.specs.Link.{LinkCall, LinkAnswer}
 use Rattle.iol_port.specs.Stage.{PortValue}
-use Rattle.iol_trace.proofs.Links.{joined, untouched}
-use Rattle.iol_trace.specs.Events.{Event, Stamp, stamped}
-use Rattle.iol_trace.specs.Links.{IsLinkRun, calls_told}
+use Rattle.iol_core.proofs.Links.{joined, untouched}
+use Rattle.iol_core.specs.Events.{Event, Stamp, stamped}
+use Rattle.iol_core.specs.Links.{IsLinkRun, calls_told}
 use Rattle.iol_run.proofs.FlusherTells.{PassesOver, turn_says}
 use Rattle.iol_run.proofs.LinkRuns.{step_link}
 use Rattle.iol_engine.proofs.Machines.{HavePlaces, elsewhere, new_places, one_some, port_stays}

@@ -15,10 +15,10 @@ use Rattle.iol_flush.specs.declared.stage.FlushStage.{FlushStage}
 use Rattle.iol_flush.specs.declared.stage.FlushStage.TheVariants.{Resting, Opening, Given, Checkpointing, Writing, Publishing, Failed}
 use Rattle.iol_front.specs.Fronts.{Start, CommittedView}
 use Rattle.iol_journal.specs.Runs.{Mark}
-use Rattle.iol_trace.proofs.CrashPrefix.{marks-push, marks-newest}
-use Rattle.iol_trace.specs.CrashPrefix.{marks_of}
-use Rattle.iol_trace.specs.Events.{Event, Accepted, Refused, Acknowledged, DiskFailed, Stamp, stamped}
-use Rattle.iol_trace.specs.Words.{acked, acked_by, clock_after}
+use Rattle.iol_core.proofs.CrashPrefix.{marks-push, marks-newest}
+use Rattle.iol_core.specs.CrashPrefix.{marks_of}
+use Rattle.iol_core.specs.Events.{Event, Accepted, Refused, Acknowledged, DiskFailed, Stamp, stamped}
+use Rattle.iol_core.specs.Words.{acked, acked_by, clock_after}
 use Rattle.iol_core.specs.Core.{CoreView}
 use Rattle.iol_link.specs.Link.{LinkCall, LinkAnswer}
 use Rattle.iol_engine.proofs.Changes.{Change, Permits, Waits, Tells}

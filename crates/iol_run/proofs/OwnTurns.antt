@@ -10,7 +10,7 @@ use Rattle.iol_flush.specs.declared.stage.FlushStage.{FlushStage}
 use Rattle.iol_flush.specs.declared.stage.FlushStage.TheVariants.{Resting, Opening, Given, Checkpointing, Writing, Publishing, Failed}
 use Rattle.iol_front.specs.Fronts.{CommittedView}
 use Rattle.iol_journal.proofs.Layouts.{renewed-renewed}
-use Rattle.iol_journal.specs.Batch.{Batch}
+use Rattle.iol_journal.specs.declared.batch.Batch.{Batch}
 use Rattle.iol_journal.specs.Body.{values}
 use Rattle.iol_journal.specs.CheckpointViews.{CheckpointingView, checkpoint_of, stages_left}
 use Rattle.iol_journal.specs.Drafts.{can_pause}

@@ -6,8 +6,8 @@ use Rattle.iol_types.specs.State.{State}
 use Rattle.iol_disk.specs.Disk.{Disk}
 use Rattle.iol_journal.specs.Journals.{JournalView}
 use Rattle.iol_link.specs.Link.{LinkCall, LinkAnswer}
-use Rattle.iol_trace.specs.Events.{Event, Stamp, stamped}
-use Rattle.iol_trace.specs.Own.{own}
+use Rattle.iol_core.specs.Events.{Event, Stamp, stamped}
+use Rattle.iol_core.specs.Own.{own}
 use Rattle.iol_engine.proofs.CoreAfter.{core_after}
 use Rattle.iol_engine.proofs.OwnEvents.{submit_own}
 use Rattle.iol_engine.proofs.PortRuns.{new_have_runs, ports_stay, recounted, runs_are, stepped, there_runs}

@@ -21,8 +21,8 @@ use Rattle.iol_journal.specs.Begin.{wants_checkpoint}
 use Rattle.iol_journal.specs.CheckpointViews.{checkpoint_of, stages_left}
 use Rattle.iol_journal.specs.Layout.{Layout, is_renewed, renewed}
 use Rattle.iol_journal.specs.Body.{values}
-use Rattle.iol_journal.specs.Batch.{Batch}
-use Rattle.iol_trace.specs.Events.{Event}
+use Rattle.iol_journal.specs.declared.batch.Batch.{Batch}
+use Rattle.iol_core.specs.Events.{Event}
 use Rattle.iol_run.proofs.Batches.{taken_flight}
 use Rattle.iol_run.proofs.OwnTurns.{some_count, rests_own, takes_own, written_own, freed_own, begun_own, advanced_own, advanced_less}
 use Rattle.iol_run.proofs.OwnTurns.{first_less}

@@ -28,8 +28,8 @@ use Rattle.iol_journal.specs.Journals.{JournalView, WritingView, writing_of}
 use Rattle.iol_journal.specs.Body.{values}
 use Rattle.iol_journal.specs.Layout.{Layout, is_renewed, renewed}
 use Rattle.iol_journal.specs.Meaning.{Standing}
-use Rattle.iol_journal.specs.Batch.{Batch}
-use Rattle.iol_trace.specs.Events.{Event}
+use Rattle.iol_journal.specs.declared.batch.Batch.{Batch}
+use Rattle.iol_core.specs.Events.{Event}
 use Rattle.iol_link.specs.Link.{LinkCall, LinkAnswer}
 use Rattle.iol_run.proofs.Batches.{taken_flight}
 use Rattle.iol_run.proofs.Calls.{flight_with, in_flight_with}

@@ -20,7 +20,7 @@ use Rattle.iol_journal.specs.Begin.{wants_checkpoint}
 use Rattle.iol_journal.specs.CheckpointViews.{CheckpointingView, checkpoint_of}
 use Rattle.iol_journal.specs.Journals.{JournalView, WritingView, writing_of}
 use Rattle.iol_journal.specs.Body.{values}
-use Rattle.iol_journal.specs.Batch.{Batch}
+use Rattle.iol_journal.specs.declared.batch.Batch.{Batch}
 use Rattle.iol_run.specs.CoreOnDisk.{IsInFlight, IsDurable, HasFlight, IsInStep, KeepsRunning}
 use Rattle.iol_run.specs.Turns.{failed_core}
 

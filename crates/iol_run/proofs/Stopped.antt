@@ -15,9 +15,9 @@ use Rattle.iol_flush.specs.declared.need.Need.TheVariants as need
 use Rattle.iol_front.specs.Fronts.{CommittedView}
 use Rattle.iol_journal.specs.Journals.{JournalView}
 use Rattle.iol_link.specs.Link.{LinkCall, LinkAnswer}
-use Rattle.iol_trace.proofs.Words.{accepted-append, failure-append}
-use Rattle.iol_trace.specs.Events.{Event, Accepted, Acknowledged, Stamp, stamped}
-use Rattle.iol_trace.specs.Words.{accepted, IsFailure, HasFailure}
+use Rattle.iol_core.proofs.Words.{accepted-append, failure-append}
+use Rattle.iol_core.specs.Events.{Event, Accepted, Acknowledged, Stamp, stamped}
+use Rattle.iol_core.specs.Words.{accepted, IsFailure, HasFailure}
 use Rattle.iol_run.proofs.AllSteps.{all_tell}
 use Rattle.iol_engine.proofs.Changes.{Change, Permits, Waits, HasRoom, Tells, changed}
 use Rattle.iol_engine.proofs.PortCalls.{step_becomes}

@@ -11,9 +11,9 @@ use Rattle.iol_flush.specs.Stages.{FlusherView}
 use Rattle.iol_flush.specs.declared.need.Need.{Need}
 use Rattle.iol_flush.specs.declared.need.Need.TheVariants as need
 use Rattle.iol_front.specs.Fronts.{Start, CommittedView}
-use Rattle.iol_trace.proofs.Words.{accepted-append, numbers-append, acked-append, rise-append}
-use Rattle.iol_trace.specs.Events.{Event, Accepted, Refused, Acknowledged, DiskFailed, Stamp, stamped}
-use Rattle.iol_trace.specs.Words.{accepted, numbers, acked, RiseByOne}
+use Rattle.iol_core.proofs.Words.{accepted-append, numbers-append, acked-append, rise-append}
+use Rattle.iol_core.specs.Events.{Event, Accepted, Refused, Acknowledged, DiskFailed, Stamp, stamped}
+use Rattle.iol_core.specs.Words.{accepted, numbers, acked, RiseByOne}
 use Rattle.iol_run.specs.CoreOnDisk.{CoreOnDiskView, IsInFlight, IsInStep, waiting_of, accepted_in}
 use Rattle.iol_engine.specs.Ports.{PortsView}
 use Rattle.iol_run.specs.Ports.{StepsIf}

@@ -6,8 +6,8 @@ use Rattle.iol_flush.specs.Stages.{disk_of}
 use Rattle.iol_journal.specs.Journals.{JournalView}
 use Rattle.iol_journal.specs.Layout.{renewed, total}
 use Rattle.iol_link.specs.Link.{LinkCall, LinkAnswer}
-use Rattle.iol_trace.specs.Events.{Stamp}
-use Rattle.iol_trace.specs.Words.{durable}
+use Rattle.iol_core.specs.Events.{Stamp}
+use Rattle.iol_core.specs.Words.{durable}
 use Rattle.iol_run.proofs.AcknowledgedInRun.{acks_rise}
 use Rattle.iol_run.proofs.Answering.{all_answered}
 use Rattle.iol_run.proofs.Clocks.{clocks_rise}

@@ -15,7 +15,7 @@ use Rattle.iol_port.specs.declared.action.Input.{Input}
 use Rattle.iol_port.specs.declared.action.Input.TheVariants as input
 use Rattle.iol_port.specs.declared.call.Reply.{Reply}
 use Rattle.iol_port.specs.declared.call.Reply.TheVariants as reply
-use Rattle.iol_trace.specs.Events.{Event}
+use Rattle.iol_core.specs.Events.{Event}
 use Rattle.iol_run.proofs.FlusherTells.{PassesOver}
 use Rattle.iol_run.specs.Answers.{is_answer}
 use Rattle.iol_run.specs.CoreOnDisk.{CoreOnDiskView}

@@ -7,9 +7,9 @@ use Rattle.iol_core.specs.Submit.{submit_fault}
 use Rattle.iol_core.specs.Telling.{refusal_of}
 use Rattle.iol_core.specs.declared.stop.StopCause.TheVariants.{DiskFailed}
 use Rattle.iol_core.specs.declared.ticket.SubmitFault.{SubmitFault}
-use Rattle.iol_trace.specs.Events as trace
-use Rattle.iol_trace.specs.Events.{Event, Stamp}
-use Rattle.iol_trace.specs.Words.{HasFailure}
+use Rattle.iol_core.specs.Events as trace
+use Rattle.iol_core.specs.Events.{Event, Stamp}
+use Rattle.iol_core.specs.Words.{HasFailure}
 use Rattle.iol_engine.specs.PortRuns.{IsCoreAfter}
 use Rattle.iol_run.specs.declared.step.Step.{Step}
 use Rattle.iol_run.specs.declared.step.Step.TheVariants.{Client}

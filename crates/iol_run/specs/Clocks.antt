@@ -1,6 +1,6 @@
 -- The clocks of events.
 use Rattle.std.specs.Prelude.{◌≤◌, ℕ, List, [], ◌∷◌}
-use Rattle.iol_trace.specs.Events.{Stamp}
+use Rattle.iol_core.specs.Events.{Stamp}
 
 -- the clocks of events do not fall, from what the clock shows before them to what it shows behind them (own)
 abbrev pub ClocksRise : ℕ → ℕ → List Stamp → Type 0

@@ -4,8 +4,8 @@ use Rattle.iol_core.specs.declared.core_value.TheConstants.{QUEUE_COMMANDS}
 use Rattle.iol_flush.specs.Stages.{most_checkpoint_calls}
 use Rattle.iol_flush.specs.Turns.{most_freeing_calls}
 use Rattle.iol_journal.specs.Layout.{Layout}
-use Rattle.iol_trace.specs.Events.{Stamp}
-use Rattle.iol_trace.specs.Words.{accepted, acked, HasFailure}
+use Rattle.iol_core.specs.Events.{Stamp}
+use Rattle.iol_core.specs.Words.{accepted, acked, HasFailure}
 use Rattle.iol_run.specs.declared.schedule.Ended.{Ended}
 use Rattle.iol_run.specs.declared.schedule.Ended.TheVariants.{Whole}
 use Rattle.iol_run.specs.declared.step.Step.{Step}

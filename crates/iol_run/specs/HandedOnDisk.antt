@@ -2,7 +2,7 @@
 use Rattle.std.specs.Prelude.{List}
 use Rattle.iol_engine.specs.Engine.{EngineView}
 use Rattle.iol_run.specs.EngineOnDisk.{EngineOnDiskView}
-use Rattle.iol_trace.specs.Events.{Event}
+use Rattle.iol_core.specs.Events.{Event}
 
 -- its engine, as one that has reported these events (own)
 abbrev pub engine_in : {D : Type 0} → EngineOnDiskView D → List Event → EngineView

@@ -2,7 +2,7 @@
 use Rattle.std.specs.Prelude.{ℕ, ◌+◌, nat_eq, if◌then◌else◌, List, [], ◌∷◌}
 use Rattle.iol_types.specs.State.{State}
 use Rattle.iol_link.specs.Link.{LinkCall, LinkAnswer}
-use Rattle.iol_trace.specs.Events.{Stamp}
+use Rattle.iol_core.specs.Events.{Stamp}
 use Rattle.iol_engine.specs.PortRuns.{AreRunsOfPorts}
 use Rattle.iol_run.specs.declared.step.Step.{Step}
 use Rattle.iol_run.specs.declared.step.Step.TheVariants.{Port}

@@ -2,7 +2,7 @@
 use Rattle.std.specs.Prelude.{◌≡◌, ℕ, ◌-◌, ◌≤◌, nat_le, Bool, true, false, List, [], ◌++◌, length, Some, slice_get, slice_set}
 use Rattle.iol_link.specs.Link.{LinkCall, LinkAnswer}
 use Rattle.iol_port.specs.Stage.{PortValue}
-use Rattle.iol_trace.specs.Events.{Event}
+use Rattle.iol_core.specs.Events.{Event}
 use Rattle.iol_engine.specs.PortSteps.{PortStep}
 use Rattle.iol_engine.specs.Ports.{PortsView}
 use Rattle.iol_run.specs.CoreOnDisk.{CoreOnDiskView}

@@ -3,9 +3,9 @@ use Rattle.std.specs.Prelude.{◌≡◌, ℕ, ◌++◌, List, length}
 use Rattle.iol_disk.specs.Disk.{Disk}
 use Rattle.iol_front.specs.Fronts.{Start}
 use Rattle.iol_link.specs.Link.{LinkCall, LinkAnswer}
-use Rattle.iol_trace.specs.CrashPrefix.{marks_of}
-use Rattle.iol_trace.specs.Events.{Event, Stamp, stamped}
-use Rattle.iol_trace.specs.Words.{accepted, numbers, acked, RiseByOne}
+use Rattle.iol_core.specs.CrashPrefix.{marks_of}
+use Rattle.iol_core.specs.Events.{Event, Stamp, stamped}
+use Rattle.iol_core.specs.Words.{accepted, numbers, acked, RiseByOne}
 use Rattle.iol_run.specs.CoreOnDisk.{CoreOnDiskView, accepted_in, clock_of, IsRunning}
 use Rattle.iol_engine.specs.Ports.{PortsView}
 use Rattle.iol_run.specs.Steps.{Does}

@@ -9,9 +9,9 @@ use Rattle.iol_journal.specs.Journals.{JournalView}
 use Rattle.iol_journal.specs.Layout.{renewed, total}
 use Rattle.iol_journal.specs.Meaning.{standing_in}
 use Rattle.iol_link.specs.Link.{LinkCall, LinkAnswer}
-use Rattle.iol_trace.specs.Events.{Stamp}
-use Rattle.iol_trace.specs.Links.{IsLinkRun}
-use Rattle.iol_trace.specs.Words.{durable}
+use Rattle.iol_core.specs.Events.{Stamp}
+use Rattle.iol_core.specs.Links.{IsLinkRun}
+use Rattle.iol_core.specs.Words.{durable}
 use Rattle.iol_engine.specs.Acknowledged.{AcksRise}
 use Rattle.iol_run.specs.Answers.{AnswersClients, clients_of}
 use Rattle.iol_run.specs.Clocks.{ClocksRise}

@@ -1,5 +1,5 @@
 -- Events of a run, with their moments, as data.
-use Rattle.iol_trace.specs.Events as trace
+use Rattle.iol_core.specs.Events as trace
 use Rattle.iol_engine.specs.Events.{event_of}
 use Rattle.iol_run.specs.declared.run.Stamped.{Stamped}
 

@@ -5,7 +5,7 @@ use Rattle.iol_disk.specs.Disk.{Disk}
 use Rattle.iol_core.specs.Submit.{IsSubmit}
 use Rattle.iol_core.specs.declared.ticket.SubmitFault.{SubmitFault}
 use Rattle.iol_link.specs.Link.{LinkCall, LinkAnswer}
-use Rattle.iol_trace.specs.Events.{Event}
+use Rattle.iol_core.specs.Events.{Event}
 use Rattle.iol_engine.specs.Submitted.{submit_told}
 use Rattle.iol_run.specs.CoreOnDisk.{CoreOnDiskView}
 use Rattle.iol_engine.specs.Ports.{PortsView}

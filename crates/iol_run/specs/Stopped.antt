@@ -1,7 +1,7 @@
 -- What is accepted once the disk has failed.
 use Rattle.std.specs.Prelude.{◌≡◌, List, [], ◌∷◌}
-use Rattle.iol_trace.specs.Events.{Stamp}
-use Rattle.iol_trace.specs.Words.{accepted, IsFailure}
+use Rattle.iol_core.specs.Events.{Stamp}
+use Rattle.iol_core.specs.Words.{accepted, IsFailure}
 
 -- once a failure of the disk is told no more commands are accepted (own)
 abbrev pub NoneOnceFailed : List Stamp → Type 0

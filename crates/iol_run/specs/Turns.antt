@@ -12,8 +12,8 @@ use Rattle.iol_flush.specs.declared.fault.FlushFault.TheVariants as fault
 use Rattle.iol_flush.specs.declared.need.Need.{Need}
 use Rattle.iol_flush.specs.declared.need.Need.TheVariants as need
 use Rattle.iol_front.specs.Fronts.{CommittedView}
-use Rattle.iol_journal.specs.Batch.{Batch}
-use Rattle.iol_trace.specs.Events.{Event, Acknowledged, DiskFailed}
+use Rattle.iol_journal.specs.declared.batch.Batch.{Batch}
+use Rattle.iol_core.specs.Events.{Event, Acknowledged, DiskFailed}
 use Rattle.iol_run.specs.CoreOnDisk.{CoreOnDiskView}
 use Rattle.iol_run.specs.declared.turn.Turned.{Turned}
 use Rattle.iol_run.specs.declared.turn.Turned.TheVariants.{Made, Idle, Waited}

@@ -1,7 +1,7 @@
 //! A run, step by step.
 
 ghost use Rattle.std.specs.Prelude.{◌≡◌, ◌<◌, ◌≤◌, ◌+◌, ◌++◌, [], map, length, vec_len, vec_capacity, IfOk, IfErr, OnErr};
-ghost use Rattle.iol_trace.specs.Events.{stamped};
+ghost use Rattle.iol_core.specs.Events.{stamped};
 ghost use Rattle.iol_run.specs.CoreOnDisk.{clock_of};
 ghost use Rattle.iol_engine.specs.Events.{told_of};
 ghost use Rattle.iol_run.specs.Stamps.{stamp_of};
@@ -12,7 +12,7 @@ ghost use Rattle.iol_run.specs.Schedules.{IsFresh};
 use crate::engine_on_disk::EngineOnDisk;
 use crate::moment::Moment;
 use crate::schedule::{Ended, Trace};
-use crate::step::{Step, Told, make};
+use crate::step::{Step, Stepped, make};
 use crate::turn::Turned;
 use iol_disk::SectorDisk;
 use iol_engine::{Event, Exchanged};
@@ -183,7 +183,7 @@ impl<D: SectorDisk, L: DeviceLink, F: Name> Run<D, L, F> {
         let room = room_in(&mut self.spare, *self.events.allocator())?;
         let (events, calls) = (self.events.len(), self.master.calls());
         self.master.is_in_step();
-        let Told {
+        let Stepped {
             turned,
             first,
             second,

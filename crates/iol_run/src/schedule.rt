@@ -9,7 +9,7 @@ ghost use Rattle.iol_journal.specs.Kept.{IsKept};
 ghost use Rattle.iol_journal.specs.Meaning.{meaning};
 ghost use Rattle.iol_journal.specs.Runs.{begun};
 ghost use Rattle.iol_journal.specs.Running.{IsRunAtRest};
-ghost use Rattle.iol_trace.specs.CrashPrefix.{CrashPrefix};
+ghost use Rattle.iol_core.specs.CrashPrefix.{CrashPrefix};
 ghost use Rattle.iol_run.specs.Causes.{FailsFor};
 ghost use Rattle.iol_run.specs.Failures.{TellsFailures};
 ghost use Rattle.iol_run.specs.Schedules.{IsTraceOf, RunsAndTells, fault_disk, told_in};

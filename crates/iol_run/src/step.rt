@@ -28,7 +28,7 @@ pub enum Step {
 
 // What a step came to, and what it tells, in this order.
 #[derive(Drop)]
-pub(crate) struct Told {
+pub(crate) struct Stepped {
     pub turned: Turned,
     pub first: Option<Event>,
     pub second: Option<Event>,
@@ -42,7 +42,7 @@ pub(crate) fn make<D: SectorDisk, L: DeviceLink, F: Name>(
     links: &mut Vec<L>,
     step: &Step,
     room: Box<Exchanged>,
-) -> Told
+) -> Stepped
     requires links { master.old.connections ≡ map L.number links.old.items }
     ensures does { Does D.disk L.number L.steps step.now master.old.master master.new.master (ports_with master.old links.old.items)
         (ports_with master.new links.new.items) (told_of result.first ++ told_of result.second) result.turned }
@@ -50,7 +50,7 @@ pub(crate) fn make<D: SectorDisk, L: DeviceLink, F: Name>(
     ensures run { KeepsRunning D.disk F.front.start master.old.master master.new.master }
 {
     match step {
-        Step::Client(change) => Told {
+        Step::Client(change) => Stepped {
             turned: Turned::Made,
             first: Some(master.submit(*change)),
             second: None,
@@ -62,7 +62,7 @@ pub(crate) fn make<D: SectorDisk, L: DeviceLink, F: Name>(
                 status,
                 room,
             } = step_port(master, links, *port, room);
-            Told {
+            Stepped {
                 turned: Turned::Made,
                 first: called,
                 second: status,
@@ -71,7 +71,7 @@ pub(crate) fn make<D: SectorDisk, L: DeviceLink, F: Name>(
         }
         Step::Flush => {
             let Turn { turned, event } = master.turn();
-            Told {
+            Stepped {
                 turned,
                 first: event,
                 second: None,

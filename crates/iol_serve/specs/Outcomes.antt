@@ -14,8 +14,8 @@ use Rattle.iol_master.specs.declared.client.ReadFault.{ReadFault}
 use Rattle.iol_master.specs.declared.client.ReadFault.TheVariants as read
 use Rattle.iol_answers.specs.declared.refusal.Refusal.{Refusal}
 use Rattle.iol_answers.specs.declared.refusal.Refusal.TheVariants as refusal
-use Rattle.iol_answers.specs.declared.answer.Answer.{Answer}
-use Rattle.iol_answers.specs.declared.answer.Answer.TheVariants as answer
+use Rattle.iol_answers.specs.declared.answer.RequestAnswer.{RequestAnswer}
+use Rattle.iol_answers.specs.declared.answer.RequestAnswer.TheVariants as answer
 use Rattle.iol_serve.specs.declared.asking.Outcome.{Outcome}
 use Rattle.iol_serve.specs.declared.asking.Outcome.TheVariants.{Durable, Found, Refused}
 use Rattle.iol_serve.specs.declared.asking.Task.{Task}
@@ -70,12 +70,12 @@ HasDone start before after (Ask change) outcome = HasAsked start before after (c
 HasDone start before after (Read port) outcome = HasRead start before after port outcome
 
 -- the answer is this port in this state (own)
-abbrev pub IsPortAnswer : ℕ → Port → Answer → Type 0
+abbrev pub IsPortAnswer : ℕ → Port → RequestAnswer → Type 0
 IsPortAnswer port state (answer.Port number told) = (number ≡ port) × (told.now ≡ state)
 IsPortAnswer port state other = ⊥
 
 -- the answer says the outcome of a task (own)
-abbrev pub SaysOutcome : Outcome → Answer → Type 0
+abbrev pub SaysOutcome : Outcome → RequestAnswer → Type 0
 SaysOutcome (Durable number) said = said ≡ answer.Receipt number
 SaysOutcome (Found port view) said = IsPortAnswer port view.port said
 SaysOutcome (Refused refusal) said = said ≡ answer.Refused refusal

@@ -8,7 +8,7 @@ use Rattle.iol_answers.specs.AnswerLines.{answer_lines}
 use Rattle.iol_answers.specs.EventLines.{event_line}
 use Rattle.iol_answers.specs.JsonLines.{IsJsonLine}
 use Rattle.iol_answers.specs.Objects.{answer_data, event_data}
-use Rattle.iol_answers.specs.declared.answer.Answer.{Answer}
+use Rattle.iol_answers.specs.declared.answer.RequestAnswer.{RequestAnswer}
 use Rattle.iol_answers.specs.declared.event.Event.{Event}
 use Rattle.iol_answers.specs.declared.request_id.RequestId.{RequestId}
 use Rattle.iol_answers.specs.declared.request_id.RequestId.TheVariants as given
@@ -26,7 +26,7 @@ IsGivenBack (Some id_) (Some again) = IsSameId id_ again
 IsGivenBack one other = ⊥
 
 -- a text is this answer to a request with this spelling and id (format, Lines of a serving master)
-abbrev pub IsAnswerText : Spelling → Option Id → Answer → List ℕ → Type 0
+abbrev pub IsAnswerText : Spelling → Option Id → RequestAnswer → List ℕ → Type 0
 IsAnswerText Words id_ answer text = text ≡ answer_lines answer
 IsAnswerText Json id_ answer text = (again : Option RequestId) × IsGivenBack id_ again × IsJsonLine (answer_data again answer) text
 

@@ -11,7 +11,7 @@ use crate::printing::Printer;
 use crate::spelling::Spelled;
 use crate::waiting::{Counted, Waiting};
 use crossbeam_channel::Receiver;
-use iol_answers::{Answer, Refusal};
+use iol_answers::{Refusal, RequestAnswer};
 use iol_core::View;
 use iol_front::Name;
 use iol_master::{CallFault, Client, ReadFault, Receipt};
@@ -89,16 +89,16 @@ impl Outcome {
     }
 
     // Returns the answer that says this outcome.
-    fn answer(&self) -> Answer<'_>
+    fn answer(&self) -> RequestAnswer<'_>
         ensures { SaysOutcome self.now result }
     {
         match self {
-            Outcome::Durable(number) => Answer::Receipt(*number),
-            Outcome::Found(port, view) => Answer::Port {
+            Outcome::Durable(number) => RequestAnswer::Receipt(*number),
+            Outcome::Found(port, view) => RequestAnswer::Port {
                 port: *port,
                 state: &view.port,
             },
-            Outcome::Refused(refusal) => Answer::Refused(*refusal),
+            Outcome::Refused(refusal) => RequestAnswer::Refused(*refusal),
         }
     }
 }

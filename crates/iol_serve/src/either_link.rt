@@ -1,8 +1,7 @@
 //! A link of one of two kinds, since ports of one master may have drivers or simulated devices.
 
 use arrayvec::ArrayVec;
-use iol_isdu::ISDU_OCTETS;
-use iol_link::{DeviceLink, Lost, PAGE_OCTETS};
+use iol_link::{DeviceLink, ISDU_OCTETS, Lost, PAGE_OCTETS};
 
 /// A link of one of two kinds.
 #[derive(Drop)]

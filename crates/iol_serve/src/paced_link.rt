@@ -1,8 +1,7 @@
 //! A link that rests between two reads of its device's page.
 
 use arrayvec::ArrayVec;
-use iol_isdu::ISDU_OCTETS;
-use iol_link::{DeviceLink, Lost, PAGE_OCTETS};
+use iol_link::{DeviceLink, ISDU_OCTETS, Lost, PAGE_OCTETS};
 use std::thread;
 use std::time::{Clock, Duration, Instant};
 

@@ -3,7 +3,7 @@
 use crate::hearing::Heard;
 use crate::spelling::{Spelled, event_line};
 use crossbeam_channel::{Receiver, Sender};
-use iol_answers::{Answer, Event};
+use iol_answers::{Event, RequestAnswer};
 use iol_requests::Spelling;
 use std::alloc::{AllocError, Global};
 use std::io::{self, Write};
@@ -106,7 +106,7 @@ impl Printer {
         rt: &R,
         alloc: Global,
         spelled: &Spelled,
-        answer: &Answer<'_>,
+        answer: &RequestAnswer<'_>,
     ) {
         for _ in 0..MOST_TRIES {
             if let Ok(text) = spelled.lines(alloc, answer) {

@@ -11,7 +11,7 @@ use crate::printing::Printer;
 use crate::spelling::Spelled;
 use crate::waiting::Waiting;
 use crossbeam_channel::{Receiver, Sender};
-use iol_answers::{Answer, PortReport, Refusal};
+use iol_answers::{PortReport, Refusal, RequestAnswer};
 use iol_disk::SectorDisk;
 use iol_front::Name;
 use iol_master::{Client, Master};
@@ -179,7 +179,7 @@ impl<F: Name> Responder<F> {
             Request::Ask(change) => self.hand(rt, alloc, Task::Ask(change), spelled, printer),
             Request::Read(port) => self.hand(rt, alloc, Task::Read(port), spelled, printer),
             Request::Status(asked) => self.tell(rt, alloc, asked, &spelled, printer),
-            Request::Help => printer.answer(rt, alloc, &spelled, &Answer::Help),
+            Request::Help => printer.answer(rt, alloc, &spelled, &RequestAnswer::Help),
             Request::Quit => return false,
         }
         true
@@ -207,11 +207,21 @@ impl<F: Name> Responder<F> {
                         spelled,
                         counted,
                     } = unsent.into_inner();
-                    printer.answer(rt, alloc, &spelled, &Answer::Refused(Refusal::Memory));
+                    printer.answer(
+                        rt,
+                        alloc,
+                        &spelled,
+                        &RequestAnswer::Refused(Refusal::Memory),
+                    );
                     self.waiting.end(rt, counted);
                 }
             }
-            None => printer.answer(rt, alloc, &spelled, &Answer::Refused(Refusal::UnknownPort)),
+            None => printer.answer(
+                rt,
+                alloc,
+                &spelled,
+                &RequestAnswer::Refused(Refusal::UnknownPort),
+            ),
         }
     }
 
@@ -241,9 +251,14 @@ impl<F: Name> Responder<F> {
     ) {
         match self.report(rt, port) {
             Some(report) => {
-                printer.answer(rt, alloc, spelled, &Answer::Statuses(&[report]));
+                printer.answer(rt, alloc, spelled, &RequestAnswer::Statuses(&[report]));
             }
-            None => printer.answer(rt, alloc, spelled, &Answer::Refused(Refusal::UnknownPort)),
+            None => printer.answer(
+                rt,
+                alloc,
+                spelled,
+                &RequestAnswer::Refused(Refusal::UnknownPort),
+            ),
         }
     }
 
@@ -260,9 +275,9 @@ impl<F: Name> Responder<F> {
                 rt,
                 alloc,
                 spelled,
-                &Answer::Statuses(reports.as_slice()),
+                &RequestAnswer::Statuses(reports.as_slice()),
             ),
-            Err(_) => printer.answer(rt, alloc, spelled, &Answer::Refused(Refusal::Memory)),
+            Err(_) => printer.answer(rt, alloc, spelled, &RequestAnswer::Refused(Refusal::Memory)),
         }
     }
 
@@ -314,7 +329,7 @@ fn refuse_for_memory<R: Wait + Clock>(rt: &R, alloc: Global, printer: &Printer) 
         rt,
         alloc,
         &Spelled::in_words(),
-        &Answer::Refused(Refusal::Memory),
+        &RequestAnswer::Refused(Refusal::Memory),
     );
 }
 
@@ -327,7 +342,7 @@ fn complain<R: Wait + Clock>(
     printer: &Printer,
 ) {
     match format!(in alloc; "{mistake}") {
-        Ok(text) => printer.answer(rt, alloc, spelled, &Answer::Wrong(text.as_str())),
-        Err(_) => printer.answer(rt, alloc, spelled, &Answer::Refused(Refusal::Memory)),
+        Ok(text) => printer.answer(rt, alloc, spelled, &RequestAnswer::Wrong(text.as_str())),
+        Err(_) => printer.answer(rt, alloc, spelled, &RequestAnswer::Refused(Refusal::Memory)),
     }
 }

@@ -3,7 +3,9 @@
 ghost use Rattle.std.specs.Prelude.{◌≡◌, IfOk, string_bytes};
 ghost use Rattle.iol_serve.specs.Spelled.{IsAnswerText, IsEventText, IsGivenBack, IsSameId};
 
-use iol_answers::{Answer, Event, RequestId, answer_json, answer_words, event_json, event_words};
+use iol_answers::{
+    Event, RequestAnswer, RequestId, answer_json, answer_words, event_json, event_words,
+};
 use iol_requests::{Id, Spelling};
 use std::alloc::{AllocError, Global};
 
@@ -38,7 +40,11 @@ impl Spelled {
     }
 
     // Returns the lines of an answer.
-    pub(crate) fn lines(&self, alloc: Global, answer: &Answer<'_>) -> Result<String, AllocError>
+    pub(crate) fn lines(
+        &self,
+        alloc: Global,
+        answer: &RequestAnswer<'_>,
+    ) -> Result<String, AllocError>
         ensures { IfOk result (λ text. IsAnswerText self.now.spelling self.now.id answer.now (string_bytes text)) }
     {
         match self.spelling {

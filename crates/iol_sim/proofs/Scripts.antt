@@ -6,7 +6,7 @@ use Rattle.std.proofs.lemmas.Bool.Decides.{nat_tests}
 use Rattle.std.proofs.lemmas.List.{append-nil}
 use Rattle.std.proofs.Math.Seq.{take-nil}
 use Rattle.std.proofs.lemmas.List.Elements.{All-head, All-tail}
-use Rattle.iol_isdu.specs.declared.parts.TheConstants.{ISDU_OCTETS}
+use Rattle.iol_link.specs.declared.parts.TheConstants.{ISDU_OCTETS}
 use Rattle.iol_link.specs.Link.{Exchange, LinkAnswer, Octets, Gone, Answered, Run, last_connection}
 use Rattle.iol_sim.specs.Script.{Script, ScriptStep, NextStep, AnswersInOrder, has_no_answer}
 

@@ -9,20 +9,20 @@ use Rattle.iol_types.specs.Key.{same_key}
 use Rattle.iol_types.specs.DataSet.{Entry, data_at, octets_of}
 use Rattle.iol_types.specs.declared.key.Key.{Key}
 use Rattle.iol_types.specs.declared.key.TheConstants.{DATA_STORAGE}
-use Rattle.iol_isdu.specs.Isdu.{IsRequest, IsAnswer}
-use Rattle.iol_isdu.specs.Faults.{request_fault}
-use Rattle.iol_isdu.specs.declared.messages.Request.{Request}
-use Rattle.iol_isdu.specs.declared.messages.Request.TheVariants.{Read, Write}
-use Rattle.iol_isdu.specs.declared.messages.Answer.{Answer}
-use Rattle.iol_isdu.specs.declared.messages.Answer.TheVariants.{ReadOk, ReadFault, WriteOk, WriteFault}
-use Rattle.iol_dsindex.specs.Command.{ds_command_of}
-use Rattle.iol_dsindex.specs.List.{list_octets}
-use Rattle.iol_dsindex.specs.declared.list.Next.TheVariants as next
-use Rattle.iol_dsindex.specs.declared.command.DsCommand.{DsCommand}
-use Rattle.iol_dsindex.specs.declared.command.DsCommand.TheVariants.{UploadStart, UploadEnd, DownloadStart, DownloadEnd, Break}
-use Rattle.iol_dsindex.specs.declared.object.TheConstants.{DS_COMMAND, STATE_PROPERTY, DATA_STORAGE_SIZE, PARAMETER_CHECKSUM, INDEX_LIST}
-use Rattle.iol_dsindex.specs.declared.property.State.{State}
-use Rattle.iol_dsindex.specs.declared.property.State.TheVariants.{Inactive, Upload, Download, Locked}
+use Rattle.iol_link.specs.Isdu.{IsRequest, IsAnswer}
+use Rattle.iol_link.specs.Faults.{request_fault}
+use Rattle.iol_link.specs.declared.messages.Request.{Request}
+use Rattle.iol_link.specs.declared.messages.Request.TheVariants.{Read, Write}
+use Rattle.iol_link.specs.declared.messages.Answer.{Answer}
+use Rattle.iol_link.specs.declared.messages.Answer.TheVariants.{ReadOk, ReadFault, WriteOk, WriteFault}
+use Rattle.iol_transfer.specs.Command.{ds_command_of}
+use Rattle.iol_transfer.specs.List.{list_octets}
+use Rattle.iol_transfer.specs.declared.list.Next.TheVariants as next
+use Rattle.iol_transfer.specs.declared.command.DsCommand.{DsCommand}
+use Rattle.iol_transfer.specs.declared.command.DsCommand.TheVariants.{UploadStart, UploadEnd, DownloadStart, DownloadEnd, Break}
+use Rattle.iol_transfer.specs.declared.object.TheConstants.{DS_COMMAND, STATE_PROPERTY, DATA_STORAGE_SIZE, PARAMETER_CHECKSUM, INDEX_LIST}
+use Rattle.iol_transfer.specs.declared.property.State.{State}
+use Rattle.iol_transfer.specs.declared.property.State.TheVariants.{Inactive, Upload, Download, Locked}
 use Rattle.iol_sim.specs.Parameters.{checksum_of}
 use Rattle.iol_sim.specs.Refusal.{code_of}
 use Rattle.iol_sim.specs.declared.device.TheConstants.{DS_UPLOAD_REQUEST}

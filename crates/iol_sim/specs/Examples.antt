@@ -2,8 +2,8 @@
 use Rattle.std.specs.Prelude.{ℕ, zero, suc, Bool, true, false, List, [], ◌∷◌, Some, None}
 use Rattle.iol_types.specs.declared.key.Key.{Key}
 use Rattle.iol_types.specs.DataSet.{Entry}
-use Rattle.iol_dsindex.specs.declared.property.State.{State}
-use Rattle.iol_dsindex.specs.declared.property.State.TheVariants.{Inactive}
+use Rattle.iol_transfer.specs.declared.property.State.{State}
+use Rattle.iol_transfer.specs.declared.property.State.TheVariants.{Inactive}
 use Rattle.iol_sim.specs.Device.{Device}
 use Rattle.iol_sim.specs.SimLink.{Sim, visit_of}
 use Rattle.iol_sim.specs.Script.{Script}

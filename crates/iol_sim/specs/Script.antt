@@ -1,7 +1,7 @@
 -- What a link of a script is, and what it does.
 use Rattle.std.specs.Prelude.{◌≡◌, ◌+◌, ◌==◌, ◌||◌, nat_lt, ℕ, Bool, List, [], ◌∷◌, ◌++◌, length, min, map, take, ◌-◌, replicate}
 use Rattle.std.specs.Prelude.{if◌then◌else◌, Option, Some, None}
-use Rattle.iol_isdu.specs.declared.parts.TheConstants.{ISDU_OCTETS}
+use Rattle.iol_link.specs.declared.parts.TheConstants.{ISDU_OCTETS}
 use Rattle.iol_link.specs.Link.{LinkCall, TakeEvent, ReadPage, Exchange, LinkAnswer, NoEvent, Event, Octets, Gone, last_connection}
 
 -- what a script link holds: the answers that are left, the requests that were answered, the page

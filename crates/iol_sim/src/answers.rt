@@ -1,15 +1,15 @@
 //! What a simulated device reads of written octets, and the messages that it answers.
 
 ghost use Rattle.std.specs.Prelude.{◌≡◌, ◌≤◌, Ok, Err, length, OnOk, IfOk, IfErr};
-ghost use Rattle.iol_isdu.specs.declared.messages.TheConstants.{DATA_OCTETS};
-ghost use Rattle.iol_isdu.specs.declared.messages.Answer.TheVariants as answer;
+ghost use Rattle.iol_link.specs.declared.messages.TheConstants.{DATA_OCTETS};
+ghost use Rattle.iol_link.specs.declared.messages.Answer.TheVariants as answer;
 ghost use Rattle.iol_sim.specs.Refusal.{code_of};
 ghost use Rattle.iol_sim.specs.Device.{command_in, read_answer, no_service};
 
 use crate::refusal::{DEVICE_APPLICATION_ERROR, Refusal};
 use arrayvec::ArrayVec;
-use iol_dsindex::DsCommand;
-use iol_isdu::{Answer, DATA_OCTETS, ISDU_OCTETS};
+use iol_link::{Answer, DATA_OCTETS, ISDU_OCTETS};
+use iol_transfer::DsCommand;
 
 // The DS_Command in written octets.
 pub(crate) fn command_in(octets: &[u8]) -> Option<DsCommand>

@@ -3,18 +3,19 @@
 ghost use Rattle.std.specs.Prelude.{◌≡◌, ◌++◌, ◌∷◌, [], ◌⊎◌, Some, None, Ok, Err, true, false, length, OnOk, OnErr, IfOk, IfErr};
 ghost use Rattle.std.specs.Option.{option_copied};
 ghost use Rattle.iol_types.specs.DataSet.{data_at};
-ghost use Rattle.iol_dsindex.specs.declared.property.State.TheVariants as state;
+ghost use Rattle.iol_transfer.specs.declared.property.State.TheVariants as state;
 ghost use Rattle.iol_sim.specs.Parameters.{add_fault, AreParameters};
 
 use crate::answers::{command_in, data_of, no_service, read_answer, write_response};
 use crate::parameters::{DeviceFault, Parameters};
 use crate::refusal::Refusal;
 use arrayvec::ArrayVec;
-use iol_dsindex::{
+use iol_link::{
+    Answer, DATA_OCTETS, ISDU_OCTETS, PAGE_OCTETS, Request, read_request, write_answer,
+};
+use iol_transfer::{
     DATA_STORAGE_SIZE, DS_COMMAND, DsCommand, INDEX_LIST, PARAMETER_CHECKSUM, STATE_PROPERTY, State,
 };
-use iol_isdu::{Answer, DATA_OCTETS, ISDU_OCTETS, Request, read_request, write_answer};
-use iol_link::PAGE_OCTETS;
 use iol_types::{DATA_STORAGE, DeviceId, Key};
 use std::alloc::Global;
 use std::marker::Model;

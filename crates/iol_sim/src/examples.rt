@@ -4,8 +4,8 @@
 ghost use Rattle.std.specs.Prelude.{◌≡◌, ℕ, List, [], ◌∷◌, map, replicate, Some, None, Ok, Err, true, false};
 ghost use Rattle.iol_types.specs.DataSet.{octets_of};
 ghost use Rattle.iol_types.specs.declared.key.TheConstants.{DATA_STORAGE};
-ghost use Rattle.iol_isdu.specs.declared.messages.Request.TheVariants as request;
-ghost use Rattle.iol_isdu.specs.declared.messages.Answer.TheVariants as answer;
+ghost use Rattle.iol_link.specs.declared.messages.Request.TheVariants as request;
+ghost use Rattle.iol_link.specs.declared.messages.Answer.TheVariants as answer;
 ghost use Rattle.iol_link.specs.Link.{last_connection};
 ghost use Rattle.iol_sim.specs.Parameters.{add_fault, checksum_of};
 ghost use Rattle.iol_sim.specs.Refusal.{code_of};
@@ -14,7 +14,7 @@ ghost use Rattle.iol_sim.specs.Device.{commanded, raised, change_of, told, after
 ghost use Rattle.iol_sim.specs.SimLink.{visit_of, after_answer, has_answer, present, after_loss};
 ghost use Rattle.iol_sim.specs.Script.{lost};
 ghost use Rattle.iol_sim.specs.Examples.{example_device, in_state, key, with_first, alike, link_at, script_at};
-ghost use Rattle.iol_dsindex.specs.declared.property.State.TheVariants as state;
+ghost use Rattle.iol_transfer.specs.declared.property.State.TheVariants as state;
 
 use crate::device::DS_UPLOAD_REQUEST;
 use crate::parameters::{DeviceFault, MOST_PARAMETERS};

@@ -3,10 +3,10 @@
 ghost use Rattle.std.specs.Prelude.{◌≡◌, ◌≢◌, ◌≤◌, ◌<◌, ℕ, List, length, map, All, slice_get, Ok};
 ghost use Rattle.std.specs.Map.{keys_of};
 ghost use Rattle.iol_types.specs.DataSet.{Entry};
-ghost use Rattle.iol_dsindex.specs.List.{reading_of, list_octets};
-ghost use Rattle.iol_dsindex.specs.declared.list.Next.TheVariants as next;
+ghost use Rattle.iol_transfer.specs.List.{reading_of, list_octets};
+ghost use Rattle.iol_transfer.specs.declared.list.Next.TheVariants as next;
 ghost use Rattle.iol_sim.specs.Parameters.{AreParameters};
-ghost use Rattle.iol_isdu.specs.declared.parts.TheConstants.{ISDU_OCTETS};
+ghost use Rattle.iol_link.specs.declared.parts.TheConstants.{ISDU_OCTETS};
 ghost use Rattle.iol_link.specs.Link.{LinkCall, LinkAnswer, Answered, Run, Exchange, last_connection};
 ghost use Rattle.iol_sim.specs.SimLink.{Sim, SimStep};
 ghost use Rattle.iol_sim.specs.Script.{Script, ScriptStep, AnswersInOrder};

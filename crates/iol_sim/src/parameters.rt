@@ -7,14 +7,14 @@ ghost use Rattle.std.specs.Option.{option_copied};
 ghost use Rattle.iol_types.specs.Key.{IsKey, same_key, is_reserved};
 ghost use Rattle.iol_types.specs.DataSet.{Entry, data_at, octets_of};
 ghost use Rattle.iol_types.specs.declared.data_set.TheConstants.{MOST_ENTRY_OCTETS};
-ghost use Rattle.iol_dsindex.specs.List.{list_octets};
-ghost use Rattle.iol_dsindex.specs.declared.list.Next.TheVariants as next;
+ghost use Rattle.iol_transfer.specs.List.{list_octets};
+ghost use Rattle.iol_transfer.specs.declared.list.Next.TheVariants as next;
 ghost use Rattle.iol_sim.specs.Parameters.{weighted};
 
 use arrayvec::ArrayVec;
 use indexmap::IndexMap;
-use iol_dsindex::{Next, write_index_list};
-use iol_isdu::DATA_OCTETS;
+use iol_link::DATA_OCTETS;
+use iol_transfer::{Next, write_index_list};
 use iol_types::{ENTRY_HEAD_OCTETS, Key, MOST_ENTRY_OCTETS};
 use std::alloc::Global;
 use std::marker::Model;

@@ -3,8 +3,7 @@
 ghost use Rattle.std.specs.Prelude.{◌≡◌, ◌≤◌, [], Some, None, length, map, IfOk};
 
 use arrayvec::ArrayVec;
-use iol_isdu::ISDU_OCTETS;
-use iol_link::{DeviceLink, Lost, PAGE_OCTETS};
+use iol_link::{DeviceLink, ISDU_OCTETS, Lost, PAGE_OCTETS};
 use std::alloc::{AllocError, Global};
 use std::marker::Model;
 

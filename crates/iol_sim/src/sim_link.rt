@@ -8,8 +8,7 @@ use crate::device::SimDevice;
 use crate::refusal::Refusal;
 use crate::visit::Visit;
 use arrayvec::ArrayVec;
-use iol_isdu::ISDU_OCTETS;
-use iol_link::{DeviceLink, Lost, PAGE_OCTETS};
+use iol_link::{DeviceLink, ISDU_OCTETS, Lost, PAGE_OCTETS};
 use iol_types::Key;
 use std::marker::Model;
 

@@ -7,8 +7,7 @@ ghost use Rattle.iol_sim.specs.SimLink.{one_fewer, is_now};
 use crate::device::SimDevice;
 use crate::refusal::Refusal;
 use arrayvec::ArrayVec;
-use iol_isdu::ISDU_OCTETS;
-use iol_link::PAGE_OCTETS;
+use iol_link::{ISDU_OCTETS, PAGE_OCTETS};
 use iol_types::Key;
 use std::marker::Model;
 

@@ -2,7 +2,7 @@
 //! tables, apart from the crate's own.
 
 use arrayvec::ArrayVec;
-use iol_isdu::{ISDU_OCTETS, IsduFault, read_answer, read_request, write_answer, write_request};
+use iol_link::{ISDU_OCTETS, IsduFault, read_answer, read_request, write_answer, write_request};
 use std::process::Abort;
 
 const REQUEST: u8 = 1;

@@ -1,8 +1,7 @@
 //! A link of which nothing is claimed.
 
 use arrayvec::ArrayVec;
-use iol_isdu::ISDU_OCTETS;
-use iol_link::{DeviceLink, Lost, PAGE_OCTETS, runs_join};
+use iol_link::{DeviceLink, ISDU_OCTETS, Lost, PAGE_OCTETS, runs_join};
 
 // A link of which nothing is claimed: it has no device.
 #[derive(Drop)]

@@ -1,8 +1,8 @@
 -- The words for mismatches and failures.
 use Rattle.std.specs.Prelude.{ℕ, List, ◌++◌, codes}
-use Rattle.iol_ident.specs.declared.validation.IdentFault.{IdentFault}
-use Rattle.iol_ident.specs.declared.validation.IdentFault.TheVariants as ident
-use Rattle.iol_trace.specs.Statuses as trace
+use Rattle.iol_link.specs.declared.validation.IdentFault.{IdentFault}
+use Rattle.iol_link.specs.declared.validation.IdentFault.TheVariants as ident
+use Rattle.iol_core.specs.Statuses as trace
 use Rattle.iol_texts.specs.ErrorTypes.{error_text}
 
 -- why a device is not the one that its port wants, and what to do (format, Explained runs)

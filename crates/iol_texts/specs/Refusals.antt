@@ -2,7 +2,7 @@
 use Rattle.std.specs.Prelude.{ℕ, List, codes}
 use Rattle.iol_types.specs.declared.command.CommandFault.{CommandFault}
 use Rattle.iol_types.specs.declared.command.CommandFault.TheVariants as fault
-use Rattle.iol_trace.specs.Statuses as trace
+use Rattle.iol_core.specs.Statuses as trace
 
 -- why a command does not pass, and what to do (format, Explained runs)
 abbrev pub command_words : CommandFault → List ℕ

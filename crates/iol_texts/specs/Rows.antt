@@ -2,7 +2,7 @@
 use Rattle.std.specs.Prelude.{ℕ, ◌&&◌, not, Bool, if◌then◌else◌, List, codes, Option, is_none}
 use Rattle.iol_types.specs.Config.{restores, backs_up}
 use Rattle.iol_types.specs.declared.config.Validation.{Validation}
-use Rattle.iol_dsindex.specs.declared.property.State.{State}
+use Rattle.iol_transfer.specs.declared.property.State.{State}
 use Rattle.iol_port.specs.Decision.{is_locked, has_checksum}
 use Rattle.iol_port.specs.declared.decision.Decision.{Decision}
 use Rattle.iol_port.specs.declared.decision.Decision.TheVariants as decision

@@ -1,6 +1,6 @@
 -- The words for the status of a port.
 use Rattle.std.specs.Prelude.{ℕ, List, [], codes, Option, Some, None}
-use Rattle.iol_trace.specs.Statuses as trace
+use Rattle.iol_core.specs.Statuses as trace
 use Rattle.iol_texts.specs.Failures.{failure_words, mismatch_words}
 use Rattle.iol_texts.specs.Rows.{row_words}
 use Rattle.iol_texts.specs.declared.row.Row.{Row}

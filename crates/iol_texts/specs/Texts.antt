@@ -4,9 +4,9 @@ use Rattle.std.specs.Fmt.{digit_glyph}
 use Rattle.std.specs.List.{flat_map}
 use Rattle.iol_types.specs.declared.command.CommandFault.{CommandFault}
 use Rattle.iol_types.specs.declared.command.CommandFault.TheVariants as fault
-use Rattle.iol_ident.specs.declared.validation.IdentFault.{IdentFault}
-use Rattle.iol_ident.specs.declared.validation.IdentFault.TheVariants as ident
-use Rattle.iol_trace.specs.Statuses as trace
+use Rattle.iol_link.specs.declared.validation.IdentFault.{IdentFault}
+use Rattle.iol_link.specs.declared.validation.IdentFault.TheVariants as ident
+use Rattle.iol_core.specs.Statuses as trace
 
 -- an octet in two hexadecimal digits, upper case (format, Texts)
 abbrev pub hex_of : ℕ → List ℕ

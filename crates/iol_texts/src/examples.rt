@@ -2,8 +2,8 @@
 ghost use Rattle.std.specs.Prelude.{◌≡◌, [], ◌∷◌, ◌++◌, map, replicate, codes, true, false, Some, None};
 ghost use Rattle.iol_types.specs.declared.command.CommandFault.TheVariants as fault;
 ghost use Rattle.iol_types.specs.Examples.{example_config, example_port, renewed_port, port_of};
-ghost use Rattle.iol_ident.specs.declared.validation.IdentFault.TheVariants as ident;
-ghost use Rattle.iol_trace.specs.Statuses as trace;
+ghost use Rattle.iol_link.specs.declared.validation.IdentFault.TheVariants as ident;
+ghost use Rattle.iol_core.specs.Statuses as trace;
 ghost use Rattle.iol_texts.specs.ErrorTypes.{error_name};
 ghost use Rattle.iol_texts.specs.Failures.{failure_words, mismatch_words};
 ghost use Rattle.iol_texts.specs.Recovered.{entry_line, port_line, port_text, recovered_text};
@@ -13,7 +13,7 @@ ghost use Rattle.iol_texts.specs.Statuses.{status_words};
 ghost use Rattle.iol_texts.specs.Texts.{refusal_name, status_text};
 
 use crate::row::Row;
-use iol_dsindex::State;
+use iol_transfer::State;
 use iol_types::Validation;
 
 /// The ErrorCode and AdditionalCode of a refusal: two digits each, upper case.

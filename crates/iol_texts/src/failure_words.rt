@@ -4,7 +4,7 @@ ghost use Rattle.iol_port.specs.Telling.{failure_told};
 ghost use Rattle.iol_texts.specs.Failures.{failure_cause, mismatch_words};
 
 use crate::error_types::ErrorType;
-use iol_ident::IdentFault;
+use iol_link::IdentFault;
 use iol_port::PortFault;
 use std::fmt;
 

@@ -6,7 +6,7 @@ ghost use Rattle.iol_port.specs.Telling.{failure_told};
 ghost use Rattle.iol_texts.specs.Texts.{command_name, refusal_name, mismatch_name, failure_name};
 
 use iol_core::SubmitFault;
-use iol_ident::IdentFault;
+use iol_link::IdentFault;
 use iol_port::PortFault;
 use iol_types::CommandFault;
 

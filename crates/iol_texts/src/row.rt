@@ -4,7 +4,7 @@ ghost use Rattle.std.specs.Prelude.{◌≡◌};
 ghost use Rattle.iol_port.specs.Decision.{decide};
 ghost use Rattle.iol_texts.specs.Rows.{decision_of, row_of, row_words, same_or_other};
 
-use iol_dsindex::State;
+use iol_transfer::State;
 use iol_types::Validation;
 
 /// A line of the table.

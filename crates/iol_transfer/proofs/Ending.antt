@@ -9,13 +9,13 @@ use Rattle.iol_types.specs.declared.key.Key.{Key}
 use Rattle.iol_types.specs.declared.key.TheConstants.{DATA_STORAGE}
 use Rattle.iol_types.specs.declared.data_set.TheConstants.{MOST_SET_OCTETS}
 use Rattle.iol_types.specs.DataSet.{Entry, SetValue, IsSet, add_fault}
-use Rattle.iol_isdu.specs.declared.messages.Request.TheVariants.{Read}
-use Rattle.iol_isdu.specs.declared.messages.Answer.{Answer}
-use Rattle.iol_isdu.specs.declared.messages.Answer.TheVariants.{ReadOk, ReadFault, WriteOk, WriteFault, Busy}
-use Rattle.iol_dsindex.specs.List.{Listing, reading_of}
-use Rattle.iol_dsindex.specs.declared.list.Next.TheVariants as next_is
-use Rattle.iol_dsindex.specs.declared.list.ListFault.{ListFault}
-use Rattle.iol_dsindex.specs.declared.object.TheConstants.{PARAMETER_CHECKSUM}
+use Rattle.iol_link.specs.declared.messages.Request.TheVariants.{Read}
+use Rattle.iol_link.specs.declared.messages.Answer.{Answer}
+use Rattle.iol_link.specs.declared.messages.Answer.TheVariants.{ReadOk, ReadFault, WriteOk, WriteFault, Busy}
+use Rattle.iol_transfer.specs.List.{Listing, reading_of}
+use Rattle.iol_transfer.specs.declared.list.Next.TheVariants as next_is
+use Rattle.iol_transfer.specs.declared.list.ListFault.{ListFault}
+use Rattle.iol_transfer.specs.declared.object.TheConstants.{PARAMETER_CHECKSUM}
 use Rattle.iol_transfer.specs.declared.fault.TransferFault.{TransferFault}
 use Rattle.iol_transfer.specs.declared.fault.TransferFault.TheVariants as fault
 use Rattle.iol_transfer.specs.declared.repeats.TheConstants.{MOST_REQUESTS}

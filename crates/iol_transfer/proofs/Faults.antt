@@ -14,14 +14,14 @@ use Rattle.iol_types.specs.declared.data_set.TheConstants.{MOST_SET_OCTETS, MOST
 use Rattle.iol_types.specs.declared.set_builder.AddFault.TheVariants.{ReservedKey, EntryTooLong, Duplicate, SetTooLarge}
 use Rattle.iol_types.specs.DataSet.{Entry, SetValue, data_at, octets_of, add_fault}
 use Rattle.iol_types.proofs.Entries.{absent-before}
-use Rattle.iol_isdu.specs.declared.messages.Answer.{Answer}
-use Rattle.iol_isdu.specs.declared.messages.Answer.TheVariants.{ReadOk, ReadFault, WriteOk, WriteFault, Busy}
-use Rattle.iol_dsindex.specs.List.{Listing, reading_of}
-use Rattle.iol_dsindex.specs.declared.list.Next.{Next}
-use Rattle.iol_dsindex.specs.declared.list.Next.TheVariants as next_is
-use Rattle.iol_dsindex.specs.declared.list.ListFault.{ListFault}
-use Rattle.iol_dsindex.specs.declared.object.TheConstants.{INDEX_LIST}
-use Rattle.iol_dsindex.proofs.ReadKeys.{reading_of-free, first_places-each, first_places-apart}
+use Rattle.iol_link.specs.declared.messages.Answer.{Answer}
+use Rattle.iol_link.specs.declared.messages.Answer.TheVariants.{ReadOk, ReadFault, WriteOk, WriteFault, Busy}
+use Rattle.iol_transfer.specs.List.{Listing, reading_of}
+use Rattle.iol_transfer.specs.declared.list.Next.{Next}
+use Rattle.iol_transfer.specs.declared.list.Next.TheVariants as next_is
+use Rattle.iol_transfer.specs.declared.list.ListFault.{ListFault}
+use Rattle.iol_transfer.specs.declared.object.TheConstants.{INDEX_LIST}
+use Rattle.iol_transfer.proofs.ReadKeys.{reading_of-free, first_places-each, first_places-apart}
 use Rattle.iol_transfer.specs.declared.fault.TransferFault.{TransferFault}
 use Rattle.iol_transfer.specs.declared.fault.TransferFault.TheVariants as fault
 use Rattle.iol_transfer.specs.declared.repeats.TheConstants.{MOST_REQUESTS}

@@ -2,10 +2,10 @@
 use Rattle.std.proofs.Common.{◌≡◌, ℕ, ◌⊎◌, inl, inr, List, [], ◌∷◌, ◌++◌, refl, ap, sym, ◌∙◌, subst}
 use Rattle.std.specs.Prelude.{Result, Ok, Err}
 use Rattle.iol_types.specs.DataSet.{SetValue, IsSet}
-use Rattle.iol_isdu.specs.declared.messages.Answer.{Answer}
+use Rattle.iol_link.specs.declared.messages.Answer.{Answer}
 use Rattle.iol_transfer.specs.declared.fault.TransferFault.{TransferFault}
 use Rattle.iol_transfer.specs.declared.fault.TransferFault.TheVariants as fault
-use Rattle.iol_transfer.specs.declared.stage.Stage.{Stage}
+use Rattle.iol_transfer.specs.declared.stage.UploadStage.{UploadStage}
 use Rattle.iol_transfer.specs.declared.upload.UploadStep.{UploadStep}
 use Rattle.iol_transfer.specs.declared.upload.UploadStep.TheVariants as step_is
 use Rattle.iol_transfer.specs.Exchanges.{Exchange}
@@ -19,7 +19,7 @@ use Rattle.iol_transfer.proofs.Finishing.{finished-whole}
 use Rattle.iol_transfer.proofs.Faults.{ends-in}
 
 -- a stage that octets lead to, once it is gone on to, is the outcome
-pub stage-outcome : (old between new : Machine) (answer : Answer) (next : Result Stage TransferFault) (result : UploadStep)
+pub stage-outcome : (old between new : Machine) (answer : Answer) (next : Result UploadStage TransferFault) (result : UploadStep)
     (outcome : Outcome)
     → between.vendor ≡ old.vendor → between.device ≡ old.device → GoesOn between next result new → IsStageAfter old answer next outcome
     → IsOutcome old answer result new outcome

@@ -10,15 +10,15 @@ use Rattle.iol_types.specs.declared.key.TheConstants.{DATA_STORAGE}
 use Rattle.iol_types.specs.declared.data_set.TheConstants.{MOST_SET_OCTETS}
 use Rattle.iol_types.specs.DataSet.{Entry, SetValue, AreEntries, add_fault}
 use Rattle.iol_types.proofs.Entries.{may-stand, none-added}
-use Rattle.iol_isdu.specs.declared.messages.Request.{Request}
-use Rattle.iol_isdu.specs.declared.messages.Request.TheVariants.{Read}
-use Rattle.iol_isdu.specs.declared.messages.Answer.{Answer}
-use Rattle.iol_dsindex.specs.List.{Listing, reading_of, first_places, kept_with}
-use Rattle.iol_dsindex.specs.declared.list.Next.{Next}
-use Rattle.iol_dsindex.specs.declared.list.Next.TheVariants as next_is
-use Rattle.iol_dsindex.specs.declared.list.ListFault.{ListFault}
-use Rattle.iol_dsindex.specs.declared.object.TheConstants.{INDEX_LIST, DATA_STORAGE_SIZE, PARAMETER_CHECKSUM}
-use Rattle.iol_dsindex.proofs.FirstPlaces.{first_places-more}
+use Rattle.iol_link.specs.declared.messages.Request.{Request}
+use Rattle.iol_link.specs.declared.messages.Request.TheVariants.{Read}
+use Rattle.iol_link.specs.declared.messages.Answer.{Answer}
+use Rattle.iol_transfer.specs.List.{Listing, reading_of, first_places, kept_with}
+use Rattle.iol_transfer.specs.declared.list.Next.{Next}
+use Rattle.iol_transfer.specs.declared.list.Next.TheVariants as next_is
+use Rattle.iol_transfer.specs.declared.list.ListFault.{ListFault}
+use Rattle.iol_transfer.specs.declared.object.TheConstants.{INDEX_LIST, DATA_STORAGE_SIZE, PARAMETER_CHECKSUM}
+use Rattle.iol_transfer.proofs.FirstPlaces.{first_places-more}
 use Rattle.iol_transfer.specs.declared.fault.TransferFault.TheVariants as fault
 use Rattle.iol_transfer.specs.declared.repeats.TheConstants.{MOST_REQUESTS}
 use Rattle.iol_transfer.specs.declared.upload.TheConstants.{MOST_LISTS}

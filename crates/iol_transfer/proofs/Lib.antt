@@ -5,3 +5,8 @@ pub mod Finishing
 pub mod Faults
 pub mod Feeding
 pub mod Sending
+pub mod Filtered
+pub mod Readings
+pub mod RoundTrip
+pub mod ReadKeys
+pub mod FirstPlaces

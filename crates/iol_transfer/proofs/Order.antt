@@ -7,11 +7,11 @@ use Rattle.std.specs.Map.{keys_of}
 use Rattle.iol_types.specs.declared.key.Key.{Key}
 use Rattle.iol_types.specs.declared.key.TheConstants.{DATA_STORAGE}
 use Rattle.iol_types.specs.DataSet.{Entry}
-use Rattle.iol_isdu.specs.declared.messages.Answer.{Answer}
-use Rattle.iol_dsindex.specs.List.{reading_of, kept_with}
-use Rattle.iol_dsindex.proofs.FirstPlaces.{first_places-more}
-use Rattle.iol_dsindex.specs.declared.list.Next.TheVariants as next_is
-use Rattle.iol_dsindex.specs.declared.object.TheConstants.{INDEX_LIST, DATA_STORAGE_SIZE}
+use Rattle.iol_link.specs.declared.messages.Answer.{Answer}
+use Rattle.iol_transfer.specs.List.{reading_of, kept_with}
+use Rattle.iol_transfer.proofs.FirstPlaces.{first_places-more}
+use Rattle.iol_transfer.specs.declared.list.Next.TheVariants as next_is
+use Rattle.iol_transfer.specs.declared.object.TheConstants.{INDEX_LIST, DATA_STORAGE_SIZE}
 use Rattle.iol_transfer.specs.declared.repeats.TheConstants.{MOST_REQUESTS}
 use Rattle.iol_transfer.specs.declared.upload.TheConstants.{MOST_LISTS}
 use Rattle.iol_transfer.specs.Exchanges.{Exchange, busy_times, read_of, Follows}

@@ -5,9 +5,9 @@ use Rattle.std.proofs.lemmas.List.{map-append, append-nil, replicate_more, drop_
 use Rattle.std.proofs.lemmas.Option.{slice_get_within, get_or_from_slice_get}
 use Rattle.std.specs.Prelude.{Some, None, slice_get}
 use Rattle.iol_types.specs.DataSet.{Entry, SetValue}
-use Rattle.iol_isdu.specs.declared.messages.Request.{Request}
-use Rattle.iol_isdu.specs.declared.messages.Answer.{Answer}
-use Rattle.iol_isdu.specs.declared.messages.Answer.TheVariants.{WriteOk, Busy}
+use Rattle.iol_link.specs.declared.messages.Request.{Request}
+use Rattle.iol_link.specs.declared.messages.Answer.{Answer}
+use Rattle.iol_link.specs.declared.messages.Answer.TheVariants.{WriteOk, Busy}
 use Rattle.iol_transfer.specs.declared.fault.TransferFault.{TransferFault}
 use Rattle.iol_transfer.specs.declared.fault.TransferFault.TheVariants as fault
 use Rattle.iol_transfer.specs.declared.repeats.TheConstants.{MOST_REQUESTS}

@@ -5,16 +5,16 @@ use Rattle.iol_types.specs.DataSet.{Entry, octets_of}
 use Rattle.iol_types.specs.declared.key.Key.{Key}
 use Rattle.iol_types.specs.declared.key.TheConstants.{DATA_STORAGE}
 use Rattle.iol_types.specs.declared.data_set.TheConstants.{MOST_ENTRY_OCTETS, MOST_SET_OCTETS, ENTRY_HEAD_OCTETS}
-use Rattle.iol_isdu.specs.declared.messages.Request.{Request}
-use Rattle.iol_isdu.specs.declared.messages.Request.TheVariants.{Read}
-use Rattle.iol_isdu.specs.declared.messages.Answer.{Answer}
-use Rattle.iol_isdu.specs.declared.messages.Answer.TheVariants.{ReadOk, ReadFault, WriteOk, WriteFault, Busy}
-use Rattle.iol_dsindex.specs.List.{reading_of, first_places, begins_with_key}
-use Rattle.iol_dsindex.specs.declared.command.DsCommand.TheVariants.{UploadStart}
-use Rattle.iol_dsindex.specs.declared.list.Next.TheVariants as next
-use Rattle.iol_dsindex.specs.declared.list.ListFault.{ListFault}
-use Rattle.iol_dsindex.specs.declared.object.TheConstants.{DATA_STORAGE_SIZE, PARAMETER_CHECKSUM, INDEX_LIST}
-use Rattle.iol_dsindex.specs.Command.{commanded}
+use Rattle.iol_link.specs.declared.messages.Request.{Request}
+use Rattle.iol_link.specs.declared.messages.Request.TheVariants.{Read}
+use Rattle.iol_link.specs.declared.messages.Answer.{Answer}
+use Rattle.iol_link.specs.declared.messages.Answer.TheVariants.{ReadOk, ReadFault, WriteOk, WriteFault, Busy}
+use Rattle.iol_transfer.specs.List.{reading_of, first_places, begins_with_key}
+use Rattle.iol_transfer.specs.declared.command.DsCommand.TheVariants.{UploadStart}
+use Rattle.iol_transfer.specs.declared.list.Next.TheVariants as next
+use Rattle.iol_transfer.specs.declared.list.ListFault.{ListFault}
+use Rattle.iol_transfer.specs.declared.object.TheConstants.{DATA_STORAGE_SIZE, PARAMETER_CHECKSUM, INDEX_LIST}
+use Rattle.iol_transfer.specs.Command.{commanded}
 use Rattle.iol_transfer.specs.Exchanges.{Exchange, carried, done, read_of, busy_times, Follows}
 use Rattle.iol_transfer.specs.Upload.{IsSize, number_of, AreLists, opening, entry_read}
 use Rattle.iol_transfer.specs.declared.fault.TransferFault.{TransferFault}

@@ -1,12 +1,12 @@
 -- What a download is: a conversation with a device that writes a parameter set to it, request by request.
 use Rattle.std.specs.Prelude.{◌≡◌, ◌≢◌, ◌⊎◌, ℕ, ◌+◌, ◌<◌, List, [], ◌∷◌, ◌++◌, map, drop, true}
 use Rattle.iol_types.specs.DataSet.{Entry, SetValue}
-use Rattle.iol_isdu.specs.declared.messages.Request.{Request}
-use Rattle.iol_isdu.specs.declared.messages.Request.TheVariants.{Write}
-use Rattle.iol_isdu.specs.declared.messages.Answer.{Answer}
-use Rattle.iol_isdu.specs.declared.messages.Answer.TheVariants.{WriteOk, WriteFault, Busy}
-use Rattle.iol_dsindex.specs.declared.command.DsCommand.TheVariants.{DownloadStart, DownloadEnd}
-use Rattle.iol_dsindex.specs.Command.{commanded}
+use Rattle.iol_link.specs.declared.messages.Request.{Request}
+use Rattle.iol_link.specs.declared.messages.Request.TheVariants.{Write}
+use Rattle.iol_link.specs.declared.messages.Answer.{Answer}
+use Rattle.iol_link.specs.declared.messages.Answer.TheVariants.{WriteOk, WriteFault, Busy}
+use Rattle.iol_transfer.specs.declared.command.DsCommand.TheVariants.{DownloadStart, DownloadEnd}
+use Rattle.iol_transfer.specs.Command.{commanded}
 use Rattle.iol_transfer.specs.Exchanges.{Exchange, carried, done, busy_times, Follows}
 use Rattle.iol_transfer.specs.Asked.{answers}
 use Rattle.iol_transfer.specs.declared.fault.TransferFault.{TransferFault}

@@ -1,7 +1,7 @@
 -- Transfers in memory, as what they are to a contract.
 use Rattle.std.specs.Prelude.{◌≡◌, ◌<◌, ◌≤◌, ◌⊎◌, drop, length, Result, Ok, Err}
 use Rattle.iol_types.specs.DataSet.{SetValue}
-use Rattle.iol_isdu.specs.declared.messages.Answer.{Answer}
+use Rattle.iol_link.specs.declared.messages.Answer.{Answer}
 use Rattle.iol_transfer.specs.Asked.{Asks, Start, Size, IndexList, NeedsMemory}
 use Rattle.iol_transfer.specs.Machine.{Machine, Outcome, More, Whole, Fault, reading, goes_on}
 use Rattle.iol_transfer.specs.declared.fault.TransferFault.{TransferFault}
@@ -10,11 +10,11 @@ use Rattle.iol_transfer.specs.declared.upload.TheConstants.{MOST_LISTS}
 use Rattle.iol_transfer.specs.declared.upload.Upload.TheInside.{Inside}
 use Rattle.iol_transfer.specs.declared.upload.UploadStep.{UploadStep}
 use Rattle.iol_transfer.specs.declared.upload.UploadStep.TheVariants as step
-use Rattle.iol_transfer.specs.declared.stage.Stage.{Stage}
-use Rattle.iol_transfer.specs.declared.stage.Stage.TheVariants.{Starting, Sizing, Listing, Reading}
+use Rattle.iol_transfer.specs.declared.stage.UploadStage.{UploadStage}
+use Rattle.iol_transfer.specs.declared.stage.UploadStage.TheVariants.{Starting, Sizing, Listing, Reading}
 
 -- what an upload in memory asks next (own)
-abbrev pub asks_of : Stage → Asks
+abbrev pub asks_of : UploadStage → Asks
 asks_of Starting = Start
 asks_of Sizing = Size
 asks_of (Listing index subindex lists keys) = IndexList index subindex lists keys.items
@@ -25,14 +25,14 @@ abbrev pub machine_of : Inside → Machine
 machine_of upload = record { vendor = upload.vendor; device = upload.device; asks = asks_of upload.stage; busy = upload.repeats }
 
 -- the numbers of a stage are in their ranges (own)
-abbrev pub IsStage : Stage → Type 0
+abbrev pub IsStage : UploadStage → Type 0
 IsStage Starting = Unit {0}
 IsStage Sizing = Unit {0}
 IsStage (Listing index subindex lists keys) = lists < MOST_LISTS
 IsStage (Reading keys place entries) = place ≤ length keys.items
 
 -- the stage that octets lead to, or the fault, is the outcome for a machine; memory only where they are to be kept (own)
-abbrev pub IsStageAfter : Machine → Answer → Result Stage TransferFault → Outcome → Type 0
+abbrev pub IsStageAfter : Machine → Answer → Result UploadStage TransferFault → Outcome → Type 0
 IsStageAfter machine answer (Ok stage) outcome = outcome ≡ goes_on machine (asks_of stage)
 IsStageAfter machine answer (Err why) outcome = (outcome ≡ Fault why) ⊎ ((why ≡ fault.Memory) × NeedsMemory machine.asks answer)
 
@@ -67,7 +67,7 @@ IsWholeOrMemory (step.Fault why) set = why ≡ fault.Memory
 IsWholeOrMemory step.More set = ⊥
 
 -- an upload goes on to a stage, or ends in a fault, as is next (own)
-abbrev pub GoesOn : Machine → Result Stage TransferFault → UploadStep → Machine → Type 0
+abbrev pub GoesOn : Machine → Result UploadStage TransferFault → UploadStep → Machine → Type 0
 GoesOn old (Ok stage) step.More new =
     new ≡ record { vendor = old.vendor; device = old.device; asks = asks_of stage; busy = 0 }
 GoesOn old (Err why) (step.Fault other) new = other ≡ why

@@ -5,3 +5,6 @@ pub mod Machine
 pub mod Fields
 pub mod Download
 pub mod Examples
+pub mod Command
+pub mod Property
+pub mod List

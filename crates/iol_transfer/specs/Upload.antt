@@ -6,12 +6,12 @@ use Rattle.iol_types.specs.DataSet.{Entry, SetValue, IsSet}
 use Rattle.iol_types.specs.declared.key.Key.{Key}
 use Rattle.iol_types.specs.declared.key.TheConstants.{DATA_STORAGE}
 use Rattle.iol_types.specs.declared.data_set.TheConstants.{MOST_SET_OCTETS}
-use Rattle.iol_dsindex.specs.List.{reading_of, first_places}
-use Rattle.iol_dsindex.specs.declared.command.DsCommand.TheVariants.{UploadStart}
-use Rattle.iol_dsindex.specs.declared.list.Next.{Next}
-use Rattle.iol_dsindex.specs.declared.list.Next.TheVariants as next
-use Rattle.iol_dsindex.specs.declared.object.TheConstants.{DATA_STORAGE_SIZE, PARAMETER_CHECKSUM, INDEX_LIST}
-use Rattle.iol_dsindex.specs.Command.{commanded}
+use Rattle.iol_transfer.specs.List.{reading_of, first_places}
+use Rattle.iol_transfer.specs.declared.command.DsCommand.TheVariants.{UploadStart}
+use Rattle.iol_transfer.specs.declared.list.Next.{Next}
+use Rattle.iol_transfer.specs.declared.list.Next.TheVariants as next
+use Rattle.iol_transfer.specs.declared.object.TheConstants.{DATA_STORAGE_SIZE, PARAMETER_CHECKSUM, INDEX_LIST}
+use Rattle.iol_transfer.specs.Command.{commanded}
 use Rattle.iol_transfer.specs.Exchanges.{Exchange, done, read_of, Follows}
 use Rattle.iol_transfer.specs.declared.upload.TheConstants.{MOST_LISTS}
 

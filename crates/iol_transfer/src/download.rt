@@ -1,15 +1,15 @@
 //! A download: the conversation that writes a parameter set to a device.
 ghost use Rattle.std.specs.Prelude.{◌≡◌, ◌≤◌, ℕ, List, [], ◌∷◌, ◌++◌, length, drop};
 ghost use Rattle.iol_types.specs.DataSet.{SetValue};
-ghost use Rattle.iol_isdu.specs.declared.messages.TheConstants.{DATA_OCTETS};
+ghost use Rattle.iol_link.specs.declared.messages.TheConstants.{DATA_OCTETS};
 ghost use Rattle.iol_transfer.specs.Exchanges.{Exchange};
 ghost use Rattle.iol_transfer.specs.Download.{entry_written};
 
+use crate::command::DsCommand;
 use crate::fault::TransferFault;
 use crate::repeats::Repeats;
 use arrayvec::ArrayVec;
-use iol_dsindex::DsCommand;
-use iol_isdu::{Answer, DATA_OCTETS, Request};
+use iol_link::{Answer, DATA_OCTETS, Request};
 use iol_types::{DataSet, Key};
 use std::marker::Model;
 use std::sync::Arc;

@@ -5,8 +5,8 @@ ghost use Rattle.std.specs.Prelude.{◌≡◌, ℕ, List, [], ◌∷◌, map, re
 ghost use Rattle.arrayvec.specs.ArrayVec.{ArrayVec};
 ghost use Rattle.iol_types.specs.DataSet.{Entry, SetValue};
 ghost use Rattle.iol_types.specs.declared.key.Key.{Key};
-ghost use Rattle.iol_isdu.specs.declared.messages.Request.TheVariants as request;
-ghost use Rattle.iol_isdu.specs.declared.messages.Answer.TheVariants as answer;
+ghost use Rattle.iol_link.specs.declared.messages.Request.TheVariants as request;
+ghost use Rattle.iol_link.specs.declared.messages.Answer.TheVariants as answer;
 ghost use Rattle.iol_transfer.specs.Exchanges.{Exchange, carried};
 ghost use Rattle.iol_transfer.specs.Upload.{IsFinished};
 ghost use Rattle.iol_transfer.specs.Asked.{Start, Size, IndexList, Value, Checksum, request_of};

@@ -3,8 +3,8 @@ ghost use Rattle.std.specs.Prelude.{◌≡◌, ◌≢◌, ◌⊎◌, ◌<◌, �
 ghost use Rattle.iol_types.specs.DataSet.{Entry};
 ghost use Rattle.iol_types.specs.declared.key.Key.{Key};
 ghost use Rattle.iol_types.specs.declared.data_set.TheConstants.{MOST_ENTRY_OCTETS};
-ghost use Rattle.iol_isdu.specs.declared.messages.Answer.TheVariants.{ReadOk};
-ghost use Rattle.iol_dsindex.specs.List.{reading_of, begins_with_key, kept_with};
+ghost use Rattle.iol_link.specs.declared.messages.Answer.TheVariants.{ReadOk};
+ghost use Rattle.iol_transfer.specs.List.{reading_of, begins_with_key, kept_with};
 ghost use Rattle.iol_transfer.specs.Exchanges.{carried};
 ghost use Rattle.iol_transfer.specs.Upload.{number_of};
 ghost use Rattle.iol_transfer.specs.Asked.{Asks, Size, IndexList, Value};
@@ -12,14 +12,16 @@ ghost use Rattle.iol_transfer.specs.Machine.{Machine, after_size, after_list, af
 ghost use Rattle.iol_transfer.specs.Fields.{IsStage, IsStageAfter};
 
 use crate::fault::TransferFault;
+use crate::list::{ListFault, Next};
+use crate::object::INDEX_LIST;
+use crate::reading::{keep_key, read_index_list};
 use crate::upload::MOST_LISTS;
-use iol_dsindex::{INDEX_LIST, ListFault, Next, keep_key, read_index_list};
 use iol_types::{AddFault, DATA_STORAGE, Key, MOST_SET_OCTETS, SetBuilder};
 use std::alloc::Global;
 
 // What an upload asks next.
 #[derive(Drop)]
-pub(crate) enum Stage {
+pub(crate) enum UploadStage {
     // That the upload starts.
     Starting,
     // The declared size.
@@ -53,14 +55,14 @@ pub(crate) fn number(octets: &[u8]) -> Result<u32, TransferFault>
 }
 
 // After the declared size.
-pub(crate) fn size_read(alloc: Global, octets: &[u8]) -> Result<Stage, TransferFault>
+pub(crate) fn size_read(alloc: Global, octets: &[u8]) -> Result<UploadStage, TransferFault>
     ensures stage { (machine : Machine) → IsStageAfter machine (ReadOk (carried octets.now)) result (after_size machine octets.now) }
     ensures ranges { IfOk result IsStage }
 {
     if number(octets)? as usize > MOST_SET_OCTETS {
         return Err(TransferFault::Size);
     }
-    Ok(Stage::Listing {
+    Ok(UploadStage::Listing {
         index: DATA_STORAGE,
         subindex: INDEX_LIST,
         lists: 0,
@@ -76,7 +78,7 @@ pub(crate) fn list_read(
     lists: u8,
     keys: Vec<Key>,
     octets: &[u8],
-) -> Result<Stage, TransferFault>
+) -> Result<UploadStage, TransferFault>
     requires { lists < MOST_LISTS }
     ensures stage { (machine : Machine) → machine.asks ≡ IndexList index subindex lists keys.items
         → IsStageAfter machine (ReadOk (carried octets.now)) result (after_list machine lists keys.items (reading_of octets.now)) }
@@ -86,14 +88,14 @@ pub(crate) fn list_read(
     let mut keys = keys;
     keep_all(&mut keys, &listed)?;
     match next {
-        Next::End => Ok(Stage::Reading {
+        Next::End => Ok(UploadStage::Reading {
             keys,
             place: 0,
             entries: SetBuilder::new(alloc),
         }),
         Next::List(index) => {
             if lists + 1 < MOST_LISTS {
-                Ok(Stage::Listing {
+                Ok(UploadStage::Listing {
                     index,
                     subindex: 0,
                     lists: lists + 1,
@@ -112,7 +114,7 @@ pub(crate) fn value_read(
     place: usize,
     entries: SetBuilder,
     octets: &[u8],
-) -> Result<Stage, TransferFault>
+) -> Result<UploadStage, TransferFault>
     requires { place < length keys.items }
     ensures stage { (machine : Machine) (key : Key) (behind : List Key) → drop place keys.items ≡ key ∷ behind
         → machine.asks ≡ Value entries key behind
@@ -121,7 +123,7 @@ pub(crate) fn value_read(
 {
     let mut entries = entries;
     match entries.add(keys[place], octets) {
-        Ok(()) => Ok(Stage::Reading {
+        Ok(()) => Ok(UploadStage::Reading {
             keys,
             place: place + 1,
             entries,

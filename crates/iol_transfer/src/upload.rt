@@ -1,17 +1,18 @@
 //! An upload: the conversation that reads a parameter set from a device.
 ghost use Rattle.std.specs.Prelude.{IfOk, ◌≡◌, ℕ, List, [], ◌∷◌, ◌++◌, not};
 ghost use Rattle.iol_types.specs.DataSet.{SetValue, IsSet};
-ghost use Rattle.iol_isdu.specs.declared.messages.Answer.TheVariants as answer;
+ghost use Rattle.iol_link.specs.declared.messages.Answer.TheVariants as answer;
 ghost use Rattle.iol_transfer.specs.Exchanges.{Exchange, carried};
 ghost use Rattle.iol_transfer.specs.Upload.{IsFinished};
 ghost use Rattle.iol_transfer.specs.Machine.{Machine, after_refusal};
 ghost use Rattle.iol_transfer.specs.Fields.{IsOutcome, IfWhole};
 
+use crate::command::DsCommand;
 use crate::fault::TransferFault;
+use crate::object::{DATA_STORAGE_SIZE, PARAMETER_CHECKSUM};
 use crate::repeats::Repeats;
-use crate::stage::{Stage, list_read, number, size_read, value_read};
-use iol_dsindex::{DATA_STORAGE_SIZE, DsCommand, PARAMETER_CHECKSUM};
-use iol_isdu::{Answer, Request};
+use crate::stage::{UploadStage, list_read, number, size_read, value_read};
+use iol_link::{Answer, Request};
 use iol_types::{DATA_STORAGE, DataSet, DeviceId, SetBuilder};
 use std::alloc::Global;
 use std::marker::Model;
@@ -38,7 +39,7 @@ pub struct Upload {
     vendor: u16,
     device: DeviceId,
     repeats: Repeats,
-    stage: Stage,
+    stage: UploadStage,
 }
 
 impl Model for Upload {
@@ -67,7 +68,7 @@ impl Upload {
             vendor,
             device,
             repeats: Repeats::none(),
-            stage: Stage::Starting,
+            stage: UploadStage::Starting,
         }
     }
 
@@ -110,12 +111,12 @@ impl Upload {
         ensures { result ≡ asked self.now }
     {
         match &self.stage {
-            Stage::Starting => DsCommand::UploadStart.request(),
-            Stage::Sizing => Request::Read {
+            UploadStage::Starting => DsCommand::UploadStart.request(),
+            UploadStage::Sizing => Request::Read {
                 index: DATA_STORAGE,
                 subindex: DATA_STORAGE_SIZE,
             },
-            Stage::Listing {
+            UploadStage::Listing {
                 index,
                 subindex,
                 ..
@@ -123,7 +124,7 @@ impl Upload {
                 index: *index,
                 subindex: *subindex,
             },
-            Stage::Reading { keys, place, .. } => match keys.get(*place) {
+            UploadStage::Reading { keys, place, .. } => match keys.get(*place) {
                 Some(key) => Request::Read {
                     index: key.index,
                     subindex: key.subindex,
@@ -155,7 +156,7 @@ impl Upload {
     fn writes(&self) -> bool
         ensures { result ≡ is_write self.now.asks }
     {
-        matches!(&self.stage, Stage::Starting)
+        matches!(&self.stage, UploadStage::Starting)
     }
 
     // After Device busy.
@@ -177,7 +178,7 @@ impl Upload {
         if !self.writes() {
             return UploadStep::Fault(TransferFault::Unexpected);
         }
-        self.stage = Stage::Sizing;
+        self.stage = UploadStage::Sizing;
         self.repeats = Repeats::none();
         UploadStep::More
     }
@@ -188,16 +189,16 @@ impl Upload {
             (after_read self.old self.old.asks octets.now) }
         ensures set { IfWhole result IsSet }
     {
-        match std::mem::replace(&mut self.stage, Stage::Starting) {
-            Stage::Starting => UploadStep::Fault(TransferFault::Unexpected),
-            Stage::Sizing => self.go_on(size_read(self.alloc, octets)),
-            Stage::Listing {
+        match std::mem::replace(&mut self.stage, UploadStage::Starting) {
+            UploadStage::Starting => UploadStep::Fault(TransferFault::Unexpected),
+            UploadStage::Sizing => self.go_on(size_read(self.alloc, octets)),
+            UploadStage::Listing {
                 index,
                 subindex,
                 lists,
                 keys,
             } => self.go_on(list_read(self.alloc, index, subindex, lists, keys, octets)),
-            Stage::Reading {
+            UploadStage::Reading {
                 keys,
                 place,
                 entries,
@@ -212,7 +213,7 @@ impl Upload {
     }
 
     // Goes on to a stage.
-    fn go_on(&mut self, next: Result<Stage, TransferFault>) -> UploadStep
+    fn go_on(&mut self, next: Result<UploadStage, TransferFault>) -> UploadStep
         requires { IfOk next IsStage }
         ensures { GoesOn self.old next result self.new }
     {

@@ -9,18 +9,18 @@ use Rattle.iol_types.specs.DataSet.{Entry, octets_of}
 use Rattle.iol_types.specs.Parts.{PartsValue, IsWithin, octets_at, entry_octets, with_text, grown, data_behind}
 use Rattle.iol_types.specs.EntriesInMemory.{entries_of, AreKept}
 use Rattle.iol_types.specs.declared.key.Key.{Key}
-use Rattle.iol_types.specs.declared.parts.Place.{Place}
+use Rattle.iol_types.specs.declared.parts.PartPlace.{PartPlace}
 use Rattle.iol_types.specs.declared.data_set.TheConstants.{ENTRY_HEAD_OCTETS}
 use Rattle.iol_types.proofs.Entries.{octets_of-push}
 use Rattle.iol_types.proofs.PartLemmas.{stays, data_lies, grown-push}
 
 -- all places lie within parts
-abbrev AreWithin : PartsValue → List (Key × Place) → Type 0
-AreWithin parts kept = AllByRecursion (λ (entry : Key × Place). IsWithin parts entry.1) kept
+abbrev AreWithin : PartsValue → List (Key × PartPlace) → Type 0
+AreWithin parts kept = AllByRecursion (λ (entry : Key × PartPlace). IsWithin parts entry.1) kept
 
 module _ (parts : PartsValue) where
   -- a look-up among entries is one among the keys
-  pub lookup-entries_of : (test : Key → Bool) (kept : List (Key × Place)) → lookup test (entries_of parts kept)
+  pub lookup-entries_of : (test : Key → Bool) (kept : List (Key × PartPlace)) → lookup test (entries_of parts kept)
       ≡ option_map (octets_at parts) (lookup test kept)
   lookup-entries_of test [] = refl
   lookup-entries_of test (entry ∷ kept) =
@@ -30,23 +30,23 @@ module _ (parts : PartsValue) where
         | false ↦ lookup-entries_of test kept
       ]
 
-  pub is_some-entries_of : (test : Key → Bool) (kept : List (Key × Place)) → is_some (lookup test (entries_of parts kept))
+  pub is_some-entries_of : (test : Key → Bool) (kept : List (Key × PartPlace)) → is_some (lookup test (entries_of parts kept))
       ≡ is_some (lookup test kept)
   is_some-entries_of test kept =
       ap is_some (lookup-entries_of test kept)
       ∙ elim (lookup test kept) as (λ found. is_some (option_map (octets_at parts) found) ≡ is_some found)
       [ None ↦ refl | Some place ↦ refl ]
 
-  pub none-entries_of : (test : Key → Bool) (kept : List (Key × Place)) → is_some (lookup test (entries_of parts kept)) ≡ false
+  pub none-entries_of : (test : Key → Bool) (kept : List (Key × PartPlace)) → is_some (lookup test (entries_of parts kept)) ≡ false
       → lookup test kept ≡ None
   none-entries_of test kept absent = by (lookup test kept) refl
     where
-      by : (found : Option Place) → lookup test kept ≡ found → lookup test kept ≡ None
+      by : (found : Option PartPlace) → lookup test kept ≡ found → lookup test kept ≡ None
       by None is = is
       by (Some found) is = let both : true ≡ false = sym (ap is_some is) ∙ sym (is_some-entries_of test kept) ∙ absent in cc
 
   -- a place that is found lies within the parts
-  pub within-found : (test : Key → Bool) (kept : List (Key × Place)) (place : Place) → AreWithin parts kept → lookup test kept ≡ Some place
+  pub within-found : (test : Key → Bool) (kept : List (Key × PartPlace)) (place : PartPlace) → AreWithin parts kept → lookup test kept ≡ Some place
       → IsWithin parts place
   within-found test [] place are found = absurd cc
   within-found test (entry ∷ kept) place are found =
@@ -59,7 +59,7 @@ module _ (parts : PartsValue) where
 
 -- ---- one entry more
 
-same-behind : (parts : PartsValue) (text : List ℕ) (kept : List (Key × Place)) → AreWithin parts kept
+same-behind : (parts : PartsValue) (text : List ℕ) (kept : List (Key × PartPlace)) → AreWithin parts kept
     → entries_of (with_text parts text) kept ≡ entries_of parts kept
 same-behind parts text [] are = refl
 same-behind parts text (entry ∷ kept) are =
@@ -67,18 +67,18 @@ same-behind parts text (entry ∷ kept) are =
     let rest = same-behind parts text kept are.1 in
     λ i. (entry.0, first i) ∷ rest i
 
-within-behind : (parts : PartsValue) (text : List ℕ) (kept : List (Key × Place)) (one : Key × Place) → AreWithin parts kept
+within-behind : (parts : PartsValue) (text : List ℕ) (kept : List (Key × PartPlace)) (one : Key × PartPlace) → AreWithin parts kept
     → IsWithin (with_text parts text) one.1 → AreWithin (with_text parts text) (kept ++ one ∷ [])
 within-behind parts text [] one are is = (is, tt)
 within-behind parts text (entry ∷ kept) one are is =
     ((stays parts text entry.1 are.0).within, within-behind parts text kept one are.1 is)
 
 -- what is kept once an entry has come behind the others
-pub record Pushed (parts : PartsValue) (kept : List (Key × Place)) (octets : ℕ) (said : List Entry) : Type 0 where
+pub record Pushed (parts : PartsValue) (kept : List (Key × PartPlace)) (octets : ℕ) (said : List Entry) : Type 0 where
   pub entries : entries_of parts kept ≡ said
   pub are : AreKept parts kept octets
 
-pub pushed : (parts : PartsValue) (kept : List (Key × Place)) (count : ℕ) (key : Key) (octets : List ℕ) → AreKept parts kept count
+pub pushed : (parts : PartsValue) (kept : List (Key × PartPlace)) (count : ℕ) (key : Key) (octets : List ℕ) → AreKept parts kept count
     → Pushed (with_text parts (entry_octets (key, octets)))
     (kept ++ (key, data_behind parts (length octets)) ∷ [])
     (count + (ENTRY_HEAD_OCTETS + length octets))

@@ -12,7 +12,7 @@ use Rattle.iol_types.specs.Parts.{PartsValue, no_parts, entry_octets, with_text,
 use Rattle.iol_types.specs.Parts.{octets_at}
 use Rattle.iol_types.specs.Parts.{data_behind}
 use Rattle.iol_types.specs.declared.key.Key.{Key}
-use Rattle.iol_types.specs.declared.parts.Place.{Place}
+use Rattle.iol_types.specs.declared.parts.PartPlace.{PartPlace}
 use Rattle.iol_types.specs.declared.parts.TheConstants.{PART_OCTETS}
 use Rattle.iol_types.specs.declared.data_set.TheConstants.{ENTRY_HEAD_OCTETS}
 
@@ -41,11 +41,11 @@ range-front text rest from count within =
     ∙ take-append-le (from + count - from) (drop from text) rest (omega (arith, behind, within))
 
 -- a place, and the octets there, in parts with a text more
-pub record Stays (parts later : PartsValue) (place : Place) : Type 0 where
+pub record Stays (parts later : PartsValue) (place : PartPlace) : Type 0 where
   pub within : IsWithin later place
   pub octets : octets_at later place ≡ octets_at parts place
 
-pub stays : (parts : PartsValue) (text : List ℕ) (place : Place) → IsWithin parts place → Stays parts (with_text parts text) place
+pub stays : (parts : PartsValue) (text : List ℕ) (place : PartPlace) → IsWithin parts place → Stays parts (with_text parts text) place
 stays parts text place is = by (nat_le (length parts.last + length text) PART_OCTETS)
   where
     by : (fits : Bool) → Stays parts (cond fits (record { full = parts.full; last = parts.last ++ text })
@@ -89,7 +89,7 @@ range-behind : (before octets : List ℕ) (from : ℕ) → length before ≡ fro
 range-behind before octets from is =
     ap (take (from + length octets - from)) (drop_at before octets from is) ∙ take_all _ octets (omega arith)
 
-pub record LiesThere (later : PartsValue) (place : Place) (said : List ℕ) : Type 0 where
+pub record LiesThere (later : PartsValue) (place : PartPlace) (said : List ℕ) : Type 0 where
   pub within : IsWithin later place
   pub octets : octets_at later place ≡ said
 

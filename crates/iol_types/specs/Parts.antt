@@ -3,7 +3,7 @@ use Rattle.std.specs.Prelude.{ℕ, ◌+◌, ◌≤◌, nat_le, if◌then◌else�
 use Rattle.std.specs.Int.{w16, to_be_bytes}
 use Rattle.iol_types.specs.DataSet.{Entry}
 use Rattle.iol_types.specs.declared.data_set.TheConstants.{ENTRY_HEAD_OCTETS}
-use Rattle.iol_types.specs.declared.parts.Place.{Place}
+use Rattle.iol_types.specs.declared.parts.PartPlace.{PartPlace}
 use Rattle.iol_types.specs.declared.parts.TheConstants.{PART_OCTETS}
 
 -- the octets of an entry: Index 2, Subindex 1, length 1, data (format, Records)
@@ -46,16 +46,16 @@ abbrev pub text_numbered : PartsValue → ℕ → List ℕ
 text_numbered parts number = get_or parts.full number parts.last
 
 -- a place lies within a text (own)
-pub record IsWithin (parts : PartsValue) (place : Place) : Type 0 where
+pub record IsWithin (parts : PartsValue) (place : PartPlace) : Type 0 where
   pub part : place.part ≤ length parts.full
   pub end : place.offset + place.octets ≤ length (text_numbered parts place.part)
 
 -- the octets at a place (own)
-abbrev pub octets_at : PartsValue → Place → List ℕ
+abbrev pub octets_at : PartsValue → PartPlace → List ℕ
 octets_at parts place = slice_range (text_numbered parts place.part) place.offset (place.offset + place.octets)
 
 -- where the octets of an entry come to lie, so many of them, behind its head (own)
-abbrev pub data_behind : PartsValue → ℕ → Place
+abbrev pub data_behind : PartsValue → ℕ → PartPlace
 data_behind parts octets =
     if nat_le (length parts.last + (ENTRY_HEAD_OCTETS + octets)) PART_OCTETS
     then record { part = length parts.full; offset = length parts.last + ENTRY_HEAD_OCTETS; octets = octets }

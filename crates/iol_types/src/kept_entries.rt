@@ -6,7 +6,7 @@ ghost use Rattle.iol_types.specs.declared.data_set.TheConstants.{MOST_ENTRY_OCTE
 
 use crate::data_set::ENTRY_HEAD_OCTETS;
 use crate::key::Key;
-use crate::parts::{Parts, Place};
+use crate::parts::{PartPlace, Parts};
 use indexmap::IndexMap;
 use std::alloc::{AllocError, Global};
 use std::marker::Model;
@@ -14,7 +14,7 @@ use std::marker::Model;
 // Entries, each behind the one that came before it. A contract sees them as a list.
 #[derive(Debug, Drop)]
 pub(crate) struct Entries {
-    places: IndexMap<Key, Place>,
+    places: IndexMap<Key, PartPlace>,
     parts: Parts,
     octets: usize,
 }

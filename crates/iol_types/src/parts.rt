@@ -14,7 +14,7 @@ pub const PART_OCTETS: usize = 512;
 
 // Where octets lie: in which text, from which of its octets on, and how many.
 #[derive(Clone, Copy, Debug)]
-pub(crate) struct Place {
+pub(crate) struct PartPlace {
     pub part: usize,
     pub offset: usize,
     pub octets: usize,
@@ -71,7 +71,7 @@ impl Parts {
     }
 
     // The octets at a place.
-    pub(crate) fn octets_at(&self, place: Place) -> &[u8]
+    pub(crate) fn octets_at(&self, place: PartPlace) -> &[u8]
         requires { IsWithin self.now place }
         ensures { result.now ≡ octets_at self.now place }
     {
@@ -88,7 +88,7 @@ impl Parts {
         &mut self,
         head: [u8; ENTRY_HEAD_OCTETS],
         octets: &[u8],
-    ) -> Result<Place, AllocError>
+    ) -> Result<PartPlace, AllocError>
         requires { ENTRY_HEAD_OCTETS + length octets.now ≤ PART_OCTETS }
         ensures pushed { OnOk result (self.new ≡ with_text self.old (head ++ octets.now)) }
         ensures place { IfOk result (λ place. place ≡ data_behind self.old (length octets.now)) }
@@ -106,13 +106,13 @@ impl Parts {
         &mut self,
         head: [u8; ENTRY_HEAD_OCTETS],
         octets: &[u8],
-    ) -> Result<Place, AllocError>
+    ) -> Result<PartPlace, AllocError>
         requires { length self.old.last + ENTRY_HEAD_OCTETS + length octets.now ≤ PART_OCTETS }
         ensures pushed { OnOk result (self.new ≡ with_text self.old (head ++ octets.now)) }
         ensures place { IfOk result (λ place. place ≡ data_behind self.old (length octets.now)) }
         ensures kept { OnErr result (self.new ≡ self.old) }
     {
-        let place = Place {
+        let place = PartPlace {
             part: self.full.len(),
             offset: self.last.len() + ENTRY_HEAD_OCTETS,
             octets: octets.len(),
@@ -125,7 +125,11 @@ impl Parts {
     }
 
     // Makes a text the last one, and the one before full.
-    fn begin(&mut self, head: [u8; ENTRY_HEAD_OCTETS], octets: &[u8]) -> Result<Place, AllocError>
+    fn begin(
+        &mut self,
+        head: [u8; ENTRY_HEAD_OCTETS],
+        octets: &[u8],
+    ) -> Result<PartPlace, AllocError>
         requires { PART_OCTETS < length self.old.last + ENTRY_HEAD_OCTETS + length octets.now }
         ensures pushed { OnOk result (self.new ≡ with_text self.old (head ++ octets.now)) }
         ensures place { IfOk result (λ place. place ≡ data_behind self.old (length octets.now)) }
@@ -137,7 +141,7 @@ impl Parts {
         self.full.reserve(1)?;
         // There is room now, so it goes in.
         let _ = self.full.push(replace(&mut self.last, next));
-        Ok(Place {
+        Ok(PartPlace {
             part: self.full.len(),
             offset: ENTRY_HEAD_OCTETS,
             octets: octets.len(),

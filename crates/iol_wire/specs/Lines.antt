@@ -4,7 +4,7 @@ use Rattle.std.specs.Prelude.{Option, Some, None, is_some, slice_get, take, ◌-
 use Rattle.std.specs.Option.{option_map, option_map_or}
 use Rattle.std.specs.List.{list_all}
 use Rattle.std.specs.Str.{bytes_eq}
-use Rattle.iol_isdu.specs.declared.parts.TheConstants.{ISDU_OCTETS}
+use Rattle.iol_link.specs.declared.parts.TheConstants.{ISDU_OCTETS}
 use Rattle.iol_link.specs.declared.link.TheConstants.{PAGE_OCTETS}
 use Rattle.iol_wire.specs.declared.line.Line.{Line}
 use Rattle.iol_wire.specs.declared.line.Line.TheVariants.{Event, Answer, Malformed}

@@ -1,6 +1,6 @@
 -- How a request is spelled.
 use Rattle.std.specs.Prelude.{ℕ, ◌/◌, ◌%◌, ◌≤◌, List, [], ◌∷◌, ◌++◌, length, codes, decimal, flat_map, slice_index}
-use Rattle.iol_isdu.specs.declared.parts.TheConstants.{ISDU_OCTETS}
+use Rattle.iol_link.specs.declared.parts.TheConstants.{ISDU_OCTETS}
 use Rattle.iol_wire.specs.declared.writing.TheConstants.{LINE_FEED}
 use Rattle.iol_wire.specs.declared.writing.Request.{Request}
 use Rattle.iol_wire.specs.declared.writing.Request.TheVariants as request

@@ -1,8 +1,7 @@
 //! What a line of a driver means.
 
 use arrayvec::ArrayVec;
-use iol_isdu::ISDU_OCTETS;
-use iol_link::PAGE_OCTETS;
+use iol_link::{ISDU_OCTETS, PAGE_OCTETS};
 
 /// What a line of a driver means.
 #[derive(Debug, PartialEq, Eq, Drop)]

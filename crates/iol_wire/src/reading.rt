@@ -10,8 +10,7 @@ use crate::line::{Line, Reply};
 use crate::numeral::{DECIMAL, event_code, numeral, octet};
 use crate::words::first_word;
 use arrayvec::ArrayVec;
-use iol_isdu::ISDU_OCTETS;
-use iol_link::PAGE_OCTETS;
+use iol_link::{ISDU_OCTETS, PAGE_OCTETS};
 
 /// The most octets before the line feed of a line, of which the longest answer has 740.
 pub const LINE_OCTETS: usize = 800;

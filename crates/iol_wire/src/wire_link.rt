@@ -16,8 +16,7 @@ use crate::stream::{LineStream, Unended};
 use crate::transport::Transport;
 use crate::writing::{Request, request_line};
 use arrayvec::ArrayVec;
-use iol_isdu::ISDU_OCTETS;
-use iol_link::{DeviceLink, Lost, PAGE_OCTETS};
+use iol_link::{DeviceLink, ISDU_OCTETS, Lost, PAGE_OCTETS};
 
 /// A link to the devices of a port, over a transport to a driver that speaks in lines of ASCII
 /// (docs/FORMATS.md, "Lines of a driver").

@@ -7,7 +7,7 @@ ghost use Rattle.iol_wire.specs.Requests.{request_line, asked_of, asked_words, o
 
 use crate::words::BLANK;
 use arrayvec::ArrayVec;
-use iol_isdu::ISDU_OCTETS;
+use iol_link::ISDU_OCTETS;
 use itoa::Buffer;
 
 /// The most octets of a line of a request, with its line feed: a number of 20 digits, ` isdu`, 238

@@ -3,7 +3,7 @@ use Rattle.arrayvec.specs.ArrayVec.{ArrayVec}
 use Rattle.iol_link.specs.Link.{Exchange, Octets}
 use Rattle.iol_port.specs.Heard.{IsFed}
 use Rattle.iol_port.specs.declared.action.Input.TheVariants as input
-use Rattle.iol_trace.specs.Events as trace
+use Rattle.iol_core.specs.Events as trace
 use Rattle.iol_engine.specs.declared.event.Exchanged.{Exchanged}
 use Rattle.iol_engine.proofs.port_step.exchange.Goals as goal
 

@@ -1,6 +1,6 @@
 use Rattle.std.proofs.Common.{ℕ, [], ◌∷◌, ap, ◌∙◌}
 use Rattle.iol_port.specs.declared.action.Input.TheVariants as input
-use Rattle.iol_trace.specs.Events as trace
+use Rattle.iol_core.specs.Events as trace
 use Rattle.iol_engine.proofs.port_step.read_page.Goals as goal
 
 pub returns-in-Ok : goal.returns-in-Ok

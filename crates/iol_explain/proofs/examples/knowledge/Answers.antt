@@ -1,6 +1,6 @@
 use Rattle.std.proofs.Common.{refl}
-use Rattle.iol_isdu.specs.Reading.{request_of, answer_of, service_in, carried_in}
-use Rattle.iol_isdu.specs.Service.{service_at}
+use Rattle.iol_link.specs.Reading.{request_of, answer_of, service_in, carried_in}
+use Rattle.iol_link.specs.Service.{service_at}
 use Rattle.iol_explain.proofs.examples.knowledge.Goals as goal
 
 pub returns-clause-read : goal.returns-clause-read

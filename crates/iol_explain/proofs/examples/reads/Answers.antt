@@ -1,8 +1,8 @@
 use Rattle.std.proofs.Common.{refl}
 use Rattle.std.specs.Fmt.{digits}
 use Rattle.iol_texts.specs.Texts.{hex_digits}
-use Rattle.iol_isdu.specs.Reading.{request_of, answer_of, service_in, carried_in}
-use Rattle.iol_isdu.specs.Service.{service_at}
+use Rattle.iol_link.specs.Reading.{request_of, answer_of, service_in, carried_in}
+use Rattle.iol_link.specs.Service.{service_at}
 use Rattle.iol_explain.proofs.examples.reads.Goals as goal
 
 pub returns-clause-state_property : goal.returns-clause-state_property

@@ -1,7 +1,7 @@
 use Rattle.std.proofs.Common.{ℕ, subst, lit≤}
-use Rattle.iol_dsindex.specs.Command.{commanded}
-use Rattle.iol_dsindex.specs.declared.command.DsCommand.TheVariants.{UploadEnd}
-use Rattle.iol_trace.specs.Events.{stamped}
+use Rattle.iol_transfer.specs.Command.{commanded}
+use Rattle.iol_transfer.specs.declared.command.DsCommand.TheVariants.{UploadEnd}
+use Rattle.iol_core.specs.Events.{stamped}
 use Rattle.iol_headline.proofs.ExampleTalks.{ends_upload}
 use Rattle.iol_headline.proofs.ExampleLaws.{stored_whole, judged_ready}
 use Rattle.iol_headline.proofs.Sending.{one_request}

@@ -2,16 +2,16 @@ use Rattle.std.proofs.Common.{◌≡◌, refl, ℕ, zero, suc, Bool, true, false
 use Rattle.std.proofs.Common.{append_assoc}
 use Rattle.std.specs.Prelude.{Some, slice_index, ◌==◌}
 use Rattle.iol_types.specs.declared.config.Validation.TheVariants.{BackupAndRestore}
-use Rattle.iol_dsindex.specs.Property.{property_of}
+use Rattle.iol_transfer.specs.Property.{property_of}
 use Rattle.iol_port.specs.Decision.{decide}
 use Rattle.iol_port.specs.declared.decision.Decision.TheVariants as decision
-use Rattle.iol_isdu.specs.declared.messages.Answer.TheVariants.{ReadOk, Busy}
-use Rattle.iol_isdu.specs.declared.messages.Request.TheVariants.{Read}
+use Rattle.iol_link.specs.declared.messages.Answer.TheVariants.{ReadOk, Busy}
+use Rattle.iol_link.specs.declared.messages.Request.TheVariants.{Read}
 use Rattle.iol_transfer.specs.Exchanges.{Exchange, carried, read_of, busy_times}
 use Rattle.iol_transfer.specs.Upload.{number_of}
-use Rattle.iol_trace.specs.Events.{Event, Page, Attended, stamped}
-use Rattle.iol_trace.specs.Own.{own}
-use Rattle.iol_trace.specs.Statuses.{Work}
+use Rattle.iol_core.specs.Events.{Event, Page, Attended, stamped}
+use Rattle.iol_core.specs.Own.{own}
+use Rattle.iol_core.specs.Statuses.{Work}
 use Rattle.iol_headline.proofs.ExampleTalks.{octets_in, both_read, replaced_reads, before_replaced_page, replaced_talk}
 use Rattle.iol_headline.proofs.OnePlace.{head_is, TellsPage, one_place, talk_no_page, one_talk, last_is, each_and}
 use Rattle.iol_headline.proofs.examples.a_blank_upload_is_refused.Goals as goal

@@ -2,9 +2,9 @@ use Rattle.std.proofs.Common.{◌≡◌, refl, ℕ, List, [], ◌∷◌, ◌++�
 use Rattle.std.specs.Prelude.{slice_index}
 use Rattle.iol_transfer.specs.Exchanges.{Exchange, read_of, Follows}
 use Rattle.iol_transfer.specs.Upload.{opening}
-use Rattle.iol_trace.specs.Events.{Changed, Stamp, stamped}
-use Rattle.iol_trace.specs.Own.{own}
-use Rattle.iol_trace.specs.Statuses.{Uploading}
+use Rattle.iol_core.specs.Events.{Changed, Stamp, stamped}
+use Rattle.iol_core.specs.Own.{own}
+use Rattle.iol_core.specs.Statuses.{Uploading}
 use Rattle.iol_headline.proofs.ExampleTalks.{octets_in, uploading, start, size, index_list, first_value, second_value, checksum}
 use Rattle.iol_headline.proofs.ExampleTalks.{upload_talk}
 use Rattle.iol_headline.proofs.OnePlace.{Each, TellsStatus, one_place, none_marked, talk_no_status, one_talk, settled_each, each_front}

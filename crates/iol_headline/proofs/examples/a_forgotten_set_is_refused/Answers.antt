@@ -1,6 +1,6 @@
 use Rattle.std.specs.Prelude.{None}
 use Rattle.iol_types.specs.State.{empty_state}
-use Rattle.iol_trace.specs.Events.{stamped}
+use Rattle.iol_core.specs.Events.{stamped}
 use Rattle.iol_headline.proofs.Revisions.{none_some}
 use Rattle.iol_headline.proofs.examples.a_forgotten_set_is_refused.Goals as goal
 use Rattle.iol_headline.specs.Examples.{example_work, ended}

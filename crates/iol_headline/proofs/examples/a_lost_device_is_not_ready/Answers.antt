@@ -1,8 +1,8 @@
 use Rattle.std.proofs.Common.{◌≡◌, ℕ, List, [], ◌∷◌, ◌++◌, sym}
 use Rattle.std.specs.Prelude.{None}
-use Rattle.iol_ident.specs.Page.{PageValue}
-use Rattle.iol_trace.specs.Events.{Event, Page, Lost, stamped}
-use Rattle.iol_trace.specs.Own.{own}
+use Rattle.iol_link.specs.Page.{PageValue}
+use Rattle.iol_core.specs.Events.{Event, Page, Lost, stamped}
+use Rattle.iol_core.specs.Own.{own}
 use Rattle.iol_headline.proofs.LastTold.{rest_connected}
 use Rattle.iol_headline.proofs.OnePlace.{Each, one_place}
 use Rattle.iol_headline.proofs.examples.a_lost_device_is_not_ready.Goals as goal

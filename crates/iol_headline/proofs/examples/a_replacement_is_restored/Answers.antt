@@ -1,8 +1,8 @@
 use Rattle.std.proofs.Common.{refl, ℕ, subst}
 use Rattle.std.specs.Prelude.{Some, None}
 use Rattle.iol_types.specs.State.{empty_state}
-use Rattle.iol_isdu.specs.declared.messages.Request.{Request}
-use Rattle.iol_trace.specs.Events.{stamped}
+use Rattle.iol_link.specs.declared.messages.Request.{Request}
+use Rattle.iol_core.specs.Events.{stamped}
 use Rattle.iol_headline.proofs.ExampleTalks.{writes_first, writes_second}
 use Rattle.iol_headline.proofs.ExampleLaws.{first_write, second_write, replaced_examined, judged_restored}
 use Rattle.iol_headline.proofs.Sending.{one_request}

@@ -1,6 +1,6 @@
 use Rattle.std.proofs.Common.{◌≡◌, ◌≤◌, refl, ℕ, List, [], ◌∷◌, ◌++◌, ap, sym, ◌∙◌, arith, append_assoc}
 use Rattle.iol_types.specs.Command.{Store}
-use Rattle.iol_trace.specs.Events.{Event, Accepted, Stamp, stamped}
+use Rattle.iol_core.specs.Events.{Event, Accepted, Stamp, stamped}
 use Rattle.iol_headline.proofs.ExampleTalks.{ends_upload}
 use Rattle.iol_headline.proofs.OnePlace.{one_in}
 use Rattle.iol_headline.proofs.examples.an_early_end_is_refused.Goals as goal

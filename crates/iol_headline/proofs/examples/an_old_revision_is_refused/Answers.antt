@@ -1,7 +1,7 @@
 use Rattle.std.proofs.Common.{◌≡◌, ap, arith}
 use Rattle.std.specs.Prelude.{None}
 use Rattle.iol_types.specs.State.{Port, empty_state}
-use Rattle.iol_trace.specs.Events.{stamped}
+use Rattle.iol_core.specs.Events.{stamped}
 use Rattle.iol_headline.proofs.Revisions.{some_is}
 use Rattle.iol_headline.proofs.examples.an_old_revision_is_refused.Goals as goal
 use Rattle.iol_headline.specs.Examples.{example_config, example_work, reconfigured}

@@ -1,7 +1,7 @@
 use Rattle.std.proofs.Common.{sym}
 use Rattle.std.specs.Prelude.{Some}
 use Rattle.iol_types.specs.State.{empty_state}
-use Rattle.iol_trace.specs.Events.{stamped}
+use Rattle.iol_core.specs.Events.{stamped}
 use Rattle.iol_headline.proofs.Revisions.{none_some}
 use Rattle.iol_headline.proofs.examples.an_unacknowledged_set_is_refused.Goals as goal
 use Rattle.iol_headline.specs.Examples.{example_work, filed}

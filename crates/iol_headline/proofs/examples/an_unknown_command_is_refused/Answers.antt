@@ -1,13 +1,13 @@
 use Rattle.std.proofs.Common.{◌≡◌, refl, ℕ, List, [], ◌∷◌, ap, arith, lit≤}
 use Rattle.std.specs.Prelude.{slice_index}
-use Rattle.iol_dsindex.specs.Command.{ds_command_octet, commanded}
-use Rattle.iol_dsindex.specs.declared.command.DsCommand.{DsCommand}
-use Rattle.iol_dsindex.specs.declared.command.DsCommand.TheVariants.{UploadStart, UploadEnd, DownloadStart, DownloadEnd, Break}
-use Rattle.iol_isdu.proofs.Lengths.{shortest_write}
-use Rattle.iol_isdu.proofs.Spelled.{short_isdu}
-use Rattle.iol_isdu.specs.Isdu.{IsShortestRequest}
-use Rattle.iol_isdu.specs.declared.messages.Request.{Request}
-use Rattle.iol_isdu.specs.declared.messages.Request.TheVariants.{Read, Write}
+use Rattle.iol_transfer.specs.Command.{ds_command_octet, commanded}
+use Rattle.iol_transfer.specs.declared.command.DsCommand.{DsCommand}
+use Rattle.iol_transfer.specs.declared.command.DsCommand.TheVariants.{UploadStart, UploadEnd, DownloadStart, DownloadEnd, Break}
+use Rattle.iol_link.proofs.Lengths.{shortest_write}
+use Rattle.iol_link.proofs.Spelled.{short_isdu}
+use Rattle.iol_link.specs.Isdu.{IsShortestRequest}
+use Rattle.iol_link.specs.declared.messages.Request.{Request}
+use Rattle.iol_link.specs.declared.messages.Request.TheVariants.{Read, Write}
 use Rattle.iol_transfer.specs.Exchanges.{carried}
 use Rattle.iol_headline.proofs.examples.an_unknown_command_is_refused.Goals as goal
 

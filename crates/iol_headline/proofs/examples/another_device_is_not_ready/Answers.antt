@@ -1,10 +1,10 @@
 use Rattle.std.proofs.Common.{refl, ◌∷◌, []}
 use Rattle.std.specs.Prelude.{Some, None}
-use Rattle.iol_ident.specs.Page.{page_of}
-use Rattle.iol_ident.specs.declared.validation.IdentFault.TheVariants.{Device}
-use Rattle.iol_trace.specs.Events.{Page, Attended, Changed, stamped}
-use Rattle.iol_trace.specs.Own.{own}
-use Rattle.iol_trace.specs.Statuses.{Starting}
+use Rattle.iol_link.specs.Page.{page_of}
+use Rattle.iol_link.specs.declared.validation.IdentFault.TheVariants.{Device}
+use Rattle.iol_core.specs.Events.{Page, Attended, Changed, stamped}
+use Rattle.iol_core.specs.Own.{own}
+use Rattle.iol_core.specs.Statuses.{Starting}
 use Rattle.iol_headline.proofs.LastTold.{one_judgement}
 use Rattle.iol_headline.proofs.Revisions.{none_some}
 use Rattle.iol_headline.proofs.examples.another_device_is_not_ready.Goals as goal

@@ -1,7 +1,7 @@
 use Rattle.std.specs.Prelude.{Some, None}
-use Rattle.iol_ident.specs.declared.validation.IdentFault.TheVariants.{Device}
-use Rattle.iol_trace.specs.Events.{stamped}
-use Rattle.iol_trace.specs.Own.{own}
+use Rattle.iol_link.specs.declared.validation.IdentFault.TheVariants.{Device}
+use Rattle.iol_core.specs.Events.{stamped}
+use Rattle.iol_core.specs.Own.{own}
 use Rattle.iol_headline.proofs.ExampleLaws.{judged_ready}
 use Rattle.iol_headline.proofs.LastTold.{one_judgement, judged_not_off}
 use Rattle.iol_headline.proofs.Revisions.{none_some}

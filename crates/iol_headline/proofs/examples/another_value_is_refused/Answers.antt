@@ -3,16 +3,16 @@ use Rattle.std.specs.Prelude.{slice_index}
 use Rattle.iol_types.specs.DataSet.{SetValue}
 use Rattle.iol_types.specs.State.{Stored, empty_state, port_numbered}
 use Rattle.iol_core.specs.Downloads.{stored_at}
-use Rattle.iol_dsindex.specs.Command.{commanded}
-use Rattle.iol_dsindex.specs.declared.command.DsCommand.TheVariants.{DownloadStart, DownloadEnd}
-use Rattle.iol_isdu.specs.declared.messages.Request.{Request}
-use Rattle.iol_isdu.specs.declared.messages.Request.TheVariants.{Write}
+use Rattle.iol_transfer.specs.Command.{commanded}
+use Rattle.iol_transfer.specs.declared.command.DsCommand.TheVariants.{DownloadStart, DownloadEnd}
+use Rattle.iol_link.specs.declared.messages.Request.{Request}
+use Rattle.iol_link.specs.declared.messages.Request.TheVariants.{Write}
 use Rattle.iol_transfer.specs.Download.{order_of}
 use Rattle.iol_transfer.specs.Exchanges.{carried}
-use Rattle.iol_trace.specs.Events.{Changed, Stamp, stamped}
-use Rattle.iol_trace.specs.Own.{own}
-use Rattle.iol_trace.specs.Statuses.{Downloading}
-use Rattle.iol_trace.specs.Words.{durable}
+use Rattle.iol_core.specs.Events.{Changed, Stamp, stamped}
+use Rattle.iol_core.specs.Own.{own}
+use Rattle.iol_core.specs.Statuses.{Downloading}
+use Rattle.iol_core.specs.Words.{durable}
 use Rattle.iol_headline.proofs.ExampleTalks.{start_told, start_talk, writes_another}
 use Rattle.iol_headline.proofs.OnePlace.{Each, TellsStatus, one_place, none_marked, talk_no_status, each_at}
 use Rattle.iol_headline.proofs.examples.another_value_is_refused.Goals as goal

@@ -1,8 +1,8 @@
 use Rattle.std.proofs.Common.{◌≡◌, List, [], ◌∷◌, ◌++◌, sym}
 use Rattle.std.specs.Prelude.{None}
-use Rattle.iol_trace.specs.Events.{Event, Attended, Changed, stamped}
-use Rattle.iol_trace.specs.Own.{own}
-use Rattle.iol_trace.specs.Statuses.{Work, Ready}
+use Rattle.iol_core.specs.Events.{Event, Attended, Changed, stamped}
+use Rattle.iol_core.specs.Own.{own}
+use Rattle.iol_core.specs.Statuses.{Work, Ready}
 use Rattle.iol_headline.proofs.OnePlace.{Each, one_place}
 use Rattle.iol_headline.proofs.examples.settling_twice_is_refused.Goals as goal
 use Rattle.iol_headline.specs.Examples.{ended}

@@ -2,7 +2,7 @@ use Rattle.std.proofs.Common.{◌≡◌, ◌≤◌, ◌<◌, ◌+◌, ◌-◌, �
 use Rattle.iol_disk.specs.Content.{reads}
 use Rattle.iol_disk.specs.Disk.{Same}
 use Rattle.iol_disk.specs.declared.disk.TheConstants.{SECTOR_OCTETS}
-use Rattle.iol_slots.specs.declared.slot.TheConstants.{BODY_SECTORS}
+use Rattle.iol_disk.specs.declared.slot.TheConstants.{BODY_SECTORS}
 use Rattle.iol_layout.specs.Meaning.{log_from}
 use Rattle.iol_layout.specs.declared.header.TheConstants.{LAST_NUMBER}
 use Rattle.iol_recovery.proofs.replay.replay_open_slots.Given as goal

@@ -3,7 +3,7 @@ use Rattle.iol_disk.specs.Content.{clock}
 use Rattle.iol_front.specs.Fronts.{FrontId}
 use Rattle.iol_journal.specs.Runs.{begun}
 use Rattle.iol_journal.specs.Running.{IsRunAtRest}
-use Rattle.iol_trace.specs.CrashPrefix.{CrashPrefix}
+use Rattle.iol_core.specs.CrashPrefix.{CrashPrefix}
 use Rattle.iol_run.specs.Stamps.{stamp_of}
 use Rattle.iol_run.specs.Schedules.{IsRunFrom}
 use Rattle.iol_run.specs.Tasks.{HasRun, IsCountOf}

@@ -1,9 +1,9 @@
 use Rattle.std.proofs.Common.{[], ◌∷◌, refl, arith}
 use Rattle.iol_types.specs.DataSet.{Entry, AreEntries}
 use Rattle.iol_types.proofs.Entries.{no-entries, one-more, may_be_added}
-use Rattle.iol_dsindex.specs.declared.command.DsCommand.TheVariants.{UploadStart}
-use Rattle.iol_dsindex.specs.declared.list.Next.TheVariants as next_is
-use Rattle.iol_dsindex.specs.Command.{commanded}
+use Rattle.iol_transfer.specs.declared.command.DsCommand.TheVariants.{UploadStart}
+use Rattle.iol_transfer.specs.declared.list.Next.TheVariants as next_is
+use Rattle.iol_transfer.specs.Command.{commanded}
 use Rattle.iol_transfer.specs.Exchanges.{Exchange, done, read_of}
 use Rattle.iol_transfer.proofs.examples.a_finished_upload.Goals as goal
 

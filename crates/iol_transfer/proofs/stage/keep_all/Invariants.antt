@@ -1,5 +1,5 @@
 use Rattle.std.proofs.Common.{◌≡◌, fold, take}
-use Rattle.iol_dsindex.specs.List.{kept_with}
+use Rattle.iol_transfer.specs.List.{kept_with}
 use Rattle.iol_transfer.proofs.stage.keep_all.Given as goal
 
 abbrev pub invariant-loop-key : goal.invariant-loop-key

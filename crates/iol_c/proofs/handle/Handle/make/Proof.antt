@@ -12,12 +12,12 @@ use Rattle.core.proofs.option.Option.TheLaws.{the_row_laws as option_laws}
 use Rattle.core.specs.contracts.option.Option as option
 use Rattle.iol_front.specs.contracts.name.BrandName.TheImpl.{dict}
 use Rattle.iol_handed.proofs.opening.Opening.TheLaws as opening_laws
-use Rattle.iol_handed.proofs.found.Found.TheLaws as found_laws
+use Rattle.iol_handed.proofs.found.FoundJournal.TheLaws as found_laws
 use Rattle.iol_handed.proofs.flash.UnknownFlash.TheLaws as flash_laws
 use Rattle.iol_handed.specs.contracts.flash.UnknownFlash as flash
 use Rattle.iol_handed.specs.contracts.flash.UnknownFlashFlash.TheImpl.{ghosts as flash_ghosts}
 use Rattle.iol_handed.specs.contracts.opening.Opening as opening
-use Rattle.iol_handed.specs.contracts.found.Found as found
+use Rattle.iol_handed.specs.contracts.found.FoundJournal as found
 use Rattle.iol_c.proofs.Machine.{allocator, both_tt, two, word, word_good}
 use Rattle.iol_c.proofs.Named.{named_laws}
 use Rattle.iol_c.proofs.Spent.{found_leaves, found_row, front_in, is_named}

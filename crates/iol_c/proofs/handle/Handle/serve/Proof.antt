@@ -9,10 +9,10 @@ use Rattle.core.proofs.atomic.Steps.{Ptr-Good, fm}
 use Rattle.core.proofs.cell.Inside.{Good}
 use Rattle.iol_front.specs.contracts.name.BrandName.TheImpl.{dict}
 use Rattle.iol_handed.proofs.ask.Ask.TheLaws as asks_laws
-use Rattle.iol_handed.proofs.ask.Answer.TheLaws as answers_laws
+use Rattle.iol_handed.proofs.ask.SessionAnswer.TheLaws as answers_laws
 use Rattle.iol_handed.specs.Sessions.{ended}
 use Rattle.iol_handed.specs.contracts.ask.Ask as asks
-use Rattle.iol_handed.specs.contracts.ask.Answer as answers
+use Rattle.iol_handed.specs.contracts.ask.SessionAnswer as answers
 use Rattle.iol_c.proofs.Machine.{allocator, both_tt, two, word, word_good, word_in, word_out}
 use Rattle.iol_c.proofs.Named.{named_laws}
 use Rattle.iol_c.proofs.Spent.{ask_leaves}

@@ -1,5 +1,5 @@
 use Rattle.std.proofs.Common.{ℕ, ◌++◌, [], ◌∷◌, refl, ap, ◌∙◌}
-use Rattle.iol_trace.specs.Events.{Acknowledged}
+use Rattle.iol_core.specs.Events.{Acknowledged}
 use Rattle.iol_engine.specs.Engine.{EngineView}
 use Rattle.iol_engine.proofs.Engines.{engine_acknowledges}
 use Rattle.iol_engine.proofs.engine.Engine.acknowledge.Goals as goal

@@ -1,5 +1,5 @@
 use Rattle.std.proofs.Common.{◌++◌, List, refl, ap, ◌∙◌}
-use Rattle.iol_trace.specs.Events.{Event}
+use Rattle.iol_core.specs.Events.{Event}
 use Rattle.iol_engine.specs.Engine.{EngineView}
 use Rattle.iol_engine.proofs.Engines.{engine_submits}
 use Rattle.iol_engine.proofs.engine.Engine.submit.Goals as goal

@@ -1,6 +1,6 @@
 use Rattle.std.proofs.Common.{subst}
 use Rattle.std.specs.Fmt.{WritesOnOk}
-use Rattle.iol_ident.specs.Page.{PageValue}
+use Rattle.iol_link.specs.Page.{PageValue}
 use Rattle.iol_explain.specs.Pages.{page_words}
 use Rattle.iol_explain.proofs.page_words.PageWordsDisplay.fmt.Goals as goal
 

@@ -2,7 +2,7 @@ use Rattle.std.proofs.Common.{◌≡◌, ◌++◌, ◌-◌, ap, arith, length, s
 use Rattle.std.specs.List.{slice_get}
 use Rattle.std.proofs.lemmas.List.FromFn.{length-map-range_with_len}
 use Rattle.iol_layout.specs.AreaWrites.{port_writes, slot_write, slot_writes}
-use Rattle.iol_format.specs.Orders.{header_writes, opening_calls}
+use Rattle.iol_journal.specs.Orders.{header_writes, opening_calls}
 use Rattle.iol_handed.proofs.Segments.{in_first_of, in_rest_of}
 use Rattle.iol_layout.specs.Layout.{Layout, laid_out}
 use Rattle.iol_layout.specs.declared.area.Area.TheVariants.{A}

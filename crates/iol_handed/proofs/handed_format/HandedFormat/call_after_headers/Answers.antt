@@ -4,7 +4,7 @@ use Rattle.std.proofs.lemmas.List.{length-map}
 use Rattle.iol_layout.specs.AreaPlans.{write_of}
 use Rattle.iol_layout.specs.AreaWrites.{port_writes}
 use Rattle.iol_disk.specs.Calls.{Call}
-use Rattle.iol_format.specs.Orders.{opening_calls}
+use Rattle.iol_journal.specs.Orders.{opening_calls}
 use Rattle.iol_handed.proofs.Segments.{in_first, in_second}
 use Rattle.iol_layout.specs.Layout.{laid_out}
 use Rattle.iol_layout.specs.declared.area.Area.TheVariants.{A}

@@ -1,6 +1,6 @@
 use Rattle.std.proofs.Common.{ap, slice_get, sym, ◌∙◌, Some}
 use Rattle.iol_disk.specs.Calls.{write}
-use Rattle.iol_format.specs.Orders.{header_writes}
+use Rattle.iol_journal.specs.Orders.{header_writes}
 use Rattle.iol_layout.specs.Header.{header_octets}
 use Rattle.iol_layout.specs.Layout.{Layout, header_at}
 use Rattle.iol_layout.specs.declared.area.Area.TheVariants.{B}

@@ -7,7 +7,7 @@ use Rattle.iol_handed.proofs.Segments.{slots_at, slots_past}
 use Rattle.iol_layout.specs.Layout.{Layout, laid_out, slot_at}
 use Rattle.iol_layout.specs.declared.area.Area.TheVariants.{A}
 use Rattle.iol_record.specs.Record.{newest}
-use Rattle.iol_slots.specs.Gate.{closed_gate}
+use Rattle.iol_disk.specs.Gate.{closed_gate}
 use Rattle.iol_handed.proofs.handed_format.HandedFormat.slot_write.Goals as goal
 
 pub returns-then-number-slots : goal.returns-then-number-slots

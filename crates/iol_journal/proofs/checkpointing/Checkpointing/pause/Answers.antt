@@ -1,10 +1,10 @@
 use Rattle.std.proofs.Common.{◌≡◌, true, ◌∙◌, sym, ap, subst}
-use Rattle.iol_checkpoint.specs.Drafts.{can_pause, may_pause}
+use Rattle.iol_journal.specs.Drafts.{can_pause, may_pause}
 use Rattle.iol_journal.specs.CheckpointViews.{CheckpointingView, IsCheckpointUnderway}
-use Rattle.iol_checkpoint.specs.BegunParts.{log_of, commands_owed}
-use Rattle.iol_checkpoint.specs.Checkpoints.{target}
-use Rattle.iol_batch.specs.Parts.{stands}
-use Rattle.iol_checkpoint.proofs.DraftLaws.{pauses, holds_parts}
+use Rattle.iol_journal.specs.BegunParts.{log_of, commands_owed}
+use Rattle.iol_journal.specs.Checkpoints.{target}
+use Rattle.iol_journal.specs.Parts.{stands}
+use Rattle.iol_journal.proofs.DraftLaws.{pauses, holds_parts}
 use Rattle.iol_journal.proofs.RunSteps.{run_of_same_disk}
 use Rattle.iol_journal.proofs.checkpointing.Checkpointing.pause.Goals as goal
 

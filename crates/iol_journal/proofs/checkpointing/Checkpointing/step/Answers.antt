@@ -1,22 +1,22 @@
 use Rattle.std.proofs.Common.{◌≡◌, List, [], Option, Some, Ok, Err, refl, sym, ◌∙◌, ap, subst}
-use Rattle.iol_checkpoint.specs.BegunParts.{log_of, commands_owed, view_of}
-use Rattle.iol_checkpoint.specs.BegunViews.{BegunView}
-use Rattle.iol_checkpoint.specs.Checkpoints.{target, with_batches}
+use Rattle.iol_journal.specs.BegunParts.{log_of, commands_owed, view_of}
+use Rattle.iol_journal.specs.BegunViews.{BegunView}
+use Rattle.iol_journal.specs.Checkpoints.{target, with_batches}
 use Rattle.iol_journal.specs.CheckpointViews.{CheckpointingView, end_of, stages_left, IsCheckpointUnderway}
-use Rattle.iol_checkpoint.specs.Pauses.{calls_of, IsDrawnUp, IsPaused}
-use Rattle.iol_checkpoint.specs.Drafts.{begun_behind, stage_behind}
+use Rattle.iol_journal.specs.Pauses.{calls_of, IsDrawnUp, IsPaused}
+use Rattle.iol_journal.specs.Drafts.{begun_behind, stage_behind}
 use Rattle.iol_layout.specs.Layout.{Layout, renewed}
 use Rattle.iol_layout.specs.Standings.{IsResting}
-use Rattle.iol_batch.specs.Parts.{stands}
+use Rattle.iol_journal.specs.Parts.{stands}
 use Rattle.iol_layout.specs.Meaning.{Standing}
 use Rattle.iol_disk.specs.Calls.{Call, MakesFirst}
-use Rattle.iol_batch.specs.Phases.{IsAtRest}
+use Rattle.iol_journal.specs.Phases.{IsAtRest}
 use Rattle.iol_layout.specs.declared.idle.Idle.TheVariants.{Older}
-use Rattle.iol_checkpoint.proofs.BegunLaws.{moved_view, begun_next, begun-behind, view-moved, ends-moved, stands_there, ends_there}
+use Rattle.iol_journal.proofs.BegunLaws.{moved_view, begun_next, begun-behind, view-moved, ends-moved, stands_there, ends_there}
 use Rattle.iol_journal.proofs.Views.{moment_of}
-use Rattle.iol_checkpoint.proofs.CheckpointSteps.{underway, durable, resting, makes_first, makes_last, fails_first}
-use Rattle.iol_checkpoint.proofs.DraftLaws.{resting_on}
-use Rattle.iol_batch.proofs.Phases.{rest_means}
+use Rattle.iol_journal.proofs.CheckpointSteps.{underway, durable, resting, makes_first, makes_last, fails_first}
+use Rattle.iol_journal.proofs.DraftLaws.{resting_on}
+use Rattle.iol_journal.proofs.Phases.{rest_means}
 use Rattle.iol_journal.proofs.RunSteps.{run_of_same_meaning}
 use Rattle.iol_journal.proofs.checkpointing.Checkpointing.step.Given
 use Rattle.iol_journal.proofs.checkpointing.Checkpointing.step.Goals as goal

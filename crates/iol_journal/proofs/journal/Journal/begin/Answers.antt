@@ -1,11 +1,11 @@
 use Rattle.std.proofs.Common.{◌≡◌, ◌≤◌, ◌+◌, ◌*◌, length, Result, Ok, Err, IfOk, sym, ap, subst, arith}
 use Rattle.std.proofs.lemmas.Result.{IfOk-weaker}
-use Rattle.iol_batch.specs.Batches.{batch_calls}
+use Rattle.iol_journal.specs.Batches.{batch_calls}
 use Rattle.iol_layout.specs.Body.{slots_for, values}
 use Rattle.iol_journal.specs.Journals.{WritingView, calls_left}
 use Rattle.iol_journal.specs.Underway.{IsUnderway}
-use Rattle.iol_batch.proofs.BatchCalls.{all_calls, at_most}
-use Rattle.iol_batch.proofs.Phases.{fit_of}
+use Rattle.iol_journal.proofs.BatchCalls.{all_calls, at_most}
+use Rattle.iol_journal.proofs.Phases.{fit_of}
 use Rattle.iol_journal.proofs.RunSteps.{run_of_begun}
 use Rattle.iol_journal.proofs.journal.Journal.begin.Goals as goal
 

@@ -1,8 +1,8 @@
 use Rattle.std.proofs.Common.{sym, subst}
-use Rattle.iol_checkpoint.specs.Pauses.{IsPaused, IsBeside}
+use Rattle.iol_journal.specs.Pauses.{IsPaused, IsBeside}
 use Rattle.iol_journal.specs.Journals.{JournalView, WritingView}
-use Rattle.iol_batch.specs.Parts.{stands}
-use Rattle.iol_checkpoint.proofs.BegunLaws.{beside_of, same-view}
+use Rattle.iol_journal.specs.Parts.{stands}
+use Rattle.iol_journal.proofs.BegunLaws.{beside_of, same-view}
 use Rattle.iol_journal.proofs.journal.Journal.begin_planned.Goals as goal
 
 pub returns-in-Ok-clause-beside : goal.returns-in-Ok-clause-beside

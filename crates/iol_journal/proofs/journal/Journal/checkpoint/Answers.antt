@@ -1,14 +1,14 @@
 use Rattle.std.proofs.Common.{◌≡◌, true, [], Option, Some, None, is_some, unwrap_or, refl, sym, ◌∙◌, ap, subst}
 use Rattle.std.specs.Option.{option_map}
 use Rattle.iol_disk.specs.Disk.{Disk}
-use Rattle.iol_checkpoint.specs.BegunParts.{view_of}
-use Rattle.iol_checkpoint.specs.declared.begun.Begun.{Begun}
+use Rattle.iol_journal.specs.BegunParts.{view_of}
+use Rattle.iol_journal.specs.declared.begun.Begun.{Begun}
 use Rattle.iol_journal.specs.Journals.{JournalView}
 use Rattle.iol_layout.specs.Meaning.{Standing}
-use Rattle.iol_checkpoint.specs.Pauses.{IsDrawnUp, IsPaused}
-use Rattle.iol_checkpoint.specs.BegunViews.{BegunView}
-use Rattle.iol_checkpoint.specs.Checkpoints.{checkpointed, new_begun}
-use Rattle.iol_checkpoint.proofs.Stages.{first_holds}
+use Rattle.iol_journal.specs.Pauses.{IsDrawnUp, IsPaused}
+use Rattle.iol_journal.specs.BegunViews.{BegunView}
+use Rattle.iol_journal.specs.Checkpoints.{checkpointed, new_begun}
+use Rattle.iol_journal.proofs.Stages.{first_holds}
 use Rattle.iol_journal.specs.CheckpointRuns.{IsRunCheckpointing}
 use Rattle.iol_journal.specs.CheckpointViews.{CheckpointingView, IsCheckpointUnderway}
 use Rattle.iol_journal.proofs.journal.Journal.checkpoint.Given

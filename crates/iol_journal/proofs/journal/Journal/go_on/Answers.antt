@@ -1,9 +1,9 @@
 use Rattle.std.proofs.Common.{◌≤◌, ◌+◌, ◌*◌, length, subst}
-use Rattle.iol_checkpoint.specs.BegunParts.{view_of, IsSetAside}
-use Rattle.iol_checkpoint.specs.Pauses.{calls_of}
+use Rattle.iol_journal.specs.BegunParts.{view_of, IsSetAside}
+use Rattle.iol_journal.specs.Pauses.{calls_of}
 use Rattle.iol_journal.specs.Journals.{JournalView}
-use Rattle.iol_batch.specs.Parts.{stands}
-use Rattle.iol_checkpoint.proofs.CheckpointSizes.{begun_most}
+use Rattle.iol_journal.specs.Parts.{stands}
+use Rattle.iol_journal.proofs.CheckpointSizes.{begun_most}
 use Rattle.iol_layout.specs.Layout.{renewed, record_sectors}
 use Rattle.iol_journal.proofs.journal.Journal.go_on.Goals as goal
 

@@ -1,6 +1,6 @@
 use Rattle.std.proofs.Common.{IfOk, subst}
 use Rattle.std.proofs.lemmas.Result.{IfOk-weaker}
-use Rattle.iol_checkpoint.specs.BegunParts.{IsBegun}
+use Rattle.iol_journal.specs.BegunParts.{IsBegun}
 use Rattle.iol_journal.specs.Journals.{JournalView}
 use Rattle.iol_journal.proofs.journal.Journal.new_checkpoint.Goals as goal
 

@@ -1,9 +1,9 @@
 use Rattle.std.proofs.Common.{◌≡◌, ◌+◌, IfOk, subst}
 use Rattle.iol_layout.specs.Body.{values}
-use Rattle.iol_batch.specs.Parts.{stands}
-use Rattle.iol_batch.specs.Planned.{IsPlan, IsPlanned}
-use Rattle.iol_batch.specs.declared.phase.Phase.TheVariants.{Body}
-use Rattle.iol_batch.specs.declared.plan.Plan.{Plan}
+use Rattle.iol_journal.specs.Parts.{stands}
+use Rattle.iol_journal.specs.Planned.{IsPlan, IsPlanned}
+use Rattle.iol_journal.specs.declared.phase.Phase.TheVariants.{Body}
+use Rattle.iol_journal.specs.declared.plan.Plan.{Plan}
 use Rattle.iol_journal.specs.Journals.{JournalView}
 use Rattle.iol_journal.proofs.Views.{planned_in}
 use Rattle.iol_journal.proofs.journal.Journal.plan.Goals as goal

@@ -3,22 +3,22 @@ use Rattle.std.proofs.lemmas.List.{length-map}
 use Rattle.iol_types.specs.Command.{value_of}
 use Rattle.std.specs.Option.{option_map}
 use Rattle.iol_disk.specs.Calls.{Call, Made, MakesFirst}
-use Rattle.iol_batch.specs.Batches.{body_for, sectors_for, call_of, calls_from}
-use Rattle.iol_checkpoint.specs.BegunParts.{IsSetAside}
-use Rattle.iol_checkpoint.specs.Pauses.{IsBeside}
-use Rattle.iol_checkpoint.specs.Drafts.{with_owed}
+use Rattle.iol_journal.specs.Batches.{body_for, sectors_for, call_of, calls_from}
+use Rattle.iol_journal.specs.BegunParts.{IsSetAside}
+use Rattle.iol_journal.specs.Pauses.{IsBeside}
+use Rattle.iol_journal.specs.Drafts.{with_owed}
 use Rattle.iol_layout.specs.Meaning.{Standing}
-use Rattle.iol_batch.specs.Phases.{IsAtRest}
+use Rattle.iol_journal.specs.Phases.{IsAtRest}
 use Rattle.iol_journal.specs.Underway.{IsUnderway}
 use Rattle.iol_journal.specs.Journals.{WritingView, calls_left}
 use Rattle.iol_layout.specs.Standings.{IsResting, with_batch}
-use Rattle.iol_batch.specs.Parts.{stands}
+use Rattle.iol_journal.specs.Parts.{stands}
 use Rattle.iol_layout.specs.Body.{values}
-use Rattle.iol_batch.specs.Planned.{written_behind}
+use Rattle.iol_journal.specs.Planned.{written_behind}
 use Rattle.iol_layout.proofs.Bodies.{length-body}
-use Rattle.iol_checkpoint.proofs.BegunLaws.{set_aside_on, set_aside_owing, views-owing}
-use Rattle.iol_checkpoint.proofs.BesideLaws.{beside_after, paused_behind}
-use Rattle.iol_batch.proofs.Phases.{fit_of, rest_means, standing_behind}
+use Rattle.iol_journal.proofs.BegunLaws.{set_aside_on, set_aside_owing, views-owing}
+use Rattle.iol_journal.proofs.BesideLaws.{beside_after, paused_behind}
+use Rattle.iol_journal.proofs.Phases.{fit_of, rest_means, standing_behind}
 use Rattle.iol_journal.proofs.RunSteps.{run_of_call, run_of_written}
 use Rattle.iol_journal.proofs.Steps.{moment_of, underway, durable, makes_first, makes_last, fails_first, planned_next, resting_behind}
 use Rattle.iol_journal.proofs.writing.Writing.step.Given

@@ -1,5 +1,5 @@
 use Rattle.std.proofs.Common.{refl}
-use Rattle.iol_slots.specs.Gate.{closed_gate}
+use Rattle.iol_disk.specs.Gate.{closed_gate}
 use Rattle.iol_layout.specs.Layout.{slot_at}
 use Rattle.iol_disk.proofs.Making.{makes_write}
 use Rattle.iol_layout.proofs.area_plan.AreaPlan.close_slot.Goals as goal

@@ -6,7 +6,7 @@ use Rattle.iol_core.specs.Batches.{IsTake, IsTaken}
 use Rattle.iol_flush.specs.Stages as flush
 use Rattle.iol_flush.specs.Steps.{HasTaken}
 use Rattle.iol_journal.specs.Body.{values}
-use Rattle.iol_journal.specs.Batch.{Batch}
+use Rattle.iol_journal.specs.declared.batch.Batch.{Batch}
 use Rattle.iol_flush.specs.Stages.{room_of, FitsArea}
 use Rattle.iol_journal.specs.Numbers.{LAST_NUMBER}
 use Rattle.iol_run.specs.EngineOnDisk.{EngineOnDiskView}

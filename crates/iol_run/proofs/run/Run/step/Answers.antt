@@ -1,6 +1,6 @@
 use Rattle.std.proofs.Common.{◌≡◌, ◌++◌, List, map, ap, sym, ◌∙◌, subst}
-use Rattle.iol_trace.specs.Events.{Stamp, stamped}
-use Rattle.iol_trace.specs.CrashPrefix.{marks_of}
+use Rattle.iol_core.specs.Events.{Stamp, stamped}
+use Rattle.iol_core.specs.CrashPrefix.{marks_of}
 use Rattle.iol_run.specs.CoreOnDisk.{clock_of}
 use Rattle.iol_engine.specs.Events.{told_of}
 use Rattle.iol_run.specs.Stamps.{stamp_of}

@@ -1,8 +1,8 @@
 use Rattle.std.proofs.Common.{refl, ◌≡◌, Option, ap, ◌∙◌, subst}
 use Rattle.std.specs.Prelude.{IfSome}
-use Rattle.iol_isdu.specs.Isdu.{IsAnswer}
-use Rattle.iol_isdu.specs.declared.messages.Request.{Request}
-use Rattle.iol_isdu.specs.declared.faults.IsduFault.{IsduFault}
+use Rattle.iol_link.specs.Isdu.{IsAnswer}
+use Rattle.iol_link.specs.declared.messages.Request.{Request}
+use Rattle.iol_link.specs.declared.faults.IsduFault.{IsduFault}
 use Rattle.iol_sim.specs.Device.{respond, no_service}
 use Rattle.iol_sim.proofs.device.SimDevice.answer.Goals as goal
 

@@ -1,6 +1,6 @@
 use Rattle.std.proofs.Common.{◌≡◌, ◌<◌, inr, refl, length, drop, sym, ap, ◌∙◌, subst, arith, rules}
 use Rattle.iol_types.specs.DataSet.{SetValue}
-use Rattle.iol_isdu.specs.declared.messages.Answer.TheVariants.{WriteOk}
+use Rattle.iol_link.specs.declared.messages.Answer.TheVariants.{WriteOk}
 use Rattle.iol_transfer.specs.Download.{Sender, Sends, writing, sends_of, sends_after, IsDownloadStep}
 use Rattle.iol_transfer.proofs.Sending.{writing-next}
 use Rattle.iol_transfer.proofs.download.Download.written.Goals as goal

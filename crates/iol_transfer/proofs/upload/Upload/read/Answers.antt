@@ -1,7 +1,7 @@
 use Rattle.std.proofs.Common.{◌≡◌, ◌+◌, ◌∷◌, get_or, drop, ap, sym, ◌∙◌, subst, arith}
 use Rattle.std.proofs.lemmas.List.{drop_more}
 use Rattle.iol_types.specs.declared.key.Key.{Key}
-use Rattle.iol_isdu.specs.declared.messages.Answer.TheVariants.{ReadOk}
+use Rattle.iol_link.specs.declared.messages.Answer.TheVariants.{ReadOk}
 use Rattle.iol_transfer.specs.Exchanges.{carried}
 use Rattle.iol_transfer.specs.Asked.{Start, Value}
 use Rattle.iol_transfer.specs.Machine.{Machine, reading, after_read}

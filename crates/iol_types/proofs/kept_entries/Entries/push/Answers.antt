@@ -8,7 +8,7 @@ use Rattle.iol_types.specs.EntriesInMemory.{entries_of}
 use Rattle.iol_types.specs.Parts.{PartsValue, entry_octets, with_text, data_behind}
 use Rattle.iol_types.specs.declared.data_set.TheConstants.{ENTRY_HEAD_OCTETS}
 use Rattle.iol_types.specs.declared.key.Key.{Key}
-use Rattle.iol_types.specs.declared.parts.Place.{Place}
+use Rattle.iol_types.specs.declared.parts.PartPlace.{PartPlace}
 use Rattle.iol_types.proofs.Entries.{may_be_added}
 use Rattle.iol_types.proofs.Kept.{none-entries_of, Pushed, pushed}
 use Rattle.iol_types.proofs.kept_entries.Entries.push.Goals as goal
@@ -38,8 +38,8 @@ made c =
     inserted
     ∙ ap (λ before. insert_entry same_key before c.args.key c.in_ok-place.place) c.in_ok-reserve.ensures.entries
     ∙ insert_entry-new same_key c.self.inside.places c.args.key c.in_ok-place.place absent
-    ∙ ap (λ (place : Place). kept ++ (c.args.key, place) ∷ []) c.in_ok-place.ensures.place in
-    subst (λ (new : PartsValue × List (Key × Place)).
+    ∙ ap (λ (place : PartPlace). kept ++ (c.args.key, place) ∷ []) c.in_ok-place.ensures.place in
+    subst (λ (new : PartsValue × List (Key × PartPlace)).
     Pushed new.0 new.1 (c.self.inside.octets + (ENTRY_HEAD_OCTETS + length c.args.octets.now))
     (entries_of parts kept ++ (c.args.key, c.args.octets.now) ∷ []))
     (λ i. (sym later i, sym entries i))

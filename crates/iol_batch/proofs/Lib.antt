@@ -1,3 +1,0 @@
-pub mod BatchCalls
-pub mod Phases
-pub mod Refusals

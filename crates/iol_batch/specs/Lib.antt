@@ -1,6 +1,0 @@
-pub mod Batches
-pub mod Begin
-pub mod Planned
-pub mod History
-pub mod Parts
-pub mod Phases

@@ -1,7 +1,0 @@
-use Rattle.std.proofs.Common.{refl}
-use Rattle.iol_layout.specs.Octets.{padded}
-use Rattle.iol_checkpoint.proofs.examples.a_checkpoint.Goals as goal
-
-pub returns : goal.returns
-unfolding padded
-returns c = record { older = refl; closed = refl; migration = refl; twelve = refl }

@@ -1,5 +1,0 @@
-use Rattle.std.proofs.Common.{rules}
-use Rattle.iol_checkpoint.proofs.stage.Stage.first.Goals as goal
-
-pub returns-in-Closed : goal.returns-in-Closed
-returns-in-Closed c = search rules

@@ -1,0 +1,54 @@
+-- What a trace tells of a command that is refused, of a port's work and of its status, as plain data.
+use Rattle.std.specs.Prelude.{ℕ, Option}
+use Rattle.iol_types.specs.declared.command.CommandFault.{CommandFault}
+use Rattle.iol_types.specs.declared.config.PortConfig.{PortConfig}
+use Rattle.iol_link.specs.declared.validation.IdentFault.{IdentFault}
+
+-- why a command is refused: nothing more is taken, it does not pass, the queue is full, or no number is left (format,
+-- Texts)
+pub data Refusal : Type 0 where
+  Stopped : Refusal
+  Command : (fault : CommandFault) → Refusal
+  QueueFull : Refusal
+  Exhausted : Refusal
+
+-- what a port is to work with: its configuration and revision, and the checksum of its durable set, if it has one (own)
+pub record Work : Type 0 where
+  pub config : PortConfig
+  pub revision : ℕ
+  pub checksum : Option ℕ
+
+-- why a port has failed: by the fault of a transfer, of an ISDU, or by a refusal of the core (format, Texts)
+pub data Failure : Type 0 where
+  Refused : (error additional : ℕ) → Failure
+  Unexpected : Failure
+  Size : Failure
+  List : Failure
+  Busy : Failure
+  Memory : Failure
+  Empty : Failure
+  Reserved : Failure
+  WrongService : Failure
+  Length : Failure
+  Check : Failure
+  Stopped : Failure
+  NotAllowed : Failure
+  WrongDevice : Failure
+  Taken : Failure
+  Same : Failure
+  Exhausted : Failure
+  NoSet : Failure
+
+-- the status of a port (format, Texts)
+pub data Status : Type 0 where
+  Off : Status
+  Lost : Status
+  Starting : Status
+  Ready : Status
+  ReadyLocked : Status
+  ReadyEmpty : Status
+  Uploading : Status
+  Storing : Status
+  Downloading : Status
+  Mismatch : (fault : IdentFault) → Status
+  Failed : (failure : Failure) → Status

@@ -1,5 +1,0 @@
-use Rattle.std.proofs.Common.{rules}
-use Rattle.iol_dsindex.proofs.command.DsCommand.request.Goals as goal
-
-pub returns : goal.returns
-returns c = search rules

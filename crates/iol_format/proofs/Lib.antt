@@ -1,6 +1,0 @@
-pub mod EmptyParts
-pub mod EmptyJournals
-pub mod DiskGate
-pub mod Erased
-pub mod WrittenJournals
-pub mod Formatted

@@ -1,3 +1,0 @@
-pub mod Erasing
-pub mod Formatting
-pub mod Orders

@@ -1,3 +1,0 @@
-pub mod Page
-pub mod Validation
-pub mod Examples

@@ -1,4 +1,0 @@
-pub mod Service
-pub mod Isdu
-pub mod Faults
-pub mod Reading

@@ -1,0 +1,20 @@
+-- What a history is read off.
+use Rattle.std.specs.Prelude.{◌+◌, [], length}
+use Rattle.iol_types.specs.State.{after}
+use Rattle.iol_layout.specs.Body.{values}
+use Rattle.iol_journal.specs.Planned.{written_behind}
+use Rattle.iol_journal.specs.declared.history.History.{History}
+use Rattle.iol_journal.specs.declared.history.Source.{Source}
+use Rattle.iol_journal.specs.declared.history.Source.TheVariants.{Begun, Continued, Ended, Alone}
+
+-- a history that begins where another one leads to, behind the commands of a third (own)
+abbrev pub ended_behind : History → History → History
+ended_behind history batch =
+    record { first = history.first + length batch.commands; start = after history.start batch.commands; commands = [] }
+
+-- the history of a journal that was just recovered, or of one to which a batch more is written (own)
+abbrev pub history_of : Source → History
+history_of (Begun number state) = record { first = number; start = state.now; commands = [] }
+history_of (Continued history batch) = written_behind history.now (values batch.now.commands.items)
+history_of (Ended history batch) = ended_behind history.now batch.now
+history_of (Alone batch) = record { first = 0; start = []; commands = values batch.now.commands.items }

@@ -1,4 +1,0 @@
-pub mod Words
-pub mod Own
-pub mod Links
-pub mod CrashPrefix

@@ -1,5 +1,0 @@
-use Rattle.iol_trace.proofs.Links.{joined}
-use Rattle.iol_trace.proofs.laws.link_runs_join.Goals as goal
-
-pub returns : goal.returns
-returns g c = joined g.L.DeviceLink.number g.L.DeviceLink.steps

@@ -1,0 +1,14 @@
+use Rattle.std.proofs.Common.{◌≡◌, true, length}
+use Rattle.iol_transfer.specs.List.{reading_of, begins_with_key}
+use Rattle.iol_transfer.proofs.Readings.{read_behind}
+use Rattle.iol_transfer.proofs.reading.read_index_list.Given as goal
+
+-- what is left is read behind the keys so far; a key is met in it only where one was met at first
+abbrev pub invariant-loop-rest : goal.invariant-loop-rest
+invariant-loop-rest l = record {
+  reads : reading_of l.octets ≡ read_behind l.keys.items l.rest;
+  met : begins_with_key l.rest ≡ true → begins_with_key l.octets ≡ true;
+}
+
+abbrev pub decreases-loop-rest : goal.decreases-loop-rest
+decreases-loop-rest l = length l.rest
