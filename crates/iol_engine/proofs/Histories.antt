@@ -8,7 +8,7 @@ use Rattle.iol_port.proofs.PortLaws.{a_set_is_filed_whole}
 use Rattle.iol_port.specs.Calls.{BeginUpload, FinishUpload, IsReplyTo}
 use Rattle.iol_port.specs.History.{Happening, Raised, Did, HasLed, ComesOf}
 use Rattle.iol_port.specs.Laws.{HasUploaded}
-use Rattle.iol_port.specs.Stage.{Stage, Settled, PortValue}
+use Rattle.iol_port.specs.Stage.{Stage, Settled, PortValue, machine_at}
 use Rattle.iol_port.specs.Wanted.{Wanted, AnswerTo, ReplyTo, wanted}
 use Rattle.iol_port.specs.declared.action.Input.TheVariants as input
 use Rattle.iol_port.specs.declared.call.Reply.TheVariants as reply
@@ -59,10 +59,10 @@ noted_led port value (Some code) history led = (value, led, refl)
 
 -- and a settled machine woken
 awake_led : (port own : ℕ) (started : Option ℕ) (requested : Bool) (stage : Stage) (history : List Happening)
-    → HasLed port history (record { port = own; started_revision = started; upload_requested = requested; stage = stage })
-    → HasLed port (woken_first stage ++ history) (awake (record { port = own; started_revision = started; upload_requested = requested; stage = stage }))
+    → HasLed port history (machine_at own started requested stage)
+    → HasLed port (woken_first stage ++ history) (awake (machine_at own started requested stage))
 awake_led port own started requested (Settled rest) history led =
-    (record { port = own; started_revision = started; upload_requested = requested; stage = Settled rest }, led, (refl, tt, refl, tt))
+    (machine_at own started requested (Settled rest), led, (refl, tt, refl, tt))
 awake_led port own started requested stage history led = led
 
 module _ {L : Type 0} (number : L → ℕ) (steps : L → LinkCall → LinkAnswer → L → Type 0) where

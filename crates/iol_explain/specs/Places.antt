@@ -5,7 +5,8 @@ use Rattle.iol_journal.specs.Layout.{Layout, gate_at, record_sectors, total}
 use Rattle.iol_journal.specs.Area.{Area}
 use Rattle.iol_journal.specs.Area.TheVariants.{A, B}
 use Rattle.iol_explain.specs.declared.place.SectorUse.{SectorUse}
-use Rattle.iol_explain.specs.declared.place.SectorUse.TheVariants.{Geometry, DiskGate, AreaGate, Header, Record, SlotGate, Body, Unused, Behind}
+use Rattle.iol_explain.specs.declared.place.SectorUse.TheVariants.{Geometry, DiskGate, AreaGate, Header, Record, SlotGate, Body, Unused}
+use Rattle.iol_explain.specs.declared.place.SectorUse.TheVariants.{Behind}
 
 -- what stands so far behind the records of an area: slots of a gate and 16 sectors of a body (format, Disk layout)
 abbrev pub place_in_slot : Area → ℕ → SectorUse

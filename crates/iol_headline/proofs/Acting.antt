@@ -14,7 +14,7 @@ use Rattle.iol_port.specs.Answers.{RunsOut}
 use Rattle.iol_port.specs.Heard.{IsFed, fed, moved, at_stage, page_heard, attended}
 use Rattle.iol_port.specs.History.{ComesOf}
 use Rattle.iol_port.specs.Stage.{Stage, Next, Settled, Paging, Attending, BeginningUpload, BeginningDownload, Exchanging, Uploading}
-use Rattle.iol_port.specs.Stage.{Filing, Filed, Storing, Downloading, Breaking, Returning, Returned, PortValue, IsStage}
+use Rattle.iol_port.specs.Stage.{machine_at, Filing, Filed, Storing, Downloading, Breaking, Returning, Returned, PortValue, IsStage}
 use Rattle.iol_port.specs.Status.{status_of}
 use Rattle.iol_port.specs.Wanted.{wanted, after_action}
 use Rattle.iol_port.specs.declared.action.Input.{Input}
@@ -50,7 +50,7 @@ module _ {L : Type 0} (number : L → ℕ) (steps : L → LinkCall → LinkAnswe
 
   -- a machine of the port
   abbrev machine : Option ℕ → Bool → Stage → PortValue
-  machine started requested stage = record { port = port; started_revision = started; upload_requested = requested; stage = stage }
+  machine started requested stage = machine_at port started requested stage
 
   -- the status stays
   stays : (called : List Event) (stage : Stage) → Told first start port (number link) (events ++ stamped clock called) stage
@@ -81,7 +81,8 @@ module _ {L : Type 0} (number : L → ℕ) (steps : L → LinkCall → LinkAnswe
       → IsStage (After started requested stage heard) → Leads called stage (After started requested stage heard)
   acts_goes started requested (Settled own) heard called is hand comes hears good = absurd hears
   acts_goes started requested (Paging what) (input.Page connection octets) called is hand comes hears good =
-      subst (λ (c : ℕ). Leads called (Paging what) (moved (machine started requested (Paging what)) (page_heard what c (page_of octets))).stage)
+      subst (λ (c : ℕ). Leads called (Paging what)
+              (moved (machine started requested (Paging what)) (page_heard what c (page_of octets))).stage)
       (sym hears.0.0)
       (by_called called (Page port (number link) octets ∷ []) (Paging what) _ hears.0.3
       (moves (Page port (number link) octets ∷ []) (status_of (Paging what)) (machine started requested (Paging what))
@@ -102,14 +103,16 @@ module _ {L : Type 0} (number : L → ℕ) (steps : L → LinkCall → LinkAnswe
       by_called called [] (BeginningUpload found) _ hears.0.1
       (upload_goes first start port (number link) events clock found begins old new core is hears.0.0)
   acts_goes started requested (BeginningUpload found) heard called is hand comes hears good = absurd comes
-  acts_goes started requested (BeginningDownload found checksum) (input.Reply (reply.BegunDownload begins)) called is hand comes hears good =
+  acts_goes started requested (BeginningDownload found checksum)
+      (input.Reply (reply.BegunDownload begins)) called is hand comes hears good =
       by_called called [] (BeginningDownload found checksum) _ hears.0.1
       (download_goes first start port (number link) events clock found checksum begins old new core is hears.0.0 comes)
   acts_goes started requested (BeginningDownload found checksum) heard called is hand comes hears good = absurd comes
   acts_goes started requested (Exchanging (exchange.ReadingState found left)) (input.Octets octets) called is hand comes hears good =
       by_called called _ (Exchanging (exchange.ReadingState found left)) _ hears.0.2.2
       (state_goes first start port (number link) events clock found left hears.0.0 octets.items _ hears.0.1 is refl)
-  acts_goes started requested (Exchanging (exchange.ReadingChecksum found property left)) (input.Octets octets) called is hand comes hears good =
+  acts_goes started requested (Exchanging (exchange.ReadingChecksum found property left))
+      (input.Octets octets) called is hand comes hears good =
       by_called called _ (Exchanging (exchange.ReadingChecksum found property left)) _ hears.0.2.2
       (checksum_goes first start port (number link) events clock found property left hears.0.0 octets.items _ hears.0.1 is refl)
   acts_goes started requested (Exchanging (exchange.EndingUpload page left)) (input.Octets octets) called is hand comes hears good =
@@ -119,7 +122,8 @@ module _ {L : Type 0} (number : L → ℕ) (steps : L → LinkCall → LinkAnswe
       rests called (status_of (Exchanging (exchange.Stopping storing))) (rest.Failed fault.Stopped)
   acts_goes started requested (Exchanging exchange.Yielding) (input.Octets octets) called is hand comes hears good =
       stays called (Attending attend.Restarting) tt
-  acts_goes started requested (Exchanging what) input.Lost called is hand comes hears good = rests called (status_of (Exchanging what)) rest.Lost
+  acts_goes started requested (Exchanging what) input.Lost called is hand comes hears good =
+      rests called (status_of (Exchanging what)) rest.Lost
   acts_goes started requested (Exchanging what) heard called is hand comes hears good = absurd comes
   acts_goes started requested (Uploading grant page upload) (input.Octets octets) called is hand comes hears good =
       by_called called _ (Uploading grant page upload) _ hears.0.2.2
@@ -175,7 +179,7 @@ module _ {L : Type 0} (number : L → ℕ) (steps : L → LinkCall → LinkAnswe
     where
       stage_at : (heard : Input) → (fed (at_stage value (after_action value.stage)) heard).stage
           ≡ After value.started_revision value.upload_requested value.stage heard
-      stage_at heard = ap (λ (p : ℕ). (fed (record { port = p; started_revision = value.started_revision; upload_requested = value.upload_requested; stage = after_action value.stage })
+      stage_at heard = ap (λ (p : ℕ). (fed (machine_at p value.started_revision value.upload_requested (after_action value.stage))
           heard).stage) at
 
       whole : (heard : Input) → ComesOf (wanted port value.stage) heard
@@ -185,7 +189,8 @@ module _ {L : Type 0} (number : L → ℕ) (steps : L → LinkCall → LinkAnswe
           let stage_is : later.stage ≡ After value.started_revision value.upload_requested value.stage heard =
           ap (λ (v : PortValue). v.stage) same ∙ stage_at heard in
           subst (λ (s : Stage). Leads called value.stage s) (sym stage_is)
-          (acts_goes value.started_revision value.upload_requested value.stage heard called is hand comes hears (subst IsStage stage_is good))
+          (acts_goes value.started_revision value.upload_requested value.stage heard called is hand comes hears
+              (subst IsStage stage_is good))
 
       by : (heard : Input) → ComesOf (wanted port value.stage) heard
           → Hears number steps port (wanted port value.stage) heard link last old new called

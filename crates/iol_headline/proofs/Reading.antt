@@ -320,7 +320,7 @@ module _ (first : ℕ) (start : State) (port connection : ℕ) (events : List St
 
         config : found.work.config ≡ work.config
         config =
-            let held = holds_since first start port connection events earlier.upto earlier.more earlier.upload_requested said.upload_requested earlier.split
+            let held = holds_since first start port connection events earlier.upto earlier.more earlier.kept said.kept earlier.split
             earlier.there said.there in
             let later = ap (λ (w : Work). w.config) said.work_is in
             let revision = ap (λ (w : Work). w.revision) said.work_is in
@@ -355,7 +355,8 @@ module _ (first : ℕ) (start : State) (port connection : ℕ) (events : List St
         by : (test : Bool) → NextLeads (attended_told port (Some work)) (status_at_rest own) (if test then resumed own work else Start work)
         by true = resumed_goes own work (was_said first start port connection events old work said)
         by false = was_said first start port connection events old work said
-    attended_goes started requested (attend.Confirming found property checksum) work is said = by (found.work.revision == work.revision) refl
+    attended_goes started requested (attend.Confirming found property checksum) work is said =
+        by (found.work.revision == work.revision) refl
       where
         by : (test : Bool) → (found.work.revision == work.revision) ≡ test
             → NextLeads (attended_told port (Some work)) status.Starting

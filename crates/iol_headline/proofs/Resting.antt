@@ -22,7 +22,7 @@ use Rattle.iol_port.specs.Answers.{RunsOut}
 use Rattle.iol_port.specs.Heard.{IsFed, fed, at_stage, page_heard, attended, upload_finished}
 use Rattle.iol_port.specs.History.{ComesOf}
 use Rattle.iol_port.specs.Stage.{Stage, Settled, Paging, Attending, BeginningUpload, BeginningDownload, Exchanging, Uploading, Filing}
-use Rattle.iol_port.specs.Stage.{Filed, Storing, Downloading, Breaking, Returning, Returned, PortValue}
+use Rattle.iol_port.specs.Stage.{machine_at, Filed, Storing, Downloading, Breaking, Returning, Returned, PortValue}
 use Rattle.iol_port.specs.Status.{status_of}
 use Rattle.iol_port.specs.Wanted.{wanted, after_action}
 use Rattle.iol_port.specs.declared.action.Input.{Input}
@@ -98,7 +98,7 @@ module _ {L : Type 0} (number : L → ℕ) (steps : L → LinkCall → LinkAnswe
   keeps (attend.Confirming found property checksum) work is said = λ same.
       let earlier = is.shows.said in
       let held = holds_since first start port (number link)
-      events earlier.upto earlier.more earlier.upload_requested said.upload_requested earlier.split earlier.there said.there in
+      events earlier.upto earlier.more earlier.kept said.kept earlier.split earlier.there said.there in
       let later = ap (λ (w : Work). w.config) said.work_is in
       let revision = ap (λ (w : Work). w.revision) said.work_is in
       earlier.config ∙ (sym (held.config (sym revision ∙ (sym same ∙ earlier.revision))) ∙ sym later)
@@ -140,7 +140,7 @@ module _ {L : Type 0} (number : L → ℕ) (steps : L → LinkCall → LinkAnswe
 
   -- a machine of the port
   abbrev machine : Option ℕ → Bool → Stage → PortValue
-  machine started requested stage = record { port = port; started_revision = started; upload_requested = requested; stage = stage }
+  machine started requested stage = machine_at port started requested stage
 
   abbrev After : Option ℕ → Bool → Stage → Input → Stage
   After started requested stage heard = (fed (machine started requested (after_action stage)) heard).stage
@@ -148,7 +148,8 @@ module _ {L : Type 0} (number : L → ℕ) (steps : L → LinkCall → LinkAnswe
   -- the table: each stage, and each thing that it may hear
   acts_rest : (started : Option ℕ) (requested : Bool) (stage : Stage) (heard : Input) (called : List Event) → IsTold stage
       → StandsAt stage → IsAtHand stage → ComesOf (wanted port stage) heard
-      → Hears number steps port (wanted port stage) heard link last old new called → Leads called stage (After started requested stage heard)
+      → Hears number steps port (wanted port stage) heard link last old new called
+          → Leads called stage (After started requested stage heard)
   acts_rest started requested (Settled at_rest) heard called is stands hand comes hears = absurd hears
   acts_rest started requested (Paging what) (input.Page connection octets) called is stands hand comes hears =
       by_own called (Page port (number link) octets) (Paging what) _ hears.0.3 (at_own port (Page port (number link) octets))
@@ -161,21 +162,24 @@ module _ {L : Type 0} (number : L → ℕ) (steps : L → LinkCall → LinkAnswe
       absurd (none_some old port there.0 there.1 hears.0.0.0)
   acts_rest started requested (Attending what) (input.Reply (reply.Attended (Some work))) called is stands hand comes hears =
       by_own called (Attended port (work_told work)) (Attending what) _ hears.0.1 (at_own port (Attended port (work_told work)))
-      (moved_rests port _ (status_of (Attending what)) (machine started requested (Attending what)) (attended started requested what (Some work))
+      (moved_rests port _ (status_of (Attending what)) (machine started requested (Attending what))
+          (attended started requested what (Some work))
       (attended_rests port (own port events) work started requested what stands
       (keeps what work is (is_said first start port (number link) events old work core hears.0.0.0))))
   acts_rest started requested (Attending what) heard called is stands hand comes hears = absurd comes
   acts_rest started requested (BeginningUpload found) (input.Reply (reply.BegunUpload begins)) called is stands hand comes hears =
       by_none called (BeginningUpload found) _ hears.0.1 (upload_rests port (own port events) found.page begins stands)
   acts_rest started requested (BeginningUpload found) heard called is stands hand comes hears = absurd comes
-  acts_rest started requested (BeginningDownload found checksum) (input.Reply (reply.BegunDownload begins)) called is stands hand comes hears =
+  acts_rest started requested (BeginningDownload found checksum)
+      (input.Reply (reply.BegunDownload begins)) called is stands hand comes hears =
       by_none called (BeginningDownload found checksum) _ hears.0.1 (download_rests port (own port events) found.page begins stands)
   acts_rest started requested (BeginningDownload found checksum) heard called is stands hand comes hears = absurd comes
   acts_rest started requested (Exchanging (exchange.ReadingState found left)) (input.Octets octets) called is stands hand comes hears =
       by_talk called hears.0.0 octets.items (Exchanging (exchange.ReadingState found left)) _ hears.0.2.2
       (state_rests port _ found left (answer_of octets.items)
       (fits_more port found (own port events) (trace.Exchange port (number link) hears.0.0 octets.items ∷ []) stands ((tt, tt), tt)))
-  acts_rest started requested (Exchanging (exchange.ReadingChecksum found property left)) (input.Octets octets) called is stands hand comes hears =
+  acts_rest started requested (Exchanging (exchange.ReadingChecksum found property left))
+      (input.Octets octets) called is stands hand comes hears =
       by_talk called hears.0.0 octets.items (Exchanging (exchange.ReadingChecksum found property left)) _ hears.0.2.2
       (checksum_rests port _ found property left (answer_of octets.items)
       (fits_more port found (own port events) (trace.Exchange port (number link) hears.0.0 octets.items ∷ []) stands ((tt, tt), tt)))
@@ -216,11 +220,13 @@ module _ {L : Type 0} (number : L → ℕ) (steps : L → LinkCall → LinkAnswe
   acts_rest started requested (Breaking holder why) input.Lost called is stands hand comes hears =
       λ told shown. (tt, settles_told port (behind called) (status_of (Breaking holder why)) status.Lost told tt shown)
   acts_rest started requested (Breaking holder why) heard called is stands hand comes hears = absurd comes
-  acts_rest started requested (Returning (held.Upload permit) at_rest) (input.Reply reply.AbandonedUpload) called is stands hand comes hears =
+  acts_rest started requested (Returning (held.Upload permit) at_rest)
+      (input.Reply reply.AbandonedUpload) called is stands hand comes hears =
       by_none called (Returning (held.Upload permit) at_rest) (Settled at_rest) hears.0.1
       (rests port _ (status_of (Returning (held.Upload permit) at_rest)) at_rest stands)
   acts_rest started requested (Returning (held.Upload permit) at_rest) heard called is stands hand comes hears = absurd comes
-  acts_rest started requested (Returning (held.Download permit) at_rest) (input.Reply reply.EndedDownload) called is stands hand comes hears =
+  acts_rest started requested (Returning (held.Download permit) at_rest)
+      (input.Reply reply.EndedDownload) called is stands hand comes hears =
       by_none called (Returning (held.Download permit) at_rest) (Settled at_rest) hears.0.1
       (rests port _ (status_of (Returning (held.Download permit) at_rest)) at_rest stands)
   acts_rest started requested (Returning (held.Download permit) at_rest) heard called is stands hand comes hears = absurd comes
@@ -246,7 +252,7 @@ module _ {L : Type 0} (number : L → ℕ) (steps : L → LinkCall → LinkAnswe
     where
       stage_at : (heard : Input) → (fed (at_stage value (after_action value.stage)) heard).stage
           ≡ After value.started_revision value.upload_requested value.stage heard
-      stage_at heard = ap (λ (p : ℕ). (fed (record { port = p; started_revision = value.started_revision; upload_requested = value.upload_requested; stage = after_action value.stage })
+      stage_at heard = ap (λ (p : ℕ). (fed (machine_at p value.started_revision value.upload_requested (after_action value.stage))
           heard).stage) at
 
       whole : (heard : Input) → ComesOf (wanted port value.stage) heard

@@ -148,7 +148,8 @@ module _ (port : ℕ) (events : List Event) where
   state_rests found left (Ok answer.Busy) is = again_rests left (exchange.ReadingState found (left - 1)) is
   state_rests found left other is = rests status.Starting (rest.Failed (read_fault other)) tt
 
-  pub checksum_rests : (found : FoundDevice) (property : PropertyValue) (left : ℕ) (heard : Result Answer IsduFault) → Fits port found events
+  pub checksum_rests : (found : FoundDevice) (property : PropertyValue) (left : ℕ) (heard : Result Answer IsduFault)
+      → Fits port found events
       → Rests port events status.Starting (checksum_read found property left heard)
   checksum_rests found property left (Ok (answer.ReadOk values)) is = by (length values.items == 4)
     where

@@ -130,7 +130,8 @@ module _ (first : ℕ) (start : State) (port connection : ℕ) (events : List St
   -- ---- uploads
 
   -- the core gives a permit to upload, or refuses it
-  pub upload_goes : (found : FoundDevice) (begins : Result UploadGrant PermitFault) (old new : CoreView) → IsCoreAfter first start events old
+  pub upload_goes : (found : FoundDevice) (begins : Result UploadGrant PermitFault) (old new : CoreView)
+      → IsCoreAfter first start events old
       → Begins first start port connection decision.Upload found events
       → IsBeginUpload old port found.page.vendor found.page.device found.connection new begins
       → Leads [] status.Starting (upload_begun found.page begins)

@@ -28,7 +28,8 @@ use Rattle.iol_layout.specs.declared.body.EncodedBatch.{EncodedBatch}
 use Rattle.iol_layout.specs.declared.body.TheConstants.{EPOCH_OCTETS}
 use Rattle.iol_layout.specs.declared.idle.Idle.{Idle}
 use Rattle.iol_journal.specs.declared.stage.CheckpointStage.{CheckpointStage}
-use Rattle.iol_journal.specs.declared.stage.CheckpointStage.TheVariants.{ClearHeader, SyncHeader, CloseGate, SyncClosed, CloseSlot, SyncSlots}
+use Rattle.iol_journal.specs.declared.stage.CheckpointStage.TheVariants.{ClearHeader, SyncHeader, CloseGate, SyncClosed}
+use Rattle.iol_journal.specs.declared.stage.CheckpointStage.TheVariants.{CloseSlot, SyncSlots}
 use Rattle.iol_journal.specs.declared.stage.CheckpointStage.TheVariants.{WriteHeader, WriteRecord, SyncRecords, Carry, OpenGate, SyncOpen}
 use Rattle.iol_journal.proofs.BatchCalls.{sectors_for-same}
 use Rattle.iol_layout.proofs.Bodies.{body_octets-under}

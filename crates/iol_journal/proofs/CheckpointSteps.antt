@@ -26,7 +26,8 @@ use Rattle.iol_layout.specs.declared.idle.Idle.{Idle}
 use Rattle.iol_layout.specs.declared.idle.Idle.TheVariants.{Older, Closed}
 use Rattle.iol_layout.specs.declared.records.RecordSector.{RecordSector}
 use Rattle.iol_journal.specs.declared.stage.CheckpointStage.{CheckpointStage}
-use Rattle.iol_journal.specs.declared.stage.CheckpointStage.TheVariants.{ClearHeader, SyncHeader, CloseGate, SyncClosed, CloseSlot, SyncSlots}
+use Rattle.iol_journal.specs.declared.stage.CheckpointStage.TheVariants.{ClearHeader, SyncHeader, CloseGate, SyncClosed}
+use Rattle.iol_journal.specs.declared.stage.CheckpointStage.TheVariants.{CloseSlot, SyncSlots}
 use Rattle.iol_journal.specs.declared.stage.CheckpointStage.TheVariants.{WriteHeader, WriteRecord, SyncRecords, Carry, OpenGate, SyncOpen}
 use Rattle.iol_journal.proofs.DraftLaws.{resting_on}
 use Rattle.iol_journal.proofs.StageCalls.{calls_behind, first_call}
@@ -125,7 +126,8 @@ module _ (s : Standing) (log : Log) (owed : List (List CommandValue)) (stage : C
       subst (λ (then_ : Option CheckpointStage). HoldsBehind new.sectors s t' owed' then_ new.content) is (made-behind made holds h)
 
   -- the last stage, at which no batch is owed
-  last_stage : (stage : CheckpointStage) (slots records sectors count : ℕ) → next_stage slots records sectors count stage ≡ None → stage ≡ SyncOpen
+  last_stage : (stage : CheckpointStage) (slots records sectors count : ℕ) → next_stage slots records sectors count stage ≡ None
+      → stage ≡ SyncOpen
   last_stage SyncOpen slots records sectors count is = refl
   last_stage ClearHeader slots records sectors count is = cc
   last_stage SyncHeader slots records sectors count is = cc
@@ -156,7 +158,8 @@ module _ (s : Standing) (log : Log) (owed : List (List CommandValue)) (stage : C
 
   pub durable : next ≡ None → Made (call ∷ []) old new → Before → IsAtRest new t Older
   durable is made holds h =
-      let whole = subst (λ (then_ : Option CheckpointStage). HoldsBehind new.sectors s t' owed' then_ new.content) is (made-behind made holds h) in
+      let whole = subst (λ (then_ : Option CheckpointStage). HoldsBehind new.sectors s t' owed' then_ new.content) is
+      (made-behind made holds h) in
       subst (λ (l : Log). EachImage new.content (IsKeptAs new.sectors (target s l) Older)) (unmoved is) whole.0
 
   -- behind the last call

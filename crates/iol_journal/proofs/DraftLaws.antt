@@ -18,7 +18,8 @@ use Rattle.iol_layout.specs.Layout.{Layout, is_renewed, total}
 use Rattle.iol_layout.specs.Meaning.{Log, Standing}
 use Rattle.iol_journal.specs.declared.phase.Phase.TheVariants.{Body, SyncBody, Gate, SyncGate}
 use Rattle.iol_journal.specs.declared.stage.CheckpointStage.{CheckpointStage}
-use Rattle.iol_journal.specs.declared.stage.CheckpointStage.TheVariants.{ClearHeader, SyncHeader, CloseGate, SyncClosed, CloseSlot, SyncSlots}
+use Rattle.iol_journal.specs.declared.stage.CheckpointStage.TheVariants.{ClearHeader, SyncHeader, CloseGate, SyncClosed}
+use Rattle.iol_journal.specs.declared.stage.CheckpointStage.TheVariants.{CloseSlot, SyncSlots}
 use Rattle.iol_journal.specs.declared.stage.CheckpointStage.TheVariants.{WriteHeader, WriteRecord, SyncRecords, Carry, OpenGate, SyncOpen}
 use Rattle.iol_journal.proofs.BatchCalls.{sectors_for-some, rests_with}
 use Rattle.iol_layout.proofs.Chains.{by_test}
@@ -53,7 +54,8 @@ drafted_on d d' s t owed stage same drafted = record {
 -- ---- behind a disk call
 
 -- a batch is carried at one stage alone
-pub by_stage : {A : Type 0} (P : Log → List A → Type 0) (log : Log) (owed : List (List CommandValue)) (items : List A) (stage : CheckpointStage)
+pub by_stage : {A : Type 0} (P : Log → List A → Type 0) (log : Log) (owed : List (List CommandValue)) (items : List A)
+    (stage : CheckpointStage)
     → P log items → (is_carried stage ≡ true → P (log_with log (first_of owed)) (behind_first items))
     → P (log_behind log owed stage) (owed_behind items stage)
 by_stage P log owed items stage here moved = by_test (is_carried stage) _ (λ at. rw at (moved at)) (λ away. rw away here)
@@ -123,17 +125,20 @@ not_carried (Carry p) is = absurd is
 not_carried OpenGate is = absurd is
 not_carried SyncOpen is = absurd is
 
-pub log_unmoved : (log : Log) (owed : List (List CommandValue)) (stage : CheckpointStage) → IsSnapshot stage → log_behind log owed stage ≡ log
+pub log_unmoved : (log : Log) (owed : List (List CommandValue)) (stage : CheckpointStage) → IsSnapshot stage
+    → log_behind log owed stage ≡ log
 log_unmoved log owed stage is = let away = not_carried stage is in rw away refl
 
 -- the stage that comes next is one of the snapshot only where this one is
-pub snapshot_next : (slots records sectors owed : ℕ) (stage q : CheckpointStage) → next_stage slots records sectors owed stage ≡ Some q → IsSnapshot q
+pub snapshot_next : (slots records sectors owed : ℕ) (stage q : CheckpointStage) → next_stage slots records sectors owed stage ≡ Some q
+    → IsSnapshot q
     → IsSnapshot stage
 snapshot_next slots records sectors owed stage q is =
     subst (λ (next : Option CheckpointStage). IfSome next (λ r. IsSnapshot r → IsSnapshot stage)) is
     (fresh_next slots records sectors owed stage (IsSnapshot stage) (λ here. here))
 
-module _ (d d' : Disk) (s : Standing) (log : Log) (owed : List (List CommandValue)) (stage q : CheckpointStage) (same : d'.sectors ≡ d.sectors)
+module _ (d d' : Disk) (s : Standing) (log : Log) (owed : List (List CommandValue)) (stage q : CheckpointStage)
+    (same : d'.sectors ≡ d.sectors)
     (drafted : IsDrafted d s (target s log) owed stage) (next : stage_behind (target s log) owed stage ≡ Some q) where
   abbrev t : Standing
   t = target s log
@@ -218,7 +223,8 @@ pauses_at s stage next is can = by_both (is_renewed s.layout) (can_pause stage) 
     by_both false was is = absurd cc
 
 -- what holds where a checkpoint may be paused
-pub holds_parts : (size : ℕ) (s t : Standing) (owed : List (List CommandValue)) (stage : CheckpointStage) (c : Content) → can_pause stage ≡ true
+pub holds_parts : (size : ℕ) (s t : Standing) (owed : List (List CommandValue)) (stage : CheckpointStage) (c : Content)
+    → can_pause stage ≡ true
     → StageHolds size s t owed stage c → EachImage c (IsKeptAs size s (idle_at stage)) × AreaHolds size t owed stage c
 holds_parts size s t owed ClearHeader c may holds = holds
 holds_parts size s t owed SyncHeader c may holds = holds

@@ -18,7 +18,8 @@ use Rattle.iol_journal.specs.declared.phase.Phase.TheVariants.{Body, SyncBody, G
 use Rattle.iol_layout.specs.declared.idle.Idle.{Idle}
 use Rattle.iol_layout.specs.declared.idle.Idle.TheVariants.{Older, Closed}
 use Rattle.iol_journal.specs.declared.stage.CheckpointStage.{CheckpointStage}
-use Rattle.iol_journal.specs.declared.stage.CheckpointStage.TheVariants.{ClearHeader, SyncHeader, CloseGate, SyncClosed, CloseSlot, SyncSlots}
+use Rattle.iol_journal.specs.declared.stage.CheckpointStage.TheVariants.{ClearHeader, SyncHeader, CloseGate, SyncClosed}
+use Rattle.iol_journal.specs.declared.stage.CheckpointStage.TheVariants.{CloseSlot, SyncSlots}
 use Rattle.iol_journal.specs.declared.stage.CheckpointStage.TheVariants.{WriteHeader, WriteRecord, SyncRecords, Carry, OpenGate, SyncOpen}
 use Rattle.iol_journal.proofs.BatchCalls.{first_call as first_of_batch, all_calls as all_of_batch, sectors_for-some}
 use Rattle.iol_layout.proofs.Chains.{by_test}
@@ -93,7 +94,8 @@ module _ (t : Standing) (owed : List (List CommandValue)) where
       ap (λ (calls : List Call). calls ++ last_calls t owed) none
 
   -- of two stages the one that comes next
-  one_of : (n m : ℕ) (p q : CheckpointStage) (calls : List Call) → (n < m → calls ≡ stage_calls t owed p) → (m ≤ n → calls ≡ stage_calls t owed q)
+  one_of : (n m : ℕ) (p q : CheckpointStage) (calls : List Call) → (n < m → calls ≡ stage_calls t owed p)
+      → (m ≤ n → calls ≡ stage_calls t owed q)
       → calls ≡ calls_behind t owed (Some (if nat_lt n m then p else q))
   one_of n m p q calls more last = by_test (nat_lt n m) _
       (λ less. rw less (more (grind (arith, nat_tests))))

@@ -12,7 +12,8 @@ use Rattle.iol_layout.specs.Layout.{gate_at}
 use Rattle.iol_layout.specs.Meaning.{Standing}
 use Rattle.iol_layout.specs.declared.idle.Idle.TheVariants.{Older, Closed}
 use Rattle.iol_journal.specs.declared.stage.CheckpointStage.{CheckpointStage}
-use Rattle.iol_journal.specs.declared.stage.CheckpointStage.TheVariants.{ClearHeader, SyncHeader, CloseGate, SyncClosed, CloseSlot, SyncSlots}
+use Rattle.iol_journal.specs.declared.stage.CheckpointStage.TheVariants.{ClearHeader, SyncHeader, CloseGate, SyncClosed}
+use Rattle.iol_journal.specs.declared.stage.CheckpointStage.TheVariants.{CloseSlot, SyncSlots}
 use Rattle.iol_journal.specs.declared.stage.CheckpointStage.TheVariants.{WriteHeader, WriteRecord, SyncRecords, Carry, OpenGate, SyncOpen}
 use Rattle.iol_layout.proofs.Chains.{by_test}
 use Rattle.iol_layout.proofs.Frames.{kept_means}
@@ -27,7 +28,8 @@ module _ (size : ℕ) (s : Standing) where
       (λ closed. kept_means size s Closed image (is.0 closed))
 
   -- before the call of each stage each image means the number and the state
-  pub stage_means : (t : Standing) (owed : List (List CommandValue)) (stage : CheckpointStage) (c : Content) → StageHolds size s t owed stage c
+  pub stage_means : (t : Standing) (owed : List (List CommandValue)) (stage : CheckpointStage) (c : Content)
+      → StageHolds size s t owed stage c
       → (image : Image) → IsImage c image → KeptMeans size s.number s.state image
   stage_means t owed ClearHeader c holds image is = kept_means size s Closed image (holds.0 image is)
   stage_means t owed SyncHeader c holds image is = kept_means size s Closed image (holds.0 image is)
@@ -48,7 +50,8 @@ module _ (size : ℕ) (s : Standing) where
   behind_means t owed None c (kept, (number, state)) image is = rw (← number, ← state) (kept_means size t Older image (kept image is))
 
   -- the images on the way of a call
-  pub on_the_way : (t u : Standing) (owed left : List (List CommandValue)) (stage : CheckpointStage) (next : Option CheckpointStage) (c : Content)
+  pub on_the_way : (t u : Standing) (owed left : List (List CommandValue)) (stage : CheckpointStage) (next : Option CheckpointStage)
+      (c : Content)
       → StageHolds size s t owed stage c → HoldsBehind size s u left next (content_after (call_at t owed stage) c)
       → HasOnTheWay (call_at t owed stage ∷ []) c (KeptMeans size s.number s.state)
   on_the_way t u owed left stage next c holds behind zero image is = stage_means t owed stage c holds image is

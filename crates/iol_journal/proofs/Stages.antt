@@ -28,7 +28,8 @@ use Rattle.iol_layout.specs.declared.idle.Idle.{Idle}
 use Rattle.iol_layout.specs.declared.idle.Idle.TheVariants.{Older, Closed}
 use Rattle.iol_journal.specs.declared.phase.Phase.TheVariants.{Body, SyncBody, Gate, SyncGate}
 use Rattle.iol_journal.specs.declared.stage.CheckpointStage.{CheckpointStage}
-use Rattle.iol_journal.specs.declared.stage.CheckpointStage.TheVariants.{ClearHeader, SyncHeader, CloseGate, SyncClosed, CloseSlot, SyncSlots}
+use Rattle.iol_journal.specs.declared.stage.CheckpointStage.TheVariants.{ClearHeader, SyncHeader, CloseGate, SyncClosed}
+use Rattle.iol_journal.specs.declared.stage.CheckpointStage.TheVariants.{CloseSlot, SyncSlots}
 use Rattle.iol_journal.specs.declared.stage.CheckpointStage.TheVariants.{WriteHeader, WriteRecord, SyncRecords, Carry, OpenGate, SyncOpen}
 use Rattle.iol_journal.proofs.Carrying.{carry_sector, carry_gate}
 use Rattle.iol_journal.proofs.Phases.{IsFit, fit_for}

@@ -25,7 +25,7 @@ use Rattle.iol_port.specs.Heard.{at_stage}
 use Rattle.iol_port.specs.History.{ComesOf, Did, Happens}
 use Rattle.iol_port.specs.Laws.{held_by}
 use Rattle.iol_port.specs.Stage.{Stage, Settled, Paging, Attending, BeginningUpload, BeginningDownload, Exchanging, Uploading, Filing}
-use Rattle.iol_port.specs.Stage.{Filed, Storing, Downloading, Breaking, Returning, Returned, PortValue}
+use Rattle.iol_port.specs.Stage.{machine_at, Filed, Storing, Downloading, Breaking, Returning, Returned, PortValue}
 use Rattle.iol_port.specs.Wanted.{Wanted, AnswerTo, wanted, after_action}
 use Rattle.iol_port.specs.declared.action.Input.{Input}
 use Rattle.iol_port.specs.declared.action.Input.TheVariants as input
@@ -97,20 +97,20 @@ ticket_breaks wants heard was number page ticket.Unsure = tt
 -- what comes of what was wanted
 comes_breaks : (port : ℕ) (started : Option ℕ) (requested : Bool) (stage : Stage) (heard : Input) → ComesOf (wanted port stage) heard
     → Breaks (wanted port stage) heard stage
-    (fed (record { port = port; started_revision = started; upload_requested = requested; stage = after_action stage }) heard).stage
+    (fed (machine_at port started requested (after_action stage)) heard).stage
 comes_breaks port started requested (Settled own) input.Wake comes = tt
 comes_breaks port started requested (Settled own) heard comes = absurd comes
 comes_breaks port started requested (Paging what) (input.Page connection octets) comes =
     free_breaks (wanted port (Paging what)) (input.Page connection octets) (Paging what)
-    (moved (record { port = port; started_revision = started; upload_requested = requested; stage = Paging what }) (page_heard what connection (page_of octets))).stage
-    (moved_holds (record { port = port; started_revision = started; upload_requested = requested; stage = Paging what }) (page_heard what connection (page_of octets))
+    (moved (machine_at port started requested (Paging what)) (page_heard what connection (page_of octets))).stage
+    (moved_holds (machine_at port started requested (Paging what)) (page_heard what connection (page_of octets))
     (page_free what connection (page_of octets)))
 comes_breaks port started requested (Paging what) input.Lost comes = tt
 comes_breaks port started requested (Paging what) heard comes = absurd comes
 comes_breaks port started requested (Attending what) (input.Reply (reply.Attended work)) comes =
     free_breaks (wanted port (Attending what)) (input.Reply (reply.Attended work)) (Attending what)
-    (moved (record { port = port; started_revision = started; upload_requested = requested; stage = Attending what }) (attended started requested what work)).stage
-    (moved_holds (record { port = port; started_revision = started; upload_requested = requested; stage = Attending what }) (attended started requested what work)
+    (moved (machine_at port started requested (Attending what)) (attended started requested what work)).stage
+    (moved_holds (machine_at port started requested (Attending what)) (attended started requested what work)
     (attended_free started requested what work))
 comes_breaks port started requested (Attending what) heard comes = absurd comes
 comes_breaks port started requested (BeginningUpload found) (input.Reply (reply.BegunUpload begins)) comes =
@@ -186,7 +186,7 @@ failed_breaks old new wants heard holder why happens returns =
 refused : (port : ℕ) (started : Option ℕ) (requested : Bool) (stage : Stage) (why : FinishFault)
     → ComesOf (wanted port stage) (input.Reply (reply.FinishedUpload (Err why)))
     → (page : PageValue)
-    × ((fed (record { port = port; started_revision = started; upload_requested = requested; stage = after_action stage })
+    × ((fed (machine_at port started requested (after_action stage))
     (input.Reply (reply.FinishedUpload (Err why)))).stage
     ≡ upload_finished page (Err why))
 refused port started requested (Filing grant page set) why comes = (page, refl)
@@ -197,7 +197,7 @@ refused port started requested stage why comes = absurd comes
 unknown : (port : ℕ) (started : Option ℕ) (requested : Bool) (stage : Stage)
     → ComesOf (wanted port stage) (input.Reply (reply.Ticket ticket.Unsure))
     → (number : ℕ) × (page : PageValue)
-    × ((fed (record { port = port; started_revision = started; upload_requested = requested; stage = after_action stage })
+    × ((fed (machine_at port started requested (after_action stage))
     (input.Reply (reply.Ticket ticket.Unsure))).stage
     ≡ ticket_told number page ticket.Unsure)
 unknown port started requested (Storing number page) comes = (number, page, refl)

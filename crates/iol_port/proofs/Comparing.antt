@@ -11,7 +11,7 @@ use Rattle.iol_transfer.specs.declared.repeats.TheConstants.{MOST_REQUESTS}
 use Rattle.iol_port.specs.Heard.{same_flag, same_page, settled_with, found_by, judged, page_heard, fed, moved}
 use Rattle.iol_port.specs.History.{Did, Happens}
 use Rattle.iol_port.specs.Laws.{page_at}
-use Rattle.iol_port.specs.Stage.{Stage, Settled, Paging, Exchanging, Returning, PortValue, Next, To, Start}
+use Rattle.iol_port.specs.Stage.{Stage, Settled, Paging, Exchanging, Returning, PortValue, Next, To, Start, machine_at}
 use Rattle.iol_port.specs.Wanted.{ThePage, wanted, after_action}
 use Rattle.iol_port.specs.declared.action.Input.TheVariants as input
 use Rattle.iol_port.specs.declared.stage.ExchangeFor.TheVariants as exchange
@@ -125,13 +125,13 @@ a_settled_port_keeps_its_page connection octets old new own happens settles =
     by old.stage (paging_only old.port old.stage happens.0) happens.2
   where
     by : (stage : Stage) → (what : PageFor) × (stage ≡ Paging what)
-        → new ≡ fed (record { port = old.port; started_revision = old.started_revision; upload_requested = old.upload_requested; stage = after_action stage })
+        → new ≡ fed (machine_at old.port old.started_revision old.upload_requested (after_action stage))
         (input.Page connection octets)
         → (own ≡ rest.Off) ⊎ (page_at own ≡ Some (page_of octets))
     by stage (what, at) same =
-        let value : PortValue = record { port = old.port; started_revision = old.started_revision; upload_requested = old.upload_requested; stage = Paging what } in
+        let value : PortValue = machine_at old.port old.started_revision old.upload_requested (Paging what) in
         let is : new ≡ moved value (page_heard what connection (page_of octets)) =
-        same ∙ ap (λ (at : Stage). fed (record { port = old.port; started_revision = old.started_revision; upload_requested = old.upload_requested; stage = after_action at })
+        same ∙ ap (λ (at : Stage). fed (machine_at old.port old.started_revision old.upload_requested (after_action at))
         (input.Page connection octets)) at in
         keeps_of (page_of octets) new.stage own settles
         (subst (λ (value : PortValue). Keeps (page_of octets) value.stage) (sym is)

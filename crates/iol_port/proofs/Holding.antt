@@ -18,7 +18,7 @@ use Rattle.iol_port.specs.Decision.{decide}
 use Rattle.iol_port.specs.Heard.{page_heard, settled_with, judged, resumed, is_under, decided, attended, fed, moved, at_stage}
 use Rattle.iol_port.specs.History.{ComesOf, Did, Happens}
 use Rattle.iol_port.specs.Stage.{Stage, Settled, Paging, Attending, BeginningUpload, BeginningDownload, Exchanging, Uploading, Filing}
-use Rattle.iol_port.specs.Stage.{Filed, Storing, Downloading, Breaking, Returning, Returned, PortValue, Next, To, Start}
+use Rattle.iol_port.specs.Stage.{machine_at, Filed, Storing, Downloading, Breaking, Returning, Returned, PortValue, Next, To, Start}
 use Rattle.iol_port.specs.Wanted.{Wanted, wanted, after_action}
 use Rattle.iol_port.specs.declared.action.Input.{Input}
 use Rattle.iol_port.specs.declared.decision.Decision.{Decision}
@@ -107,7 +107,8 @@ page_free (page_for.Identifying work) connection page = by (ident_fault work.con
     by None = none_if (restores work.config.validation) _ _ refl refl
     by (Some why) = refl
 
-pub attended_free : (started : Option ℕ) (requested : Bool) (what : AttendFor) (work : Option Work) → GoesFree (attended started requested what work)
+pub attended_free : (started : Option ℕ) (requested : Bool) (what : AttendFor) (work : Option Work)
+    → GoesFree (attended started requested what work)
 attended_free started requested what None = refl
 attended_free started requested (attend.Waking own) (Some work) = free_if (is_under started work.revision && not requested) _ _ (by own) tt
   where
@@ -130,12 +131,12 @@ attended_free started requested attend.Restarting (Some work) = tt
 
 link_holds : (port : ℕ) (started : Option ℕ) (requested : Bool) (stage : Stage) (heard : Input) → IsAtHand stage → IsOfLink heard
     → ComesOf (wanted port stage) heard
-    → held_by (fed (record { port = port; started_revision = started; upload_requested = requested; stage = after_action stage }) heard).stage ≡ held_by stage
+    → held_by (fed (machine_at port started requested (after_action stage)) heard).stage ≡ held_by stage
 link_holds port started requested stage (input.Reply heard) hand link comes = absurd link
 link_holds port started requested (Settled own) input.Wake hand link comes = refl
 link_holds port started requested (Settled own) heard hand link comes = absurd comes
 link_holds port started requested (Paging what) (input.Page connection octets) hand link comes =
-    moved_holds (record { port = port; started_revision = started; upload_requested = requested; stage = Paging what }) (page_heard what connection (page_of octets))
+    moved_holds (machine_at port started requested (Paging what)) (page_heard what connection (page_of octets))
     (page_free what connection (page_of octets))
 link_holds port started requested (Paging what) input.Lost hand link comes = refl
 link_holds port started requested (Paging what) heard hand link comes = absurd comes
@@ -179,6 +180,7 @@ pub link_keeps : (old new : PortValue) (wants : Wanted) (heard : Input) → IsAt
     → held_by new.stage ≡ held_by old.stage
 link_keeps old new wants heard hand link happens =
     fed_is (λ value. held_by value.stage ≡ held_by old.stage) (at_stage old (after_action old.stage)) new heard happens.2
-    (link_holds old.port old.started_revision old.upload_requested old.stage heard hand link (subst (λ w. ComesOf w heard) happens.0 happens.1))
+    (link_holds old.port old.started_revision old.upload_requested old.stage heard hand link
+    (subst (λ w. ComesOf w heard) happens.0 happens.1))
     (λ octets stage out. runs_out_holds (after_action old.stage) (answer_of octets.items) stage out
     ∙ after_holds old.port old.stage (answer_of octets.items) stage out)

@@ -22,7 +22,7 @@ use Rattle.iol_port.specs.Decision.{decide}
 use Rattle.iol_port.specs.Heard.{IsFed, fed, moved, at_stage}
 use Rattle.iol_port.specs.History.{ComesOf, Happening, Raised, Did, Happens, is_at_hand}
 use Rattle.iol_port.specs.Stage.{Stage, Settled, Paging, Attending, BeginningUpload, BeginningDownload, Exchanging, Uploading, Filing}
-use Rattle.iol_port.specs.Stage.{Filed, Storing, Downloading, Breaking, Returning, Returned, PortValue, Next, To, Start}
+use Rattle.iol_port.specs.Stage.{machine_at, Filed, Storing, Downloading, Breaking, Returning, Returned, PortValue, Next, To, Start}
 use Rattle.iol_port.specs.Wanted.{wanted, after_action}
 use Rattle.iol_port.specs.declared.action.Input.{Input}
 use Rattle.iol_port.specs.declared.action.Input.TheVariants as input
@@ -148,15 +148,18 @@ decided_hand found checksum decision.ReadyEmpty = refl
 decided_hand found checksum decision.Upload = refl
 decided_hand found checksum decision.Download = refl
 
-attended_hand : (started : Option ℕ) (requested : Bool) (what : AttendFor) (work : Option Work) → GoesAtHand (attended started requested what work)
+attended_hand : (started : Option ℕ) (requested : Bool) (what : AttendFor) (work : Option Work)
+    → GoesAtHand (attended started requested what work)
 attended_hand started requested what None = refl
-attended_hand started requested (attend.Waking own) (Some work) = goes (is_under started work.revision && not requested) _ _ (resumed_hand own work) tt
+attended_hand started requested (attend.Waking own) (Some work) =
+    goes (is_under started work.revision && not requested) _ _ (resumed_hand own work) tt
 attended_hand started requested (attend.Confirming found property checksum) (Some work) =
     goes (found.work.revision == work.revision) _ _
     (decided_hand found checksum (decide work.config.validation property.state property.flag checksum work.checksum)) tt
 attended_hand started requested attend.Restarting (Some work) = tt
 
-told_hand : (started : Option ℕ) (requested : Bool) (stage : Stage) (work : Option Work) → IsAtHand stage → GoesAtHand (told started requested stage work)
+told_hand : (started : Option ℕ) (requested : Bool) (stage : Stage) (work : Option Work) → IsAtHand stage
+    → GoesAtHand (told started requested stage work)
 told_hand started requested (Attending what) work hand = attended_hand started requested what work
 told_hand started requested stage work hand = hand
 
@@ -193,20 +196,22 @@ moved_hand : (value : PortValue) (next : Next) → GoesAtHand next → IsAtHand 
 moved_hand value (To stage) hand = hand
 moved_hand value (Start work) hand = either (is_manual work.config.mode) _ _ refl refl
 
-comes_by : (port : ℕ) (started : Option ℕ) (requested : Bool) (stage : Stage) (heard : Input) → IsAtHand stage → ComesOf (wanted port stage) heard
-    → IsAtHand (fed (record { port = port; started_revision = started; upload_requested = requested; stage = after_action stage }) heard).stage
+comes_by : (port : ℕ) (started : Option ℕ) (requested : Bool) (stage : Stage) (heard : Input) → IsAtHand stage
+    → ComesOf (wanted port stage) heard
+    → IsAtHand (fed (machine_at port started requested (after_action stage)) heard).stage
 comes_by port started requested (Settled own) input.Wake hand comes = refl
 comes_by port started requested (Settled own) heard hand comes = absurd comes
 comes_by port started requested (Paging what) (input.Page connection octets) hand comes =
-    moved_hand (record { port = port; started_revision = started; upload_requested = requested; stage = Paging what }) (page_heard what connection (page_of octets))
+    moved_hand (machine_at port started requested (Paging what)) (page_heard what connection (page_of octets))
     (page_hand what connection (page_of octets))
 comes_by port started requested (Paging what) input.Lost hand comes = refl
 comes_by port started requested (Paging what) heard hand comes = absurd comes
 comes_by port started requested (Attending what) (input.Reply (reply.Attended work)) hand comes =
-    moved_hand (record { port = port; started_revision = started; upload_requested = requested; stage = Attending what }) (attended started requested what work)
+    moved_hand (machine_at port started requested (Attending what)) (attended started requested what work)
     (attended_hand started requested what work)
 comes_by port started requested (Attending what) heard hand comes = absurd comes
-comes_by port started requested (BeginningUpload found) (input.Reply (reply.BegunUpload begins)) hand comes = upload_begun_hand found.page begins
+comes_by port started requested (BeginningUpload found) (input.Reply (reply.BegunUpload begins)) hand comes =
+    upload_begun_hand found.page begins
 comes_by port started requested (BeginningUpload found) heard hand comes = absurd comes
 comes_by port started requested (BeginningDownload found checksum) (input.Reply (reply.BegunDownload begins)) hand comes =
     download_begun_hand found.page begins
@@ -218,7 +223,8 @@ comes_by port started requested (Uploading grant page upload) (input.Octets octe
     upload_hand grant page upload (answer_of octets.items)
 comes_by port started requested (Uploading grant page upload) input.Lost hand comes = refl
 comes_by port started requested (Uploading grant page upload) heard hand comes = absurd comes
-comes_by port started requested (Filing grant page set) (input.Reply (reply.FinishedUpload finished)) hand comes = finished_hand page finished
+comes_by port started requested (Filing grant page set) (input.Reply (reply.FinishedUpload finished)) hand comes =
+    finished_hand page finished
 comes_by port started requested (Filing grant page set) heard hand comes = absurd comes
 comes_by port started requested (Filed page) heard hand comes = absurd cc
 comes_by port started requested (Storing number page) (input.Reply (reply.Ticket state)) hand comes = ticket_hand number page state

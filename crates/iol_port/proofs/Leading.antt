@@ -12,6 +12,7 @@ use Rattle.iol_port.proofs.Keeping.{IsAtHand}
 use Rattle.iol_port.specs.Heard.{IsFed, fed, moved, at_stage}
 use Rattle.iol_port.specs.History.{ComesOf, Happening, Raised, Did, Happens, HasLed, is_at_hand}
 use Rattle.iol_port.specs.Stage.{Stage, Settled, Paging, Attending, BeginningUpload, BeginningDownload, Exchanging, Uploading, Filing}
+use Rattle.iol_port.specs.Stage.{machine_at}
 use Rattle.iol_port.specs.Stage.{Filed, Storing, Downloading, Breaking, Returning, Returned, PortValue, IsStage, Next, To, Start}
 use Rattle.iol_port.specs.Wanted.{ThePage, ReplyTo, wanted, after_action}
 use Rattle.iol_port.specs.declared.action.Input.{Input}
@@ -42,18 +43,18 @@ moved_is port value (Start work) history is = by (is_manual work.config.mode)
 comes_told : (port : ℕ) (started : Option ℕ) (requested : Bool) (stage : Stage) (heard : Input) (before : List Happening)
     → StageIs port before stage → IsAtHand stage
     → ComesOf (wanted port stage) heard
-    → IsStage (fed (record { port = port; started_revision = started; upload_requested = requested; stage = after_action stage }) heard).stage
+    → IsStage (fed (machine_at port started requested (after_action stage)) heard).stage
     → StageIs port (Did (wanted port stage) heard ∷ before)
-    (fed (record { port = port; started_revision = started; upload_requested = requested; stage = after_action stage }) heard).stage
+    (fed (machine_at port started requested (after_action stage)) heard).stage
 comes_told port started requested (Settled own) input.Wake before is hand comes good = tt
 comes_told port started requested (Settled own) heard before is hand comes good = absurd comes
 comes_told port started requested (Paging what) (input.Page connection octets) before is hand comes good =
-    moved_is port (record { port = port; started_revision = started; upload_requested = requested; stage = Paging what }) (page_heard what connection (page_of octets))
+    moved_is port (machine_at port started requested (Paging what)) (page_heard what connection (page_of octets))
     (Did ThePage (input.Page connection octets) ∷ before) (page_told port what connection octets before is)
 comes_told port started requested (Paging what) input.Lost before is hand comes good = tt
 comes_told port started requested (Paging what) heard before is hand comes good = absurd comes
 comes_told port started requested (Attending what) (input.Reply (reply.Attended work)) before is hand comes good =
-    moved_is port (record { port = port; started_revision = started; upload_requested = requested; stage = Attending what }) (attended started requested what work)
+    moved_is port (machine_at port started requested (Attending what)) (attended started requested what work)
     (Did (ReplyTo (Attend port)) (input.Reply (reply.Attended work)) ∷ before) (attended_told port started requested what work before is)
 comes_told port started requested (Attending what) heard before is hand comes good = absurd comes
 comes_told port started requested (BeginningUpload found) (input.Reply (reply.BegunUpload begins)) before is hand comes good =
@@ -62,7 +63,8 @@ comes_told port started requested (BeginningUpload found) heard before is hand c
 comes_told port started requested (BeginningDownload found checksum) (input.Reply (reply.BegunDownload begins)) before is hand comes good =
     download_begun_told port found checksum begins before comes
 comes_told port started requested (BeginningDownload found checksum) heard before is hand comes good = absurd comes
-comes_told port started requested (Exchanging what) (input.Octets octets) before is hand comes good = exchanged_told port what before octets is
+comes_told port started requested (Exchanging what) (input.Octets octets) before is hand comes good =
+    exchanged_told port what before octets is
 comes_told port started requested (Exchanging what) input.Lost before is hand comes good = tt
 comes_told port started requested (Exchanging what) heard before is hand comes good = absurd comes
 comes_told port started requested (Uploading grant page upload) (input.Octets octets) before is hand comes good =

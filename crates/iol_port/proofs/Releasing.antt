@@ -12,7 +12,7 @@ use Rattle.iol_core.specs.declared.ticket.TicketState.{TicketState}
 use Rattle.iol_port.specs.Heard.{attended, upload_begun, download_begun, upload_finished, ticket_told, fed}
 use Rattle.iol_port.specs.History.{Did, Happens}
 use Rattle.iol_port.specs.Stage.{Stage, Settled, Paging, Attending, BeginningUpload, BeginningDownload, Exchanging, Uploading, Filing}
-use Rattle.iol_port.specs.Stage.{Filed, Storing, Downloading, Breaking, Returning, Returned, PortValue}
+use Rattle.iol_port.specs.Stage.{machine_at, Filed, Storing, Downloading, Breaking, Returning, Returned, PortValue}
 use Rattle.iol_port.specs.Wanted.{Wanted, ReplyTo, wanted, after_action}
 use Rattle.iol_port.specs.declared.call.Reply.{Reply}
 use Rattle.iol_port.specs.declared.stage.Held.{Held}
@@ -212,14 +212,15 @@ ticket_free number page ticket.Waiting = refl
 ticket_free number page ticket.Durable = refl
 ticket_free number page ticket.Unsure = refl
 
-core_holds : (start : FrontStart) (before after : CoreView) (port : ℕ) (started : Option ℕ) (requested : Bool) (stage : Stage) (heard : Reply)
+core_holds : (start : FrontStart) (before after : CoreView) (port : ℕ) (started : Option ℕ) (requested : Bool) (stage : Stage)
+    (heard : Reply)
     → IsCore start before
     → IsAtHand stage → HasOut before port (held_by stage) → RepliesTo (wanted port stage) before after heard
-    → HasOut after port (held_by (fed (record { port = port; started_revision = started; upload_requested = requested; stage = after_action stage })
+    → HasOut after port (held_by (fed (machine_at port started requested (after_action stage))
     (input.Reply heard)).stage)
 core_holds start before after port started requested (Attending what) (reply.Attended work) is hand out replies =
     subst (HasOut after port)
-    (sym (moved_holds (record { port = port; started_revision = started; upload_requested = requested; stage = Attending what }) (attended started requested what work)
+    (sym (moved_holds (machine_at port started requested (Attending what)) (attended started requested what work)
     (attended_free started requested what work)))
     (ap (λ (core : CoreView). permit_at core port) replies.1 ∙ out)
 core_holds start before after port started requested (Attending what) heard is hand out replies = absurd replies

@@ -12,7 +12,7 @@ use Rattle.iol_port.specs.Heard.{page_heard, attended, IsFed, fed, moved, at_sta
 use Rattle.iol_port.specs.History.{ComesOf, Happening, Raised, Did, Happens, HasLed}
 use Rattle.iol_port.specs.Laws.{IsRestored, IsSoDecided}
 use Rattle.iol_port.specs.Stage.{Stage, Settled, Paging, Attending, BeginningUpload, BeginningDownload, Exchanging, Uploading, Filing}
-use Rattle.iol_port.specs.Stage.{Filed, Storing, Downloading, Breaking, Returning, Returned, PortValue, Next, To, Start}
+use Rattle.iol_port.specs.Stage.{machine_at, Filed, Storing, Downloading, Breaking, Returning, Returned, PortValue, Next, To, Start}
 use Rattle.iol_port.specs.Status.{status_of, status_at_rest}
 use Rattle.iol_port.specs.Wanted.{ThePage, ReplyTo, wanted, after_action}
 use Rattle.iol_port.specs.declared.action.Input.{Input}
@@ -44,20 +44,21 @@ moved_written port was value (Start work) history is = by (is_manual work.config
     by false = inr tt
 
 -- what comes of what was wanted
-comes_written : (port : ℕ) (was : PortStatus) (started : Option ℕ) (requested : Bool) (stage : Stage) (heard : Input) (before : List Happening)
+comes_written : (port : ℕ) (was : PortStatus) (started : Option ℕ) (requested : Bool) (stage : Stage) (heard : Input)
+    (before : List Happening)
     → StageIs port before stage → WrittenIs port was before stage → IsAtHand stage → ComesOf (wanted port stage) heard
     → WrittenIs port (status_of stage) (Did (wanted port stage) heard ∷ before)
-    (fed (record { port = port; started_revision = started; upload_requested = requested; stage = after_action stage }) heard).stage
+    (fed (machine_at port started requested (after_action stage)) heard).stage
 comes_written port was started requested (Settled own) input.Wake before at is hand comes = tt
 comes_written port was started requested (Settled own) heard before at is hand comes = absurd comes
 comes_written port was started requested (Paging what) (input.Page connection octets) before at is hand comes =
-    moved_written port (status_of (Paging what)) (record { port = port; started_revision = started; upload_requested = requested; stage = Paging what })
+    moved_written port (status_of (Paging what)) (machine_at port started requested (Paging what))
     (page_heard what connection (page_of octets))
     (Did ThePage (input.Page connection octets) ∷ before) (page_written port what connection octets before at)
 comes_written port was started requested (Paging what) input.Lost before at is hand comes = inr tt
 comes_written port was started requested (Paging what) heard before at is hand comes = absurd comes
 comes_written port was started requested (Attending what) (input.Reply (reply.Attended work)) before at is hand comes =
-    moved_written port (status_of (Attending what)) (record { port = port; started_revision = started; upload_requested = requested; stage = Attending what })
+    moved_written port (status_of (Attending what)) (machine_at port started requested (Attending what))
     (attended started requested what work)
     (Did (ReplyTo (Attend port)) (input.Reply (reply.Attended work)) ∷ before)
     (attended_written port (status_of (Attending what)) started requested what work before at)
@@ -66,7 +67,8 @@ comes_written port was started requested (BeginningUpload found) (input.Reply (r
     begun_written port (status_of (BeginningUpload found))
     (Did (wanted port (BeginningUpload found)) (input.Reply (reply.BegunUpload begins)) ∷ before) found.page begins
 comes_written port was started requested (BeginningUpload found) heard before at is hand comes = absurd comes
-comes_written port was started requested (BeginningDownload found checksum) (input.Reply (reply.BegunDownload begins)) before at is hand comes =
+comes_written port was started requested (BeginningDownload found checksum)
+    (input.Reply (reply.BegunDownload begins)) before at is hand comes =
     download_begun_written port (status_of (BeginningDownload found checksum)) found checksum begins before comes
 comes_written port was started requested (BeginningDownload found checksum) heard before at is hand comes = absurd comes
 comes_written port was started requested (Exchanging what) (input.Octets octets) before at is hand comes =

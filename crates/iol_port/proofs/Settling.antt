@@ -82,7 +82,8 @@ state_known was found left request before octets (Ok answer.Busy) is read = by (
     by false = inr tt
 state_known was found left request before octets other is read = inr tt
 
-checksum_known : (was : PortStatus) (found : FoundDevice) (property : PropertyValue) (left : ℕ) (request : Request) (before : List Happening)
+checksum_known : (was : PortStatus) (found : FoundDevice) (property : PropertyValue) (left : ℕ) (request : Request)
+    (before : List Happening)
     (octets : ArrayVec ℕ)
     (heard : Result Answer IsduFault) → IsFound found before → answer_of octets.items ≡ heard
     → KnownIs was (Did (AnswerTo request) (input.Octets octets) ∷ before) (checksum_read found property left heard)

@@ -1,6 +1,6 @@
 -- A port settles for its reason.
 use Rattle.iol_port.specs.Stage.{Stage, Settled, Paging, Attending, BeginningUpload, BeginningDownload, Exchanging, Uploading, Filing}
-use Rattle.iol_port.specs.Stage.{Filed, Storing, Downloading, Breaking, Returning, Returned, PortValue, Next, To, Start}
+use Rattle.iol_port.specs.Stage.{machine_at, Filed, Storing, Downloading, Breaking, Returning, Returned, PortValue, Next, To, Start}
 use Rattle.iol_port.specs.Wanted.{ThePage, ReplyTo, wanted, after_action}
 use Rattle.iol_port.specs.History.{ComesOf, Happening, Raised, Did, Happens, HasLed}
 use Rattle.iol_port.specs.Heard.{page_heard, judged, attended, IsFed, fed, moved, at_stage}
@@ -41,21 +41,22 @@ moved_known was value (Start work) history is = by (is_manual work.config.mode) 
     by false manual = inr (inr (work, is, manual))
 
 -- what comes of what was wanted
-comes_known : (was : PortStatus) (port : ℕ) (started : Option ℕ) (requested : Bool) (stage : Stage) (heard : Input) (before : List Happening)
+comes_known : (was : PortStatus) (port : ℕ) (started : Option ℕ) (requested : Bool) (stage : Stage) (heard : Input)
+    (before : List Happening)
     → KnownIs was before stage
     → IsAtHand stage → ComesOf (wanted port stage) heard
     → KnownIs (status_of stage) (Did (wanted port stage) heard ∷ before)
-    (fed (record { port = port; started_revision = started; upload_requested = requested; stage = after_action stage }) heard).stage
+    (fed (machine_at port started requested (after_action stage)) heard).stage
 comes_known was port started requested (Settled own) input.Wake before is hand comes = tt
 comes_known was port started requested (Settled own) heard before is hand comes = absurd comes
 comes_known was port started requested (Paging what) (input.Page connection octets) before is hand comes =
-    moved_known (status_of (Paging what)) (record { port = port; started_revision = started; upload_requested = requested; stage = Paging what })
+    moved_known (status_of (Paging what)) (machine_at port started requested (Paging what))
     (page_heard what connection (page_of octets))
     (Did ThePage (input.Page connection octets) ∷ before) (page_known what connection octets before is)
 comes_known was port started requested (Paging what) input.Lost before is hand comes = inr tt
 comes_known was port started requested (Paging what) heard before is hand comes = absurd comes
 comes_known was port started requested (Attending what) (input.Reply (reply.Attended work)) before is hand comes =
-    moved_known (status_of (Attending what)) (record { port = port; started_revision = started; upload_requested = requested; stage = Attending what })
+    moved_known (status_of (Attending what)) (machine_at port started requested (Attending what))
     (attended started requested what work)
     (Did (ReplyTo (Attend port)) (input.Reply (reply.Attended work)) ∷ before) (attended_known port started requested what work before is)
 comes_known was port started requested (Attending what) heard before is hand comes = absurd comes
@@ -65,7 +66,8 @@ comes_known was port started requested (BeginningUpload found) heard before is h
 comes_known was port started requested (BeginningDownload found checksum) (input.Reply (reply.BegunDownload begins)) before is hand comes =
     download_begun_known _ found.page _ begins before is
 comes_known was port started requested (BeginningDownload found checksum) heard before is hand comes = absurd comes
-comes_known was port started requested (Exchanging what) (input.Octets octets) before is hand comes = exchanged_known _ what _ before octets is
+comes_known was port started requested (Exchanging what) (input.Octets octets) before is hand comes =
+    exchanged_known _ what _ before octets is
 comes_known was port started requested (Exchanging what) input.Lost before is hand comes = inr tt
 comes_known was port started requested (Exchanging what) heard before is hand comes = absurd comes
 comes_known was port started requested (Uploading grant page upload) (input.Octets octets) before is hand comes =

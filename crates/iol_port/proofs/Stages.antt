@@ -109,7 +109,8 @@ raised_paging : (history : List Happening) (code : ℕ) (what : PageFor) → Pag
 raised_paging history code (page_for.Comparing work own) is = is
 raised_paging history code (page_for.Identifying work) is = is
 
-raised_found : (history : List Happening) (code : ℕ) (found : FoundDevice) (conversation : List Exchange) → HasFound found conversation history
+raised_found : (history : List Happening) (code : ℕ) (found : FoundDevice) (conversation : List Exchange)
+    → HasFound found conversation history
     → HasFound found conversation (Raised code ∷ history)
 raised_found history code found conversation is = record { shown = is.shown; said = is.said; wanted = is.wanted }
 

@@ -196,7 +196,8 @@ resumed_told port rest.Lost work before = refl
 resumed_told port (rest.Failed why) work before = refl
 resumed_told port own work before = refl
 
-decided_told : (port : ℕ) (found : FoundDevice) (property : PropertyValue) (checksum : ℕ) (work : Work) (before : List Happening) (now : Decision)
+decided_told : (port : ℕ) (found : FoundDevice) (property : PropertyValue) (checksum : ℕ) (work : Work) (before : List Happening)
+    (now : Decision)
     → HasExamined found property checksum before → found.work.revision ≡ work.revision
     → decide work.config.validation property.state property.flag checksum work.checksum ≡ now
     → StageIs port (Said port (Some work) ∷ before) (decided found checksum now)
@@ -242,7 +243,8 @@ begun_told port found (Ok grant) before comes =
     }
 begun_told port found (Err why) before comes = tt
 
-pub download_begun_told : (port : ℕ) (found : FoundDevice) (checksum : ℕ) (begins : Result DownloadBegun DownloadFault) (before : List Happening)
+pub download_begun_told : (port : ℕ) (found : FoundDevice) (checksum : ℕ) (begins : Result DownloadBegun DownloadFault)
+    (before : List Happening)
     → ComesOf (wanted port (BeginningDownload found checksum)) (input.Reply (reply.BegunDownload begins))
     → StageIs port (Did (wanted port (BeginningDownload found checksum)) (input.Reply (reply.BegunDownload begins)) ∷ before)
     (download_begun found.page begins)

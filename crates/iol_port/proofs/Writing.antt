@@ -256,7 +256,8 @@ pub begun_written : (port : ℕ) (was : PortStatus) (history : List Happening) (
 begun_written port was history page (Ok grant) = tt
 begun_written port was history page (Err why) = inr tt
 
-pub download_begun_written : (port : ℕ) (was : PortStatus) (found : FoundDevice) (checksum : ℕ) (begins : Result DownloadBegun DownloadFault)
+pub download_begun_written : (port : ℕ) (was : PortStatus) (found : FoundDevice) (checksum : ℕ)
+    (begins : Result DownloadBegun DownloadFault)
     (before : List Happening)
     → ComesOf (wanted port (BeginningDownload found checksum)) (input.Reply (reply.BegunDownload begins))
     → WrittenIs port was (Did (wanted port (BeginningDownload found checksum)) (input.Reply (reply.BegunDownload begins)) ∷ before)

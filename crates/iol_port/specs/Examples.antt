@@ -7,7 +7,7 @@ use Rattle.iol_transfer.specs.Property.{PropertyValue}
 use Rattle.iol_transfer.specs.declared.property.State.TheVariants.{Inactive}
 use Rattle.iol_core.specs.declared.permit.UploadGrant.{UploadGrant}
 use Rattle.iol_core.specs.declared.port.Work.{Work}
-use Rattle.iol_port.specs.Stage.{Stage, PortValue}
+use Rattle.iol_port.specs.Stage.{Stage, PortValue, machine_at}
 use Rattle.iol_port.specs.declared.stage.FoundDevice.{FoundDevice}
 
 -- for worked examples: what port 1 is to work with, at revision 1 and with a durable set of this checksum, if there is one
@@ -34,4 +34,4 @@ example_grant = record { port = 1; revision = 1; vendor = 500; device = 43981; c
 -- for worked examples: the machine of port 1 at a stage, started under revision 1, with a kept request for an upload or
 -- without one (own)
 abbrev pub example_machine : Bool → Stage → PortValue
-example_machine requested stage = record { port = 1; started_revision = Some 1; upload_requested = requested; stage = stage }
+example_machine requested stage = machine_at 1 (Some 1) requested stage

@@ -23,7 +23,7 @@ use Rattle.iol_port.specs.Calls.{HandsBack}
 use Rattle.iol_port.specs.Decision.{decide}
 use Rattle.iol_port.specs.Faults.{of_permit, of_download}
 use Rattle.iol_port.specs.Stage.{Stage, Settled, Paging, Attending, BeginningUpload, BeginningDownload, Exchanging, Uploading, Filing}
-use Rattle.iol_port.specs.Stage.{Filed, Storing, Downloading, Breaking, Returning, Returned, PortValue, Next, To, Start}
+use Rattle.iol_port.specs.Stage.{machine_at, Filed, Storing, Downloading, Breaking, Returning, Returned, PortValue, Next, To, Start}
 use Rattle.iol_port.specs.declared.action.Input.{Input}
 use Rattle.iol_port.specs.declared.action.Input.TheVariants as input
 use Rattle.iol_port.specs.declared.action.TheConstants.{UPLOAD_REQUEST}
@@ -114,7 +114,8 @@ confirmed found property checksum work =
 -- after the core has said what is to be done; a port that is not there is off (own)
 abbrev pub attended : Option ℕ → Bool → AttendFor → Option Work → Next
 attended started requested what None = To (Settled rest.Off)
-attended started requested (attend.Waking own) (Some work) = if is_under started work.revision && not requested then resumed own work else Start work
+attended started requested (attend.Waking own) (Some work) =
+    if is_under started work.revision && not requested then resumed own work else Start work
 attended started requested (attend.Confirming found property checksum) (Some work) = confirmed found property checksum work
 attended started requested attend.Restarting (Some work) = Start work
 
@@ -199,10 +200,10 @@ first_stage work = if is_manual work.config.mode then Paging (page_for.Identifyi
 
 -- the machine at another stage; the machine as it starts, which forgets that the device asked for an upload (own)
 abbrev pub at_stage : PortValue → Stage → PortValue
-at_stage value stage = record { port = value.port; started_revision = value.started_revision; upload_requested = value.upload_requested; stage = stage }
+at_stage value stage = machine_at value.port value.started_revision value.upload_requested stage
 
 abbrev pub started : PortValue → Work → PortValue
-started value work = record { port = value.port; started_revision = Some work.revision; upload_requested = false; stage = first_stage work }
+started value work = machine_at value.port (Some work.revision) false (first_stage work)
 
 abbrev pub moved : PortValue → Next → PortValue
 moved value (To stage) = at_stage value stage
@@ -211,7 +212,7 @@ moved value (Start work) = started value work
 -- an event is kept where it is the device's request for an upload (standard, Data Storage object)
 abbrev pub noted : PortValue → ℕ → PortValue
 noted value code =
-    record { port = value.port; started_revision = value.started_revision; upload_requested = value.upload_requested || (code == UPLOAD_REQUEST); stage = value.stage }
+    machine_at value.port value.started_revision (value.upload_requested || (code == UPLOAD_REQUEST)) value.stage
 
 -- the machine after what it hears (own)
 abbrev pub fed : PortValue → Input → PortValue

@@ -37,17 +37,22 @@ pub data Stage : Type 0 where
   Returning : (held : Held) (rest : Rest) → Stage
   Returned : (transfer : Transfer) (rest : Rest) → Stage
 
--- the machine of a port: its port; the revision of the configuration that it last started under, none where it is new;
--- whether the device has asked for an upload since it started; and how far it is (own)
+-- the machine of a port: its port; the revision of the configuration that it last started under, or none if it is new;
+-- whether the device has requested an upload since then; and its stage (own)
 pub record PortValue : Type 0 where
   pub port : ℕ
   pub started_revision : Option ℕ
   pub upload_requested : Bool
   pub stage : Stage
 
+-- the machine of a port that last started under this revision, with or without a request for an upload, at this stage (own)
+abbrev pub machine_at : ℕ → Option ℕ → Bool → Stage → PortValue
+machine_at port started requested stage =
+    record { port = port; started_revision = started; upload_requested = requested; stage = stage }
+
 -- a new machine is settled as off (own)
 abbrev pub new_machine : ℕ → PortValue
-new_machine port = record { port = port; started_revision = None; upload_requested = false; stage = Settled Off }
+new_machine port = machine_at port None false (Settled Off)
 
 -- what holds of a stage: an upload under way is one from the device of its permit, and so is the set that is filed (own)
 abbrev pub IsStage : Stage → Type 0

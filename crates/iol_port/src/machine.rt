@@ -5,7 +5,7 @@ ghost use Rattle.iol_port.specs.Awaited.{awaited};
 ghost use Rattle.iol_port.specs.Calls.{MayBeMade};
 ghost use Rattle.iol_port.specs.Ending.{ended};
 ghost use Rattle.iol_port.specs.Heard.{IsFed, Fits, is_settled, moved, noted, at_stage};
-ghost use Rattle.iol_port.specs.Stage.{PortValue, Settled, IsStage, IsNext, new_machine};
+ghost use Rattle.iol_port.specs.Stage.{PortValue, Settled, IsStage, IsNext, new_machine, machine_at};
 ghost use Rattle.iol_port.specs.Status.{status_of};
 ghost use Rattle.iol_port.specs.LinkWants.{link_wanted};
 ghost use Rattle.iol_port.specs.View.{stage_of, next_of};
@@ -33,13 +33,13 @@ pub struct PortMachine {
 }
 
 impl Model for PortMachine {
-    ghost use Rattle.iol_port.specs.Stage.{PortValue, IsStage};
+    ghost use Rattle.iol_port.specs.Stage.{PortValue, IsStage, machine_at};
 
     ghost Value = { PortValue };
 
     ghost use Rattle.iol_port.specs.View.{stage_of};
 
-    ghost view = { λ m. record { port = m.port; started_revision = m.started_revision; upload_requested = m.upload_requested; stage = stage_of m.stage } };
+    ghost view = { λ m. machine_at m.port m.started_revision m.upload_requested (stage_of m.stage) };
 
     ghost invariant = { λ m. IsStage (stage_of m.stage) };
 }

@@ -46,7 +46,8 @@ module _ (parts : PartsValue) where
       by (Some found) is = let both : true ≡ false = sym (ap is_some is) ∙ sym (is_some-entries_of test kept) ∙ absent in cc
 
   -- a place that is found lies within the parts
-  pub within-found : (test : Key → Bool) (kept : List (Key × PartPlace)) (place : PartPlace) → AreWithin parts kept → lookup test kept ≡ Some place
+  pub within-found : (test : Key → Bool) (kept : List (Key × PartPlace)) (place : PartPlace) → AreWithin parts kept
+      → lookup test kept ≡ Some place
       → IsWithin parts place
   within-found test [] place are found = absurd cc
   within-found test (entry ∷ kept) place are found =
