@@ -82,7 +82,7 @@ module _ {L : Type 0} (number : L → ℕ) (steps : L → LinkCall → LinkAnswe
   acts_goes started requested (Settled own) heard called is hand comes hears good = absurd hears
   acts_goes started requested (Paging what) (input.Page connection octets) called is hand comes hears good =
       subst (λ (c : ℕ). Leads called (Paging what)
-              (moved (machine started requested (Paging what)) (page_heard what c (page_of octets))).stage)
+      (moved (machine started requested (Paging what)) (page_heard what c (page_of octets))).stage)
       (sym hears.0.0)
       (by_called called (Page port (number link) octets ∷ []) (Paging what) _ hears.0.3
       (moves (Page port (number link) octets ∷ []) (status_of (Paging what)) (machine started requested (Paging what))
@@ -190,7 +190,7 @@ module _ {L : Type 0} (number : L → ℕ) (steps : L → LinkCall → LinkAnswe
           ap (λ (v : PortValue). v.stage) same ∙ stage_at heard in
           subst (λ (s : Stage). Leads called value.stage s) (sym stage_is)
           (acts_goes value.started_revision value.upload_requested value.stage heard called is hand comes hears
-              (subst IsStage stage_is good))
+          (subst IsStage stage_is good))
 
       by : (heard : Input) → ComesOf (wanted port value.stage) heard
           → Hears number steps port (wanted port value.stage) heard link last old new called

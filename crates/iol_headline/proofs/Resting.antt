@@ -149,7 +149,7 @@ module _ {L : Type 0} (number : L → ℕ) (steps : L → LinkCall → LinkAnswe
   acts_rest : (started : Option ℕ) (requested : Bool) (stage : Stage) (heard : Input) (called : List Event) → IsTold stage
       → StandsAt stage → IsAtHand stage → ComesOf (wanted port stage) heard
       → Hears number steps port (wanted port stage) heard link last old new called
-          → Leads called stage (After started requested stage heard)
+      → Leads called stage (After started requested stage heard)
   acts_rest started requested (Settled at_rest) heard called is stands hand comes hears = absurd hears
   acts_rest started requested (Paging what) (input.Page connection octets) called is stands hand comes hears =
       by_own called (Page port (number link) octets) (Paging what) _ hears.0.3 (at_own port (Page port (number link) octets))
@@ -163,7 +163,7 @@ module _ {L : Type 0} (number : L → ℕ) (steps : L → LinkCall → LinkAnswe
   acts_rest started requested (Attending what) (input.Reply (reply.Attended (Some work))) called is stands hand comes hears =
       by_own called (Attended port (work_told work)) (Attending what) _ hears.0.1 (at_own port (Attended port (work_told work)))
       (moved_rests port _ (status_of (Attending what)) (machine started requested (Attending what))
-          (attended started requested what (Some work))
+      (attended started requested what (Some work))
       (attended_rests port (own port events) work started requested what stands
       (keeps what work is (is_said first start port (number link) events old work core hears.0.0.0))))
   acts_rest started requested (Attending what) heard called is stands hand comes hears = absurd comes
