@@ -28,15 +28,29 @@ impl fmt::Display for Drawing<'_> {
     fn fmt<W: fmt::Write>(&self, f: &mut fmt::Formatter<W>) -> fmt::Result {
         let map = self.map;
         write_head(f, width(&map.lines), height(&map.lines))?;
-        f.write_str("<text x='10' y='20' font-weight='bold'>")?;
-        write_escaped(f, self.name)?;
+        write_title(f, self)?;
         let (sectors, outcome) = (map.sectors, map.outcome);
-        writeln!(f, "</text>\n<text x='10' y='38'>sectors {sectors}</text>")?;
+        writeln!(f, "<text x='10' y='38'>sectors {sectors}</text>")?;
         writeln!(f, "<text x='10' y='56'>{outcome}</text>")?;
         write_legend(f, &map.lines)?;
         write_lines(f, &map.lines)?;
         f.write_str("</svg>\n")
     }
+}
+
+// The title: the name of the file, and the geometry that the first line says, if it says one.
+fn write_title<W: fmt::Write>(f: &mut fmt::Formatter<W>, drawing: &Drawing<'_>) -> fmt::Result {
+    f.write_str("<text x='10' y='20' font-weight='bold'>")?;
+    write_escaped(f, drawing.name)?;
+    if let Some(geometry) = said_geometry(&drawing.map.lines) {
+        write!(f, ", {geometry}")?;
+    }
+    f.write_str("</text>\n")
+}
+
+// The geometry that the first line says, after its first word.
+fn said_geometry(lines: &[Line]) -> Option<&str> {
+    lines.first()?.text.as_str().strip_prefix("geometry, ")
 }
 
 // How wide a picture of these lines is.
